@@ -105,3 +105,10 @@ carried_or_lacks old new call (Ok x) (Ok y) maps performs same tells = carried p
 carried_or_lacks old new call (Ok x) (Err error) maps performs same tells = absurd (true≢false (ap is_err maps))
 carried_or_lacks old new call (Err lacks) (Ok y) maps performs same tells = absurd maps
 carried_or_lacks old new call (Err lacks) (Err error) maps performs same tells = unchanged same (rw maps tells)
+
+-- the same where it was refused
+pub carried_lacks : (old new : Memory) (call : Call) (inner : Result (Unit {0}) NoSpace) (error : FsError) →
+    MatchResult inner (λ x. ◌≡◌ {A = Result (Unit {0}) FsError} (Err error) (Ok x)) (λ lacks. refusal_of error ≡ no_space lacks.need lacks.free) →
+    OnErr inner (new ≡ old) → IfErr inner (λ lacks. Tells (current_words old) call (refused (no_space lacks.need lacks.free))) → CarriesOut old call (refused (refusal_of error)) new
+carried_lacks old new call (Ok x) error maps same tells = absurd (true≢false (ap is_err maps))
+carried_lacks old new call (Err lacks) error maps same tells = unchanged same (rw maps tells)

@@ -14,6 +14,7 @@ pub mod RenameLaws
 pub mod FewMoved
 pub mod MovingLaws
 pub mod CarriedLaws
+pub mod CacheLaws
 pub mod LaidLaws
 pub mod FrontLaws
 pub mod LinksLaws
@@ -29,3 +30,5 @@ pub mod HalfFormat
 pub mod CrashedLaws
 pub mod WholeLaws
 pub mod SharingLaws
+pub mod ToldNames
+pub mod CachedLaws

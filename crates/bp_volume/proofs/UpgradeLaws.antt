@@ -65,7 +65,7 @@ abbrev IsUpgraded : ℕ → Type 0
 IsUpgraded place = (place ≤ 5) × (place ≢ 2) × (place ≢ 3)
 
 -- the trees are those that they were
-trees_upgraded : (image : Image) → SameTrees image (upgraded image)
+pub trees_upgraded : (image : Image) → SameTrees image (upgraded image)
 trees_upgraded image =
     beside IsUpgraded (λ place at. omega (arith, at.0)) (λ at. at.1 refl) (λ at. at.2 refl) image (upgraded image)
     (EachMay-stored (AnyAt IsUpgraded) image upgrade_events (

@@ -1,5 +1,5 @@
 -- Where the path of a call leads, as its answer tells it.
-use Rattle.std.proofs.Common.{◌≡◌, ◌≢◌, ℕ, [], ◌∷◌, length, true, false, not, ◌&&◌, ◌==◌, Option, None, Some, bytes_eq, refl, sym, ◌∙◌, ap, subst, true≢false}
+use Rattle.std.proofs.Common.{◌≡◌, ◌≢◌, ℕ, [], ◌∷◌, length, true, false, not, ◌&&◌, ◌==◌, Option, None, Some, bytes_eq, refl, sym, ◌∙◌, ap, true≢false}
 use Rattle.std.specs.Prelude.{is_some, is_err, nat_le, Result, Ok, Err, IsErrAnd, MatchResult, IfErr, IfOk}
 use Rattle.std.specs.List.{AllByRecursion, list_all}
 use Rattle.std.proofs.lemmas.Bool.{and_parts, leb-true, eqb-false, not-true}
@@ -82,12 +82,6 @@ pub entry_found : (image : Image) (path : Path) (entry : FoundEntry) → path �
 entry_found image path entry below is_entry found =
     let both = is_entry.below (parent_of path) (last_of path) (by_parent path below) in
     record { below = below; parent = both.0; slot = both.1; inode = found }
-
-pub walk_found : (image : Image) (path : Path) (inner : Result FoundEntry WalkFault) (outer : Result FoundEntry FsError) → path ≢ [] → IfOk inner (IsEntryOf image path) → IfOk inner (λ entry. lookup image path ≡ Some entry.inumber) →
-    MatchResult inner (λ x. outer ≡ Ok x) (λ fault. IsErrAnd outer (λ error. refusal_of_walk (fault_of fault) ≡ Some (refusal_of error))) → IfOk outer (λ entry. IsEntryOn image path entry.dir entry.slot entry.inumber)
-walk_found image path (Ok entry) outer below is_entry found maps = subst (λ r. IfOk r (λ other. IsEntryOn image path other.dir other.slot other.inumber)) (sym maps) (entry_found image path entry below is_entry found)
-walk_found image path (Err fault) (Ok y) below is_entry found maps = absurd maps
-walk_found image path (Err fault) (Err error) below is_entry found maps = tt
 
 pub entry_ends : (image : Image) (path : Path) (root why : Refusal) → path ≢ [] → RefusesWalk image path why → RefusesEntry image path root why
 entry_ends image path root why below ends tree stands =

@@ -1,5 +1,7 @@
 -- What the two paths of a rename find.
 use Rattle.std.specs.Prelude.{◌≡◌, ◌≢◌, ◌==◌, ℕ, List, [], Bool, false, Option, None, Some, option_map}
+use Rattle.bp_cache.specs.Changes.{NameMoves, NameReplaces}
+use Rattle.bp_cache.specs.declared.name_at.NameAt.{NameAt}
 use Rattle.bp_changes.specs.Effects.{CanUnlink}
 use Rattle.bp_layout.specs.Directory.{IsName, empty_slot, inumber_at, slot_named}
 use Rattle.bp_layout.specs.Inode.{IsDirectory}
@@ -12,6 +14,7 @@ use Rattle.bp_plain.specs.Calls.Call.{rename}
 use Rattle.bp_plain.specs.Plain.{moves_below, parent_of, refusal}
 use Rattle.bp_plain.specs.PlainTree.{FileTree}
 use Rattle.bp_plain.specs.Stands.{Stands}
+use Rattle.bp_rename.specs.RenamesEntry.{new_slot}
 use Rattle.bp_rename.specs.declared.moving.Move.{Move}
 use Rattle.bp_volume.specs.Step.{IsEntryOn, last_of}
 use Rattle.bp_volume.specs.declared.renaming.Ends.{Ends}
@@ -30,9 +33,10 @@ pub record IsTarget (image : Image) (path : Path) (target : Target) : Type 0 whe
       → IsEntryOn image path target.dir entry.slot entry.inumber
   pub empty : target.there ≡ None → target.empty ≡ empty_slot image target.dir
 
--- The first path finds an entry. The second is a name in a directory, and not below the first.
+-- The first path finds an entry, by its name. The second is a name in a directory, and not below the first.
 pub record AreEnds (image : Image) (p q : Path) (ends : Ends) : Type 0 where
   pub source : IsEntryOn image p ends.source.dir ends.source.slot ends.source.inumber
+  pub named : slot_named image ends.source.dir ends.source.name.now ≡ Some ends.source.slot
   pub target : IsTarget image q ends.target
   pub outside : moves_below p q ≡ false
 
@@ -72,3 +76,19 @@ pub record IsMoveOf (ends : Ends) (move : Move) : Type 0 where
   pub to_dir : move.to_dir ≡ ends.target.dir
   pub to_slot : move.to_slot ≡ option_map (λ entry. entry.slot) ends.target.there
   pub name : move.name.now ≡ ends.target.name.now
+
+-- ---- what a rename does to names
+
+-- The new name, in the slot that it gets: that of the entry that has it, within its directory that of the entry that
+-- moves, and in another one the least empty slot, or one behind the last entry.
+pub record IsNewName (image : Image) (ends : Ends) (at : NameAt) : Type 0 where
+  pub dir : at.dir ≡ ends.target.dir
+  pub name : at.name.now ≡ ends.target.name.now
+  pub there : (entry : FoundEntry) → ends.target.there ≡ Some entry → at.slot ≡ entry.slot
+  pub within : ends.target.there ≡ None → ends.target.dir ≡ ends.source.dir → at.slot ≡ ends.source.slot
+  pub across : ends.target.there ≡ None → ends.target.dir ≢ ends.source.dir → at.slot ≡ new_slot image ends.target.dir
+
+-- onto the entry that is there, or where none is
+abbrev pub MovesName : Image → Image → NameAt → NameAt → Option FoundEntry → Type 0
+MovesName old new from to (Some entry) = NameReplaces old new from to
+MovesName old new from to None = NameMoves old new from to

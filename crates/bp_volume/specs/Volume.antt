@@ -1,5 +1,7 @@
 -- What a volume is.
 use Rattle.std.specs.Prelude.{◌≡◌, ◌≤◌, ℕ, ◌*◌}
+use Rattle.bp_cache.specs.Cache.{IsCacheOf}
+use Rattle.bp_cache.specs.declared.cache.DirectoryCache.{DirectoryCache}
 use Rattle.pm_region.specs.Memory.{Memory, current_words}
 use Rattle.pm_region.specs.Safe.{IsSafe}
 use Rattle.bp_shapes.specs.Sets.{IsExact, kept_of}
@@ -25,3 +27,8 @@ pub record IsVolume {R : Type 0} (memory : Memory) (parts : Parts R) (pending : 
   pub frozen : AreFrozen (current_words memory) (kept_of parts)
   pub exact : IsExact (current_words memory) parts
   pub scans : pending ≡ block_inodes * block_count (current_words memory)
+
+-- a volume, with what it remembers of its directories
+pub record IsCachedVolume {R : Type 0} (memory : Memory) (parts : Parts R) (pending : ℕ) (cache : DirectoryCache) : Type 0 where
+  pub volume : IsVolume memory parts pending
+  pub right : IsCacheOf (current_words memory) cache

@@ -1,6 +1,7 @@
 //! Calls that change nothing.
 
 ghost use Rattle.std.specs.Prelude.{◌≡◌, ◌≤◌, IfOk, OnErr, drop, length};
+ghost use Rattle.bp_cache.specs.Cache.{IsCacheOf};
 ghost use Rattle.bp_calls.specs.Mounted.{IsMounted};
 ghost use Rattle.bp_plain.specs.Calls.Call.{links, list, read, stat};
 ghost use Rattle.bp_layout.specs.WellFormed.{IsWellFormed};
@@ -10,6 +11,7 @@ ghost use Rattle.bp_volume.specs.Told.{Tells};
 ghost use Rattle.pm_region.specs.Memory.{current_words};
 
 use crate::walking::{file_at, inode_at};
+use bp_cache::DirectoryCache;
 use bp_calls::{links, list, read, stat};
 use bp_free::Parts;
 use bp_inodes::get;
@@ -19,20 +21,32 @@ use pm_region::Region;
 use std::alloc::{AllocError, Global};
 
 /// What `stat` answers.
-pub(crate) fn stat_at<R: Region>(region: &R, text: &[u8]) -> Result<Stat, FsError>
-    requires { IsWellFormed (current_words (R.memory region.now)) }
-    ensures { Tells (current_words (R.memory region.now)) (stat text.now) (stat_answer_of result) }
+pub(crate) fn stat_at<R: Region>(
+    region: &R,
+    cache: &mut DirectoryCache,
+    text: &[u8],
+) -> Result<Stat, FsError>
+    requires well_formed { IsWellFormed (current_words (R.memory region.now)) }
+    requires right { IsCacheOf (current_words (R.memory region.now)) cache.old }
+    ensures told { Tells (current_words (R.memory region.now)) (stat text.now) (stat_answer_of result) }
+    ensures right { IsCacheOf (current_words (R.memory region.now)) cache.new }
 {
-    let i = inode_at(region, text)?;
+    let i = inode_at(region, cache, text)?;
     Ok(stat(region, i))
 }
 
 /// What `links` answers.
-pub(crate) fn links_at<R: Region>(parts: &Parts<R>, text: &[u8]) -> Result<u32, FsError>
-    requires { IsMounted (current_words (R.memory parts.now.region)) parts.now }
-    ensures { Tells (current_words (R.memory parts.now.region)) (links text.now) (links_answer result) }
+pub(crate) fn links_at<R: Region>(
+    parts: &Parts<R>,
+    cache: &mut DirectoryCache,
+    text: &[u8],
+) -> Result<u32, FsError>
+    requires mounted { IsMounted (current_words (R.memory parts.now.region)) parts.now }
+    requires right { IsCacheOf (current_words (R.memory parts.now.region)) cache.old }
+    ensures told { Tells (current_words (R.memory parts.now.region)) (links text.now) (links_answer result) }
+    ensures right { IsCacheOf (current_words (R.memory parts.now.region)) cache.new }
 {
-    let file = file_at(&parts.region, text)?;
+    let file = file_at(&parts.region, cache, text)?;
     Ok(links(parts, file.inumber))
 }
 
@@ -56,28 +70,38 @@ fn list_inode<R: Region>(alloc: Global, region: &R, text: &[u8], i: u32) -> Resu
 }
 
 /// What `list` answers.
-pub(crate) fn list_at<R: Region>(alloc: Global, region: &R, text: &[u8]) -> Result<Listing, FsError>
-    requires { IsWellFormed (current_words (R.memory region.now)) }
-    ensures { Tells (current_words (R.memory region.now)) (list text.now) (list_answer_of result) }
+pub(crate) fn list_at<R: Region>(
+    alloc: Global,
+    region: &R,
+    cache: &mut DirectoryCache,
+    text: &[u8],
+) -> Result<Listing, FsError>
+    requires well_formed { IsWellFormed (current_words (R.memory region.now)) }
+    requires right { IsCacheOf (current_words (R.memory region.now)) cache.old }
+    ensures told { Tells (current_words (R.memory region.now)) (list text.now) (list_answer_of result) }
+    ensures right { IsCacheOf (current_words (R.memory region.now)) cache.new }
 {
-    let i = inode_at(region, text)?;
+    let i = inode_at(region, cache, text)?;
     list_inode(alloc, region, text, i)
 }
 
 /// What `read` answers.
 pub(crate) fn read_at<R: Region>(
     region: &R,
+    cache: &mut DirectoryCache,
     text: &[u8],
     off: u64,
     into: &mut [u8],
 ) -> Result<usize, FsError>
-    requires { IsWellFormed (current_words (R.memory region.now)) }
+    requires well_formed { IsWellFormed (current_words (R.memory region.now)) }
+    requires right { IsCacheOf (current_words (R.memory region.now)) cache.old }
     ensures told { Tells (current_words (R.memory region.now)) (read text.now off (length into.old))
         (read_answer result into.new) }
     ensures fits { IfOk result (λ count. count ≤ length into.new) }
     ensures rest { IfOk result (λ count. drop count into.new ≡ drop count into.old) }
     ensures unread { OnErr result (into.new ≡ into.old) }
+    ensures right { IsCacheOf (current_words (R.memory region.now)) cache.new }
 {
-    let file = file_at(region, text)?;
+    let file = file_at(region, cache, text)?;
     Ok(read(region, file.inumber, off, into))
 }

@@ -1,6 +1,7 @@
 //! New files and directories.
 
 ghost use Rattle.std.specs.Prelude.{◌≡◌};
+ghost use Rattle.bp_cache.specs.Cache.{IsCacheOf};
 ghost use Rattle.bp_layout.specs.Directory.{empty_slot};
 ghost use Rattle.bp_shapes.specs.Sets.{IsExact};
 ghost use Rattle.bp_volume.specs.Carried.{CarriesOut, making};
@@ -10,7 +11,8 @@ ghost use Rattle.bp_volume.specs.Step.{FindsNew};
 ghost use Rattle.pm_region.specs.Memory.{current_words};
 
 use crate::refusing::no_space;
-use crate::walking::{NewName, new_name};
+use crate::walking::{NewName, new_name, slot_for};
+use bp_cache::DirectoryCache;
 use bp_calls::create_in;
 use bp_free::Parts;
 use bp_layout::Kind;
@@ -20,6 +22,7 @@ use pm_region::Region;
 /// Creates a file or a directory of a new name, which a path text spells.
 fn create_new<R: Region>(
     parts: &mut Parts<R>,
+    cache: &mut DirectoryCache,
     text: &[u8],
     new: NewName<'_>,
     kind: Kind,
@@ -27,24 +30,32 @@ fn create_new<R: Region>(
     requires ready { IsReady (R.memory parts.old.region) parts.old }
     requires new { FindsNew (current_words (R.memory parts.old.region)) text.now new.dir new.name.now }
     requires slot { new.slot ≡ empty_slot (current_words (R.memory parts.old.region)) new.dir }
+    requires right { IsCacheOf (current_words (R.memory parts.old.region)) cache.old }
     ensures called { CarriesOut (R.memory parts.old.region) (making kind text.now) (unit_answer result)
         (R.memory parts.new.region) }
     ensures exact { IsExact (current_words (R.memory parts.new.region)) parts.new }
+    ensures right { IsCacheOf (current_words (R.memory parts.new.region)) cache.new }
 {
-    create_in(parts, new.dir, new.slot, new.name, kind).map_err(no_space)
+    let slot = slot_for(&parts.region, new.dir, new.slot);
+    create_in(parts, new.dir, new.slot, new.name, kind).map_err(no_space)?;
+    cache.enter(new.at(slot));
+    Ok(())
 }
 
 /// What `create` and `mkdir` do before their mark.
 pub(crate) fn create_at<R: Region>(
     parts: &mut Parts<R>,
+    cache: &mut DirectoryCache,
     text: &[u8],
     kind: Kind,
 ) -> Result<(), FsError>
-    requires { IsReady (R.memory parts.old.region) parts.old }
+    requires ready { IsReady (R.memory parts.old.region) parts.old }
+    requires right { IsCacheOf (current_words (R.memory parts.old.region)) cache.old }
     ensures called { CarriesOut (R.memory parts.old.region) (making kind text.now) (unit_answer result)
         (R.memory parts.new.region) }
     ensures exact { IsExact (current_words (R.memory parts.new.region)) parts.new }
+    ensures right { IsCacheOf (current_words (R.memory parts.new.region)) cache.new }
 {
-    let new = new_name(&parts.region, text)?;
-    create_new(parts, text, new, kind)
+    let new = new_name(&parts.region, cache, text)?;
+    create_new(parts, cache, text, new, kind)
 }

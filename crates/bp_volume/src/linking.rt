@@ -1,6 +1,7 @@
 //! Names more for files.
 
 ghost use Rattle.std.specs.Prelude.{◌≡◌, IfErr, IfOk};
+ghost use Rattle.bp_cache.specs.Cache.{IsCacheOf};
 ghost use Rattle.bp_layout.specs.Directory.{empty_slot};
 ghost use Rattle.bp_layout.specs.Inode.{IsFile};
 ghost use Rattle.bp_layout.specs.WellFormed.{IsWellFormed};
@@ -15,7 +16,8 @@ ghost use Rattle.bp_volume.specs.Told.{Refuses};
 ghost use Rattle.pm_region.specs.Memory.{current_words};
 
 use crate::refusing::no_space;
-use crate::walking::{NewName, bad_path, file_at, new_on};
+use crate::walking::{NewName, bad_path, file_at, new_on, slot_for};
+use bp_cache::DirectoryCache;
 use bp_calls::link_in;
 use bp_free::Parts;
 use bp_path::parse;
@@ -32,8 +34,14 @@ pub(crate) struct LinkEnds<'a> {
 }
 
 /// The file that a path text finds, and the new name that another one spells.
-fn link_ends<'a, R: Region>(region: &R, from: &[u8], to: &'a [u8]) -> Result<LinkEnds<'a>, FsError>
-    requires { IsWellFormed (current_words (R.memory region.now)) }
+fn link_ends<'a, R: Region>(
+    region: &R,
+    cache: &mut DirectoryCache,
+    from: &[u8],
+    to: &'a [u8],
+) -> Result<LinkEnds<'a>, FsError>
+    requires well_formed { IsWellFormed (current_words (R.memory region.now)) }
+    requires right { IsCacheOf (current_words (R.memory region.now)) cache.old }
     ensures found { IfOk result (λ ends. PathFinds (current_words (R.memory region.now)) from.now ends.inode) }
     ensures kind { IfOk result (λ ends. IsFile (current_words (R.memory region.now)) ends.inode) }
     ensures new { IfOk result
@@ -42,11 +50,12 @@ fn link_ends<'a, R: Region>(region: &R, from: &[u8], to: &'a [u8]) -> Result<Lin
         (λ ends. ends.name.slot ≡ empty_slot (current_words (R.memory region.now)) ends.name.dir) }
     ensures refused { IfErr result
         (λ e. Refuses (current_words (R.memory region.now)) (link from.now to.now) (refusal_of e)) }
+    ensures right { IsCacheOf (current_words (R.memory region.now)) cache.new }
 {
     // Both texts are to be paths before anything is sought.
     let path = parse(to).map_err(bad_path)?;
-    let file = file_at(region, from)?;
-    let name = new_on(region, &path)?;
+    let file = file_at(region, cache, from)?;
+    let name = new_on(region, cache, &path)?;
     Ok(LinkEnds {
         inode: file.inumber,
         name,
@@ -56,6 +65,7 @@ fn link_ends<'a, R: Region>(region: &R, from: &[u8], to: &'a [u8]) -> Result<Lin
 /// Gives a file that a path text finds the new name that another one spells.
 fn link_found<R: Region>(
     parts: &mut Parts<R>,
+    cache: &mut DirectoryCache,
     from: &[u8],
     to: &[u8],
     ends: LinkEnds<'_>,
@@ -65,25 +75,33 @@ fn link_found<R: Region>(
     requires kind { IsFile (current_words (R.memory parts.old.region)) ends.inode }
     requires new { FindsNew (current_words (R.memory parts.old.region)) to.now ends.name.dir ends.name.name.now }
     requires slot { ends.name.slot ≡ empty_slot (current_words (R.memory parts.old.region)) ends.name.dir }
+    requires right { IsCacheOf (current_words (R.memory parts.old.region)) cache.old }
     ensures called { CarriesOut (R.memory parts.old.region) (link from.now to.now) (unit_answer result)
         (R.memory parts.new.region) }
     ensures exact { IsExact (current_words (R.memory parts.new.region)) parts.new }
+    ensures right { IsCacheOf (current_words (R.memory parts.new.region)) cache.new }
 {
-    let name = ends.name;
-    link_in(parts, name.dir, name.slot, name.name, ends.inode).map_err(no_space)
+    let new = ends.name;
+    let slot = slot_for(&parts.region, new.dir, new.slot);
+    link_in(parts, new.dir, new.slot, new.name, ends.inode).map_err(no_space)?;
+    cache.enter(new.at(slot));
+    Ok(())
 }
 
 /// What `link` does before its mark.
 pub(crate) fn link_at<R: Region>(
     parts: &mut Parts<R>,
+    cache: &mut DirectoryCache,
     from: &[u8],
     to: &[u8],
 ) -> Result<(), FsError>
-    requires { IsReady (R.memory parts.old.region) parts.old }
+    requires ready { IsReady (R.memory parts.old.region) parts.old }
+    requires right { IsCacheOf (current_words (R.memory parts.old.region)) cache.old }
     ensures called { CarriesOut (R.memory parts.old.region) (link from.now to.now) (unit_answer result)
         (R.memory parts.new.region) }
     ensures exact { IsExact (current_words (R.memory parts.new.region)) parts.new }
+    ensures right { IsCacheOf (current_words (R.memory parts.new.region)) cache.new }
 {
-    let ends = link_ends(&parts.region, from, to)?;
-    link_found(parts, from, to, ends)
+    let ends = link_ends(&parts.region, cache, from, to)?;
+    link_found(parts, cache, from, to, ends)
 }

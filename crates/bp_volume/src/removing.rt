@@ -1,7 +1,9 @@
 //! Names that leave their directories.
 
-ghost use Rattle.std.specs.Prelude.{◌≡◌, IfErr, IfOk, OnOk};
+ghost use Rattle.std.specs.Prelude.{◌≡◌, IfErr, IfOk, OnOk, Some};
+ghost use Rattle.bp_cache.specs.Cache.{IsCacheOf};
 ghost use Rattle.bp_dirs.specs.Names.{name_count};
+ghost use Rattle.bp_layout.specs.Directory.{slot_named};
 ghost use Rattle.bp_layout.specs.Inode.{IsDirectory, IsFile, root_of, size_of};
 ghost use Rattle.bp_layout.specs.WellFormed.{IsWellFormed};
 ghost use Rattle.bp_plain.specs.Calls.Call.{rmdir, unlink};
@@ -14,45 +16,48 @@ ghost use Rattle.bp_volume.specs.Step.{FindsEntry};
 ghost use Rattle.bp_volume.specs.Told.{Refuses};
 ghost use Rattle.pm_region.specs.Memory.{current_words};
 
-use crate::walking::entry_at;
+use crate::walking::{NamedEntry, entry_at};
+use bp_cache::DirectoryCache;
 use bp_calls::remove;
 use bp_dirs::is_empty;
 use bp_free::Parts;
 use bp_inodes::get;
 use bp_layout::Kind;
-use bp_path::FoundEntry;
 use bp_plain::FsError;
 use bp_tree::Tree;
 use pm_region::Region;
 
 /// The entry by which a path text finds a file.
-fn file_entry<R: Region>(region: &R, text: &[u8]) -> Result<FoundEntry, FsError>
-    requires { IsWellFormed (current_words (R.memory region.now)) }
+fn file_entry<'a, R: Region>(
+    region: &R,
+    cache: &mut DirectoryCache,
+    text: &'a [u8],
+) -> Result<NamedEntry<'a>, FsError>
+    requires well_formed { IsWellFormed (current_words (R.memory region.now)) }
+    requires right { IsCacheOf (current_words (R.memory region.now)) cache.old }
     ensures found { IfOk result
         (λ entry. FindsEntry (current_words (R.memory region.now)) text.now entry.dir entry.slot entry.inumber) }
+    ensures named { IfOk result
+        (λ entry. slot_named (current_words (R.memory region.now)) entry.dir entry.name.now ≡ Some entry.slot) }
     ensures file { IfOk result (λ entry. IsFile (current_words (R.memory region.now)) entry.inumber) }
     ensures refused { IfErr result
         (λ e. Refuses (current_words (R.memory region.now)) (unlink text.now) (refusal_of e)) }
+    ensures right { IsCacheOf (current_words (R.memory region.now)) cache.new }
 {
-    let entry = entry_at(region, text, FsError::IsDir)?;
+    let entry = entry_at(region, cache, text, FsError::IsDir)?;
     match get(region, entry.inumber).kind {
         Kind::File => Ok(entry),
         Kind::Dir => Err(FsError::IsDir),
     }
 }
 
-/// The same entry, where it names a directory without names.
-fn without_names<R: Region>(
-    region: &R,
-    text: &[u8],
-    entry: FoundEntry,
-) -> Result<FoundEntry, FsError>
+/// Refuses an entry that names a file, or a directory that has a name.
+fn without_names<R: Region>(region: &R, text: &[u8], entry: &NamedEntry<'_>) -> Result<(), FsError>
     requires well_formed { IsWellFormed (current_words (R.memory region.now)) }
-    requires at { FindsEntry (current_words (R.memory region.now)) text.now entry.dir entry.slot entry.inumber }
-    ensures same { IfOk result (λ empty. empty ≡ entry) }
-    ensures directory { OnOk result (IsDirectory (current_words (R.memory region.now)) entry.inumber) }
+    requires at { FindsEntry (current_words (R.memory region.now)) text.now entry.now.dir entry.now.slot entry.now.inumber }
+    ensures directory { OnOk result (IsDirectory (current_words (R.memory region.now)) entry.now.inumber) }
     ensures empty { let words = current_words (R.memory region.now) in
-        OnOk result (name_count words (root_of words entry.inumber) (size_of words entry.inumber) ≡ 0) }
+        OnOk result (name_count words (root_of words entry.now.inumber) (size_of words entry.now.inumber) ≡ 0) }
     ensures refused { IfErr result
         (λ e. Refuses (current_words (R.memory region.now)) (rmdir text.now) (refusal_of e)) }
 {
@@ -62,7 +67,7 @@ fn without_names<R: Region>(
         Kind::File => Err(FsError::NotDir),
         Kind::Dir => {
             if is_empty(region, tree) {
-                Ok(entry)
+                Ok(())
             } else {
                 Err(FsError::NotEmpty)
             }
@@ -71,40 +76,64 @@ fn without_names<R: Region>(
 }
 
 /// The entry by which a path text finds a directory without names.
-fn empty_entry<R: Region>(region: &R, text: &[u8]) -> Result<FoundEntry, FsError>
-    requires { IsWellFormed (current_words (R.memory region.now)) }
+fn empty_entry<'a, R: Region>(
+    region: &R,
+    cache: &mut DirectoryCache,
+    text: &'a [u8],
+) -> Result<NamedEntry<'a>, FsError>
+    requires well_formed { IsWellFormed (current_words (R.memory region.now)) }
+    requires right { IsCacheOf (current_words (R.memory region.now)) cache.old }
     ensures found { IfOk result
         (λ entry. FindsEntry (current_words (R.memory region.now)) text.now entry.dir entry.slot entry.inumber) }
+    ensures named { IfOk result
+        (λ entry. slot_named (current_words (R.memory region.now)) entry.dir entry.name.now ≡ Some entry.slot) }
     ensures directory { IfOk result (λ entry. IsDirectory (current_words (R.memory region.now)) entry.inumber) }
     ensures empty { let words = current_words (R.memory region.now) in
         IfOk result (λ entry. name_count words (root_of words entry.inumber) (size_of words entry.inumber) ≡ 0) }
     ensures refused { IfErr result
         (λ e. Refuses (current_words (R.memory region.now)) (rmdir text.now) (refusal_of e)) }
+    ensures right { IsCacheOf (current_words (R.memory region.now)) cache.new }
 {
-    let entry = entry_at(region, text, FsError::IsRoot)?;
-    without_names(region, text, entry)
+    let entry = entry_at(region, cache, text, FsError::IsRoot)?;
+    without_names(region, text, &entry)?;
+    Ok(entry)
 }
 
 /// What `unlink` does before its mark.
-pub(crate) fn unlink_at<R: Region>(parts: &mut Parts<R>, text: &[u8]) -> Result<(), FsError>
-    requires { IsReady (R.memory parts.old.region) parts.old }
+pub(crate) fn unlink_at<R: Region>(
+    parts: &mut Parts<R>,
+    cache: &mut DirectoryCache,
+    text: &[u8],
+) -> Result<(), FsError>
+    requires ready { IsReady (R.memory parts.old.region) parts.old }
+    requires right { IsCacheOf (current_words (R.memory parts.old.region)) cache.old }
     ensures called { CarriesOut (R.memory parts.old.region) (unlink text.now) (unit_answer result)
         (R.memory parts.new.region) }
     ensures exact { IsExact (current_words (R.memory parts.new.region)) parts.new }
+    ensures right { IsCacheOf (current_words (R.memory parts.new.region)) cache.new }
 {
-    let entry = file_entry(&parts.region, text)?;
-    remove(parts, entry.dir, entry.slot);
+    let file = file_entry(&parts.region, cache, text)?;
+    remove(parts, file.dir, file.slot);
+    cache.leave(file.at());
     Ok(())
 }
 
 /// What `rmdir` does before its mark.
-pub(crate) fn rmdir_at<R: Region>(parts: &mut Parts<R>, text: &[u8]) -> Result<(), FsError>
-    requires { IsReady (R.memory parts.old.region) parts.old }
+pub(crate) fn rmdir_at<R: Region>(
+    parts: &mut Parts<R>,
+    cache: &mut DirectoryCache,
+    text: &[u8],
+) -> Result<(), FsError>
+    requires ready { IsReady (R.memory parts.old.region) parts.old }
+    requires right { IsCacheOf (current_words (R.memory parts.old.region)) cache.old }
     ensures called { CarriesOut (R.memory parts.old.region) (rmdir text.now) (unit_answer result)
         (R.memory parts.new.region) }
     ensures exact { IsExact (current_words (R.memory parts.new.region)) parts.new }
+    ensures right { IsCacheOf (current_words (R.memory parts.new.region)) cache.new }
 {
-    let entry = empty_entry(&parts.region, text)?;
-    remove(parts, entry.dir, entry.slot);
+    let empty = empty_entry(&parts.region, cache, text)?;
+    remove(parts, empty.dir, empty.slot);
+    cache.leave(empty.at());
+    cache.drop_directory(empty.inumber);
     Ok(())
 }

@@ -1,22 +1,26 @@
 //! Names that move.
 
-ghost use Rattle.std.specs.Prelude.{◌≡◌, ◌≢◌, IfErr, IfOk, OnOk, Some, [], false, option_map};
+ghost use Rattle.std.specs.Prelude.{◌≡◌, ◌≢◌, ◌≤◌, IfErr, IfOk, OnOk, None, Some, [], false, option_map};
+ghost use Rattle.bp_cache.specs.Cache.{IsCacheOf};
 ghost use Rattle.bp_changes.specs.Effects.{CanUnlink};
-ghost use Rattle.bp_layout.specs.Directory.{inumber_at};
+ghost use Rattle.bp_layout.specs.Directory.{empty_slot, inumber_at, slot_named};
+ghost use Rattle.bp_layout.specs.Reached.{IsReached};
 ghost use Rattle.bp_layout.specs.WellFormed.{IsWellFormed};
+ghost use Rattle.bp_layout.specs.Words.{Image};
 ghost use Rattle.bp_plain.specs.Calls.Call.{rename};
 ghost use Rattle.bp_plain.specs.Seen.{refusal_of};
 ghost use Rattle.bp_shapes.specs.Sets.{IsExact};
 ghost use Rattle.bp_volume.specs.Carried.{CarriesOut};
 ghost use Rattle.bp_volume.specs.Ready.{IsReady};
-ghost use Rattle.bp_volume.specs.Renaming.{Allows, AreEnds, FindsEnds, IsMoveOf, MayMove, are_same};
+ghost use Rattle.bp_volume.specs.Renaming.{Allows, AreEnds, FindsEnds, IsMoveOf, IsNewName, MayMove, MovesName, are_same};
 ghost use Rattle.bp_volume.specs.Seen.{unit_answer};
 ghost use Rattle.bp_volume.specs.Step.{IsEntryOn};
 ghost use Rattle.bp_volume.specs.Told.{Refuses, RefusesRename};
 ghost use Rattle.pm_region.specs.Memory.{current_words};
 
 use crate::refusing::no_space;
-use crate::walking::{Target, bad_path, entry_on, target_on};
+use crate::walking::{NamedEntry, Target, bad_path, entry_on, slot_for, target_on};
+use bp_cache::{DirectoryCache, NameAt};
 use bp_dirs::is_empty;
 use bp_free::Parts;
 use bp_inodes::get;
@@ -31,7 +35,7 @@ use pm_region::Region;
 #[derive(Clone, Copy)]
 pub(crate) struct Ends<'a> {
     /// The entry.
-    pub source: FoundEntry,
+    pub source: NamedEntry<'a>,
     /// The new name, and what has it.
     pub target: Target<'a>,
 }
@@ -39,18 +43,22 @@ pub(crate) struct Ends<'a> {
 /// The ends of a rename, where its entry is found. The path of the new name is not to lie below that of the entry.
 fn ends_from<'a, R: Region>(
     region: &R,
+    cache: &mut DirectoryCache,
     from: &Path<'_>,
-    source: FoundEntry,
+    source: NamedEntry<'a>,
     to: &Path<'a>,
 ) -> Result<Ends<'a>, FsError>
     requires well_formed { IsWellFormed (current_words (R.memory region.now)) }
+    requires right { IsCacheOf (current_words (R.memory region.now)) cache.old }
     requires source { IsEntryOn (current_words (R.memory region.now)) from.now source.dir source.slot source.inumber }
+    requires named { slot_named (current_words (R.memory region.now)) source.dir source.name.now ≡ Some source.slot }
     requires below { to.now ≢ [] }
     ensures found { IfOk result (λ ends. AreEnds (current_words (R.memory region.now)) from.now to.now ends) }
     ensures refused { IfErr result
         (λ e. RefusesRename (current_words (R.memory region.now)) from.now to.now (refusal_of e)) }
+    ensures right { IsCacheOf (current_words (R.memory region.now)) cache.new }
 {
-    let target = target_on(region, to)?;
+    let target = target_on(region, cache, to)?;
     if to.is_below(from) {
         Err(FsError::IntoSelf)
     } else {
@@ -59,11 +67,18 @@ fn ends_from<'a, R: Region>(
 }
 
 /// The ends of a rename of one path to another one.
-fn ends_on<'a, R: Region>(region: &R, from: &Path<'_>, to: &Path<'a>) -> Result<Ends<'a>, FsError>
+fn ends_on<'a, R: Region>(
+    region: &R,
+    cache: &mut DirectoryCache,
+    from: &Path<'a>,
+    to: &Path<'a>,
+) -> Result<Ends<'a>, FsError>
     requires well_formed { IsWellFormed (current_words (R.memory region.now)) }
+    requires right { IsCacheOf (current_words (R.memory region.now)) cache.old }
     ensures found { IfOk result (λ ends. AreEnds (current_words (R.memory region.now)) from.now to.now ends) }
     ensures refused { IfErr result
         (λ e. RefusesRename (current_words (R.memory region.now)) from.now to.now (refusal_of e)) }
+    ensures right { IsCacheOf (current_words (R.memory region.now)) cache.new }
 {
     if from.is_root() {
         return Err(FsError::IsRoot);
@@ -71,20 +86,27 @@ fn ends_on<'a, R: Region>(region: &R, from: &Path<'_>, to: &Path<'a>) -> Result<
     if to.is_root() {
         return Err(FsError::IsRoot);
     }
-    let source = entry_on(region, from)?;
-    ends_from(region, from, source, to)
+    let source = entry_on(region, cache, from)?;
+    ends_from(region, cache, from, source, to)
 }
 
 /// The ends of a rename of one path text to another one.
-fn ends_at<'a, R: Region>(region: &R, from: &[u8], to: &'a [u8]) -> Result<Ends<'a>, FsError>
-    requires { IsWellFormed (current_words (R.memory region.now)) }
+fn ends_at<'a, R: Region>(
+    region: &R,
+    cache: &mut DirectoryCache,
+    from: &'a [u8],
+    to: &'a [u8],
+) -> Result<Ends<'a>, FsError>
+    requires well_formed { IsWellFormed (current_words (R.memory region.now)) }
+    requires right { IsCacheOf (current_words (R.memory region.now)) cache.old }
     ensures found { IfOk result (λ ends. FindsEnds (current_words (R.memory region.now)) from.now to.now ends) }
     ensures refused { IfErr result
         (λ e. Refuses (current_words (R.memory region.now)) (rename from.now to.now) (refusal_of e)) }
+    ensures right { IsCacheOf (current_words (R.memory region.now)) cache.new }
 {
     let source = parse(from).map_err(bad_path)?;
     let target = parse(to).map_err(bad_path)?;
-    ends_on(region, &source, &target)
+    ends_on(region, cache, &source, &target)
 }
 
 /// Refuses a rename onto what may not be replaced so: only a file moves onto a file, and only a directory onto a
@@ -175,55 +197,104 @@ fn move_of<'a>(ends: &Ends<'a>) -> Move<'a>
     }
 }
 
+/// The new name, and the slot that it gets: that of the entry that has it; within its directory that of the entry that moves;
+/// and in another one the least empty slot, or one behind the last entry.
+fn target_at<'a, R: Region>(region: &R, ends: &Ends<'a>) -> NameAt<'a>
+    requires well_formed { IsWellFormed (current_words (R.memory region.now)) }
+    requires reached { IsReached (current_words (R.memory region.now)) ends.now.target.dir }
+    requires inode { 1 ≤ ends.now.target.dir }
+    requires empty { let target = ends.now.target in target.there ≡ None
+        → target.empty ≡ empty_slot (current_words (R.memory region.now)) target.dir }
+    ensures { IsNewName (current_words (R.memory region.now)) ends.now result }
+{
+    let target = &ends.target;
+    match target.there {
+        Some(there) => target.at(there.slot),
+        None if target.dir == ends.source.dir => target.at(ends.source.slot),
+        None => target.at(slot_for(region, target.dir, target.empty)),
+    }
+}
+
+/// Tells the cache that a name has moved, onto an entry that is there or where none is.
+fn tell_move(
+    cache: &mut DirectoryCache,
+    from: NameAt<'_>,
+    to: NameAt<'_>,
+    there: Option<FoundEntry>,
+)
+    ensures { (old new : Image) → IsCacheOf old cache.old → MovesName old new from.entry to.entry there
+        → IsCacheOf new cache.new }
+{
+    match there {
+        Some(entry) => {
+            cache.replace(from, to);
+            cache.drop_directory(entry.inumber);
+        }
+        None => cache.rename(from, to),
+    }
+}
+
 /// Moves a name that may move.
 fn move_name<R: Region>(
     parts: &mut Parts<R>,
+    cache: &mut DirectoryCache,
     from: &[u8],
     to: &[u8],
     ends: &Ends<'_>,
 ) -> Result<(), FsError>
     requires ready { IsReady (R.memory parts.old.region) parts.old }
+    requires right { IsCacheOf (current_words (R.memory parts.old.region)) cache.old }
     requires may { MayMove (current_words (R.memory parts.old.region)) from.now to.now ends.now }
     ensures called { CarriesOut (R.memory parts.old.region) (rename from.now to.now) (unit_answer result)
         (R.memory parts.new.region) }
     ensures exact { IsExact (current_words (R.memory parts.new.region)) parts.new }
+    ensures right { IsCacheOf (current_words (R.memory parts.new.region)) cache.new }
 {
     let to_move = move_of(ends);
-    rename_in(parts, &to_move, ends.target.empty).map_err(no_space)
+    let target = target_at(&parts.region, ends);
+    rename_in(parts, &to_move, ends.target.empty).map_err(no_space)?;
+    tell_move(cache, ends.source.at(), target, ends.target.there);
+    Ok(())
 }
 
 /// Moves a name between the ends that were found. A name that is to move onto itself stays, and so does one that is to
 /// move onto another name of its file.
 fn rename_found<R: Region>(
     parts: &mut Parts<R>,
+    cache: &mut DirectoryCache,
     from: &[u8],
     to: &[u8],
     ends: &Ends<'_>,
 ) -> Result<(), FsError>
     requires ready { IsReady (R.memory parts.old.region) parts.old }
+    requires right { IsCacheOf (current_words (R.memory parts.old.region)) cache.old }
     requires found { FindsEnds (current_words (R.memory parts.old.region)) from.now to.now ends.now }
     ensures called { CarriesOut (R.memory parts.old.region) (rename from.now to.now) (unit_answer result)
         (R.memory parts.new.region) }
     ensures exact { IsExact (current_words (R.memory parts.new.region)) parts.new }
+    ensures right { IsCacheOf (current_words (R.memory parts.new.region)) cache.new }
 {
     if are_same(ends) {
         return Ok(());
     }
     may_move(&parts.region, from, to, ends)?;
-    move_name(parts, from, to, ends)
+    move_name(parts, cache, from, to, ends)
 }
 
 /// What `rename` does before its mark.
 pub(crate) fn rename_at<R: Region>(
     parts: &mut Parts<R>,
+    cache: &mut DirectoryCache,
     from: &[u8],
     to: &[u8],
 ) -> Result<(), FsError>
-    requires { IsReady (R.memory parts.old.region) parts.old }
+    requires ready { IsReady (R.memory parts.old.region) parts.old }
+    requires right { IsCacheOf (current_words (R.memory parts.old.region)) cache.old }
     ensures called { CarriesOut (R.memory parts.old.region) (rename from.now to.now) (unit_answer result)
         (R.memory parts.new.region) }
     ensures exact { IsExact (current_words (R.memory parts.new.region)) parts.new }
+    ensures right { IsCacheOf (current_words (R.memory parts.new.region)) cache.new }
 {
-    let ends = ends_at(&parts.region, from, to)?;
-    rename_found(parts, from, to, &ends)
+    let ends = ends_at(&parts.region, cache, from, to)?;
+    rename_found(parts, cache, from, to, &ends)
 }

@@ -1,6 +1,8 @@
 //! Files of another size.
 
 ghost use Rattle.std.specs.Prelude.{◌≡◌};
+ghost use Rattle.bp_cache.specs.Cache.{IsCacheOf};
+ghost use Rattle.bp_cache.specs.Changes.{KeepsAllNames};
 ghost use Rattle.bp_layout.specs.Inode.{IsFile, size_of};
 ghost use Rattle.bp_plain.specs.Calls.Call.{truncate};
 ghost use Rattle.bp_shapes.specs.Sets.{IsExact};
@@ -12,6 +14,7 @@ ghost use Rattle.pm_region.specs.Memory.{current_words};
 
 use crate::refusing::no_space;
 use crate::walking::{FoundFile, file_at};
+use bp_cache::DirectoryCache;
 use bp_free::Parts;
 use bp_plain::FsError;
 use bp_tree::version;
@@ -31,6 +34,7 @@ fn resize<R: Region>(
     ensures called { CarriesOut (R.memory parts.old.region) (truncate text.now size) (unit_answer result)
         (R.memory parts.new.region) }
     ensures exact { IsExact (current_words (R.memory parts.new.region)) parts.new }
+    ensures names { KeepsAllNames (current_words (R.memory parts.old.region)) (current_words (R.memory parts.new.region)) }
 {
     if size > version(&parts.region).greatest_size() {
         return Err(FsError::TooBig);
@@ -44,14 +48,17 @@ fn resize<R: Region>(
 /// What `truncate` does before its mark.
 pub(crate) fn truncate_at<R: Region>(
     parts: &mut Parts<R>,
+    cache: &mut DirectoryCache,
     text: &[u8],
     size: u64,
 ) -> Result<(), FsError>
-    requires { IsReady (R.memory parts.old.region) parts.old }
+    requires ready { IsReady (R.memory parts.old.region) parts.old }
+    requires right { IsCacheOf (current_words (R.memory parts.old.region)) cache.old }
     ensures called { CarriesOut (R.memory parts.old.region) (truncate text.now size) (unit_answer result)
         (R.memory parts.new.region) }
     ensures exact { IsExact (current_words (R.memory parts.new.region)) parts.new }
+    ensures right { IsCacheOf (current_words (R.memory parts.new.region)) cache.new }
 {
-    let file = file_at(&parts.region, text)?;
+    let file = file_at(&parts.region, cache, text)?;
     resize(parts, text, file, size)
 }

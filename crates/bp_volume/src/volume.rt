@@ -1,6 +1,7 @@
 //! The volume.
 
 ghost use Rattle.std.specs.Prelude.{[], ◌*◌, ◌≡◌, ◌⊎◌, ◌≤◌, ◌↔◌, IfErr, IfOk, IsOk, OnErr, OnOk, drop, length};
+ghost use Rattle.bp_cache.specs.Cache.{IsCacheOf};
 ghost use Rattle.bp_layout.specs.Formatted.{IsSized};
 ghost use Rattle.bp_layout.specs.Whole.{HasSpace, IsFileSystem, SameFiles};
 ghost use Rattle.bp_layout.specs.Words.{block_count};
@@ -35,6 +36,7 @@ use crate::sets::Sets;
 use crate::space::Space;
 use crate::upgrading::upgrade_region;
 use crate::writing::write_at;
+use bp_cache::DirectoryCache;
 use bp_free::Parts;
 use bp_layout::{Kind, Listing, Stat};
 use bp_limits::{BLOCK_WORDS, CALL_ROOM, Version};
@@ -50,17 +52,18 @@ use std::marker::Model;
 pub struct Volume<R: Region> {
     parts: Parts<R>,
     pending: Pending,
+    cache: DirectoryCache,
 }
 
 impl<R: Region> Model for Volume<R> {
     ghost use Rattle.pm_region.specs.Memory.{Memory};
-    ghost use Rattle.bp_volume.specs.Volume.{IsVolume};
+    ghost use Rattle.bp_volume.specs.Volume.{IsCachedVolume};
 
     ghost Value = { Memory };
 
     ghost view = { λ v. R.memory v.parts.region };
 
-    ghost invariant = { λ v. IsVolume (R.memory v.parts.region) v.parts v.pending };
+    ghost invariant = { λ v. IsCachedVolume (R.memory v.parts.region) v.parts v.pending v.cache };
 }
 
 impl<R: Region> Volume<R> {
@@ -105,10 +108,13 @@ impl<R: Region> Volume<R> {
         let Ok(sets) = Sets::new(alloc, region.words() / BLOCK_WORDS) else {
             return Err((region, MountFault::Memory));
         };
+        let Ok(cache) = DirectoryCache::new(alloc) else {
+            return Err((region, MountFault::Memory));
+        };
         let mut region = region;
         lay_out(&mut region, version);
         region.drain();
-        match Volume::scanned(region, sets) {
+        match Volume::scanned(region, sets, cache) {
             Ok(volume) => Ok(volume),
             // The stores of a format make a file system of any words.
             Err(_) => unreachable!(),
@@ -133,8 +139,11 @@ impl<R: Region> Volume<R> {
         ensures fault { IfErr result (λ e. (e.1 ≡ MountFault.Memory) ⊎ IsFault (R.memory region).base e.1) }
         ensures exact { IsFileSystem (R.memory region).base → IfErr result (λ e. e.1 ≡ MountFault.Memory) }
     {
-        match Sets::new(alloc, region.words() / BLOCK_WORDS) {
-            Ok(sets) => Volume::scanned(region, sets),
+        let Ok(sets) = Sets::new(alloc, region.words() / BLOCK_WORDS) else {
+            return Err((region, MountFault::Memory));
+        };
+        match DirectoryCache::new(alloc) {
+            Ok(cache) => Volume::scanned(region, sets, cache),
             Err(_) => Err((region, MountFault::Memory)),
         }
     }
@@ -172,6 +181,7 @@ impl<R: Region> Volume<R> {
         ensures err { OnErr result (self.new ≡ self.old) }
     {
         let kept = self.parts.region.crash_to(choice)?;
+        self.cache.clear();
         rescan(&mut self.parts, &mut self.pending);
         Ok(kept)
     }
@@ -206,7 +216,7 @@ impl<R: Region> Volume<R> {
         ensures { FileCall self.old (create path.now) (unit_answer result) self.new }
     {
         self.make_room();
-        let made = create_at(&mut self.parts, path, Kind::File);
+        let made = create_at(&mut self.parts, &mut self.cache, path, Kind::File);
         self.parts.region.mark();
         made
     }
@@ -222,7 +232,7 @@ impl<R: Region> Volume<R> {
         ensures { FileCall self.old (mkdir path.now) (unit_answer result) self.new }
     {
         self.make_room();
-        let made = create_at(&mut self.parts, path, Kind::Dir);
+        let made = create_at(&mut self.parts, &mut self.cache, path, Kind::Dir);
         self.parts.region.mark();
         made
     }
@@ -238,7 +248,7 @@ impl<R: Region> Volume<R> {
         ensures { FileCall self.old (unlink path.now) (unit_answer result) self.new }
     {
         self.make_room();
-        let made = unlink_at(&mut self.parts, path);
+        let made = unlink_at(&mut self.parts, &mut self.cache, path);
         self.parts.region.mark();
         made
     }
@@ -254,7 +264,7 @@ impl<R: Region> Volume<R> {
         ensures { FileCall self.old (rmdir path.now) (unit_answer result) self.new }
     {
         self.make_room();
-        let made = rmdir_at(&mut self.parts, path);
+        let made = rmdir_at(&mut self.parts, &mut self.cache, path);
         self.parts.region.mark();
         made
     }
@@ -273,7 +283,7 @@ impl<R: Region> Volume<R> {
         ensures { FileCall self.old (rename from.now to.now) (unit_answer result) self.new }
     {
         self.make_room();
-        let made = rename_at(&mut self.parts, from, to);
+        let made = rename_at(&mut self.parts, &mut self.cache, from, to);
         self.parts.region.mark();
         made
     }
@@ -290,7 +300,7 @@ impl<R: Region> Volume<R> {
         ensures { FileCall self.old (link from.now to.now) (unit_answer result) self.new }
     {
         self.make_room();
-        let made = link_at(&mut self.parts, from, to);
+        let made = link_at(&mut self.parts, &mut self.cache, from, to);
         self.parts.region.mark();
         made
     }
@@ -309,7 +319,7 @@ impl<R: Region> Volume<R> {
         ensures { FileCall self.old (write path.now off bytes.now) (unit_answer result) self.new }
     {
         self.make_room();
-        let made = write_at(&mut self.parts, path, off, bytes);
+        let made = write_at(&mut self.parts, &mut self.cache, path, off, bytes);
         self.parts.region.mark();
         made
     }
@@ -325,7 +335,7 @@ impl<R: Region> Volume<R> {
         ensures { FileCall self.old (truncate path.now size) (unit_answer result) self.new }
     {
         self.make_room();
-        let made = truncate_at(&mut self.parts, path, size);
+        let made = truncate_at(&mut self.parts, &mut self.cache, path, size);
         self.parts.region.mark();
         made
     }
@@ -345,7 +355,7 @@ impl<R: Region> Volume<R> {
         ensures unread { OnErr result (into.new ≡ into.old) }
     {
         self.make_room();
-        let told = read_at(&self.parts.region, path, off, into);
+        let told = read_at(&self.parts.region, &mut self.cache, path, off, into);
         self.parts.region.mark();
         told
     }
@@ -360,7 +370,7 @@ impl<R: Region> Volume<R> {
         ensures { FileCall self.old (stat path.now) (stat_answer_of result) self.new }
     {
         self.make_room();
-        let told = stat_at(&self.parts.region, path);
+        let told = stat_at(&self.parts.region, &mut self.cache, path);
         self.parts.region.mark();
         told
     }
@@ -374,7 +384,7 @@ impl<R: Region> Volume<R> {
         ensures { FileCall self.old (links path.now) (links_answer result) self.new }
     {
         self.make_room();
-        let told = links_at(&self.parts, path);
+        let told = links_at(&self.parts, &mut self.cache, path);
         self.parts.region.mark();
         told
     }
@@ -388,7 +398,7 @@ impl<R: Region> Volume<R> {
         ensures { FileCall self.old (list path.now) (list_answer_of result) self.new }
     {
         self.make_room();
-        let told = list_at(alloc, &self.parts.region, path);
+        let told = list_at(alloc, &self.parts.region, &mut self.cache, path);
         self.parts.region.mark();
         told
     }
@@ -473,7 +483,7 @@ impl<R: Region> Volume<R> {
     }
 
     /// Makes a volume of a region with an empty log whose image passes a scan.
-    fn scanned(region: R, sets: Sets) -> Result<Volume<R>, (R, MountFault)>
+    fn scanned(region: R, sets: Sets, cache: DirectoryCache) -> Result<Volume<R>, (R, MountFault)>
         requires sized { IsSized (R.memory region).base }
         requires fresh { (R.memory region).events ≡ [] }
         requires roomy { call_room ≤ (R.memory region).capacity }
@@ -482,6 +492,7 @@ impl<R: Region> Volume<R> {
         requires counts { length sets.counts ≡ block_inodes * block_count (R.memory region).base }
         requires frozen { length sets.frozen ≡ block_count (R.memory region).base }
         requires pending { sets.pending ≡ block_inodes * block_count (R.memory region).base }
+        requires right { IsCacheOf (R.memory region).base cache }
         ensures same { IfOk result (λ volume. volume ≡ R.memory region) }
         ensures well_formed { IsOk result ↔ IsFileSystem (R.memory region).base }
         ensures handed_back { IfErr result (λ e. e.0 ≡ region) }
@@ -504,6 +515,7 @@ impl<R: Region> Volume<R> {
                     frozen,
                 },
                 pending,
+                cache,
             }),
             Err(fault) => Err((region, fault)),
         }

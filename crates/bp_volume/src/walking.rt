@@ -1,9 +1,10 @@
 //! Where the path of a call leads.
 
-ghost use Rattle.std.specs.Prelude.{◌≡◌, ◌≢◌, ◌≤◌, IfErr, IfOk, Some, [], length};
+ghost use Rattle.std.specs.Prelude.{◌≡◌, ◌≢◌, ◌≤◌, IfErr, IfOk, Some, [], length, unwrap_or};
+ghost use Rattle.bp_cache.specs.Cache.{IsCacheOf};
 ghost use Rattle.bp_dirs.specs.Spots.{FreeIs, named_slot};
-ghost use Rattle.bp_layout.specs.Directory.{empty_slot, slot_named};
-ghost use Rattle.bp_layout.specs.Inode.{IsFile, size_of};
+ghost use Rattle.bp_layout.specs.Directory.{empty_slot, entry_count, slot_named};
+ghost use Rattle.bp_layout.specs.Inode.{IsDirectory, IsFile, size_of};
 ghost use Rattle.bp_layout.specs.Lookup.{lookup};
 ghost use Rattle.bp_limits.specs.Limits.{max_name};
 ghost use Rattle.bp_layout.specs.Reached.{IsReached};
@@ -17,10 +18,12 @@ ghost use Rattle.bp_volume.specs.Told.{RefusesEntry, RefusesFileAt, RefusesNew, 
 ghost use Rattle.bp_volume.specs.Told.{StopsAtEntry, StopsAtFile, StopsAtNew, StopsWalk};
 ghost use Rattle.pm_region.specs.Memory.{current_words};
 
-use bp_dirs::{Spot, find_or_free, inumber};
+use bp_cache::{DirectoryCache, NameAt};
+use bp_dirs::{Spot, inumber};
 use bp_inodes::{get, tree_of};
 use bp_layout::Kind;
-use bp_path::{BadPath, FoundEntry, Path, WalkFault, parse, walk, walk_parent};
+use bp_limits::ENTRY_SIZE;
+use bp_path::{BadPath, FoundEntry, Path, WalkFault, parse, walk_by, walk_parent_by};
 use bp_plain::FsError;
 use pm_region::Region;
 
@@ -35,6 +38,21 @@ pub(crate) struct NewName<'a> {
     pub slot: Option<u64>,
 }
 
+impl<'a> NewName<'a> {
+    /// The name in the slot that it gets.
+    pub fn at(&self, slot: u64) -> NameAt<'a>
+        ensures dir { result.dir ≡ self.now.dir }
+        ensures name { result.name.now ≡ self.now.name.now }
+        ensures slot { result.slot ≡ slot }
+    {
+        NameAt {
+            dir: self.dir,
+            name: self.name,
+            slot,
+        }
+    }
+}
+
 /// A name in a directory, whether it is there or not.
 #[derive(Clone, Copy)]
 pub(crate) struct Target<'a> {
@@ -46,6 +64,49 @@ pub(crate) struct Target<'a> {
     pub there: Option<FoundEntry>,
     /// Where nothing has it, the least slot of the directory whose entry is empty, None where no entry is.
     pub empty: Option<u64>,
+}
+
+impl<'a> Target<'a> {
+    /// The name in a slot.
+    pub fn at(&self, slot: u64) -> NameAt<'a>
+        ensures dir { result.dir ≡ self.now.dir }
+        ensures name { result.name.now ≡ self.now.name.now }
+        ensures slot { result.slot ≡ slot }
+    {
+        NameAt {
+            dir: self.dir,
+            name: self.name,
+            slot,
+        }
+    }
+}
+
+/// An entry, and the name by which it was found.
+#[derive(Clone, Copy)]
+pub(crate) struct NamedEntry<'a> {
+    /// The number of the inode that it names.
+    pub inumber: u32,
+    /// The directory's inode.
+    pub dir: u32,
+    /// The name.
+    pub name: &'a [u8],
+    /// The slot.
+    pub slot: u64,
+}
+
+impl<'a> NamedEntry<'a> {
+    /// The name in its slot.
+    pub fn at(&self) -> NameAt<'a>
+        ensures dir { result.dir ≡ self.now.dir }
+        ensures name { result.name.now ≡ self.now.name.now }
+        ensures slot { result.slot ≡ self.now.slot }
+    {
+        NameAt {
+            dir: self.dir,
+            name: self.name,
+            slot: self.slot,
+        }
+    }
 }
 
 /// A file that a path finds.
@@ -75,34 +136,52 @@ pub(crate) fn bad_path(_: BadPath) -> FsError
 }
 
 /// The inode at a path.
-pub(crate) fn inode_on<R: Region>(region: &R, path: &Path<'_>) -> Result<u32, FsError>
-    requires { IsWellFormed (current_words (R.memory region.now)) }
+pub(crate) fn inode_on<R: Region>(
+    region: &R,
+    cache: &mut DirectoryCache,
+    path: &Path<'_>,
+) -> Result<u32, FsError>
+    requires well_formed { IsWellFormed (current_words (R.memory region.now)) }
+    requires right { IsCacheOf (current_words (R.memory region.now)) cache.old }
     ensures found { IfOk result (λ i. lookup (current_words (R.memory region.now)) path.now ≡ Some i) }
     ensures stopped { IfErr result (λ e. RefusesWalk (current_words (R.memory region.now)) path.now (refusal_of e)) }
+    ensures right { IsCacheOf (current_words (R.memory region.now)) cache.new }
 {
-    let entry = walk(region, path).map_err(refused)?;
+    let entry = walk_by(region, path, cache).map_err(refused)?;
     Ok(entry.inumber)
 }
 
 /// The inode at a path text.
-pub(crate) fn inode_at<R: Region>(region: &R, text: &[u8]) -> Result<u32, FsError>
-    requires { IsWellFormed (current_words (R.memory region.now)) }
+pub(crate) fn inode_at<R: Region>(
+    region: &R,
+    cache: &mut DirectoryCache,
+    text: &[u8],
+) -> Result<u32, FsError>
+    requires well_formed { IsWellFormed (current_words (R.memory region.now)) }
+    requires right { IsCacheOf (current_words (R.memory region.now)) cache.old }
     ensures found { IfOk result (λ i. PathFinds (current_words (R.memory region.now)) text.now i) }
     ensures stopped { IfErr result (λ e. StopsWalk (current_words (R.memory region.now)) text.now (refusal_of e)) }
+    ensures right { IsCacheOf (current_words (R.memory region.now)) cache.new }
 {
     let path = parse(text).map_err(bad_path)?;
-    inode_on(region, &path)
+    inode_on(region, cache, &path)
 }
 
 /// The file at a path.
-pub(crate) fn file_on<R: Region>(region: &R, path: &Path<'_>) -> Result<FoundFile, FsError>
-    requires { IsWellFormed (current_words (R.memory region.now)) }
+pub(crate) fn file_on<R: Region>(
+    region: &R,
+    cache: &mut DirectoryCache,
+    path: &Path<'_>,
+) -> Result<FoundFile, FsError>
+    requires well_formed { IsWellFormed (current_words (R.memory region.now)) }
+    requires right { IsCacheOf (current_words (R.memory region.now)) cache.old }
     ensures found { IfOk result (λ file. lookup (current_words (R.memory region.now)) path.now ≡ Some file.inumber) }
     ensures kind { IfOk result (λ file. IsFile (current_words (R.memory region.now)) file.inumber) }
     ensures size { IfOk result (λ file. file.size ≡ size_of (current_words (R.memory region.now)) file.inumber) }
     ensures refused { IfErr result (λ e. RefusesFileAt (current_words (R.memory region.now)) path.now (refusal_of e)) }
+    ensures right { IsCacheOf (current_words (R.memory region.now)) cache.new }
 {
-    let i = inode_on(region, path)?;
+    let i = inode_on(region, cache, path)?;
     let inode = get(region, i);
     match inode.kind {
         Kind::File => Ok(FoundFile {
@@ -114,86 +193,142 @@ pub(crate) fn file_on<R: Region>(region: &R, path: &Path<'_>) -> Result<FoundFil
 }
 
 /// The file at a path text.
-pub(crate) fn file_at<R: Region>(region: &R, text: &[u8]) -> Result<FoundFile, FsError>
-    requires { IsWellFormed (current_words (R.memory region.now)) }
+pub(crate) fn file_at<R: Region>(
+    region: &R,
+    cache: &mut DirectoryCache,
+    text: &[u8],
+) -> Result<FoundFile, FsError>
+    requires well_formed { IsWellFormed (current_words (R.memory region.now)) }
+    requires right { IsCacheOf (current_words (R.memory region.now)) cache.old }
     ensures found { IfOk result (λ file. PathFinds (current_words (R.memory region.now)) text.now file.inumber) }
     ensures kind { IfOk result (λ file. IsFile (current_words (R.memory region.now)) file.inumber) }
     ensures size { IfOk result (λ file. file.size ≡ size_of (current_words (R.memory region.now)) file.inumber) }
     ensures refused { IfErr result (λ e. StopsAtFile (current_words (R.memory region.now)) text.now (refusal_of e)) }
+    ensures right { IsCacheOf (current_words (R.memory region.now)) cache.new }
 {
     let path = parse(text).map_err(bad_path)?;
-    file_on(region, &path)
+    file_on(region, cache, &path)
 }
 
 /// The entry at a path below the root directory.
-pub(crate) fn entry_on<R: Region>(region: &R, path: &Path<'_>) -> Result<FoundEntry, FsError>
+pub(crate) fn entry_on<'a, R: Region>(
+    region: &R,
+    cache: &mut DirectoryCache,
+    path: &Path<'a>,
+) -> Result<NamedEntry<'a>, FsError>
     requires well_formed { IsWellFormed (current_words (R.memory region.now)) }
     requires below { path.now ≢ [] }
+    requires right { IsCacheOf (current_words (R.memory region.now)) cache.old }
     ensures found { IfOk result
         (λ entry. IsEntryOn (current_words (R.memory region.now)) path.now entry.dir entry.slot entry.inumber) }
+    ensures named { IfOk result
+        (λ entry. slot_named (current_words (R.memory region.now)) entry.dir entry.name.now ≡ Some entry.slot) }
     ensures refused { IfErr result
         (λ e. (root : Refusal) → RefusesEntry (current_words (R.memory region.now)) path.now root (refusal_of e)) }
+    ensures right { IsCacheOf (current_words (R.memory region.now)) cache.new }
 {
-    walk(region, path).map_err(refused)
+    let entry = walk_by(region, path, cache).map_err(refused)?;
+    Ok(NamedEntry {
+        inumber: entry.inumber,
+        dir: entry.dir,
+        name: path.last(),
+        slot: entry.slot,
+    })
 }
 
 /// The entry by which a path text finds what stands there. The root directory has none: there it is the error `root`.
-pub(crate) fn entry_at<R: Region>(
+pub(crate) fn entry_at<'a, R: Region>(
     region: &R,
-    text: &[u8],
+    cache: &mut DirectoryCache,
+    text: &'a [u8],
     root: FsError,
-) -> Result<FoundEntry, FsError>
-    requires { IsWellFormed (current_words (R.memory region.now)) }
+) -> Result<NamedEntry<'a>, FsError>
+    requires well_formed { IsWellFormed (current_words (R.memory region.now)) }
+    requires right { IsCacheOf (current_words (R.memory region.now)) cache.old }
     ensures found { IfOk result
         (λ entry. FindsEntry (current_words (R.memory region.now)) text.now entry.dir entry.slot entry.inumber) }
+    ensures named { IfOk result
+        (λ entry. slot_named (current_words (R.memory region.now)) entry.dir entry.name.now ≡ Some entry.slot) }
     ensures refused { IfErr result
         (λ e. StopsAtEntry (current_words (R.memory region.now)) text.now (refusal_of root) (refusal_of e)) }
+    ensures right { IsCacheOf (current_words (R.memory region.now)) cache.new }
 {
     let path = parse(text).map_err(bad_path)?;
     if path.is_root() {
         return Err(root);
     }
-    entry_on(region, &path)
+    entry_on(region, cache, &path)
 }
 
 /// Where a directory has a name, or where it has room for it.
-fn spot_of<R: Region>(region: &R, dir: u32, name: &[u8]) -> Spot
+fn spot_of<R: Region>(region: &R, cache: &mut DirectoryCache, dir: u32, name: &[u8]) -> Spot
     requires well_formed { IsWellFormed (current_words (R.memory region.now)) }
     requires reached { IsReached (current_words (R.memory region.now)) dir }
     requires inode { 1 ≤ dir }
+    requires directory { IsDirectory (current_words (R.memory region.now)) dir }
     requires short { length name.now ≤ max_name }
+    requires right { IsCacheOf (current_words (R.memory region.now)) cache.old }
     ensures named { named_slot result ≡ slot_named (current_words (R.memory region.now)) dir name.now }
     ensures free { FreeIs result (empty_slot (current_words (R.memory region.now)) dir) }
+    ensures right { IsCacheOf (current_words (R.memory region.now)) cache.new }
 {
-    find_or_free(region, tree_of(region, dir), name)
+    cache.find_or_free(region, dir, tree_of(region, dir), name)
+}
+
+/// The slot of a name that comes to a directory, given the directory's least empty slot: that one, or the one behind the
+/// last entry where none is empty.
+pub(crate) fn slot_for<R: Region>(region: &R, dir: u32, empty: Option<u64>) -> u64
+    requires well_formed { IsWellFormed (current_words (R.memory region.now)) }
+    requires reached { IsReached (current_words (R.memory region.now)) dir }
+    requires inode { 1 ≤ dir }
+    requires empty { empty ≡ empty_slot (current_words (R.memory region.now)) dir }
+    ensures { let words = current_words (R.memory region.now) in
+        result ≡ unwrap_or (empty_slot words dir) (entry_count words dir) }
+{
+    match empty {
+        Some(slot) => slot,
+        None => tree_of(region, dir).size / ENTRY_SIZE,
+    }
 }
 
 /// The last name of a path below the root directory, which its directory doesn't have yet.
-fn last_name<'a, R: Region>(region: &R, path: &Path<'a>) -> Result<NewName<'a>, FsError>
+fn last_name<'a, R: Region>(
+    region: &R,
+    cache: &mut DirectoryCache,
+    path: &Path<'a>,
+) -> Result<NewName<'a>, FsError>
     requires well_formed { IsWellFormed (current_words (R.memory region.now)) }
     requires below { path.now ≢ [] }
+    requires right { IsCacheOf (current_words (R.memory region.now)) cache.old }
     ensures found { IfOk result (λ new. IsNewOn (current_words (R.memory region.now)) path.now new.dir new.name.now) }
     ensures slot { IfOk result (λ new. new.slot ≡ empty_slot (current_words (R.memory region.now)) new.dir) }
     ensures refused { IfErr result (λ e. RefusesNew (current_words (R.memory region.now)) path.now (refusal_of e)) }
+    ensures right { IsCacheOf (current_words (R.memory region.now)) cache.new }
 {
-    let dir = walk_parent(region, path).map_err(refused)?;
+    let dir = walk_parent_by(region, path, cache).map_err(refused)?;
     let name = path.last();
-    match spot_of(region, dir, name) {
+    match spot_of(region, cache, dir, name) {
         Spot::Named(_) => Err(FsError::Exists),
         Spot::Free(slot) => Ok(NewName { dir, name, slot }),
     }
 }
 
 /// The last name of a path below the root directory, with what has it in its directory.
-pub(crate) fn target_on<'a, R: Region>(region: &R, path: &Path<'a>) -> Result<Target<'a>, FsError>
+pub(crate) fn target_on<'a, R: Region>(
+    region: &R,
+    cache: &mut DirectoryCache,
+    path: &Path<'a>,
+) -> Result<Target<'a>, FsError>
     requires well_formed { IsWellFormed (current_words (R.memory region.now)) }
     requires below { path.now ≢ [] }
+    requires right { IsCacheOf (current_words (R.memory region.now)) cache.old }
     ensures found { IfOk result (λ target. IsTarget (current_words (R.memory region.now)) path.now target) }
     ensures refused { IfErr result (λ e. RefusesParent (current_words (R.memory region.now)) path.now (refusal_of e)) }
+    ensures right { IsCacheOf (current_words (R.memory region.now)) cache.new }
 {
-    let dir = walk_parent(region, path).map_err(refused)?;
+    let dir = walk_parent_by(region, path, cache).map_err(refused)?;
     let name = path.last();
-    match spot_of(region, dir, name) {
+    match spot_of(region, cache, dir, name) {
         Spot::Named(slot) => {
             let entry = FoundEntry {
                 inumber: inumber(region, tree_of(region, dir), slot) as u32,
@@ -217,26 +352,38 @@ pub(crate) fn target_on<'a, R: Region>(region: &R, path: &Path<'a>) -> Result<Ta
 }
 
 /// The directory that is to have a new name at a path, and its name there.
-pub(crate) fn new_on<'a, R: Region>(region: &R, path: &Path<'a>) -> Result<NewName<'a>, FsError>
-    requires { IsWellFormed (current_words (R.memory region.now)) }
+pub(crate) fn new_on<'a, R: Region>(
+    region: &R,
+    cache: &mut DirectoryCache,
+    path: &Path<'a>,
+) -> Result<NewName<'a>, FsError>
+    requires well_formed { IsWellFormed (current_words (R.memory region.now)) }
+    requires right { IsCacheOf (current_words (R.memory region.now)) cache.old }
     ensures found { IfOk result (λ new. IsNewOn (current_words (R.memory region.now)) path.now new.dir new.name.now) }
     ensures slot { IfOk result (λ new. new.slot ≡ empty_slot (current_words (R.memory region.now)) new.dir) }
     ensures refused { IfErr result (λ e. RefusesNew (current_words (R.memory region.now)) path.now (refusal_of e)) }
+    ensures right { IsCacheOf (current_words (R.memory region.now)) cache.new }
 {
     if path.is_root() {
         Err(FsError::Exists)
     } else {
-        last_name(region, path)
+        last_name(region, cache, path)
     }
 }
 
 /// The directory that is to have a new name at a path text, and its name there.
-pub(crate) fn new_name<'a, R: Region>(region: &R, text: &'a [u8]) -> Result<NewName<'a>, FsError>
-    requires { IsWellFormed (current_words (R.memory region.now)) }
+pub(crate) fn new_name<'a, R: Region>(
+    region: &R,
+    cache: &mut DirectoryCache,
+    text: &'a [u8],
+) -> Result<NewName<'a>, FsError>
+    requires well_formed { IsWellFormed (current_words (R.memory region.now)) }
+    requires right { IsCacheOf (current_words (R.memory region.now)) cache.old }
     ensures found { IfOk result (λ new. FindsNew (current_words (R.memory region.now)) text.now new.dir new.name.now) }
     ensures slot { IfOk result (λ new. new.slot ≡ empty_slot (current_words (R.memory region.now)) new.dir) }
     ensures refused { IfErr result (λ e. StopsAtNew (current_words (R.memory region.now)) text.now (refusal_of e)) }
+    ensures right { IsCacheOf (current_words (R.memory region.now)) cache.new }
 {
     let path = parse(text).map_err(bad_path)?;
-    new_on(region, &path)
+    new_on(region, cache, &path)
 }

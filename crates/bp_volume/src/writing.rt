@@ -1,6 +1,8 @@
 //! Bytes into files.
 
 ghost use Rattle.std.specs.Prelude.{◌≤◌, ℕ, IfErr, IfOk, OnOk, length};
+ghost use Rattle.bp_cache.specs.Cache.{IsCacheOf};
+ghost use Rattle.bp_cache.specs.Changes.{KeepsAllNames};
 ghost use Rattle.bp_layout.specs.Inode.{IsFile};
 ghost use Rattle.bp_layout.specs.Formatted.{version_of};
 ghost use Rattle.bp_layout.specs.WellFormed.{IsWellFormed};
@@ -17,6 +19,7 @@ ghost use Rattle.pm_region.specs.Memory.{current_words};
 
 use crate::refusing::no_space;
 use crate::walking::{bad_path, file_on};
+use bp_cache::DirectoryCache;
 use bp_free::Parts;
 use bp_path::parse;
 use bp_plain::FsError;
@@ -25,19 +28,26 @@ use pm_region::Region;
 
 /// The inode of the file at a path text, into which bytes are to be written. More of them than the version writes at once
 /// are too many whatever stands there.
-fn file_for<R: Region>(region: &R, text: &[u8], bytes: &[u8]) -> Result<u32, FsError>
-    requires { IsWellFormed (current_words (R.memory region.now)) }
+fn file_for<R: Region>(
+    region: &R,
+    cache: &mut DirectoryCache,
+    text: &[u8],
+    bytes: &[u8],
+) -> Result<u32, FsError>
+    requires well_formed { IsWellFormed (current_words (R.memory region.now)) }
+    requires right { IsCacheOf (current_words (R.memory region.now)) cache.old }
     ensures found { IfOk result (λ i. PathFinds (current_words (R.memory region.now)) text.now i) }
     ensures kind { IfOk result (λ i. IsFile (current_words (R.memory region.now)) i) }
     ensures short { OnOk result (length bytes.now ≤ greatest_write (version_of (current_words (R.memory region.now)))) }
     ensures refused { IfErr result (λ e. (off : ℕ) → Refuses (current_words (R.memory region.now))
         (write text.now off bytes.now) (refusal_of e)) }
+    ensures right { IsCacheOf (current_words (R.memory region.now)) cache.new }
 {
     let path = parse(text).map_err(bad_path)?;
     if bytes.len() > version(region).greatest_write() {
         return Err(FsError::TooLong);
     }
-    let file = file_on(region, &path)?;
+    let file = file_on(region, cache, &path)?;
     Ok(file.inumber)
 }
 
@@ -56,6 +66,7 @@ fn write_into<R: Region>(
     ensures called { CarriesOut (R.memory parts.old.region) (write text.now off bytes.now) (unit_answer result)
         (R.memory parts.new.region) }
     ensures exact { IsExact (current_words (R.memory parts.new.region)) parts.new }
+    ensures names { KeepsAllNames (current_words (R.memory parts.old.region)) (current_words (R.memory parts.new.region)) }
 {
     if bytes.is_empty() {
         return Ok(());
@@ -69,15 +80,18 @@ fn write_into<R: Region>(
 /// What `write` does before its mark.
 pub(crate) fn write_at<R: Region>(
     parts: &mut Parts<R>,
+    cache: &mut DirectoryCache,
     text: &[u8],
     off: u64,
     bytes: &[u8],
 ) -> Result<(), FsError>
-    requires { IsReady (R.memory parts.old.region) parts.old }
+    requires ready { IsReady (R.memory parts.old.region) parts.old }
+    requires right { IsCacheOf (current_words (R.memory parts.old.region)) cache.old }
     ensures called { CarriesOut (R.memory parts.old.region) (write text.now off bytes.now) (unit_answer result)
         (R.memory parts.new.region) }
     ensures exact { IsExact (current_words (R.memory parts.new.region)) parts.new }
+    ensures right { IsCacheOf (current_words (R.memory parts.new.region)) cache.new }
 {
-    let i = file_for(&parts.region, text, bytes)?;
+    let i = file_for(&parts.region, cache, text, bytes)?;
     write_into(parts, text, i, off, bytes)
 }

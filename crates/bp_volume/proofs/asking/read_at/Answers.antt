@@ -4,7 +4,7 @@ use Rattle.bp_volume.proofs.AskingLaws.{at_reached, read_stops, read_tells}
 use Rattle.bp_volume.proofs.asking.read_at.Goals as goal
 
 pub read-requires-clause-reached : goal.read-requires-clause-reached
-read-requires-clause-reached g c = at_reached _ c.requires c.args.text.now _ c.in_ok-file.ensures.found
+read-requires-clause-reached g c = at_reached _ c.requires.well_formed c.args.text.now _ c.in_ok-file.ensures.found
 
 pub returns-clause-told : goal.returns-clause-told
 returns-clause-told g c = read_tells (current_words (g.R.Region.memory c.args.region.now)) c.args.text.now c.in_ok-file.file.inumber c.in_ok-file.ensures.found c.args.off _ _ c.in_ok-file.ensures.kind c.read.ensures.bytes

@@ -5,17 +5,17 @@ use Rattle.bp_volume.proofs.AskingLaws.{at_reached, at_low, stat_says, stat_stop
 use Rattle.bp_volume.proofs.asking.stat_at.Goals as goal
 
 pub stat-requires-clause-reached : goal.stat-requires-clause-reached
-stat-requires-clause-reached g c = at_reached _ c.requires c.args.text.now _ c.in_ok-i.ensures.found
+stat-requires-clause-reached g c = at_reached _ c.requires.well_formed c.args.text.now _ c.in_ok-i.ensures.found
 
 pub stat-requires-clause-inode : goal.stat-requires-clause-inode
-stat-requires-clause-inode g c = at_low _ c.requires c.args.text.now _ c.in_ok-i.ensures.found
+stat-requires-clause-inode g c = at_low _ c.requires.well_formed c.args.text.now _ c.in_ok-i.ensures.found
 
-pub returns : goal.returns
-returns g c =
+pub returns-clause-told : goal.returns-clause-told
+returns-clause-told g c =
     stat_tells _ c.args.text.now _ c.in_ok-i.ensures.found _
-    (λ tree here stands at. stat_says _ _ tree here stands at (at_low _ c.requires c.args.text.now _ c.in_ok-i.ensures.found) ∙ ap stat_seen (sym c.stat.ensures))
+    (λ tree here stands at. stat_says _ _ tree here stands at (at_low _ c.requires.well_formed c.args.text.now _ c.in_ok-i.ensures.found) ∙ ap stat_seen (sym c.stat.ensures))
 
-pub returns-in_err-i : goal.returns-in_err-i
-returns-in_err-i g c =
+pub returns-in_err-i-clause-told : goal.returns-in_err-i-clause-told
+returns-in_err-i-clause-told g c =
     let p = err_from_is_err_and c.from_residual.result c.from_residual.ensures.1 in
     rw (p.1, p.2) (stat_stops _ c.args.text.now _ c.in_err-i.ensures.stopped)

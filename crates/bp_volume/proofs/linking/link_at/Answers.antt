@@ -4,8 +4,8 @@ use Rattle.bp_volume.specs.Carried.CarriesOut.{unchanged}
 use Rattle.bp_volume.proofs.StepLaws.{refused_steps}
 use Rattle.bp_volume.proofs.linking.link_at.Goals as goal
 
-pub link_ends-requires : goal.link_ends-requires
-link_ends-requires g c = c.requires.well_formed.first
+pub link_ends-requires-clause-well_formed : goal.link_ends-requires-clause-well_formed
+link_ends-requires-clause-well_formed g c = c.requires.ready.well_formed.first
 
 pub returns-in_err-ends-clause-called : goal.returns-in_err-ends-clause-called
 returns-in_err-ends-clause-called g c =

@@ -1,5 +1,5 @@
-use Rattle.std.proofs.Common.{ap}
-use Rattle.std.proofs.lemmas.Result.{MatchResult-weaker, on_err_weaker, on_ok_weaker}
+use Rattle.std.proofs.Common.{◌∙◌, ap}
+use Rattle.std.proofs.lemmas.Result.{MatchResult-weaker, err_from_is_err_and, on_err_weaker}
 use Rattle.bp_calls.proofs.EnteredStands.{linked_shares}
 use Rattle.bp_free.specs.declared.parts.Parts.{Parts}
 use Rattle.bp_layout.specs.Need.Change.{enters}
@@ -7,7 +7,9 @@ use Rattle.bp_layout.specs.Need.Entrant.{linked}
 use Rattle.bp_layout.specs.Thaw.{none_kept}
 use Rattle.bp_layout.proofs.NoSecond.{none_frozen}
 use Rattle.bp_volume.proofs.AskingLaws.{at_reached}
-use Rattle.bp_volume.proofs.ChangeLaws.{carried_or_lacks, lacks_space, performs_call}
+use Rattle.bp_volume.specs.Carried.CarriesOut.{changed}
+use Rattle.bp_volume.proofs.CacheLaws.{linked_enters, on_ok_was}
+use Rattle.bp_volume.proofs.ChangeLaws.{carried_lacks, lacks_space, performs_call}
 use Rattle.bp_volume.proofs.FewBlocks.{few_entered, few_room, performs_room}
 use Rattle.bp_volume.proofs.SharingLaws.{linking_makes, linking_shows}
 use Rattle.bp_volume.proofs.WalkLaws.{reached_at}
@@ -27,16 +29,32 @@ link_in-requires-clause-room g c = λ enough.
     few_room (g.R.Region.memory c.args.parts.now.region) (enters c.args.ends.name.dir linked)
     (few_entered _ c.requires.ready.well_formed.first c.args.ends.name.dir (reached_at _ c.requires.ready.well_formed.first _ c.args.ends.name.dir c.requires.new.new.parent) linked) c.requires.ready.room
 
+pub slot_for-slot-requires-clause-reached : goal.slot_for-slot-requires-clause-reached
+slot_for-slot-requires-clause-reached g c = reached_at _ c.requires.ready.well_formed.first _ c.args.ends.name.dir c.requires.new.new.parent
+
+pub returns-in_err-map_err-clause-called : goal.returns-in_err-map_err-clause-called
+returns-in_err-map_err-clause-called g c =
+    let p = err_from_is_err_and c.from_residual.result c.from_residual.ensures.1 in
+    let makes = linking_makes _ c.args.from.now c.args.to.now c.args.ends.inode c.requires.at c.requires.kind c.args.ends.name.dir c.args.ends.name.name.now c.requires.new in
+    let frozen = none_frozen _ c.requires.ready.well_formed.no_second in
+    rw (p.1, p.2) (carried_lacks _ _ _ c.link_in.result _ c.in_err-map_err.ensures.cases
+    (on_err_weaker c.link_in.result (ap (λ (parts : Parts g.row.R.Denot). g.R.Region.memory parts.region)) c.link_in.ensures.same)
+    (MatchResult-weaker c.link_in.result c.link_in.ensures.refused (λ _ nothing. nothing) (lacks_space _ _ (enters c.args.ends.name.dir linked) makes none_kept frozen)))
+
 pub returns-clause-called : goal.returns-clause-called
 returns-clause-called g c =
     let makes = linking_makes _ c.args.from.now c.args.to.now c.args.ends.inode c.requires.at c.requires.kind c.args.ends.name.dir c.args.ends.name.name.now c.requires.new in
     let frozen = none_frozen _ c.requires.ready.well_formed.no_second in
-    carried_or_lacks _ _ _ c.link_in.result c.map_err.result c.map_err.ensures.cases
-    (on_ok_weaker c.link_in.result (λ performs. performs_call none_kept _ _ _ (enters c.args.ends.name.dir linked) _ c.requires.ready.well_formed frozen makes performs
+    let done = on_ok_was c.link_in.result _ c.in_ok-map_err.ensures.cases c.link_in.ensures.performs in
+    changed (performs_call none_kept _ _ _ (enters c.args.ends.name.dir linked) _ c.requires.ready.well_formed frozen makes done
     (λ links. linking_shows _ c.args.from.now c.args.to.now c.args.ends.inode c.requires.at c.requires.kind c.args.ends.name.dir c.args.ends.name.name.now c.requires.new _
     (linked_shares _ _ c.requires.ready.well_formed.first c.args.ends.name.dir c.args.ends.name.name.now c.args.ends.inode links))
-    (performs_room _ _ _ _ performs
+    (performs_room _ _ _ _ done
     (few_entered _ c.requires.ready.well_formed.first c.args.ends.name.dir (reached_at _ c.requires.ready.well_formed.first _ c.args.ends.name.dir c.requires.new.new.parent) linked) c.requires.ready.room))
-    c.link_in.ensures.performs)
-    (on_err_weaker c.link_in.result (ap (λ (parts : Parts g.row.R.Denot). g.R.Region.memory parts.region)) c.link_in.ensures.same)
-    (MatchResult-weaker c.link_in.result c.link_in.ensures.refused (λ _ nothing. nothing) (lacks_space _ _ (enters c.args.ends.name.dir linked) makes none_kept frozen))
+
+pub returns-clause-right : goal.returns-clause-right
+returns-clause-right g c =
+    let done = on_ok_was c.link_in.result _ c.in_ok-map_err.ensures.cases c.link_in.ensures.performs in
+    c.enter.ensures _ _ c.requires.right
+    (linked_enters _ _ c.requires.ready.well_formed.first c.args.ends.name.dir c.args.ends.name.name.now _
+    (record { dir = c.at.ensures.dir; name_is = c.at.ensures.name; slot = c.at.ensures.slot ∙ c.slot_for-slot.ensures }) c.args.ends.inode done.effect)

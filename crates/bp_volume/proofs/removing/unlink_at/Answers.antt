@@ -8,27 +8,33 @@ use Rattle.bp_volume.specs.Carried.CarriesOut.{changed, unchanged}
 use Rattle.bp_volume.proofs.ChangeLaws.{performs_call}
 use Rattle.bp_volume.proofs.FewBlocks.{performs_room}
 use Rattle.bp_volume.proofs.LeavingLaws.{file_leaves, leaves_few, name_lost, unlink_makes}
+use Rattle.bp_volume.proofs.ToldNames.{name_leaves}
 use Rattle.bp_volume.proofs.StepLaws.{refused_steps}
 use Rattle.bp_volume.proofs.removing.unlink_at.Goals as goal
 
-pub file_entry-requires : goal.file_entry-requires
-file_entry-requires g c = c.requires.well_formed.first
+pub file_entry-requires-clause-well_formed : goal.file_entry-requires-clause-well_formed
+file_entry-requires-clause-well_formed g c = c.requires.ready.well_formed.first
 
 pub remove-requires-clause-mounted : goal.remove-requires-clause-mounted
-remove-requires-clause-mounted g c = record { well_formed = c.requires.well_formed.first; exact = c.requires.exact }
+remove-requires-clause-mounted g c = record { well_formed = c.requires.ready.well_formed.first; exact = c.requires.ready.exact }
 
 pub remove-requires-clause-can : goal.remove-requires-clause-can
-remove-requires-clause-can g c = file_leaves _ c.args.text.now _ _ _ c.in_ok-entry.ensures.found c.in_ok-entry.ensures.file
+remove-requires-clause-can g c = file_leaves _ c.args.text.now _ _ _ c.in_ok-file.ensures.found c.in_ok-file.ensures.file
 
 pub returns-clause-called : goal.returns-clause-called
 returns-clause-called g c =
-    let can = file_leaves _ c.args.text.now _ _ _ c.in_ok-entry.ensures.found c.in_ok-entry.ensures.file in
-    changed (performs_call none_kept _ _ _ (leaves c.in_ok-entry.entry.dir c.in_ok-entry.entry.slot) _ c.requires.well_formed (none_frozen _ c.requires.well_formed.no_second)
-    (unlink_makes _ c.args.text.now _ _ _ c.in_ok-entry.ensures.found c.in_ok-entry.ensures.file) c.remove.ensures.performs
-    (λ removes. name_lost _ c.args.text.now _ _ _ c.in_ok-entry.ensures.found _ (λ map here shows at. unlink_shows _ _ c.requires.well_formed.first _ _ _ can removes here at map shows))
-    (performs_room _ _ _ _ c.remove.ensures.performs (leaves_few _ c.args.text.now _ _ _ c.in_ok-entry.ensures.found c.requires.well_formed.first can) c.requires.room))
+    let can = file_leaves _ c.args.text.now _ _ _ c.in_ok-file.ensures.found c.in_ok-file.ensures.file in
+    changed (performs_call none_kept _ _ _ (leaves c.in_ok-file.file.dir c.in_ok-file.file.slot) _ c.requires.ready.well_formed (none_frozen _ c.requires.ready.well_formed.no_second)
+    (unlink_makes _ c.args.text.now _ _ _ c.in_ok-file.ensures.found c.in_ok-file.ensures.file) c.remove.ensures.performs
+    (λ removes. name_lost _ c.args.text.now _ _ _ c.in_ok-file.ensures.found _ (λ map here shows at. unlink_shows _ _ c.requires.ready.well_formed.first _ _ _ can removes here at map shows))
+    (performs_room _ _ _ _ c.remove.ensures.performs (leaves_few _ c.args.text.now _ _ _ c.in_ok-file.ensures.found c.requires.ready.well_formed.first can) c.requires.ready.room))
 
-pub returns-in_err-entry-clause-called : goal.returns-in_err-entry-clause-called
-returns-in_err-entry-clause-called g c =
+pub returns-in_err-file-clause-called : goal.returns-in_err-file-clause-called
+returns-in_err-file-clause-called g c =
     let p = err_from_is_err_and c.from_residual.result c.from_residual.ensures.1 in
-    rw (p.1, p.2) (unchanged refl (λ tree stands. refused_steps _ tree _ _ (c.in_err-entry.ensures.refused tree stands)))
+    rw (p.1, p.2) (unchanged refl (λ tree stands. refused_steps _ tree _ _ (c.in_err-file.ensures.refused tree stands)))
+
+pub returns-clause-right : goal.returns-clause-right
+returns-clause-right g c =
+    c.leave.ensures _ _ c.file_entry.ensures.right
+    (name_leaves _ _ c.requires.ready.well_formed.first c.in_ok-file.file _ (record { dir = c.at.ensures.dir; name = c.at.ensures.name; slot = c.at.ensures.slot }) (file_leaves _ c.args.text.now _ _ _ c.in_ok-file.ensures.found c.in_ok-file.ensures.file) c.in_ok-file.ensures.named c.remove.ensures.performs.effect)

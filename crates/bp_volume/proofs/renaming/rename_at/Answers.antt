@@ -4,8 +4,8 @@ use Rattle.bp_volume.specs.Carried.CarriesOut.{unchanged}
 use Rattle.bp_volume.proofs.StepLaws.{refused_steps}
 use Rattle.bp_volume.proofs.renaming.rename_at.Goals as goal
 
-pub ends_at-requires : goal.ends_at-requires
-ends_at-requires g c = c.requires.well_formed.first
+pub ends_at-requires-clause-well_formed : goal.ends_at-requires-clause-well_formed
+ends_at-requires-clause-well_formed g c = c.requires.ready.well_formed.first
 
 pub returns-in_err-ends-clause-called : goal.returns-in_err-ends-clause-called
 returns-in_err-ends-clause-called g c =

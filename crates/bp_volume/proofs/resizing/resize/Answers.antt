@@ -11,6 +11,7 @@ use Rattle.bp_limits.specs.Limits.{greatest_size}
 use Rattle.pm_region.specs.Memory.{current_words}
 use Rattle.bp_volume.specs.Carried.CarriesOut.{unchanged}
 use Rattle.bp_volume.proofs.AskingLaws.{at_reached}
+use Rattle.bp_volume.proofs.CacheLaws.{all_kept, file_kept}
 use Rattle.bp_volume.proofs.ChangeLaws.{carried_or_lacks, lacks_space, performs_call}
 use Rattle.bp_volume.proofs.FewBlocks.{few_resized, few_room, performs_room}
 use Rattle.bp_volume.proofs.FileLaws.{truncate_makes, truncate_nothing, truncate_shows, truncate_too_big}
@@ -53,3 +54,14 @@ returns-clause-called g c =
     c.truncate.ensures.performs)
     (on_err_weaker c.truncate.result (ap (λ (parts : Parts g.row.R.Denot). g.R.Region.memory parts.region)) c.truncate.ensures.same)
     (MatchResult-weaker c.truncate.result c.truncate.ensures.refused (λ _ nothing. nothing) (lacks_space _ _ (resizes c.args.file.inumber c.args.size) makes none_kept frozen))
+
+pub returns-clause-names : goal.returns-clause-names
+returns-clause-names g c =
+    file_kept (g.R.Region.memory c.args.parts.now.region) (g.R.Region.memory c.truncate.new.parts.region) c.truncate.result c.requires.ready.well_formed.first c.args.file.inumber (on_ok_weaker c.truncate.result (λ performs. performs.effect.changes) c.truncate.ensures.performs)
+    (on_err_weaker c.truncate.result (ap (λ (parts : Parts g.row.R.Denot). g.R.Region.memory parts.region)) c.truncate.ensures.same)
+
+pub returns-then-size-greatest_size-clause-names : goal.returns-then-size-greatest_size-clause-names
+returns-then-size-greatest_size-clause-names g c = all_kept _
+
+pub returns-then-size-file-clause-names : goal.returns-then-size-file-clause-names
+returns-then-size-file-clause-names g c = all_kept _

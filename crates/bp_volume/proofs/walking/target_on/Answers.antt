@@ -13,7 +13,7 @@ use Rattle.bp_volume.proofs.WalkingLaws.{fault_told, ok_was}
 use Rattle.bp_volume.proofs.walking.target_on.Goals as goal
 
 pub inumber-requires-clause-sound : goal.inumber-requires-clause-sound
-inumber-requires-clause-sound g c = rw (c.tree_of.ensures.root, c.tree_of.ensures.size) (c.requires.well_formed.sound c.in_ok-dir.dir (ok_was _ c.walk_parent.result _ c.in_ok-dir.ensures.cases c.walk_parent.ensures.reached))
+inumber-requires-clause-sound g c = rw (c.tree_of.ensures.root, c.tree_of.ensures.size) (c.requires.well_formed.sound c.in_ok-dir.dir (ok_was _ c.walk_parent_by.result _ c.in_ok-dir.ensures.cases c.walk_parent_by.ensures.reached))
 
 pub inumber-requires-clause-live : goal.inumber-requires-clause-live
 inumber-requires-clause-live g c =
@@ -29,19 +29,19 @@ overflow_cast-entry g c =
     omega (
       arith,
       low_number image c.inumber.result c.requires.well_formed
-          (there image c.inumber.result c.requires.well_formed (named_reached image c.in_ok-dir.dir c.inumber.result c.in-Named.slot c.last-name.result.now (ok_was _ c.walk_parent.result _ c.in_ok-dir.ensures.cases c.walk_parent.ensures.reached) (ok_was _ c.walk_parent.result _ c.in_ok-dir.ensures.cases c.walk_parent.ensures.kind) at is)),
+          (there image c.inumber.result c.requires.well_formed (named_reached image c.in_ok-dir.dir c.inumber.result c.in-Named.slot c.last-name.result.now (ok_was _ c.walk_parent_by.result _ c.in_ok-dir.ensures.cases c.walk_parent_by.ensures.reached) (ok_was _ c.walk_parent_by.result _ c.in_ok-dir.ensures.cases c.walk_parent_by.ensures.kind) at is)),
     )
 
 pub returns-in-Named-clause-found : goal.returns-in-Named-clause-found
 returns-in-Named-clause-found g c =
-    name_taken _ c.args.path.now _ c.requires.below (ok_was _ c.walk_parent.result _ c.in_ok-dir.ensures.cases (c.walk_parent.ensures.lookup (parent_of c.args.path.now) (last_of c.args.path.now) (by_parent c.args.path.now c.requires.below))) (ok_was _ c.walk_parent.result _ c.in_ok-dir.ensures.cases c.walk_parent.ensures.kind)
+    name_taken _ c.args.path.now _ c.requires.below (ok_was _ c.walk_parent_by.result _ c.in_ok-dir.ensures.cases (c.walk_parent_by.ensures.lookup (parent_of c.args.path.now) (last_of c.args.path.now) (by_parent c.args.path.now c.requires.below))) (ok_was _ c.walk_parent_by.result _ c.in_ok-dir.ensures.cases c.walk_parent_by.ensures.kind)
     (c.last-name.ensures.last (parent_of c.args.path.now) (last_of c.args.path.now) (by_parent c.args.path.now c.requires.below)) c.last-name.ensures.name
     _ refl (sym c.spot_of.ensures.named ∙ ap named_slot c.in-Named.is)
     (ap (λ r. inumber_in (current_words (g.R.Region.memory c.args.region.now)) r c.in-Named.slot) (sym c.tree_of.ensures.root) ∙ sym c.inumber.ensures)
 
 pub returns-in-Free-clause-found : goal.returns-in-Free-clause-found
 returns-in-Free-clause-found g c =
-    name_free _ c.args.path.now _ c.requires.below (ok_was _ c.walk_parent.result _ c.in_ok-dir.ensures.cases (c.walk_parent.ensures.lookup (parent_of c.args.path.now) (last_of c.args.path.now) (by_parent c.args.path.now c.requires.below))) (ok_was _ c.walk_parent.result _ c.in_ok-dir.ensures.cases c.walk_parent.ensures.kind)
+    name_free _ c.args.path.now _ c.requires.below (ok_was _ c.walk_parent_by.result _ c.in_ok-dir.ensures.cases (c.walk_parent_by.ensures.lookup (parent_of c.args.path.now) (last_of c.args.path.now) (by_parent c.args.path.now c.requires.below))) (ok_was _ c.walk_parent_by.result _ c.in_ok-dir.ensures.cases c.walk_parent_by.ensures.kind)
     (c.last-name.ensures.last (parent_of c.args.path.now) (last_of c.args.path.now) (by_parent c.args.path.now c.requires.below)) c.last-name.ensures.name
     refl (sym c.spot_of.ensures.named ∙ ap named_slot c.in-Free.is)
     (let P : Spot → Type 0 = λ spot. FreeIs spot (empty_slot (current_words (g.R.Region.memory c.args.region.now)) c.in_ok-dir.dir) in subst P c.in-Free.is c.spot_of.ensures.free)
@@ -49,4 +49,4 @@ returns-in-Free-clause-found g c =
 pub returns-in_err-dir-clause-refused : goal.returns-in_err-dir-clause-refused
 returns-in_err-dir-clause-refused g c =
     let p = err_from_is_err_and c.from_residual.result c.from_residual.ensures.1 in
-    rw (p.1, p.2) (parent_ends _ c.args.path.now _ _ (c.walk_parent.ensures.walked (parent_of c.args.path.now) (last_of c.args.path.now) (by_parent c.args.path.now c.requires.below)) (fault_told c.walk_parent.result _ c.in_err-dir.ensures.cases))
+    rw (p.1, p.2) (parent_ends _ c.args.path.now _ _ (c.walk_parent_by.ensures.walked (parent_of c.args.path.now) (last_of c.args.path.now) (by_parent c.args.path.now c.requires.below)) (fault_told c.walk_parent_by.result _ c.in_err-dir.ensures.cases))

@@ -11,6 +11,7 @@ use Rattle.bp_limits.specs.Limits.{greatest_size}
 use Rattle.pm_region.specs.Memory.{current_words}
 use Rattle.bp_volume.specs.Carried.CarriesOut.{unchanged}
 use Rattle.bp_volume.proofs.AskingLaws.{at_low, at_reached}
+use Rattle.bp_volume.proofs.CacheLaws.{all_kept, file_kept}
 use Rattle.bp_volume.proofs.ChangeLaws.{carried_or_lacks, lacks_space, performs_call}
 use Rattle.bp_volume.proofs.FewBlocks.{few_room, few_writes, performs_room}
 use Rattle.bp_volume.proofs.FileLaws.{short_enough, short_of_size, write_makes, write_nothing, write_shows, write_too_big}
@@ -56,3 +57,14 @@ returns-clause-called g c =
     c.write.ensures.performs)
     (on_err_weaker c.write.result (ap (λ (parts : Parts g.row.R.Denot). g.R.Region.memory parts.region)) c.write.ensures.same)
     (MatchResult-weaker c.write.result c.write.ensures.refused (λ _ nothing. nothing) (lacks_space _ _ (writes c.args.i c.args.off (length c.args.bytes.now)) makes none_kept frozen))
+
+pub returns-clause-names : goal.returns-clause-names
+returns-clause-names g c =
+    file_kept (g.R.Region.memory c.args.parts.now.region) (g.R.Region.memory c.write.new.parts.region) c.write.result c.requires.ready.well_formed.first c.args.i (on_ok_weaker c.write.result (λ performs. performs.effect.changes) c.write.ensures.performs)
+    (on_err_weaker c.write.result (ap (λ (parts : Parts g.row.R.Denot). g.R.Region.memory parts.region)) c.write.ensures.same)
+
+pub returns-then-is_empty-clause-names : goal.returns-then-is_empty-clause-names
+returns-then-is_empty-clause-names g c = all_kept _
+
+pub returns-then-off-greatest_size-clause-names : goal.returns-then-off-greatest_size-clause-names
+returns-then-off-greatest_size-clause-names g c = all_kept _

@@ -8,16 +8,19 @@ pub invariant_of-result : goal.invariant_of-result
 invariant_of-result g c =
     let memory : Memory = g.R.Region.memory c.args.region in
     let blocks : block_count memory.base ≡ block_count (current_words memory) = ap block_count (sym (words_fresh memory c.requires.fresh)) in
-    scanned_volume memory _ _ c.requires.fresh c.requires.roomy (c.in-Ok.ensures.well_formed.0 refl)
-    (record {
-      sets = record {
-        block_room = c.scan.ensures.block_room ∙ c.requires.blocks ∙ blocks;
-        inode_room = c.scan.ensures.inode_room ∙ c.requires.inodes ∙ ap (λ n. 64 * n) blocks;
-        free_blocks = c.in-Ok.ensures.blocks;
-        free_inodes = c.in-Ok.ensures.inodes;
-      };
-      counts = c.in-Ok.ensures.counts;
-      count_room = c.scan.ensures.count_room ∙ c.requires.counts ∙ ap (λ n. 64 * n) blocks;
-      frozen_room = c.requires.frozen ∙ blocks;
-    })
-    (c.scan.ensures.pending ∙ c.requires.pending ∙ ap (λ n. 64 * n) blocks)
+    record {
+      volume = scanned_volume memory _ _ c.requires.fresh c.requires.roomy (c.in-Ok.ensures.well_formed.0 refl)
+          (record {
+            sets = record {
+              block_room = c.scan.ensures.block_room ∙ c.requires.blocks ∙ blocks;
+              inode_room = c.scan.ensures.inode_room ∙ c.requires.inodes ∙ ap (λ n. 64 * n) blocks;
+              free_blocks = c.in-Ok.ensures.blocks;
+              free_inodes = c.in-Ok.ensures.inodes;
+            };
+            counts = c.in-Ok.ensures.counts;
+            count_room = c.scan.ensures.count_room ∙ c.requires.counts ∙ ap (λ n. 64 * n) blocks;
+            frozen_room = c.requires.frozen ∙ blocks;
+          })
+          (c.scan.ensures.pending ∙ c.requires.pending ∙ ap (λ n. 64 * n) blocks);
+      right = rw (words_fresh memory c.requires.fresh) c.requires.right;
+    }

@@ -1,0 +1,101 @@
+-- What a removal and a rename do to the names that the cache of a volume knows.
+use Rattle.std.proofs.Common.{◌≡◌, ℕ, refl, sym, ◌∙◌, ap, subst, Option, None, Some}
+use Rattle.std.specs.Option.{option_map}
+use Rattle.bp_cache.specs.Changes.{NameLeaves}
+use Rattle.bp_cache.specs.declared.name_at.NameAt.{NameAt}
+use Rattle.bp_cache.proofs.EffectLaws.{IsNameAt, carries_move, moves_replace, removes_leave, respells_move}
+use Rattle.bp_changes.specs.Effects.{CanUnlink, RemovesEntry}
+use Rattle.bp_layout.specs.Directory.{Name, inumber_at, name_at, slot_named}
+use Rattle.bp_layout.specs.Inode.{IsDirectory}
+use Rattle.bp_layout.specs.Reached.{IsReached}
+use Rattle.bp_layout.specs.WellFormed.{IsWellFormed}
+use Rattle.bp_layout.specs.Words.{Image}
+use Rattle.bp_layout.proofs.HintLaws.{IsEntryFor, entry_of_slot}
+use Rattle.bp_path.specs.declared.steps.FoundEntry.{FoundEntry}
+use Rattle.bp_rename.specs.CanRename.{CanRename, moved_inode}
+use Rattle.bp_rename.specs.RenamesEntry.{RenamesEntry, new_slot}
+use Rattle.bp_rename.specs.RenamesEntry.RenamesEntry.{onto, within, across}
+use Rattle.bp_rename.specs.declared.moving.Move.{Move}
+use Rattle.bp_rename.proofs.OntoLaws.{onto_can, spelled}
+use Rattle.bp_volume.specs.Renaming.{IsMoveOf, IsNewName, MovesName}
+use Rattle.bp_volume.specs.declared.renaming.Ends.{Ends}
+use Rattle.bp_volume.specs.declared.walking.NamedEntry.{NamedEntry}
+
+-- this is the name by which the entry was found, in its slot
+pub record IsNameOf (entry : NamedEntry) (at : NameAt) : Type 0 where
+  pub dir : at.dir ≡ entry.dir
+  pub name : at.name.now ≡ entry.name.now
+  pub slot : at.slot ≡ entry.slot
+
+-- the entry in the slot that a name has in its directory is spelled so
+slot_spelled : (image : Image) (i s : ℕ) (name : Name) → IsReached image i → IsDirectory image i → slot_named image i name ≡ Some s → name_at image i s ≡ name
+slot_spelled image i s name reached directory named =
+    let was : IsEntryFor image (i, name) s = entry_of_slot image (i, name) s (record { reached = reached; directory = directory; named = named }) in
+    was.spelled
+
+found_at : (image : Image) (entry : NamedEntry) (at : NameAt) → IsNameOf entry at → IsReached image entry.dir → IsDirectory image entry.dir → slot_named image entry.dir entry.name.now ≡ Some entry.slot →
+    IsNameAt image entry.dir entry.slot at
+found_at image entry at is reached directory named = record {
+  dir = is.dir;
+  slot = is.slot;
+  spelled = slot_spelled image entry.dir entry.slot entry.name.now reached directory named ∙ sym is.name;
+}
+
+-- ---- a name goes
+
+pub name_leaves : (old new : Image) → IsWellFormed old → (entry : NamedEntry) (at : NameAt) → IsNameOf entry at → CanUnlink old entry.dir entry.slot (inumber_at old entry.dir entry.slot) →
+    slot_named old entry.dir entry.name.now ≡ Some entry.slot → RemovesEntry old new entry.dir entry.slot → NameLeaves old new at
+name_leaves old new wf entry at is can named removes =
+    removes_leave old new wf entry.dir entry.slot (inumber_at old entry.dir entry.slot) can removes at (found_at old entry at is can.reached can.entry.directory named)
+
+-- ---- a name moves
+
+module _ (old new : Image) (ends : Ends) (named : slot_named old ends.source.dir ends.source.name.now ≡ Some ends.source.slot) (move : Move) (is : IsMoveOf ends move) (can : CanRename old move)
+    (from : NameAt) (source : IsNameOf ends.source from) (to : NameAt) (target : IsNewName old ends to) where
+  reached : IsReached old ends.source.dir
+  reached = subst (IsReached old) is.from_dir can.source
+
+  directory : IsDirectory old ends.source.dir
+  directory = subst (λ d. IsDirectory old d) is.from_dir can.entry.directory
+
+  stood : IsNameAt old move.from_dir move.from_slot from
+  stood =
+      subst (λ d. IsNameAt old d move.from_slot from) (sym is.from_dir)
+      (subst (λ s. IsNameAt old ends.source.dir s from) (sym is.from_slot) (found_at old ends.source from source reached directory named))
+
+  dir : to.dir ≡ move.to_dir
+  dir = target.dir ∙ sym is.to_dir
+
+  name : move.name.now ≡ to.name.now
+  name = is.name ∙ sym target.name
+
+  slots : (there : Option FoundEntry) → ends.target.there ≡ there → move.to_slot ≡ option_map (λ entry. entry.slot) there
+  slots there at = is.to_slot ∙ ap (option_map (λ (entry : FoundEntry). entry.slot)) at
+
+  moves_by : (there : Option FoundEntry) → ends.target.there ≡ there → RenamesEntry move old new → MovesName old new from to there
+  moves_by (Some entry) at (onto r has moves) =
+      let both : ◌≡◌ {A = Option ℕ} (Some entry.slot) (Some r) = sym (slots (Some entry) at) ∙ has in
+      let same : entry.slot ≡ r = cc in
+      let there : IsEntryFor old (move.to_dir, move.name.now) r = entry_of_slot old (move.to_dir, move.name.now) r (record { reached = can.target; directory = can.directory; named = can.slot ∙ has }) in
+      moves_replace old new can.well_formed move.from_dir move.from_slot move.to_dir r (moved_inode old move) (onto_can old move r can has) moves there.entry.not_empty can.outside
+      from to stood (record { dir = dir; slot = target.there entry at ∙ same; spelled = spelled old move r can has ∙ name })
+  moves_by None at (onto r has moves) = let clash : ◌≡◌ {A = Option ℕ} None (Some r) = sym (slots None at) ∙ has in absurd (cc)
+  moves_by (Some entry) at (within none same spells now) = let clash : ◌≡◌ {A = Option ℕ} None (Some entry.slot) = sym none ∙ slots (Some entry) at in absurd (cc)
+  moves_by None at (within none same spells now) =
+      respells_move old new can.well_formed move.from_dir move.from_slot (moved_inode old move) spells
+      from to stood (record {
+        dir = dir ∙ sym same;
+        slot = target.within at (sym is.to_dir ∙ sym same ∙ is.from_dir) ∙ sym is.from_slot;
+        spelled = now ∙ name;
+      })
+  moves_by (Some entry) at (across none other carries now) = let clash : ◌≡◌ {A = Option ℕ} None (Some entry.slot) = sym none ∙ slots (Some entry) at in absurd (cc)
+  moves_by None at (across none other carries now) =
+      carries_move old new can.well_formed move.from_dir move.from_slot move.to_dir (new_slot old move.to_dir) (moved_inode old move) carries can.outside other
+      from to stood (record {
+        dir = dir;
+        slot = target.across at (λ e. other (is.from_dir ∙ sym e ∙ sym is.to_dir)) ∙ ap (new_slot old) (sym is.to_dir);
+        spelled = now ∙ name;
+      })
+
+  pub name_moves : RenamesEntry move old new → MovesName old new from to ends.target.there
+  name_moves = moves_by ends.target.there refl

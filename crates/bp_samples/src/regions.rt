@@ -17,45 +17,18 @@ const TWO_EPOCHS: [Event; 5] = [
     Event::Store { word: 2, value: 4 },
 ];
 
-/// A call of two stores.
-const ONE_CALL: [Event; 3] = [
-    Event::Store { word: 0, value: 1 },
-    Event::Store { word: 1, value: 2 },
-    Event::Mark,
-];
+/// A choice of what a crash keeps of the two epochs, by its moment, its epoch and its mask, and what is left then of words
+/// of 0: `None` where the choice is not right.
+type Crash = (usize, usize, &'static [bool], Option<[u64; 3]>);
 
-/// A log, a choice of what a crash keeps of it, by its moment, its epoch and its mask, and what is left then of words of 0,
-/// with how many calls were made: `None` where the choice is not right. No call is kept.
-type Crash = (
-    &'static [Event],
-    usize,
-    usize,
-    &'static [bool],
-    Option<([u64; 3], usize)>,
-);
-
-/// In the last row a store that is lost stands before one that is kept: then the call of both is not kept.
-const CRASHES: [Crash; 8] = [
-    (
-        &TWO_EPOCHS,
-        5,
-        0,
-        &[false, false, true],
-        Some(([3, 0, 0], 0)),
-    ),
-    (
-        &TWO_EPOCHS,
-        5,
-        0,
-        &[false, true, false],
-        Some(([0, 2, 0], 0)),
-    ),
-    (&TWO_EPOCHS, 5, 1, &[], Some(([3, 2, 0], 0))),
-    (&TWO_EPOCHS, 5, 1, &[true], Some(([3, 2, 4], 0))),
-    (&TWO_EPOCHS, 2, 1, &[], None),
-    (&TWO_EPOCHS, 5, 1, &[true, true], None),
-    (&TWO_EPOCHS, 6, 0, &[], None),
-    (&ONE_CALL, 2, 0, &[false, true], Some(([0, 2, 0], 1))),
+const CRASHES: [Crash; 7] = [
+    (5, 0, &[false, false, true], Some([3, 0, 0])),
+    (5, 0, &[false, true, false], Some([0, 2, 0])),
+    (5, 1, &[], Some([3, 2, 0])),
+    (5, 1, &[true], Some([3, 2, 4])),
+    (2, 1, &[], None),
+    (5, 1, &[true, true], None),
+    (6, 0, &[], None),
 ];
 
 fn chosen(alloc: Global, moment: usize, epoch: usize, mask: &[bool]) -> Result<Choice, AllocError> {
@@ -69,21 +42,18 @@ fn chosen(alloc: Global, moment: usize, epoch: usize, mask: &[bool]) -> Result<C
     Ok(choice)
 }
 
-/// What a crash leaves of three words of 0.
-fn replayed(events: &[Event], choice: &Choice) -> Result<[u64; 3], BadChoice> {
-    let first = replay_word(0, events, choice, 0)?;
-    let second = replay_word(0, events, choice, 1)?;
-    let third = replay_word(0, events, choice, 2)?;
-    Ok([first, second, third])
-}
-
 #[test]
-fn logs_are_replayed(rt: HostRuntime) -> Result<(), Fail> {
-    for (events, moment, epoch, mask, left) in &CRASHES {
+fn replays_of_two_epochs(rt: HostRuntime) -> Result<(), Fail> {
+    for (moment, epoch, mask, left) in &CRASHES {
         let choice = chosen(rt.alloc(), *moment, *epoch, *mask)?;
         match left {
-            Some((words, _)) => assert_eq!(rt; replayed(*events, &choice), Ok(*words)),
-            None => assert_eq!(rt; check_choice(*events, &choice), Err(BadChoice)),
+            Some(words) => {
+                for word in 0..3u32 {
+                    let value = replay_word(0, &TWO_EPOCHS, &choice, word).ok();
+                    assert_eq!(rt; value, Some(words[word as usize]), "{epoch} {word}");
+                }
+            }
+            None => assert_eq!(rt; check_choice(&TWO_EPOCHS, &choice), Err(BadChoice)),
         }
     }
     Ok(())
@@ -220,40 +190,71 @@ fn takes_steps<R: Region, A: Abort>(rt: &A, region: &mut R) {
     }
 }
 
-/// Of three words of 0, with room for the log.
-fn crash_leaves<R: Region, A: Abort>(rt: &A, region: &mut R, crash: &Crash, choice: &Choice) {
-    let (events, _, _, _, left) = crash;
-    follow(region, *events);
-    assert_eq!(rt; region.event_count(), events.len());
+/// Of three words of 0, with room for the two epochs.
+fn crash_leaves<R: Region, A: Abort>(
+    rt: &A,
+    region: &mut R,
+    choice: &Choice,
+    left: Option<[u64; 3]>,
+) {
+    follow(region, &TWO_EPOCHS);
+    assert_eq!(rt; region.event_count(), 5);
     let answer = region.crash_to(choice);
     match left {
-        Some((words, calls)) => {
-            assert_eq!(rt; answer, Ok(Kept { c: 0, n: *calls }));
+        Some(words) => {
+            assert_eq!(rt; answer, Ok(Kept { c: 0, n: 0 }));
             assert_eq!(rt; region.event_count(), 0);
-            assert!(rt; stands_at(region, words, words));
+            assert!(rt; region.words() == 3);
+            for word in 0..3u32 {
+                assert_eq!(rt; region.load(word), words[word as usize]);
+                assert_eq!(rt; region.base_word(word), words[word as usize]);
+            }
         }
         None => {
             assert_eq!(rt; answer, Err(BadChoice));
-            assert_eq!(rt; region.event_count(), events.len());
+            assert_eq!(rt; region.event_count(), 5);
         }
     }
 }
 
+/// A store that a crash loses, before one that it keeps: then the call of both is not kept.
+fn crash_keeps_what_was_written_back<R: Region, A: Abort>(rt: &A, region: &mut R, choice: &Choice) {
+    let events = [
+        Event::Store { word: 0, value: 1 },
+        Event::Store { word: 1, value: 2 },
+        Event::Mark,
+    ];
+    follow(region, &events);
+    assert_eq!(rt; region.crash_to(choice).ok(), Some(Kept { c: 0, n: 1 }));
+    assert_eq!(rt; region.event_count(), 0);
+    assert!(rt; region.words() == 4);
+    assert_eq!(rt; region.load(0), 0);
+    assert_eq!(rt; region.load(1), 2);
+}
+
 #[test]
 fn a_raw_region_crashes(rt: HostRuntime) -> Result<(), Fail> {
-    for crash in &CRASHES {
-        let choice = chosen(rt.alloc(), crash.1, crash.2, crash.3)?;
-        crash_leaves(&rt, &mut RawRegion::new(rt.alloc(), 3, 8)?, crash, &choice);
+    for (moment, epoch, mask, left) in &CRASHES {
+        let choice = chosen(rt.alloc(), *moment, *epoch, *mask)?;
+        crash_leaves(&rt, &mut RawRegion::new(rt.alloc(), 3, 8)?, &choice, *left);
     }
     Ok(())
 }
 
 #[test]
 fn a_list_region_crashes(rt: HostRuntime) -> Result<(), Fail> {
-    for crash in &CRASHES {
-        let choice = chosen(rt.alloc(), crash.1, crash.2, crash.3)?;
-        crash_leaves(&rt, &mut list(rt.alloc(), 3, 8)?, crash, &choice);
+    for (moment, epoch, mask, left) in &CRASHES {
+        let choice = chosen(rt.alloc(), *moment, *epoch, *mask)?;
+        crash_leaves(&rt, &mut list(rt.alloc(), 3, 8)?, &choice, *left);
     }
+    Ok(())
+}
+
+#[test]
+fn both_regions_keep_what_was_written_back(rt: HostRuntime) -> Result<(), Fail> {
+    let choice = chosen(rt.alloc(), 2, 0, &[false, true])?;
+    crash_keeps_what_was_written_back(&rt, &mut RawRegion::new(rt.alloc(), 4, 8)?, &choice);
+    crash_keeps_what_was_written_back(&rt, &mut list(rt.alloc(), 4, 8)?, &choice);
     Ok(())
 }
 

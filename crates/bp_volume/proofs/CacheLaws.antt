@@ -1,5 +1,5 @@
 -- What a call does to the names that a cache of directories knows.
-use Rattle.std.proofs.Common.{◌≡◌, ℕ, refl, sym, ◌∙◌, ap}
+use Rattle.std.proofs.Common.{◌≡◌, ℕ, refl, sym, ◌∙◌}
 use Rattle.std.specs.Prelude.{Result, Ok, Err, MatchResult, OnErr, OnOk, unwrap_or}
 use Rattle.bp_cache.specs.Changes.{KeepsAllNames, NameEnters}
 use Rattle.bp_cache.specs.declared.name_at.NameAt.{NameAt}

@@ -1,5 +1,5 @@
 -- A volume after a call, with what it remembers of its directories.
-use Rattle.std.proofs.Common.{◌≡◌, ℕ, [], ◌∷◌}
+use Rattle.std.proofs.Common.{ℕ, [], ◌∷◌}
 use Rattle.pm_epochs.specs.declared.event.Event.TheVariants.{Mark}
 use Rattle.pm_region.specs.Memory.{Memory, current_words, Adds}
 use Rattle.pm_region.proofs.MemoryLaws.{current_words-adds}

@@ -1,5 +1,5 @@
 -- A new file system is one in its first two blocks, and what stood behind them.
-use Rattle.std.proofs.Common.{◌≡◌, ◌∙◌, ℕ, ◌<◌, ◌≤◌, List, [], ◌∷◌, ◌++◌, ap, arith, length, refl, set}
+use Rattle.std.proofs.Common.{◌≡◌, ◌∙◌, ℕ, ◌≤◌, List, [], ◌∷◌, ◌++◌, ap, arith, length, refl, set}
 use Rattle.std.proofs.lemmas.List.{length-set, set-append_left}
 use Rattle.pm_region.specs.Memory.{Memory, Adds, current_words}
 use Rattle.bp_limits.specs.declared.version.Version.{Version}

@@ -1,9 +1,7 @@
 -- What a removal and a rename do to the names that the cache of a volume knows.
-use Rattle.std.proofs.Common.{◌≡◌, ◌≢◌, ℕ, refl, sym, ◌∙◌, ap, subst, Option, None, Some}
+use Rattle.std.proofs.Common.{◌≡◌, ℕ, refl, sym, ◌∙◌, ap, subst, Option, None, Some}
 use Rattle.std.specs.Option.{option_map}
-use Rattle.bp_cache.specs.Cache.{IsCacheOf}
 use Rattle.bp_cache.specs.Changes.{NameLeaves}
-use Rattle.bp_cache.specs.declared.cache.DirectoryCache.{DirectoryCache}
 use Rattle.bp_cache.specs.declared.name_at.NameAt.{NameAt}
 use Rattle.bp_cache.proofs.EffectLaws.{IsNameAt, carries_move, moves_replace, removes_leave, respells_move}
 use Rattle.bp_changes.specs.Effects.{CanUnlink, RemovesEntry}

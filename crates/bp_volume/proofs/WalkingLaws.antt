@@ -1,5 +1,5 @@
 -- Where the path of a call leads, as its answer tells it.
-use Rattle.std.proofs.Common.{◌≡◌, ◌≢◌, ℕ, [], ◌∷◌, length, true, false, not, ◌&&◌, ◌==◌, Option, None, Some, bytes_eq, refl, sym, ◌∙◌, ap, subst, true≢false}
+use Rattle.std.proofs.Common.{◌≡◌, ◌≢◌, ℕ, [], ◌∷◌, length, true, false, not, ◌&&◌, ◌==◌, Option, None, Some, bytes_eq, refl, sym, ◌∙◌, ap, true≢false}
 use Rattle.std.specs.Prelude.{is_some, is_err, nat_le, Result, Ok, Err, IsErrAnd, MatchResult, IfErr, IfOk}
 use Rattle.std.specs.List.{AllByRecursion, list_all}
 use Rattle.std.proofs.lemmas.Bool.{and_parts, leb-true, eqb-false, not-true}

@@ -19,7 +19,7 @@ use crate::name_at::NameAt;
 use crate::searching::search;
 use bp_dirs::{Finder, Found, Spot, find_entry, find_or_free, inumber};
 use bp_layout::Hints;
-use bp_limits::{BLOCK_ENTRIES, BLOCK_SIZE, ENTRY_SIZE};
+use bp_limits::ENTRY_SIZE;
 use bp_names::Names;
 use bp_tree::Tree;
 use lru::LruCache;
@@ -32,6 +32,10 @@ const KNOWN_NAMES: usize = 256;
 
 /// Of how many large directories something is held at most.
 const HELD_DIRECTORIES: usize = 256;
+
+/// The size in bytes that a directory of 32 entries has. One of no more is searched from its first entry on, which takes no
+/// longer than to recall a name.
+const FEW_SIZE: u64 = 32 * ENTRY_SIZE;
 
 /// The size in bytes that a directory of 64 entries has. One of no more entries is small: it gets no index.
 const SMALL_SIZE: u64 = 64 * ENTRY_SIZE;
@@ -71,8 +75,7 @@ impl DirectoryCache {
         })
     }
 
-    /// What [`Finder::find`] tells of a directory of few blocks. What a search finds in the first of them is not learned,
-    /// since a search reads that one first.
+    /// What [`Finder::find`] tells of a small directory. What a search finds is learned.
     fn find_small<R: Region>(
         &mut self,
         region: &R,
@@ -95,15 +98,13 @@ impl DirectoryCache {
             });
         }
         let found = search(region, tree, name)?;
-        if found.slot >= BLOCK_ENTRIES {
-            self.names.learn(dir, name, found.slot);
-        }
+        self.names.learn(dir, name, found.slot);
         Some(found)
     }
 
-    /// What [`Finder::find`] tells of a directory of more than one block.
+    /// What [`Finder::find`] tells of a directory of more than a few entries.
     #[inline(never)]
-    fn find_in_blocks<R: Region>(
+    fn find_by_memory<R: Region>(
         &mut self,
         region: &R,
         dir: u32,
@@ -258,10 +259,10 @@ impl Finder for DirectoryCache {
 
     /// Where a name stands in a directory: by what is known, by the directory's index, or by a scan.
     fn find<R: Region>(&mut self, region: &R, dir: u32, tree: Tree, name: &[u8]) -> Option<Found> {
-        if tree.size <= BLOCK_SIZE {
+        if tree.size <= FEW_SIZE {
             return find_entry(region, tree, name);
         }
-        self.find_in_blocks(region, dir, tree, name)
+        self.find_by_memory(region, dir, tree, name)
     }
 
     ghost same_references_reflexive = { λ _. tt };

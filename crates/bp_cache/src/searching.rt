@@ -1,4 +1,4 @@
-//! Searches of directories of several blocks.
+//! Searches of larger directories.
 
 ghost use Rattle.std.specs.Prelude.{◌≡◌, ◌≤◌, length, IfSome};
 ghost use Rattle.bp_dirs.specs.Spots.{found_slot};
@@ -11,7 +11,7 @@ use bp_dirs::{Found, Spot, find_or_free, inumber};
 use bp_tree::Tree;
 use pm_region::Region;
 
-/// What [`bp_dirs::find_entry`] tells. That one is left to directories of one block: with a single caller it is compiled into
+/// What [`bp_dirs::find_entry`] tells. That one is left to directories of few entries: with a single caller it is compiled into
 /// the walk, which makes a step of a path a fifth cheaper.
 pub(crate) fn search<R: Region>(region: &R, tree: Tree, name: &[u8]) -> Option<Found>
     requires sound { IsSound (current_words (R.memory region.now)) tree.root tree.size }

@@ -21,8 +21,8 @@ returns-in-Some-clause-right g c = record {
   directories = c.requires.right.directories;
 }
 
-pub returns-then-found-ge-BLOCK_ENTRIES-clause-right : goal.returns-then-found-ge-BLOCK_ENTRIES-clause-right
-returns-then-found-ge-BLOCK_ENTRIES-clause-right g c =
+pub returns-clause-right : goal.returns-clause-right
+returns-clause-right g c =
     let image = current_words (g.R.Region.memory c.args.region.now) in
     let named : slot_named image c.args.dir c.args.name.now ≡ Some c.in_ok-found.found.slot =
     ap₂ (λ r s. slot_named_in image r s c.args.name.now) (sym c.requires.tree.root) (sym c.requires.tree.size) ∙ sym c.in_ok-found.ensures.slot in
@@ -34,11 +34,3 @@ returns-then-found-ge-BLOCK_ENTRIES-clause-right g c =
           c.learn.ensures.learned c.learn.ensures.unlearned;
       directories = c.requires.right.directories;
     }
-
-pub returns-else-found-ge-BLOCK_ENTRIES-clause-right : goal.returns-else-found-ge-BLOCK_ENTRIES-clause-right
-returns-else-found-ge-BLOCK_ENTRIES-clause-right g c = record {
-  names =
-      right-same (current_words (g.R.Region.memory c.args.region.now)) (known_of c.args.self.now.names) (known_of c.hint.new.self) c.requires.right.names
-      c.hint.ensures.same;
-  directories = c.requires.right.directories;
-}

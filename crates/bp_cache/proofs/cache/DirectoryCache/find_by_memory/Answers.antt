@@ -2,7 +2,7 @@ use Rattle.std.proofs.Common.{sym}
 use Rattle.pm_region.specs.Memory.{current_words}
 use Rattle.bp_cache.proofs.CacheLaws.{of_tree}
 use Rattle.bp_cache.proofs.Lists.{held_found}
-use Rattle.bp_cache.proofs.cache.DirectoryCache.find_in_blocks.Goals as goal
+use Rattle.bp_cache.proofs.cache.DirectoryCache.find_by_memory.Goals as goal
 
 pub find-requires-clause-right : goal.find-requires-clause-right
 find-requires-clause-right g c =

@@ -1,7 +1,8 @@
 #!/bin/sh
 # Refuses each allocation of the built program in turn: of 'format', 'check', 'play' and of 'run' with every call. Each run has to end as
-# without a refusal, or with status 8 and no reply; or, where the script lists, with 'err 12 memory' in place of a listing. It needs a
-# C compiler, for a malloc that fails once. It is not part of the gate.
+# without a refusal, or with status 8 and no reply; or, where the script lists, with 'err 12 memory' in place of a listing. The script also
+# searches directories of 40 and of 70 names often, of which a volume remembers names and an index: to lack memory for these shows nowhere.
+# It needs a C compiler, for a malloc that fails once. It is not part of the gate.
 #
 #     refused-memory.sh [PROGRAM]
 set -eu
@@ -32,8 +33,15 @@ void *malloc(size_t size)
 }
 C
 cc -shared -fPIC -O1 -o "$work/refuse.so" "$work/refuse.c" -ldl
-"$bpfs" format "$work/image" --blocks 16 > /dev/null
-printf 'create /a\nmkdir /d\nwrite /a 0 6869\ntruncate /a 5000\nrename /a /d/b\nread /d/b 0 8\nlist /d\nstat /d\nspace\nlog\nstorm 7\ncrash all\nsync\nlist /\n' > "$work/script"
+"$bpfs" format "$work/image" --blocks 64 > /dev/null
+{
+    printf 'mkdir /m\nmkdir /n\n'
+    for i in $(seq 10 49); do echo "create /m/$i"; done
+    for i in $(seq 10 79); do echo "create /n/$i"; done
+    for i in $(seq 20 49); do printf 'stat /m/%s\nstat /n/%s\n' "$i" "$i"; done
+    printf 'unlink /m/40\nunlink /n/40\nrename /m/41 /n/40\nrename /n/41 /n/x\nstat /m/40\nstat /n/40\nstat /n/x\ncreate /n/41\nrmdir /n\n'
+} > "$work/script"
+printf 'create /a\nmkdir /d\nwrite /a 0 6869\ntruncate /a 5000\nrename /a /d/b\nread /d/b 0 8\nlist /d\nstat /d\nspace\nlog\nstorm 7\ncrash all\nsync\nlist /\n' >> "$work/script"
 
 # One run with a call of malloc refused (0: none): its status and its replies.
 run() {
@@ -47,7 +55,7 @@ run() {
 for words in "format g --blocks 8" "check f" "play f --seed 9 --count 200" "run f"; do
     run 0 "$words" "$work/whole"
     same=0 none=0 listed=0 call=1
-    while [ "$call" -le 150 ]; do
+    while [ "$call" -le 250 ]; do
         run "$call" "$words" "$work/told"
         if cmp -s "$work/whole" "$work/told"; then
             same=$((same + 1))
@@ -62,5 +70,5 @@ for words in "format g --blocks 8" "check f" "play f --seed 9 --count 200" "run 
         fi
         call=$((call + 1))
     done
-    echo "bpfs $words: of 150 calls of malloc $none answer 8, $listed a listing with err 12, $same change nothing or never come"
+    echo "bpfs $words: of 250 calls of malloc $none answer 8, $listed a listing with err 12, $same change nothing or never come"
 done

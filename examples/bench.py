@@ -177,9 +177,9 @@ COUNTS = [1000 << k for k in range(7)]
 
 
 def growing(bench):
-    """One case without a line, and one for each number of names."""
+    """One case of one name, behind which the image is saved as behind the others, and one for each number of names."""
     image = bench.image("growth", 16384, ["mkdir /d"])
-    bench.case("none", image)
+    bench.case("one", image, ["create /d/file", "unlink /d/file"])
     for count in COUNTS:
         paths = [f"/d/file-{i:06d}" for i in range(count)]
         bench.case(f"make-remove-{count}", image, [f"{call} {path}" for call in ("create", "unlink") for path in paths])
@@ -192,7 +192,7 @@ def tell_growth(bench, programs, folder, repeat):
     for case in bench.cases:
         ran = [[once(program, case, folder) for program in programs] for _ in range(repeat)]
         taken[case[0]] = [min(it[which][0] for it in ran) for which in (0, 1)]
-    times = [[taken[f"make-remove-{count}"][which] - taken["none"][which] for which in (0, 1)] for count in COUNTS]
+    times = [[taken[f"make-remove-{count}"][which] - taken["one"][which] for which in (0, 1)] for count in COUNTS]
     power = lambda later, first, doublings: f"{math.log2(max(later, 1e-4) / max(first, 1e-4)) / doublings:.2f}"
     for at, count in enumerate(COUNTS):
         cells = [f"{1000 * times[at][it]:.0f} | {power(times[at][it], times[at - 1][it], 1) if at else ''}" for it in (0, 1)]

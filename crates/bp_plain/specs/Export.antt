@@ -1,5 +1,5 @@
 -- A plain file tree as the calls that make it, from the root directory alone.
-use Rattle.std.specs.Prelude.{◌≡◌, ◌≤◌, ◌+◌, ◌-◌, ◌*◌, ◌/◌, ◌==◌, ◌&&◌, ℕ, List, [], ◌∷◌, ◌++◌, length, take, drop, find, flat_map, Bool, true, Option, None, Some, is_some, unwrap_or, nat_lt, if◌then◌else◌}
+use Rattle.std.specs.Prelude.{◌≡◌, ◌≤◌, ◌+◌, ◌-◌, ◌*◌, ◌/◌, ◌==◌, ◌&&◌, ℕ, List, [], ◌∷◌, ◌++◌, length, take, drop, find, flat_map, Bool, true, None, Some, is_some, unwrap_or, nat_lt, if◌then◌else◌}
 use Rattle.std.specs.List.{filter, list_all, range_with_len}
 use Rattle.std.specs.FinMap.{get, entries, keys}
 use Rattle.bp_limits.specs.Limits.{block_size, greatest_size, max_path}

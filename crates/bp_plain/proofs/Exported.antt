@@ -3,7 +3,7 @@ use Rattle.std.proofs.Common.{◌≡◌, ℕ, ◌&&◌, ◌||◌, Bool, true, fa
 use Rattle.std.specs.Option.{unwrap_or}
 use Rattle.std.specs.Ordering.{eq_by_cmp, is_eq}
 use Rattle.std.specs.Cmp.{tied_itself}
-use Rattle.std.specs.FinMap.{get, insert, entries, entries_sorted, get-empty, get-entries, get-insert, keys, same_map}
+use Rattle.std.specs.FinMap.{get, insert, entries, entries_sorted, get-empty, get-entries, get-insert, same_map}
 use Rattle.std.specs.FinMap as finite
 use Rattle.std.specs.FinMap.Entries.{below_all, is_sorted}
 use Rattle.std.specs.FinMap.Entries as entry
@@ -19,7 +19,7 @@ use Rattle.bp_plain.specs.Plain.{alone, bytes_in, linked, paths_of, pairs_with, 
 use Rattle.bp_plain.specs.PlainTree.{Aliases, FileTree, IsPathMap, PathMap, empty_map, empty_tree, is_one, pair_cmp, path_cmp}
 use Rattle.bp_plain.specs.Export.{AllDone, IsExportable, calls_at, export_calls, first_of, path_text, without_snapshot}
 use Rattle.bp_plain.proofs.ExportedNodes.{AllDone-append, link_goes, node_done, placed, stage}
-use Rattle.bp_plain.proofs.FirstPaths.{find_on, find_soon, first_there, has, none_passes, none_there, paths, paths-append}
+use Rattle.bp_plain.proofs.FirstPaths.{first_before, first_there, has, none_passes, none_there, paths}
 use Rattle.bp_plain.proofs.Kernels.{any_path, by_bools, pairs_of-any, paths_of-any, same_by_cmp, tie_paths}
 use Rattle.bp_plain.proofs.PathOrder.{pair_cmp-IsAntisymmetric, pair_cmp-IsTotalOrder, path_cmp-IsAntisymmetric, path_cmp-IsTotalOrder, same_path_from}
 use Rattle.bp_plain.proofs.PathTexts.{parse-path_text}
@@ -288,11 +288,9 @@ module _ (tree : FileTree) (can : IsExportable tree) where
     spells : parse (path_text place) ≡ Some place
     spells = spelled name rest node there
 
-    keys_are : keys now.nodes ≡ paths front ++ place ∷ paths after
-    keys_are = ap paths are ∙ paths-append front ((place, node) ∷ after)
-
-    own_path : find (one place) (keys now.nodes) ≡ None → first_of now place ≡ place
-    own_path none = ap (λ o. unwrap_or o place) none
+    -- the first path of what stands here
+    first_is_of : (o : Option Path) → find (one place) (paths front) ≡ o → first_of now place ≡ unwrap_or o place
+    first_is_of o found = first_before now is front (place, node) after are ∙ ap (λ x. unwrap_or x place) found
 
     own_goes : first_of now place ≡ place → IsFront longer (placed made place node) → Goes (calls_at now (place, node))
     own_goes own next = (
@@ -303,7 +301,7 @@ module _ (tree : FileTree) (can : IsExportable tree) where
 
     dir_goes : node ≡ dir → Goes (calls_at now (place, node))
     dir_goes is_dir =
-        own_goes (own_path (none_passes (one place) (keys now.nodes) (λ q. dir_alone place (there ∙ ap Some is_dir) q)))
+        own_goes (first_is_of None (none_passes (one place) (paths front) (λ q. dir_alone place (there ∙ ap Some is_dir) q)))
         (subst (λ n. IsFront longer (placed made place n)) (sym is_dir) (record {
           nodes = λ q. ap (λ n. get (insert made.nodes place n) q) (sym is_dir) ∙ put_nodes q;
           pairs = dir_pairs is_dir;
@@ -314,18 +312,13 @@ module _ (tree : FileTree) (can : IsExportable tree) where
       where
         go : (o : Option Path) → find (one place) (paths front) ≡ o → Goes (calls_at now (place, node))
         go None none =
-            let found : find (one place) (keys now.nodes) ≡ Some place =
-            ap (find (one place)) keys_are ∙ find_on (one place) (paths front) (place ∷ paths after) none ∙ rw (itself content is_file) refl in
-            own_goes (ap (λ o. unwrap_or o place) found)
+            own_goes (first_is_of None none)
             (subst (λ n. IsFront longer (placed made place n)) (sym is_file) (record {
               nodes = λ q. ap (λ n. get (insert made.nodes place n) q) (sym is_file) ∙ put_nodes q;
               pairs = alone_pairs content is_file (none_there (one place) front none);
             }))
-        go (Some first) found = link_goes_on first (first_there (one place) front first found) later
+        go (Some first) found = link_goes_on first (first_there (one place) front first found) (first_is_of (Some first) found)
           where
-            later : first_of now place ≡ first
-            later = ap (λ o. unwrap_or o place) (ap (find (one place)) keys_are ∙ find_soon (one place) (paths front) (place ∷ paths after) first found)
-
             link_goes_on : (first : Path) → (one place first ≡ true) × (has first front ≡ true) → first_of now place ≡ first → Goes (calls_at now (place, node))
             link_goes_on [] both is_first =
                 let files = is.files place [] both.0 in

@@ -7,7 +7,7 @@ use Rattle.std.specs.FinMap.{get, entries, get-entries, keys}
 use Rattle.std.specs.FinMap.Entries as entry
 use Rattle.bp_layout.specs.Lookup.{Path, Node}
 use Rattle.bp_plain.specs.Export.{first_of}
-use Rattle.bp_plain.specs.PlainTree.{PathMap, is_one, path_cmp}
+use Rattle.bp_plain.specs.PlainTree.{IsPathMap, PathMap, is_one, path_cmp}
 use Rattle.bp_plain.proofs.PathOrder.{path_cmp-IsTotalOrder, same_path_from}
 use Rattle.bp_plain.proofs.PathWays.{Entry}
 
@@ -51,7 +51,7 @@ pub none_passes : (p : Path → Bool) (qs : List Path) → ((q : Path) → p q �
 none_passes p [] none = refl
 none_passes p (q ∷ qs) none = rw (none q) (none_passes p qs none)
 
-pub find_on : (p : Path → Bool) (xs ys : List Path) → find p xs ≡ None → find p (xs ++ ys) ≡ find p ys
+find_on : (p : Path → Bool) (xs ys : List Path) → find p xs ≡ None → find p (xs ++ ys) ≡ find p ys
 find_on p [] ys none = refl
 find_on p (x ∷ xs) ys none = go (p x) refl (λ rest. find_on p xs ys rest)
   where
@@ -59,7 +59,7 @@ find_on p (x ∷ xs) ys none = go (p x) refl (λ rest. find_on p xs ys rest)
     go true at rest = let some : ◌≡◌ {A = Option Path} (Some x) None = rw at at none in absurd (cc)
     go false at rest = rw at (rest (rw at at none))
 
-pub find_soon : (p : Path → Bool) (xs ys : List Path) (q : Path) → find p xs ≡ Some q → find p (xs ++ ys) ≡ Some q
+find_soon : (p : Path → Bool) (xs ys : List Path) (q : Path) → find p xs ≡ Some q → find p (xs ++ ys) ≡ Some q
 find_soon p [] ys q found = let none : ◌≡◌ {A = Option Path} None (Some q) = found in absurd (cc)
 find_soon p (x ∷ xs) ys q found = go (p x) refl (λ rest. find_soon p xs ys q rest)
   where
@@ -67,11 +67,41 @@ find_soon p (x ∷ xs) ys q found = go (p x) refl (λ rest. find_soon p xs ys q 
     go true at rest = rw at (rw at at found)
     go false at rest = rw at (rest (rw at at found))
 
-pub paths-append : (xs ys : List Entry) → paths (xs ++ ys) ≡ paths xs ++ paths ys
+paths-append : (xs ys : List Entry) → paths (xs ++ ys) ≡ paths xs ++ paths ys
 paths-append [] ys = refl
 paths-append (x ∷ xs) ys = ap (λ ps. x.0 ∷ ps) (paths-append xs ys)
 
--- the first path of what stands at a path is there too
+-- The first path of what stands at a path is among those before it, or is the path itself.
+pub first_before : (tree : PathMap) → IsPathMap tree → (front : List Entry) (e : Entry) (after : List Entry) → entries tree.nodes ≡ front ++ e ∷ after
+    → first_of tree e.0 ≡ unwrap_or (find (is_one tree.one e.0) (paths front)) e.0
+first_before tree is front e after are = ap (λ qs. own (find same qs)) keys_are ∙ go (find same (paths front)) refl
+  where
+    same : Path → Bool
+    same = is_one tree.one e.0
+
+    own : Option Path → Path
+    own found = unwrap_or found e.0
+
+    keys_are : keys tree.nodes ≡ paths front ++ e.0 ∷ paths after
+    keys_are = ap paths are ∙ paths-append front (e ∷ after)
+
+    -- where it isn't one with itself, it is one with none
+    alone : same e.0 ≡ false → (q : Path) → same q ≡ false
+    alone none q = at (same q) refl
+      where
+        at : (b : Bool) → same q ≡ b → same q ≡ false
+        at true e_q = absurd (true≢false (sym (is.chain e.0 q e.0 e_q (is.back e.0 q e_q)) ∙ none))
+        at false e_q = e_q
+
+    here : (b : Bool) → same e.0 ≡ b → own (find same (e.0 ∷ paths after)) ≡ e.0
+    here true at = rw at refl
+    here false at = rw at (ap own (none_passes same (paths after) (alone at)))
+
+    go : (o : Option Path) → find same (paths front) ≡ o → own (find same (paths front ++ e.0 ∷ paths after)) ≡ own (find same (paths front))
+    go None at = ap own (find_on same (paths front) (e.0 ∷ paths after) at) ∙ here (same e.0) refl ∙ ap own (sym at)
+    go (Some q) at = ap own (find_soon same (paths front) (e.0 ∷ paths after) q at ∙ sym at)
+
+-- It is there too.
 pub first_of_there : (tree : PathMap) (path : Path) (node : Node) → get tree.nodes path ≡ Some node → (other : Node) × (get tree.nodes (first_of tree path) ≡ Some other)
 first_of_there tree path node at = go (find (is_one tree.one path) (keys tree.nodes)) refl
   where

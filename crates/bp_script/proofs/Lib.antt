@@ -11,3 +11,5 @@ pub mod Rows
 pub mod ServedLines
 pub mod Splitting
 pub mod WrittenPieces
+pub mod CallLines
+pub mod ExportLines

@@ -12,4 +12,5 @@ pub mod ServedLines
 pub mod Splitting
 pub mod WrittenPieces
 pub mod CallLines
+pub mod PathWord
 pub mod ExportLines

@@ -7,7 +7,7 @@ use Rattle.pm_epochs.specs.declared.event.Event.TheVariants.{Store as Set, Barri
 use Rattle.pm_cores.specs.declared.entry.Entry.{Entry}
 use Rattle.pm_cores.specs.declared.entry.Entry.TheVariants.{Load, Store, Barrier}
 use Rattle.pm_cores.specs.declared.entry.Owner.{Owner}
-use Rattle.pm_cores.specs.Log.{barriers_of, IsStore}
+use Rattle.pm_cores.specs.Log.{core_barriers, IsStore}
 use Rattle.pm_cores.specs.Caches.{Caches, owner_at, line_owner, written_by, written_under, after_load, after_store}
 use Rattle.pm_cores.specs.Played.{unmarked, done_by_first, IsPlayed}
 use Rattle.pm_cores.proofs.Lists.{get_pushed}
@@ -66,7 +66,7 @@ played_mark events log played = record { same = unmarked_more events Mark ∙ ap
 pub event_played : (events : List Event) (caches : Caches) (event : Event) → IsPlayed events caches.log → IsPlayed (events ++ event ∷ []) (after_event caches event).log
 unfolding after_store
 event_played events caches (Set word value) played =
-    let frame = store_frame caches 0 (barriers_of 0 caches.log) (line_owner caches word) in
+    let frame = store_frame caches 0 (core_barriers 0 caches.log) (line_owner caches word) in
     rw frame.log (played_store events caches.log word value played)
 event_played events caches Fence played = played_barrier events caches.log played
 event_played events caches Mark played = played_mark events caches.log played

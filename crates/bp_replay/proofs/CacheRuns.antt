@@ -5,15 +5,14 @@ use Rattle.std.specs.List.{slice_get, list_all}
 use Rattle.std.proofs.lemmas.Bool.{cases_Bool, and_parts, and_from, and_cases, eqb-false, ltb-false, le-ltb, not-true, and_left, and_right}
 use Rattle.std.proofs.lemmas.Bool.Decides.{eqb_tells}
 use Rattle.std.proofs.lemmas.Option.{get_or_from_slice_get}
-use Rattle.std.proofs.lemmas.List.{length-set}
 use Rattle.pm_epochs.specs.declared.event.Event.{Event}
 use Rattle.pm_epochs.specs.declared.event.Event.TheVariants.{Store, Barrier, Mark}
 use Rattle.pm_epochs.specs.May.{StoresMay}
 use Rattle.pm_cores.specs.declared.entry.Owner.{Owner}
-use Rattle.pm_cores.specs.Log.{barriers_of}
-use Rattle.pm_cores.specs.Caches.{Caches, owner_at, line_owner, value_at, written, written_by, written_under, after_load, after_store, stored, MayGoBack}
+use Rattle.pm_cores.specs.Log.{core_barriers}
+use Rattle.pm_cores.specs.Caches.{Caches, owner_at, line_owner, with_back, written_by, written_under, after_load, after_store, stored, MayLeave}
 use Rattle.pm_cores.proofs.Calls.{load_frame, store_frame}
-use Rattle.bp_replay.specs.Cache.{is_no_earlier, may_go, may_go_by, after_back, after_event, last_word, by_draw, after_draw, IsLike, IsBelow}
+use Rattle.bp_replay.specs.Cache.{is_no_earlier, may_go, may_go_by, after_back, after_event, last_word, by_draw, after_draw, IsLike, IsWordBelow}
 
 -- ## Which words may go back
 
@@ -51,32 +50,32 @@ under_at [] word owner is = cc
 under_at (one ∷ owners) zero owner is = ap (λ (o : Option Owner). Some o) is
 under_at (one ∷ owners) (suc word) owner is = under_at owners word owner is
 
-may_is : (caches : Caches) (word : ℕ) → MayGoBack caches word → may_go caches word ≡ true
+may_is : (caches : Caches) (word : ℕ) → MayLeave caches word → may_go caches word ≡ true
 may_is caches word may =
     ap (may_go_by caches) (get_or_from_slice_get caches.owners word (Some may.owner) None may.under)
     ∙ all_later may.owner caches.owners may.earliest
 
-is_may : (caches : Caches) (word : ℕ) → may_go caches word ≡ true → MayGoBack caches word
+is_may : (caches : Caches) (word : ℕ) → may_go caches word ≡ true → MayLeave caches word
 is_may caches word is = by (owner_at caches word) refl is
   where
-    by : (it : Option Owner) → owner_at caches word ≡ it → may_go_by caches it ≡ true → MayGoBack caches word
+    by : (it : Option Owner) → owner_at caches word ≡ it → may_go_by caches it ≡ true → MayLeave caches word
     by None at all = cc
     by (Some owner) at all = record { owner = owner; under = under_at caches.owners word owner at; earliest = were_later owner caches.owners all }
 
-pub back_outcome : {T E : Type 0} (old new : Caches) (word : ℕ) (result : Result T E) → (IsOk result ↔ MayGoBack old word) → OnOk result (new ≡ written old word) → OnErr result (new ≡ old) → new ≡ after_back old word
+pub back_outcome : {T E : Type 0} (old new : Caches) (word : ℕ) (result : Result T E) → (IsOk result ↔ MayLeave old word) → OnOk result (new ≡ with_back old word) → OnErr result (new ≡ old) → new ≡ after_back old word
 unfolding after_back
-back_outcome old new word (Ok value) allowed ok err = ok ∙ sym (ap (λ b. cond b (written old word) old) (may_is old word (allowed.0 refl)))
+back_outcome old new word (Ok value) allowed ok err = ok ∙ sym (ap (λ b. cond b (with_back old word) old) (may_is old word (allowed.0 refl)))
 back_outcome old new word (Err error) allowed ok err = elim (cases_Bool (may_go old word)) [
   | inl may ↦ (let no : false ≡ true = allowed.1 (is_may old word may) in cc)
-  | inr not_yet ↦ err ∙ sym (ap (λ b. cond b (written old word) old) not_yet)
+  | inr not_yet ↦ err ∙ sym (ap (λ b. cond b (with_back old word) old) not_yet)
 ]
 
 pub clean_stays : (caches : Caches) (word : ℕ) → is_some (owner_at caches word) ≡ false → caches ≡ after_back caches word
 unfolding after_back
 clean_stays caches word is = by (owner_at caches word) refl is
   where
-    by : (it : Option Owner) → owner_at caches word ≡ it → is_some it ≡ false → caches ≡ cond (may_go caches word) (written caches word) caches
-    by None at none = sym (ap (λ b. cond b (written caches word) caches) (ap (may_go_by caches) at))
+    by : (it : Option Owner) → owner_at caches word ≡ it → is_some it ≡ false → caches ≡ cond (may_go caches word) (with_back caches word) caches
+    by None at none = sym (ap (λ b. cond b (with_back caches word) caches) (ap (may_go_by caches) at))
     by (Some owner) at none = cc
 
 -- ## The caches keep their frame
@@ -86,12 +85,12 @@ unfolding written_by
 written_like begun n caches word None like = like
 written_like begun n caches word (Some owner) like = record {
   cores = like.cores;
-  words = length-set caches.memory word (value_at caches word) ∙ like.words;
+  words = like.words;
   capacity = like.capacity;
   few = like.few;
 }
 
-more_like : (begun : Caches) (n m : ℕ) (caches : Caches) → n ≤ m → IsLike begun n caches → IsLike begun m caches
+pub more_like : (begun : Caches) (n m : ℕ) (caches : Caches) → n ≤ m → IsLike begun n caches → IsLike begun m caches
 more_like begun n m caches most like = record { cores = like.cores; words = like.words; capacity = like.capacity; few = let few = like.few in omega arith }
 
 load_like : (begun : Caches) (n : ℕ) (caches : Caches) (core word : ℕ) → IsLike begun n caches → IsLike begun (n + 1) (after_load caches core word)
@@ -108,7 +107,7 @@ load_like begun n caches core word like =
 store_like : (begun : Caches) (n : ℕ) (caches : Caches) (core word value : ℕ) → IsLike begun n caches → IsLike begun (n + 1) (after_store caches core word value)
 unfolding after_store
 store_like begun n caches core word value like =
-    let frame = store_frame caches core (barriers_of core caches.log) (line_owner caches word) in
+    let frame = store_frame caches core (core_barriers core caches.log) (line_owner caches word) in
     record {
       cores = frame.cores ∙ like.cores;
       words = frame.size ∙ like.words;
@@ -156,7 +155,7 @@ stored_below bound (Store at its ∷ events) (suc i) word value may is = stored_
 stored_below bound (Barrier ∷ events) (suc i) word value may is = stored_below bound events i word value may is
 stored_below bound (Mark ∷ events) (suc i) word value may is = stored_below bound events i word value may is
 
-pub last_below : (bound : ℕ) (last : Option ℕ) (event : Event) → IsBelow bound last → ((word value : ℕ) → event ≡ Store word value → word < bound) → IsBelow bound (last_word last event)
+pub last_below : (bound : ℕ) (last : Option ℕ) (event : Event) → IsWordBelow bound last → ((word value : ℕ) → event ≡ Store word value → word < bound) → IsWordBelow bound (last_word last event)
 last_below bound last (Store word value) below stored = stored word value refl
 last_below bound last Barrier below stored = below
 last_below bound last Mark below stored = below

@@ -5,7 +5,7 @@ use Rattle.pm_epochs.specs.declared.event.Event.{Event}
 use Rattle.pm_epochs.specs.declared.event.Event.TheVariants.{Store, Barrier, Mark}
 use Rattle.pm_epochs.specs.Replay.{PowerCut}
 use Rattle.pm_cores.specs.declared.entry.Owner.{Owner}
-use Rattle.pm_cores.specs.Caches.{Caches, owner_at, written, after_load, after_store, after_barrier}
+use Rattle.pm_cores.specs.Caches.{Caches, owner_at, with_back, after_load, after_store, after_barrier}
 use Rattle.pm_cores.specs.Choice.{cut_at}
 use Rattle.bp_replay.specs.Generator.{next_state, drawn}
 
@@ -24,7 +24,7 @@ may_go caches word = may_go_by caches (owner_at caches word)
 
 -- a word goes back where it is dirty and may go
 unfoldable pub after_back : Caches → ℕ → Caches
-after_back caches word = if may_go caches word then written caches word else caches
+after_back caches word = if may_go caches word then with_back caches word else caches
 
 -- core 0 does an event; a mark is nothing
 abbrev pub after_event : Caches → Event → Caches
@@ -66,11 +66,11 @@ cache_cut begun events seed =
 -- the caches keep their cores, words and room, and their log has at most so many entries
 pub record IsLike (begun : Caches) (entries : ℕ) (caches : Caches) : Type 0 where
   pub cores : caches.cores ≡ begun.cores
-  pub words : length caches.memory ≡ length begun.memory
+  pub words : caches.words ≡ begun.words
   pub capacity : caches.capacity ≡ begun.capacity
   pub few : length caches.log ≤ entries
 
 -- a word, if there is one, is below this bound
-abbrev pub IsBelow : ℕ → Option ℕ → Type 0
-IsBelow bound None = Unit {0}
-IsBelow bound (Some word) = word < bound
+abbrev pub IsWordBelow : ℕ → Option ℕ → Type 0
+IsWordBelow bound None = Unit {0}
+IsWordBelow bound (Some word) = word < bound

@@ -8,8 +8,8 @@ use Rattle.std.proofs.lemmas.List.{get_or-set_same, get_or-set_other, length-set
 use Rattle.pm_cores.specs.declared.entry.Entry.{Entry}
 use Rattle.pm_cores.specs.declared.entry.Entry.TheVariants.{Load, Store, Barrier}
 use Rattle.pm_cores.specs.declared.entry.Owner.{Owner}
-use Rattle.pm_cores.specs.Log.{epoch_at, last_value, IsStore}
-use Rattle.pm_cores.specs.Caches.{Caches, entry_is_of, written, written_by, written_under, owner_at, IsUnder, MayGoBack, IsNeeded}
+use Rattle.pm_cores.specs.Log.{epoch_at, IsStore}
+use Rattle.pm_cores.specs.Caches.{Caches, entry_is_of, with_back, written_by, written_under, owner_at, IsDirtyUnder, MayLeave, IsNeeded}
 use Rattle.pm_cores.specs.Inside.{waits_at, owner_since, owners_of, flags_of, entry_is_back, caches_by, Waits, AreSound, IsLow}
 use Rattle.pm_cores.proofs.Lists.{get_within}
 use Rattle.pm_cores.proofs.Logs.{epoch_at-le}
@@ -17,14 +17,14 @@ use Rattle.pm_cores.proofs.Waiting.{owner_of_waiting, held}
 use Rattle.pm_cores.proofs.Clearing.{IsCleared, cleared_sound}
 use Rattle.pm_cores.proofs.Views.{under_seen, seen_under, owner_seen, map_range_same, get_map_range, under_waits}
 
-module _ (cores : ℕ) (memory values since : List ℕ) (log : List Entry) (epochs : List ℕ) (capacity : ℕ) (sound : AreSound memory values since log epochs) where
+module _ (cores : ℕ) (words : ℕ) (since : List ℕ) (log : List Entry) (epochs : List ℕ) (capacity : ℕ) (sound : AreSound words since log epochs) where
   abbrev caches : Caches
-  caches = caches_by cores memory since log epochs capacity
+  caches = caches_by cores words since log epochs capacity
 
-  module _ (word : ℕ) (owner : Owner) (under : IsUnder caches word owner) (first : ℕ) (low : IsLow since log owner.core first) where
+  module _ (word : ℕ) (owner : Owner) (under : IsDirtyUnder caches word owner) (first : ℕ) (low : IsLow since log owner.core first) where
     pub first_in : first < length log
     first_in =
-        let its = held memory values since log epochs sound word owner (under_seen since log epochs word owner under) in
+        let its = held words since log epochs sound word owner (under_seen since log epochs word owner under) in
         let at = low its.first word its.waits in
         let store = its.waits.store in
         let within = get_within log its.first (Store owner.core word store.value) store.is in
@@ -34,9 +34,9 @@ module _ (cores : ℕ) (memory values since : List ℕ) (log : List Entry) (epoc
       first_epoch : get_or epochs first 0 ≡ epoch_at log owner.core first
       first_epoch = sound.counted first (Store owner.core found.0 found.1.store.value) found.1.store.is
 
-      pub earliest : (other : ℕ) (its : Owner) → IsUnder caches other its → its.core ≡ owner.core → get_or epochs first 0 ≤ its.epoch
+      pub earliest : (other : ℕ) (its : Owner) → IsDirtyUnder caches other its → its.core ≡ owner.core → get_or epochs first 0 ≤ its.epoch
       earliest other its its_under same =
-          let h = held memory values since log epochs sound other its (under_seen since log epochs other its its_under) in
+          let h = held words since log epochs sound other its (under_seen since log epochs other its its_under) in
           let waits = subst (λ c. Waits since log h.first c other) same h.waits in
           let at = low h.first other waits in
           let more = epoch_at-le log owner.core first h.first at in
@@ -45,7 +45,7 @@ module _ (cores : ℕ) (memory values since : List ℕ) (log : List Entry) (epoc
           let is = first_epoch in
           omega arith
 
-      pub may_go : get_or epochs first 0 ≡ owner.epoch → MayGoBack caches word
+      pub may_go : get_or epochs first 0 ≡ owner.epoch → MayLeave caches word
       may_go same = record { owner = owner; under = under; earliest = λ other its its_under core. let least = earliest other its its_under core in omega arith }
 
       pub is_needed : get_or epochs first 0 ≢ owner.epoch → (needs : ℕ) → owner_since log epochs (get_or since needs 0) ≡ Some (record { core = owner.core; epoch = get_or epochs first 0 }) →
@@ -64,15 +64,12 @@ module _ (cores : ℕ) (memory values since : List ℕ) (log : List Entry) (epoc
           }
 
   -- one word goes back
-  module _ (word : ℕ) (within : word < length memory) (may : MayGoBack caches word) where
+  module _ (word : ℕ) (within : word < words) (may : MayLeave caches word) where
     its_held : (get_or since word 0 ≢ 0)
     its_held zero_is =
-        let h = held memory values since log epochs sound word may.owner (under_seen since log epochs word may.owner may.under) in
+        let h = held words since log epochs sound word may.owner (under_seen since log epochs word may.owner may.under) in
         let is = h.since_is in
         omega arith
-
-    abbrev memory2 : List ℕ
-    memory2 = set memory word (get_or values word 0)
 
     abbrev since2 : List ℕ
     since2 = set since word 0
@@ -83,41 +80,36 @@ module _ (cores : ℕ) (memory values since : List ℕ) (log : List Entry) (epoc
     in_since : word < length since
     in_since = let size = sound.as_many_since in omega arith
 
-    pub cleared : IsCleared memory values since memory2 since2 gone
+    pub cleared : IsCleared since since2 gone
     cleared = record {
-      memory_size = length-set memory word (get_or values word 0);
       since_size = length-set since word 0;
       since_is = λ other. elim (eqb_tells other word) [
         | inl same ↦ rw (same.0, same.1) (get_or-set_same since word 0 0 in_since)
         | inr differ ↦ rw differ.0 (get_or-set_other since word other 0 0 differ.1)
-      ];
-      memory_is = λ other. elim (eqb_tells other word) [
-        | inl same ↦ rw (same.0, same.1) (get_or-set_same memory word (get_or values word 0) 0 within)
-        | inr differ ↦ rw differ.0 (get_or-set_other memory word other (get_or values word 0) 0 differ.1)
       ];
     }
 
     pub one_dirty : (other : ℕ) → gone other ≡ true → (first : ℕ) × (get_or since other 0 ≡ suc first)
     one_dirty other is =
         let same = eqb-true other word is in
-        let h = held memory values since log epochs sound word may.owner (under_seen since log epochs word may.owner may.under) in
+        let h = held words since log epochs sound word may.owner (under_seen since log epochs word may.owner may.under) in
         (h.first, ap (λ n. get_or since n 0) same ∙ h.since_is)
 
     pub one_closed : (place core other later its_core : ℕ) → Waits since log place core other → Waits since log later core its_core → epoch_at log core place < epoch_at log core later → gone its_core ≡ true → gone other ≡ true
     one_closed place core other later its_word waits its_waits less is =
         let same = eqb-true its_word word is in
         let here : Waits since log later core word = subst (λ n. Waits since log later core n) same its_waits in
-        let own = owner_of_waiting memory values since log epochs sound later core word here in
+        let own = owner_of_waiting words since log epochs sound later core word here in
         let owner_is : Some (record { core = core; epoch = epoch_at log core later }) ≡ Some may.owner = sym own ∙ under_seen since log epochs word may.owner may.under in
         let its : Owner = record { core = core; epoch = epoch_at log core later } in
         let one : its ≡ may.owner = cc in
         let core_is : core ≡ may.owner.core = ap (λ (o : Owner). o.core) one in
         let epoch_is : epoch_at log core later ≡ may.owner.epoch = ap (λ (o : Owner). o.epoch) one in
-        let most = may.earliest other (record { core = core; epoch = epoch_at log core place }) (under_waits memory values since log epochs sound core word place core other waits) core_is in
+        let most = may.earliest other (record { core = core; epoch = epoch_at log core place }) (under_waits words since log epochs sound core word place core other waits) core_is in
         absurd (omega arith)
 
-    pub written_sound : AreSound memory2 values since2 log epochs
-    written_sound = cleared_sound memory values since log epochs memory2 since2 gone sound cleared one_dirty one_closed
+    pub written_sound : AreSound words since2 log epochs
+    written_sound = cleared_sound words since log epochs since2 gone sound cleared one_dirty one_closed
 
     map_set : (f : ℕ → Option Owner) (xs : List ℕ) (i y : ℕ) → map f (set xs i y) ≡ set (map f xs) i (f y)
     map_set f [] i y = refl
@@ -134,7 +126,7 @@ module _ (cores : ℕ) (memory values since : List ℕ) (log : List Entry) (epoc
           ap (λ n. not (waits_at n place)) zero_is ∙ sym (elim (cases_Bool (waits_at (get_or since at 0) place)) [
             | inl waits ↦
                 let store : IsStore log place core at = record { value = value; is = is } in
-                let own = owner_of_waiting memory values since log epochs sound place core at (record { store = store; waits = waits }) in
+                let own = owner_of_waiting words since log epochs sound place core at (record { store = store; waits = waits }) in
                 let here = ap (λ n. owner_since log epochs (get_or since n 0)) (sym same.1) in
                 let owner_is : Some (record { core = core; epoch = epoch_at log core place }) ≡ Some may.owner = sym own ∙ sym here ∙ under_seen since log epochs word may.owner may.under in
                 let its : Owner = record { core = core; epoch = epoch_at log core place } in
@@ -158,12 +150,7 @@ module _ (cores : ℕ) (memory values since : List ℕ) (log : List Entry) (epoc
     written_owner : owner_at caches word ≡ Some may.owner
     written_owner = owner_seen since log epochs word ∙ under_seen since log epochs word may.owner may.under
 
-    value_is : get_or values word 0 ≡ last_value (get_or memory word 0) log word
-    value_is =
-        let h = held memory values since log epochs sound word may.owner (under_seen since log epochs word may.owner may.under) in
-        sym (sound.value word h.first (get_or memory word 0) h.since_is)
-
-    by_owner : caches_by cores memory2 since2 log epochs capacity ≡ written_by caches word may.owner
+    by_owner : caches_by cores words since2 log epochs capacity ≡ written_by caches word may.owner
     unfolding written_by
     by_owner =
         let owners_are : owners_of since2 log epochs ≡ set (owners_of since log epochs) word None = map_set (owner_since log epochs) since word 0 in
@@ -172,7 +159,7 @@ module _ (cores : ℕ) (memory values since : List ℕ) (log : List Entry) (epoc
         (λ place. get_or (flags_of since log) place false || entry_is_of may.owner word log place (slice_get log place)) (length log)
         (λ place low. written_flag place (slice_get log place) refl
         ∙ ap (λ b. b || entry_is_of may.owner word log place (slice_get log place)) (sym (get_map_range (λ at. entry_is_back since at (slice_get log at)) (length log) place false low))) in
-        rw (value_is, owners_are, flags_are) refl
+        rw (owners_are, flags_are) refl
 
-    pub written_seen : caches_by cores memory2 since2 log epochs capacity ≡ written caches word
+    pub written_seen : caches_by cores words since2 log epochs capacity ≡ with_back caches word
     written_seen = by_owner ∙ sym (ap (written_under caches word) written_owner)

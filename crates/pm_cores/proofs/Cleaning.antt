@@ -56,17 +56,14 @@ zero_at (suc n) zero = refl
 zero_at (suc n) (suc word) = zero_at n word
 
 -- nothing done
-pub fresh_sound : (memory values : List ℕ) (n : ℕ) → length values ≡ length memory → n ≡ length memory → AreSound memory values (replicate n 0) [] []
-fresh_sound memory values n size n_is = record {
-  as_many_values = size;
-  as_many_since = length-replicate n 0 ∙ n_is;
+pub fresh_sound : (words : ℕ) → AreSound words (replicate words 0) [] []
+fresh_sound words = record {
+  as_many_since = length-replicate words 0;
   as_many_epochs = refl;
   words = λ place core word store. let is = store.is in cc;
   counted = λ place entry is. cc;
-  first = λ word first is. let nothing : 0 ≡ suc first = sym (zero_at n word) ∙ is in cc;
+  first = λ word first is. let nothing : 0 ≡ suc first = sym (zero_at words word) ∙ is in cc;
   one = λ place core word other its_core its_word waits its_waits same. let is = waits.store.is in cc;
-  value = λ word first now is. let nothing : 0 ≡ suc first = sym (zero_at n word) ∙ is in cc;
-  clean = λ word is. refl;
   alone = λ place core word other its_core waits late used. let is = waits.store.is in cc;
   in_order = λ place core word other its_word waits store less. let is = waits.store.is in cc;
 }

@@ -1,19 +1,17 @@
 -- Words are written back.
-use Rattle.std.proofs.Common.{◌≡◌, ℕ, suc, ◌<◌, inl, inr, Bool, true, false, cond, List, length, get_or, refl, sym, ◌∙◌, ap, arith}
+use Rattle.std.proofs.Common.{◌≡◌, ℕ, suc, ◌<◌, inl, inr, Bool, true, false, cond, List, length, get_or, sym, ◌∙◌, ap}
 use Rattle.std.proofs.lemmas.Bool.{cases_Bool}
 use Rattle.pm_cores.specs.declared.entry.Entry.{Entry}
 use Rattle.pm_cores.specs.Log.{epoch_at}
 use Rattle.pm_cores.specs.Inside.{waits_at, Waits, AreSound}
 
 -- what is left where the words that a test tells are written back
-pub record IsCleared (memory values since memory2 since2 : List ℕ) (gone : ℕ → Bool) : Type 0 where
-  pub memory_size : length memory2 ≡ length memory
+pub record IsCleared (since since2 : List ℕ) (gone : ℕ → Bool) : Type 0 where
   pub since_size : length since2 ≡ length since
   pub since_is : (word : ℕ) → get_or since2 word 0 ≡ cond (gone word) 0 (get_or since word 0)
-  pub memory_is : (word : ℕ) → get_or memory2 word 0 ≡ cond (gone word) (get_or values word 0) (get_or memory word 0)
 
-module _ (memory values since : List ℕ) (log : List Entry) (epochs : List ℕ) (memory2 since2 : List ℕ) (gone : ℕ → Bool)
-    (sound : AreSound memory values since log epochs) (cleared : IsCleared memory values since memory2 since2 gone)
+module _ (words : ℕ) (since : List ℕ) (log : List Entry) (epochs : List ℕ) (since2 : List ℕ) (gone : ℕ → Bool)
+    (sound : AreSound words since log epochs) (cleared : IsCleared since since2 gone)
     (dirty : (word : ℕ) → gone word ≡ true → (first : ℕ) × (get_or since word 0 ≡ suc first))
     (closed : (place core word other its_word : ℕ) → Waits since log place core word → Waits since log other core its_word → epoch_at log core place < epoch_at log core other → gone its_word ≡ true → gone word ≡ true) where
   gone_zero : (word : ℕ) → gone word ≡ true → get_or since2 word 0 ≡ 0
@@ -39,25 +37,14 @@ module _ (memory values since : List ℕ) (log : List Entry) (epochs : List ℕ)
       let left = left_waits word place waits.waits in
       record { store = waits.store; waits = sym (ap (λ n. waits_at n place) (left_same word left)) ∙ waits.waits }
 
-  pub cleared_sound : AreSound memory2 values since2 log epochs
+  pub cleared_sound : AreSound words since2 log epochs
   cleared_sound = record {
-    as_many_values = sound.as_many_values ∙ sym cleared.memory_size;
-    as_many_since = cleared.since_size ∙ sound.as_many_since ∙ sym cleared.memory_size ∙ refl;
+    as_many_since = cleared.since_size ∙ sound.as_many_since;
     as_many_epochs = sound.as_many_epochs;
-    words = λ place core word store. let low = sound.words place core word store in let size = cleared.memory_size in omega arith;
+    words = sound.words;
     counted = sound.counted;
     first = λ word first is. sound.first word first (sym (left_same word (left_by word first is)) ∙ is);
     one = λ place core word other its_core its_word one two same. sound.one place core word other its_core its_word (still place core word one) (still other its_core its_word two) same;
-    value = λ word first now is. sound.value word first now (sym (left_same word (left_by word first is)) ∙ is);
-    clean = λ word is. elim (cases_Bool (gone word)) [
-      | inl hit ↦
-          let since_is = dirty word hit in
-          let now_is : get_or memory2 word 0 ≡ get_or values word 0 = cleared.memory_is word ∙ ap (λ b. cond b (get_or values word 0) (get_or memory word 0)) hit in
-          sound.value word since_is.0 (get_or memory2 word 0) since_is.1 ∙ sym now_is
-      | inr miss ↦
-          let now_is : get_or memory2 word 0 ≡ get_or memory word 0 = cleared.memory_is word ∙ ap (λ b. cond b (get_or values word 0) (get_or memory word 0)) miss in
-          rw now_is (sound.clean word (sym (left_same word miss) ∙ is))
-    ];
     alone = λ place core word other its_core waits low used. sound.alone place core word other its_core (still place core word waits) low used;
     in_order = λ place core word other its_word waits store low.
         let before = sound.in_order place core word other its_word (still place core word waits) store low in

@@ -5,8 +5,8 @@ use Rattle.std.proofs.lemmas.Bool.{cases_Bool, and_parts, and_cases, eqb-true, e
 use Rattle.pm_cores.specs.declared.entry.Entry.{Entry}
 use Rattle.pm_cores.specs.declared.entry.Entry.TheVariants.{Store}
 use Rattle.pm_cores.specs.declared.entry.Owner.{Owner}
-use Rattle.pm_cores.specs.Log.{barriers_of, epoch_at}
-use Rattle.pm_cores.specs.Choice.{first_epoch, open_epoch, flag_in, mask_to}
+use Rattle.pm_cores.specs.Log.{core_barriers, epoch_at}
+use Rattle.pm_cores.specs.Choice.{first_epoch, dirty_epoch, flag_in, mask_to}
 use Rattle.pm_cores.specs.Inside.{waits_at, owners_of, flags_of, entry_is_back, caches_by, Waits, AreCounted, AreSound, IsLow}
 use Rattle.pm_cores.proofs.Lists.{get_within}
 use Rattle.pm_cores.proofs.Logs.{epoch_at-le, epoch_at-most}
@@ -93,15 +93,15 @@ first_epoch_own core otherwise (Some first ∷ owners) zero owner under same =
     omega arith
 first_epoch_own core otherwise (Some first ∷ owners) (suc word) owner under same = first_epoch_own core (cond (eqb first.core core && ltb first.epoch otherwise) first.epoch otherwise) owners word owner under same
 
-module _ (cores : ℕ) (memory values since : List ℕ) (log : List Entry) (epochs : List ℕ) (capacity : ℕ) (sound : AreSound memory values since log epochs) (core first : ℕ) (low : IsLow since log core first) where
-  pub open_epoch_found : (word : ℕ) → Waits since log first core word → get_or epochs first 0 ≡ open_epoch core (caches_by cores memory since log epochs capacity)
+module _ (cores : ℕ) (words : ℕ) (since : List ℕ) (log : List Entry) (epochs : List ℕ) (capacity : ℕ) (sound : AreSound words since log epochs) (core first : ℕ) (low : IsLow since log core first) where
+  pub open_epoch_found : (word : ℕ) → Waits since log first core word → get_or epochs first 0 ≡ dirty_epoch core (caches_by cores words since log epochs capacity)
   open_epoch_found word waits =
       let is : get_or epochs first 0 ≡ epoch_at log core first = sound.counted first (Store core word waits.store.value) waits.store.is in
       let most = epoch_at-most log core first in
-      let own = first_epoch_own core (barriers_of core log) (owners_of since log epochs) word (record { core = core; epoch = epoch_at log core first }) (under_waits memory values since log epochs sound core word first core word waits) refl in
-      let least = first_epoch_least core (barriers_of core log) (get_or epochs first 0) (owners_of since log epochs) (omega arith)
+      let own = first_epoch_own core (core_barriers core log) (owners_of since log epochs) word (record { core = core; epoch = epoch_at log core first }) (under_waits words since log epochs sound core word first core word waits) refl in
+      let least = first_epoch_least core (core_barriers core log) (get_or epochs first 0) (owners_of since log epochs) (omega arith)
       (λ other owner under same.
-      let its = held memory values since log epochs sound other owner (under_seen since log epochs other owner under) in
+      let its = held words since log epochs sound other owner (under_seen since log epochs other owner under) in
       let late = low its.first other (subst (λ c. Waits since log its.first c other) same its.waits) in
       let more = epoch_at-le log core first its.first late in
       let epoch = its.epoch in
@@ -109,12 +109,12 @@ module _ (cores : ℕ) (memory values since : List ℕ) (log : List Entry) (epoc
       omega arith) in
       omega arith
 
-  pub open_epoch_none : length log ≤ first → barriers_of core log ≡ open_epoch core (caches_by cores memory since log epochs capacity)
+  pub open_epoch_none : length log ≤ first → core_barriers core log ≡ dirty_epoch core (caches_by cores words since log epochs capacity)
   open_epoch_none past =
-      let most = first_epoch_most core (barriers_of core log) (owners_of since log epochs) in
-      let least = first_epoch_least core (barriers_of core log) (barriers_of core log) (owners_of since log epochs) (omega arith)
+      let most = first_epoch_most core (core_barriers core log) (owners_of since log epochs) in
+      let least = first_epoch_least core (core_barriers core log) (core_barriers core log) (owners_of since log epochs) (omega arith)
       (λ other owner under same.
-      let its = held memory values since log epochs sound other owner (under_seen since log epochs other owner under) in
+      let its = held words since log epochs sound other owner (under_seen since log epochs other owner under) in
       let waits = subst (λ c. Waits since log its.first c other) same its.waits in
       let late = low its.first other waits in
       let within = get_within log its.first (Store core other waits.store.value) waits.store.is in

@@ -14,6 +14,7 @@ pub mod Whole
 pub mod Cleaning
 pub mod Coherent
 pub mod Over
+pub mod Telling
 pub mod Backing
 pub mod Flags
 pub mod Replays

@@ -4,13 +4,13 @@ use Rattle.std.specs.List.{slice_get}
 use Rattle.std.proofs.lemmas.Bool.Decides.{eqb_tells}
 use Rattle.pm_cores.specs.declared.entry.Entry.{Entry}
 use Rattle.pm_cores.specs.declared.entry.Entry.TheVariants.{Load, Store, Barrier}
-use Rattle.pm_cores.specs.Log.{barriers_of, epoch_at, last_value}
+use Rattle.pm_cores.specs.Log.{core_barriers, epoch_at, last_value}
 
-pub barriers_of-append : (core : ℕ) (front rest : List Entry) → barriers_of core (front ++ rest) ≡ barriers_of core front + barriers_of core rest
-barriers_of-append core [] rest = omega arith
-barriers_of-append core (Load other word ∷ front) rest = barriers_of-append core front rest
-barriers_of-append core (Store other word value ∷ front) rest = barriers_of-append core front rest
-barriers_of-append core (Barrier other ∷ front) rest = let e = barriers_of-append core front rest in omega arith
+pub core_barriers-append : (core : ℕ) (front rest : List Entry) → core_barriers core (front ++ rest) ≡ core_barriers core front + core_barriers core rest
+core_barriers-append core [] rest = omega arith
+core_barriers-append core (Load other word ∷ front) rest = core_barriers-append core front rest
+core_barriers-append core (Store other word value ∷ front) rest = core_barriers-append core front rest
+core_barriers-append core (Barrier other ∷ front) rest = let e = core_barriers-append core front rest in omega arith
 
 pub epoch_at-pushed : (log : List Entry) (entry : Entry) (core place : ℕ) → place ≤ length log → epoch_at (log ++ entry ∷ []) core place ≡ epoch_at log core place
 epoch_at-pushed [] entry core zero low = refl
@@ -20,13 +20,13 @@ epoch_at-pushed (Load other word ∷ log) entry core (suc place) low = epoch_at-
 epoch_at-pushed (Store other word value ∷ log) entry core (suc place) low = epoch_at-pushed log entry core place (omega arith)
 epoch_at-pushed (Barrier other ∷ log) entry core (suc place) low = let e = epoch_at-pushed log entry core place (omega arith) in omega arith
 
-pub epoch_at-all : (log : List Entry) (core : ℕ) → epoch_at log core (length log) ≡ barriers_of core log
+pub epoch_at-all : (log : List Entry) (core : ℕ) → epoch_at log core (length log) ≡ core_barriers core log
 epoch_at-all [] core = refl
 epoch_at-all (Load other word ∷ log) core = epoch_at-all log core
 epoch_at-all (Store other word value ∷ log) core = epoch_at-all log core
 epoch_at-all (Barrier other ∷ log) core = let e = epoch_at-all log core in omega arith
 
-pub epoch_at-end : (log : List Entry) (entry : Entry) (core : ℕ) → epoch_at (log ++ entry ∷ []) core (length log) ≡ barriers_of core log
+pub epoch_at-end : (log : List Entry) (entry : Entry) (core : ℕ) → epoch_at (log ++ entry ∷ []) core (length log) ≡ core_barriers core log
 epoch_at-end log entry core = epoch_at-pushed log entry core (length log) (omega arith) ∙ epoch_at-all log core
 
 pub epoch_at-le : (log : List Entry) (core i j : ℕ) → i ≤ j → epoch_at log core i ≤ epoch_at log core j
@@ -39,7 +39,7 @@ epoch_at-le (Load other word ∷ log) core (suc i) (suc j) low = epoch_at-le log
 epoch_at-le (Store other word value ∷ log) core (suc i) (suc j) low = epoch_at-le log core i j (omega arith)
 epoch_at-le (Barrier other ∷ log) core (suc i) (suc j) low = let less = epoch_at-le log core i j (omega arith) in omega arith
 
-pub epoch_at-most : (log : List Entry) (core i : ℕ) → epoch_at log core i ≤ barriers_of core log
+pub epoch_at-most : (log : List Entry) (core i : ℕ) → epoch_at log core i ≤ core_barriers core log
 epoch_at-most [] core zero = omega arith
 epoch_at-most [] core (suc i) = omega arith
 epoch_at-most (entry ∷ log) core zero = omega arith
@@ -81,12 +81,12 @@ last_value-any (Load other at ∷ log) (suc place) core word value one two is = 
 last_value-any (Store other at its ∷ log) (suc place) core word value one two is = last_value-any log place core word value (cond (eqb at word) its one) (cond (eqb at word) its two) is
 last_value-any (Barrier other ∷ log) (suc place) core word value one two is = last_value-any log place core word value one two is
 
-pub barriers_of-most : (core : ℕ) (log : List Entry) → barriers_of core log ≤ length log
-barriers_of-most core [] = omega arith
-barriers_of-most core (Load other word ∷ log) = let most = barriers_of-most core log in omega arith
-barriers_of-most core (Store other word value ∷ log) = let most = barriers_of-most core log in omega arith
-barriers_of-most core (Barrier other ∷ log) = let most = barriers_of-most core log in one (eqb other core) most
+pub core_barriers-most : (core : ℕ) (log : List Entry) → core_barriers core log ≤ length log
+core_barriers-most core [] = omega arith
+core_barriers-most core (Load other word ∷ log) = let most = core_barriers-most core log in omega arith
+core_barriers-most core (Store other word value ∷ log) = let most = core_barriers-most core log in omega arith
+core_barriers-most core (Barrier other ∷ log) = let most = core_barriers-most core log in one (eqb other core) most
   where
-    one : (test : Bool) → barriers_of core log ≤ length log → cond test 1 0 + barriers_of core log ≤ length (Barrier other ∷ log)
+    one : (test : Bool) → core_barriers core log ≤ length log → cond test 1 0 + core_barriers core log ≤ length (Barrier other ∷ log)
     one true most = omega arith
     one false most = omega arith

@@ -14,7 +14,7 @@ pub record IsLowestTo (since : List ℕ) (log : List Entry) (epochs : List ℕ) 
   pub under : owner_since log epochs (get_or since found 0) ≡ Some owner
   pub lowest : (word first : ℕ) → get_or since word 0 ≡ suc first → first < place → owner_since log epochs (get_or since word 0) ≡ Some owner → found ≤ word
 
-module _ (memory values since : List ℕ) (log : List Entry) (epochs : List ℕ) (sound : AreSound memory values since log epochs) (owner : Owner) (start : ℕ)
+module _ (words : ℕ) (since : List ℕ) (log : List Entry) (epochs : List ℕ) (sound : AreSound words since log epochs) (owner : Owner) (start : ℕ)
     (low : IsLow since log owner.core start) (found : (word : ℕ) × Waits since log start owner.core word) (epoch : owner.epoch ≡ get_or epochs start 0) where
   epoch_is : (place word : ℕ) → IsStore log place owner.core word → get_or epochs place 0 ≡ epoch_at log owner.core place
   epoch_is place word store = sound.counted place (Store owner.core word store.value) store.is
@@ -30,7 +30,7 @@ module _ (memory values since : List ℕ) (log : List Entry) (epochs : List ℕ)
       let is = epoch_is place word waits.store in
       let its = owner_epoch in
       let same : epoch_at log owner.core place ≡ owner.epoch = omega arith in
-      owner_of_waiting memory values since log epochs sound place owner.core word waits ∙ ap (λ (n : ℕ). Some (record { core = owner.core; epoch = n })) same
+      owner_of_waiting words since log epochs sound place owner.core word waits ∙ ap (λ (n : ℕ). Some (record { core = owner.core; epoch = n })) same
 
   pub lowest_start : (word : ℕ) → IsStore log start owner.core word → IsLowestTo since log epochs owner start word
   lowest_start word store =
@@ -39,7 +39,7 @@ module _ (memory values since : List ℕ) (log : List Entry) (epochs : List ℕ)
       record {
         under = ap (λ n. owner_since log epochs (get_or since n 0)) word_is ∙ owns start found.0 found.1 (let e = epoch in omega arith);
         lowest = λ other first is less by.
-            let its = held memory values since log epochs sound other owner by in
+            let its = held words since log epochs sound other owner by in
             let at : first ≡ its.first = let e : suc first ≡ suc its.first = sym is ∙ its.since_is in omega arith in
             let high = low its.first other its.waits in
             absurd (omega arith);
@@ -50,7 +50,7 @@ module _ (memory values since : List ℕ) (log : List Entry) (epochs : List ℕ)
     under = so_far.under;
     lowest = λ word first is less by. elim (cases_eq first place) [
       | inl here ↦
-          let its = held memory values since log epochs sound word owner by in
+          let its = held words since log epochs sound word owner by in
           let at : its.first ≡ place = let e : suc first ≡ suc its.first = sym is ∙ its.since_is in omega arith in
           let waits = subst (λ n. Waits since log n owner.core word) at its.waits in
           none word waits.store waits.waits
@@ -63,7 +63,7 @@ module _ (memory values since : List ℕ) (log : List Entry) (epochs : List ℕ)
     under = owns place word (record { store = store; waits = waits }) less;
     lowest = λ other first is early by. elim (cases_eq first place) [
       | inl here ↦
-          let its = held memory values since log epochs sound other owner by in
+          let its = held words since log epochs sound other owner by in
           let at : its.first ≡ place = let e : suc first ≡ suc its.first = sym is ∙ its.since_is in omega arith in
           let its_store = subst (λ n. IsStore log n owner.core other) at its.waits.store in
           let same : Some (Store owner.core other its_store.value) ≡ Some (Store owner.core word store.value) = sym its_store.is ∙ store.is in
@@ -91,12 +91,12 @@ module _ (memory values since : List ℕ) (log : List Entry) (epochs : List ℕ)
 
   pub lowest_end : (lowest : ℕ) → IsLowestTo since log epochs owner (length log) lowest → (word : ℕ) → owner_since log epochs (get_or since word 0) ≡ Some owner → lowest ≤ word
   lowest_end lowest so_far word by =
-      let its = held memory values since log epochs sound word owner by in
+      let its = held words since log epochs sound word owner by in
       so_far.lowest word its.first its.since_is (get_within log its.first (Store owner.core word its.waits.store.value) its.waits.store.is) by
 
   pub lowest_before : (place lowest here : ℕ) → IsLowestTo since log epochs owner place lowest → IsStore log place owner.core here → owner.epoch < get_or epochs place 0 → (word : ℕ) → owner_since log epochs (get_or since word 0) ≡ Some owner → lowest ≤ word
   lowest_before place lowest here so_far store late word by =
-      let its = held memory values since log epochs sound word owner by in
+      let its = held words since log epochs sound word owner by in
       let is = epoch_is place here store in
       let its_epoch = its.epoch in
       so_far.lowest word its.first its.since_is (elim (cases_lt its.first place) [

@@ -1,5 +1,5 @@
 -- The memory is the base with the stores that are back.
-use Rattle.std.proofs.Common.{◌≡◌, ℕ, zero, suc, ◌<◌, ◌⊎◌, inl, inr, Bool, true, false, cond, eqb, leb, ◌&&◌, ◌||◌, Option, Some, None, List, [], ◌∷◌, ◌++◌, length, get_or, set, refl, sym, ◌∙◌, ap, subst, arith}
+use Rattle.std.proofs.Common.{◌≡◌, ℕ, zero, suc, ◌<◌, ◌≤◌, ◌⊎◌, inl, inr, Bool, true, false, cond, eqb, ◌||◌, Option, Some, None, List, [], ◌∷◌, ◌++◌, length, get_or, set, take, refl, sym, ◌∙◌, ap, arith}
 use Rattle.std.specs.Prelude.{map}
 use Rattle.std.specs.List.{slice_get, range_with_len}
 use Rattle.std.proofs.lemmas.Bool.{cases_Bool, eqb-true, eqb-false, eq-eqb}
@@ -10,16 +10,15 @@ use Rattle.std.proofs.lemmas.List.FromFn.{length-map-range_with_len}
 use Rattle.pm_cores.specs.declared.entry.Entry.{Entry}
 use Rattle.pm_cores.specs.declared.entry.Entry.TheVariants.{Load, Store, Barrier}
 use Rattle.pm_cores.specs.declared.entry.Owner.{Owner}
-use Rattle.pm_cores.specs.Log.{barriers_of, epoch_at, last_value, words_back, IsStore}
-use Rattle.pm_cores.specs.Caches.{Caches, owner_is_up_to, entry_is_up_to, entry_is_of, owner_at, line_owner, value_at, settled, written, written_by, written_under, ready_to_load, ready_to_store, after_load, after_store, after_barrier, IsUnder}
-use Rattle.pm_cores.specs.Order.{IsCoherent, IsOver}
+use Rattle.pm_cores.specs.Log.{epoch_at, last_value, words_back, IsStore}
+use Rattle.pm_cores.specs.Caches.{Caches, entry_is_of, owner_at, memory_over, value_at, logged, with_back, written_by, written_under, IsDirtyUnder, MayLeave}
+use Rattle.pm_cores.specs.Order.{IsCoherent}
 use Rattle.pm_cores.proofs.Lists.{get_within}
-use Rattle.pm_cores.proofs.Logs.{last_value-any}
 use Rattle.pm_cores.proofs.Views.{get_map_range}
 
 -- ## One word behind the stores that are back
 
-abbrev word_back : ℕ → List Entry → List Bool → ℕ → ℕ
+abbrev pub word_back : ℕ → List Entry → List Bool → ℕ → ℕ
 word_back now [] back word = now
 word_back now (entry ∷ log) [] word = now
 word_back now (Load core at ∷ log) (flag ∷ back) word = word_back now log back word
@@ -35,7 +34,7 @@ length-words_back words (Store core at value ∷ log) (true ∷ back) = length-w
 length-words_back words (Store core at value ∷ log) (false ∷ back) = length-words_back words log back
 length-words_back words (Barrier core ∷ log) (flag ∷ back) = length-words_back words log back
 
-get-words_back : (words : List ℕ) (log : List Entry) (back : List Bool) (word : ℕ) → word < length words → get_or (words_back words log back) word 0 ≡ word_back (get_or words word 0) log back word
+pub get-words_back : (words : List ℕ) (log : List Entry) (back : List Bool) (word : ℕ) → word < length words → get_or (words_back words log back) word 0 ≡ word_back (get_or words word 0) log back word
 get-words_back words [] back word low = refl
 get-words_back words (entry ∷ log) [] word low = refl
 get-words_back words (Load core at ∷ log) (flag ∷ back) word low = get-words_back words log back word low
@@ -49,7 +48,7 @@ get-words_back words (Store core at value ∷ log) (false ∷ back) word low = g
 get-words_back words (Barrier core ∷ log) (flag ∷ back) word low = get-words_back words log back word low
 
 -- all stores to the word are back
-all_back : (log : List Entry) (back : List Bool) (now word : ℕ) → length back ≡ length log → ((place core : ℕ) → IsStore log place core word → slice_get back place ≡ Some true) → word_back now log back word ≡ last_value now log word
+pub all_back : (log : List Entry) (back : List Bool) (now word : ℕ) → length back ≡ length log → ((place core : ℕ) → IsStore log place core word → slice_get back place ≡ Some true) → word_back now log back word ≡ last_value now log word
 all_back [] back now word size all = refl
 all_back (entry ∷ log) [] now word size all = absurd (omega arith)
 all_back (Load core at ∷ log) (flag ∷ back) now word size all = all_back log back now word (omega arith) (λ place its store. all (suc place) its (record { value = store.value; is = store.is }))
@@ -94,38 +93,31 @@ pushed_back words (Barrier core ∷ log) (flag ∷ back) entry size = pushed_bac
 
 -- ## What is written back
 
-pub record IsWordGone (log : List Entry) (back2 : List Bool) (old new word : ℕ) : Type 0 where
-  pub value : new ≡ last_value old log word
-  pub place : ℕ
-  pub core : ℕ
-  pub store : IsStore log place core word
+pub record IsWordGone (log : List Entry) (back2 : List Bool) (first new word : ℕ) : Type 0 where
+  pub value : new ≡ last_value first log word
   pub all : (other its : ℕ) → IsStore log other its word → slice_get back2 other ≡ Some true
 
 pub record IsWordKept (log : List Entry) (back back2 : List Bool) (old new word : ℕ) : Type 0 where
   pub value : new ≡ old
   pub same : (other its : ℕ) → IsStore log other its word → slice_get back2 other ≡ slice_get back other
 
-pub over_by : (base memory memory2 : List ℕ) (log : List Entry) (back back2 : List Bool) → memory ≡ words_back base log back → length memory2 ≡ length memory → length back ≡ length log → length back2 ≡ length log →
-    ((word : ℕ) → word < length memory → IsWordGone log back2 (get_or memory word 0) (get_or memory2 word 0) word ⊎ IsWordKept log back back2 (get_or memory word 0) (get_or memory2 word 0) word) → memory2 ≡ words_back base log back2
-over_by base memory memory2 log back back2 over size flags flags2 each =
-    let base_size : length memory ≡ length base = ap length over ∙ length-words_back base log back in
-    ext_get_or 0 memory2 (words_back base log back2) (size ∙ base_size ∙ sym (length-words_back base log back2))
+pub over_by : (base memory2 : List ℕ) (log : List Entry) (back back2 : List Bool) → length memory2 ≡ length base → length back ≡ length log → length back2 ≡ length log →
+    ((word : ℕ) → word < length base → IsWordGone log back2 (get_or base word 0) (get_or memory2 word 0) word ⊎ IsWordKept log back back2 (get_or (words_back base log back) word 0) (get_or memory2 word 0) word) → memory2 ≡ words_back base log back2
+over_by base memory2 log back back2 size flags flags2 each =
+    ext_get_or 0 memory2 (words_back base log back2) (size ∙ sym (length-words_back base log back2))
     (λ word low.
-    let within : word < length memory = omega arith in
     let in_base : word < length base = omega arith in
-    let now : get_or memory word 0 ≡ word_back (get_or base word 0) log back word = ap (λ (ws : List ℕ). get_or ws word 0) over ∙ get-words_back base log back word in_base in
-    elim (each word within) [
+    let now : get_or (words_back base log back) word 0 ≡ word_back (get_or base word 0) log back word = get-words_back base log back word in_base in
+    elim (each word in_base) [
       | inl gone ↦
-          gone.value ∙ last_value-any log gone.place gone.core word gone.store.value (get_or memory word 0) (get_or base word 0) gone.store.is
-          ∙ sym (all_back log back2 (get_or base word 0) word flags2 gone.all) ∙ sym (get-words_back base log back2 word in_base)
+          gone.value ∙ sym (all_back log back2 (get_or base word 0) word flags2 gone.all) ∙ sym (get-words_back base log back2 word in_base)
       | inr kept ↦ kept.value ∙ now ∙ sym (same_back log back back2 (get_or base word 0) word flags flags2 kept.same) ∙ sym (get-words_back base log back2 word in_base)
     ])
 
-module _ (caches : Caches) (coherent : IsCoherent caches) (goes : ℕ → Bool) (pick : ℕ → Option Entry → Bool) (memory2 : List ℕ)
-    (memory_size : length memory2 ≡ length caches.memory)
-    (gone_value : (word : ℕ) → word < length caches.memory → goes word ≡ true → get_or memory2 word 0 ≡ value_at caches word)
-    (gone_store : (word : ℕ) → goes word ≡ true → (place : ℕ) × (core : ℕ) × IsStore caches.log place core word)
-    (kept_value : (word : ℕ) → word < length caches.memory → goes word ≡ false → get_or memory2 word 0 ≡ get_or caches.memory word 0)
+module _ (base : List ℕ) (caches : Caches) (coherent : IsCoherent caches) (goes : ℕ → Bool) (pick : ℕ → Option Entry → Bool) (memory2 : List ℕ)
+    (memory_size : length memory2 ≡ length base)
+    (gone_value : (word : ℕ) → word < length base → goes word ≡ true → get_or memory2 word 0 ≡ value_at base caches word)
+    (kept_value : (word : ℕ) → word < length base → goes word ≡ false → get_or memory2 word 0 ≡ get_or (memory_over base caches) word 0)
     (picked : (other its word value : ℕ) → slice_get caches.log other ≡ Some (Store its word value) → slice_get caches.back other ≡ Some false → pick other (Some (Store its word value)) ≡ goes word)
     (unpicked : (other its word value : ℕ) → slice_get caches.log other ≡ Some (Store its word value) → goes word ≡ false → slice_get caches.back other ≡ Some true → (true || pick other (Some (Store its word value))) ≡ true) where
   abbrev back2 : List Bool
@@ -161,16 +153,12 @@ module _ (caches : Caches) (coherent : IsCoherent caches) (goes : ℕ → Bool) 
       flag2 other its word value is ∙ ap (λ b. Some (b || pick other (Some (Store its word value)))) flag_is
       ∙ ap (λ (b : Bool). Some b) (picked other its word value is old ∙ going) ∙ sym old
 
-  pub over_picked : (base : List ℕ) → IsOver base caches → memory2 ≡ words_back base caches.log back2
-  over_picked base over = over_by base caches.memory memory2 caches.log caches.back back2 over memory_size coherent.flags size2
+  pub over_picked : memory2 ≡ words_back base caches.log back2
+  over_picked = over_by base memory2 caches.log caches.back back2 memory_size coherent.flags size2
       (λ word low. elim (cases_Bool (goes word)) [
         | inl going ↦
-            let store = gone_store word going in
             inl (record {
               value = gone_value word low going;
-              place = store.0;
-              core = store.1;
-              store = store.2;
               all = λ other its its_store. gone_flag other its word its_store.value (get_or caches.back other false) refl its_store.is going;
             })
         | inr staying ↦ inr (record {
@@ -179,107 +167,81 @@ module _ (caches : Caches) (coherent : IsCoherent caches) (goes : ℕ → Bool) 
         })
       ])
 
--- ## A settle, and one word
+-- ## One word
 
-at_under : (caches : Caches) (word : ℕ) (owner : Owner) → IsUnder caches word owner → owner_at caches word ≡ Some owner
+at_under : (caches : Caches) (word : ℕ) (owner : Owner) → IsDirtyUnder caches word owner → owner_at caches word ≡ Some owner
 at_under caches word owner under = get_or_from_slice_get caches.owners word (Some owner) None under
 
-under_at_word : (owners : List (Option Owner)) (word : ℕ) (owner : Owner) → get_or owners word None ≡ Some owner → slice_get owners word ≡ Some (Some owner)
-under_at_word [] word owner is = cc
-under_at_word (one ∷ owners) zero owner is = ap (λ (o : Option Owner). Some o) is
-under_at_word (one ∷ owners) (suc word) owner is = under_at_word owners word owner is
+module _ (base : List ℕ) (caches : Caches) (coherent : IsCoherent caches) (word : ℕ) (owner : Owner) (is : owner_at caches word ≡ Some owner) where
+  picked_one : (other its at value : ℕ) → slice_get caches.log other ≡ Some (Store its at value) → slice_get caches.back other ≡ Some false → (eqb at word ≡ true) ⊎ (eqb at word ≡ false) → entry_is_of owner word caches.log other (Some (Store its at value)) ≡ eqb at word
+  picked_one other its at value entry flag (inl hit) =
+      let same = eqb-true at word hit in
+      let under = coherent.waiting other its at (record { value = value; is = entry }) flag in
+      let one : Owner = record { core = its; epoch = epoch_at caches.log its other } in
+      let owner_is : Some one ≡ Some owner = sym (at_under caches at one under) ∙ ap (owner_at caches) same ∙ is in
+      let both : one ≡ owner = cc in
+      let core_is : its ≡ owner.core = ap (λ (o : Owner). o.core) both in
+      let epoch_is : epoch_at caches.log its other ≡ owner.epoch = ap (λ (o : Owner). o.epoch) both in
+      rw (hit, eq-eqb its owner.core core_is, eq-eqb (epoch_at caches.log its other) owner.epoch epoch_is) refl
+  picked_one other its at value entry flag (inr miss) = rw miss refl
 
-due_owner : (by : Owner) (it : Option Owner) → owner_is_up_to by it ≡ true → (owner : Owner) × (it ≡ Some owner)
-due_owner by None is = cc
-due_owner by (Some owner) is = (owner, refl)
+  written_by_over : memory_over base (written_by caches word owner) ≡ set (memory_over base caches) word (value_at base caches word)
+  unfolding written_by
+  written_by_over =
+      let goes : ℕ → Bool = λ other. eqb other word in
+      let memory = memory_over base caches in
+      let memory2 = set memory word (value_at base caches word) in
+      let size = length-words_back base caches.log caches.back in
+      sym (over_picked base caches coherent goes (entry_is_of owner word caches.log) memory2
+      (length-set memory word (value_at base caches word) ∙ size)
+      (λ other low going. let same = eqb-true other word going in rw same (get_or-set_same memory word (value_at base caches word) 0 (omega arith)))
+      (λ other low staying. get_or-set_other memory word other (value_at base caches word) 0 (eqb-false other word staying))
+      (λ other its at value entry flag. picked_one other its at value entry flag (cases_Bool (eqb at word)))
+      (λ other its at value entry going flag. refl))
 
-pub settled_over : (base : List ℕ) (caches : Caches) (owner : Owner) → IsCoherent caches → IsOver base caches → IsOver base (settled caches owner)
-unfolding settled
-settled_over base caches owner coherent over =
-    let f : ℕ → ℕ = λ word. cond (owner_is_up_to owner (owner_at caches word)) (value_at caches word) (get_or caches.memory word 0) in
-    let goes : ℕ → Bool = λ word. owner_is_up_to owner (owner_at caches word) in
-    over_picked caches coherent goes (entry_is_up_to owner caches.log) (map f (range_with_len 0 (length caches.memory)))
-    (length-map-range_with_len f 0 (length caches.memory))
-    (λ word low going. get_map_range f (length caches.memory) word 0 low ∙ ap (λ b. cond b (value_at caches word) (get_or caches.memory word 0)) going)
-    (λ word going.
-    let its = due_owner owner (owner_at caches word) going in
-    let store = coherent.dirty word its.0 (under_at_word caches.owners word its.0 its.1) in
-    (store.0, its.0.core, store.1))
-    (λ word low staying. get_map_range f (length caches.memory) word 0 low ∙ ap (λ b. cond b (value_at caches word) (get_or caches.memory word 0)) staying)
-    (λ other its word value is flag.
-    let under = coherent.waiting other its word (record { value = value; is = is }) flag in
-    sym (ap (owner_is_up_to owner) (at_under caches word (record { core = its; epoch = epoch_at caches.log its other }) under)))
-    (λ other its word value is going flag. refl)
-    base over
+pub written_over : (base : List ℕ) (caches : Caches) (word : ℕ) → IsCoherent caches → MayLeave caches word → memory_over base (with_back caches word) ≡ set (memory_over base caches) word (value_at base caches word)
+written_over base caches word coherent may =
+    let is = at_under caches word may.owner may.under in
+    ap (λ (it : Option Owner). memory_over base (written_under caches word it)) is ∙ written_by_over base caches coherent word may.owner is
 
-pub written_over : (base : List ℕ) (caches : Caches) (word : ℕ) → word < length caches.memory → IsCoherent caches → IsOver base caches → IsOver base (written caches word)
-unfolding written_by
-written_over base caches word within coherent over = at (owner_at caches word) refl
-  where
-    by : (owner : Owner) → owner_at caches word ≡ Some owner → IsOver base (written_by caches word owner)
-    by owner is =
-        let goes : ℕ → Bool = λ other. eqb other word in
-        let memory2 = set caches.memory word (value_at caches word) in
-        over_picked caches coherent goes (entry_is_of owner word caches.log) memory2
-        (length-set caches.memory word (value_at caches word))
-        (λ other low going. let same = eqb-true other word going in rw same (get_or-set_same caches.memory word (value_at caches word) 0 within))
-        (λ other going.
-        let same = eqb-true other word going in
-        let store = coherent.dirty word owner (under_at_word caches.owners word owner is) in
-        (store.0, owner.core, subst (λ n. IsStore caches.log store.0 owner.core n) (sym same) store.1))
-        (λ other low staying. get_or-set_other caches.memory word other (value_at caches word) 0 (eqb-false other word staying))
-        (λ other its at value entry flag. picked_one owner is other its at value entry flag (cases_Bool (eqb at word)))
-        (λ other its at value entry going flag. refl)
-        base over
-      where
-        picked_one : (owner : Owner) → owner_at caches word ≡ Some owner → (other its at value : ℕ) → slice_get caches.log other ≡ Some (Store its at value) → slice_get caches.back other ≡ Some false → (eqb at word ≡ true) ⊎ (eqb at word ≡ false) → entry_is_of owner word caches.log other (Some (Store its at value)) ≡ eqb at word
-        picked_one owner is other its at value entry flag (inl hit) =
-            let same = eqb-true at word hit in
-            let under = coherent.waiting other its at (record { value = value; is = entry }) flag in
-            let one : Owner = record { core = its; epoch = epoch_at caches.log its other } in
-            let owner_is : Some one ≡ Some owner = sym (at_under caches at one under) ∙ ap (owner_at caches) same ∙ is in
-            let both : one ≡ owner = cc in
-            let core_is : its ≡ owner.core = ap (λ (o : Owner). o.core) both in
-            let epoch_is : epoch_at caches.log its other ≡ owner.epoch = ap (λ (o : Owner). o.epoch) both in
-            rw (hit, eq-eqb its owner.core core_is, eq-eqb (epoch_at caches.log its other) owner.epoch epoch_is) refl
-        picked_one owner is other its at value entry flag (inr miss) = rw miss refl
+-- ## An entry more
 
-    at : (it : Option Owner) → owner_at caches word ≡ it → IsOver base (written_under caches word it)
-    at None is = over
-    at (Some owner) is = by owner is
+pub entry_over : (base : List ℕ) (caches : Caches) (entry : Entry) → IsCoherent caches → memory_over base (logged caches entry) ≡ memory_over base caches
+entry_over base caches entry coherent = pushed_back base caches.log caches.back entry coherent.flags
 
--- ## The calls
+-- ## A word of which the stores so far are back
 
-settled_flags : (caches : Caches) (by : Owner) → length (settled caches by).back ≡ length (settled caches by).log
-unfolding settled
-settled_flags caches by = length-map-range_with_len (λ place. get_or caches.back place false || entry_is_up_to by caches.log place (slice_get caches.log place)) 0 (length caches.log)
+none_back : (log : List Entry) (back : List Bool) (now word : ℕ) → length back ≡ length log → ((place core : ℕ) → IsStore log place core word → slice_get back place ≡ Some false) → word_back now log back word ≡ now
+none_back [] back now word size none = refl
+none_back (entry ∷ log) [] now word size none = absurd (omega arith)
+none_back (Load core at ∷ log) (flag ∷ back) now word size none = none_back log back now word (omega arith) (λ place its store. none (suc place) its (record { value = store.value; is = store.is }))
+none_back (Barrier core ∷ log) (flag ∷ back) now word size none = none_back log back now word (omega arith) (λ place its store. none (suc place) its (record { value = store.value; is = store.is }))
+none_back (Store core at value ∷ log) (false ∷ back) now word size none = none_back log back now word (omega arith) (λ place its store. none (suc place) its (record { value = store.value; is = store.is }))
+none_back (Store core at value ∷ log) (true ∷ back) now word size none = elim (eqb_tells at word) [
+  | inl same ↦
+      let flag : Some true ≡ Some false = none 0 core (record { value = value; is = ap (λ n. Some (Store core n value)) same.1 }) in
+      cc
+  | inr differ ↦
+      rw differ.0 (none_back log back now word (omega arith) (λ place its store. none (suc place) its (record { value = store.value; is = store.is })))
+]
 
-record IsReady (base : List ℕ) (caches : Caches) : Type 0 where
-  over : IsOver base caches
-  flags : length caches.back ≡ length caches.log
-
-ready_if : (base : List ℕ) (test : Bool) (caches : Caches) (by : Owner) → IsCoherent caches → IsOver base caches → IsReady base (cond test caches (settled caches by))
-ready_if base true caches by coherent over = record { over = over; flags = coherent.flags }
-ready_if base false caches by coherent over = record { over = settled_over base caches by coherent over; flags = settled_flags caches by }
-
-load_over_at : (base : List ℕ) (caches : Caches) (core : ℕ) (found : Option Owner) → IsCoherent caches → IsOver base caches → IsReady base (ready_to_load caches core found)
-load_over_at base caches core None coherent over = record { over = over; flags = coherent.flags }
-load_over_at base caches core (Some owner) coherent over = ready_if base (eqb owner.core core) caches owner coherent over
-
-store_over_at : (base : List ℕ) (caches : Caches) (core epoch : ℕ) (found : Option Owner) → IsCoherent caches → IsOver base caches → IsReady base (ready_to_store caches core epoch found)
-store_over_at base caches core epoch None coherent over = record { over = over; flags = coherent.flags }
-store_over_at base caches core epoch (Some owner) coherent over = ready_if base (eqb owner.core core && leb epoch owner.epoch) caches owner coherent over
-
-entry_over : (base : List ℕ) (caches : Caches) (entry : Entry) → IsReady base caches → caches.memory ≡ words_back base (caches.log ++ entry ∷ []) (caches.back ++ false ∷ [])
-entry_over base caches entry ready = ready.over ∙ sym (pushed_back base caches.log caches.back entry ready.flags)
-
-pub load_over : (base : List ℕ) (caches : Caches) (core word : ℕ) → IsCoherent caches → IsOver base caches → IsOver base (after_load caches core word)
-unfolding after_load
-load_over base caches core word coherent over = entry_over base (ready_to_load caches core (line_owner caches word)) (Load core word) (load_over_at base caches core (line_owner caches word) coherent over)
-
-pub store_over : (base : List ℕ) (caches : Caches) (core word value : ℕ) → IsCoherent caches → IsOver base caches → IsOver base (after_store caches core word value)
-unfolding after_store
-store_over base caches core word value coherent over = entry_over base (ready_to_store caches core (barriers_of core caches.log) (line_owner caches word)) (Store core word value) (store_over_at base caches core (barriers_of core caches.log) (line_owner caches word) coherent over)
-
-pub barrier_over : (base : List ℕ) (caches : Caches) (core : ℕ) → IsCoherent caches → IsOver base caches → IsOver base (after_barrier caches core)
-barrier_over base caches core coherent over = entry_over base caches (Barrier core) (record { over = over; flags = coherent.flags })
+pub some_back : (log : List Entry) (back : List Bool) (now word first : ℕ) → length back ≡ length log → ((place core : ℕ) → IsStore log place core word → place < first → slice_get back place ≡ Some true) →
+    ((place core : ℕ) → IsStore log place core word → first ≤ place → slice_get back place ≡ Some false) → word_back now log back word ≡ last_value now (take first log) word
+some_back [] back now word zero size before behind = refl
+some_back [] back now word (suc first) size before behind = refl
+some_back (entry ∷ log) back now word zero size before behind = none_back (entry ∷ log) back now word size (λ place core store. behind place core store (omega arith))
+some_back (entry ∷ log) [] now word (suc first) size before behind = absurd (omega arith)
+some_back (Load core at ∷ log) (flag ∷ back) now word (suc first) size before behind =
+    some_back log back now word first (omega arith) (λ place its store low. before (suc place) its (record { value = store.value; is = store.is }) (omega arith)) (λ place its store high. behind (suc place) its (record { value = store.value; is = store.is }) (omega arith))
+some_back (Barrier core ∷ log) (flag ∷ back) now word (suc first) size before behind =
+    some_back log back now word first (omega arith) (λ place its store low. before (suc place) its (record { value = store.value; is = store.is }) (omega arith)) (λ place its store high. behind (suc place) its (record { value = store.value; is = store.is }) (omega arith))
+some_back (Store core at value ∷ log) (true ∷ back) now word (suc first) size before behind =
+    some_back log back (cond (eqb at word) value now) word first (omega arith) (λ place its store low. before (suc place) its (record { value = store.value; is = store.is }) (omega arith)) (λ place its store high. behind (suc place) its (record { value = store.value; is = store.is }) (omega arith))
+some_back (Store core at value ∷ log) (false ∷ back) now word (suc first) size before behind = elim (eqb_tells at word) [
+  | inl same ↦
+      let flag : Some false ≡ Some true = before 0 core (record { value = value; is = ap (λ n. Some (Store core n value)) same.1 }) (omega arith) in
+      cc
+  | inr differ ↦
+      some_back log back now word first (omega arith) (λ place its store low. before (suc place) its (record { value = store.value; is = store.is }) (omega arith)) (λ place its store high. behind (suc place) its (record { value = store.value; is = store.is }) (omega arith))
+      ∙ ap (λ b. last_value (cond b value now) (take first log) word) (sym differ.0)
+]

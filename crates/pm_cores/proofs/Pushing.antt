@@ -1,15 +1,15 @@
 -- The log grows by an entry that is no store.
-use Rattle.std.proofs.Common.{◌≡◌, ℕ, ◌<◌, ◌≤◌, inl, inr, Some, List, [], ◌∷◌, ◌++◌, length, get_or, sym, ◌∙◌, ap, subst, arith, length-append}
+use Rattle.std.proofs.Common.{◌≡◌, ℕ, ◌<◌, ◌≤◌, inl, inr, Some, List, [], ◌∷◌, ◌++◌, length, sym, ◌∙◌, ap, subst, arith, length-append}
 use Rattle.std.specs.List.{slice_get}
 use Rattle.pm_cores.specs.declared.entry.Entry.{Entry}
 use Rattle.pm_cores.specs.declared.entry.Entry.TheVariants.{Load, Store}
-use Rattle.pm_cores.specs.Log.{core_of, barriers_of, epoch_at, line_of, IsStore, IsUse}
+use Rattle.pm_cores.specs.Log.{core_of, core_barriers, epoch_at, line_at, IsStore, IsUse}
 use Rattle.pm_cores.specs.Log.IsUse.{use_load, use_store}
 use Rattle.pm_cores.specs.Inside.{Waits, AreCounted, AreSound, IsLow}
 use Rattle.pm_cores.proofs.Lists.{get_pushed, get_pushed_old, get_within, index_before, index_new}
-use Rattle.pm_cores.proofs.Logs.{IsNoStore, epoch_at-pushed, epoch_at-end, last_value-other}
+use Rattle.pm_cores.proofs.Logs.{IsNoStore, epoch_at-pushed, epoch_at-end}
 
-pub counted_pushed : (log : List Entry) (epochs : List ℕ) (entry : Entry) (epoch : ℕ) → length epochs ≡ length log → AreCounted log epochs → epoch ≡ barriers_of (core_of entry) log → AreCounted (log ++ entry ∷ []) (epochs ++ epoch ∷ [])
+pub counted_pushed : (log : List Entry) (epochs : List ℕ) (entry : Entry) (epoch : ℕ) → length epochs ≡ length log → AreCounted log epochs → epoch ≡ core_barriers (core_of entry) log → AreCounted (log ++ entry ∷ []) (epochs ++ epoch ∷ [])
 counted_pushed log epochs entry epoch size counted epoch_is = λ place at is. elim (get_pushed log entry place at is) [
   | inl old ↦
       let low : place < length log = get_within log place at old in
@@ -17,12 +17,12 @@ counted_pushed log epochs entry epoch size counted epoch_is = λ place at is. el
       index_before epochs epoch place low_epochs ∙ counted place at old ∙ sym (epoch_at-pushed log entry (core_of at) place (omega arith))
   | inr new ↦
       let place_is : place ≡ length epochs = new.0 ∙ sym size in
-      rw place_is (index_new epochs epoch ∙ epoch_is ∙ ap (λ e. barriers_of (core_of e) log) new.1 ∙ sym (rw size (epoch_at-end log entry (core_of at))))
+      rw place_is (index_new epochs epoch ∙ epoch_is ∙ ap (λ e. core_barriers (core_of e) log) new.1 ∙ sym (rw size (epoch_at-end log entry (core_of at))))
 ]
 
-module _ (memory values since : List ℕ) (log : List Entry) (epochs : List ℕ) (entry : Entry) (epoch : ℕ)
-    (sound : AreSound memory values since log epochs) (epoch_is : epoch ≡ barriers_of (core_of entry) log) (none : IsNoStore entry)
-    (ready : (core word : ℕ) → entry ≡ Load core word → (place its_core its_word : ℕ) → Waits since log place its_core its_word → line_of word ≡ line_of its_word → core ≡ its_core) where
+module _ (words : ℕ) (since : List ℕ) (log : List Entry) (epochs : List ℕ) (entry : Entry) (epoch : ℕ)
+    (sound : AreSound words since log epochs) (epoch_is : epoch ≡ core_barriers (core_of entry) log) (none : IsNoStore entry)
+    (ready : (core word : ℕ) → entry ≡ Load core word → (place its_core its_word : ℕ) → Waits since log place its_core its_word → line_at word ≡ line_at its_word → core ≡ its_core) where
   old_store : (place core word : ℕ) → IsStore (log ++ entry ∷ []) place core word → IsStore log place core word
   old_store place core word store = elim (get_pushed log entry place (Store core word store.value) store.is) [
     | inl old ↦ record { value = store.value; is = old }
@@ -38,7 +38,7 @@ module _ (memory values since : List ℕ) (log : List Entry) (epochs : List ℕ)
   same_epoch : (place core word : ℕ) → IsStore log place core word → epoch_at (log ++ entry ∷ []) core place ≡ epoch_at log core place
   same_epoch place core word store = epoch_at-pushed log entry core place (before place core word store)
 
-  alone_at : (place core word other its_core : ℕ) → Waits since log place core word → place < other → IsUse (log ++ entry ∷ []) other its_core (line_of word) → its_core ≡ core
+  alone_at : (place core word other its_core : ℕ) → Waits since log place core word → place < other → IsUse (log ++ entry ∷ []) other its_core (line_at word) → its_core ≡ core
   alone_at place core word other its_core waits low (use_load at is line) = elim (get_pushed log entry other (Load its_core at) is) [
     | inl old ↦ sound.alone place core word other its_core waits low (use_load at old line)
     | inr new ↦ ready its_core at new.1 place core word waits line
@@ -48,9 +48,8 @@ module _ (memory values since : List ℕ) (log : List Entry) (epochs : List ℕ)
     | inr new ↦ absurd (none its_core at value new.1)
   ]
 
-  pub pushed_sound : AreSound memory values since (log ++ entry ∷ []) (epochs ++ epoch ∷ [])
+  pub pushed_sound : AreSound words since (log ++ entry ∷ []) (epochs ++ epoch ∷ [])
   pushed_sound = record {
-    as_many_values = sound.as_many_values;
     as_many_since = sound.as_many_since;
     as_many_epochs = let size = sound.as_many_epochs in omega (arith, length-append epochs (epoch ∷ []), length-append log (entry ∷ []));
     words = λ place core word store. sound.words place core word (old_store place core word store);
@@ -62,8 +61,6 @@ module _ (memory values since : List ℕ) (log : List Entry) (epochs : List ℕ)
         let two_old = old_waits other its_core its_word two in
         let both = sound.one place core word other its_core its_word one_old two_old same in
         (both.0, same_epoch place core word one_old.store ∙ both.1 ∙ sym (same_epoch other its_core its_word two_old.store));
-    value = λ word first now is. last_value-other log entry none now word ∙ sound.value word first now is;
-    clean = λ word is. last_value-other log entry none (get_or memory word 0) word ∙ sound.clean word is;
     alone = λ place core word other its_core waits low used. alone_at place core word other its_core (old_waits place core word waits) low used;
     in_order = λ place core word other its_word waits store low.
         let waits_old = old_waits place core word waits in

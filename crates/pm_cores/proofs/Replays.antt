@@ -10,13 +10,13 @@ use Rattle.pm_epochs.specs.Replay.{IsRight, stores_of, replay}
 use Rattle.pm_cores.specs.declared.entry.Entry.{Entry}
 use Rattle.pm_cores.specs.declared.entry.Entry.TheVariants.{Load, Store, Barrier}
 use Rattle.pm_cores.specs.declared.entry.Owner.{Owner}
-use Rattle.pm_cores.specs.Log.{barriers_of, epoch_at, words_back, IsStore}
-use Rattle.pm_cores.specs.Caches.{Caches}
-use Rattle.pm_cores.specs.Order.{IsCoherent, IsOver}
-use Rattle.pm_cores.specs.Choice.{first_epoch, open_epoch, flag_in, mask_to, cut_at}
+use Rattle.pm_cores.specs.Log.{core_barriers, epoch_at, words_back, IsStore}
+use Rattle.pm_cores.specs.Caches.{Caches, memory_over}
+use Rattle.pm_cores.specs.Order.{IsCoherent}
+use Rattle.pm_cores.specs.Choice.{first_epoch, dirty_epoch, flag_in, mask_to, cut_at}
 use Rattle.pm_cores.specs.Played.{unmarked, done_by_first, IsPlayed}
 use Rattle.pm_cores.proofs.Lists.{get_within}
-use Rattle.pm_cores.proofs.Logs.{epoch_at-most, barriers_of-append}
+use Rattle.pm_cores.proofs.Logs.{epoch_at-most, core_barriers-append}
 use Rattle.pm_cores.proofs.Flags.{first_epoch_most, first_epoch_own}
 
 -- ## Marks are nothing
@@ -68,7 +68,7 @@ take_seam [] (x ∷ rest) = refl
 take_seam (y ∷ front) rest = ap (λ xs. y ∷ xs) (take_seam front rest)
 
 mask_by_front : (epoch : ℕ) (front rest : List Entry) (fronts rests : List Bool) → length fronts ≡ length front → length rests ≡ length rest →
-    mask_to 0 epoch (front ++ rest) (fronts ++ rests) (length (front ++ rest)) ≡ mask_to 0 epoch (front ++ rest) (fronts ++ rests) (length front) ++ mask_seen epoch (barriers_of 0 front) rest rests
+    mask_to 0 epoch (front ++ rest) (fronts ++ rests) (length (front ++ rest)) ≡ mask_to 0 epoch (front ++ rest) (fronts ++ rests) (length front) ++ mask_seen epoch (core_barriers 0 front) rest rests
 mask_by_front epoch front [] fronts rests same sizes =
     let size : length (front ++ []) ≡ length front = ap length (append-nil front) in
     ap (mask_to 0 epoch (front ++ []) (fronts ++ rests)) size ∙ sym (append-nil (mask_to 0 epoch (front ++ []) (fronts ++ rests) (length front)))
@@ -81,26 +81,26 @@ mask_by_front epoch front (entry ∷ rest) fronts (flag ∷ rests) same sizes =
     let longer : length (front ++ entry ∷ []) ≡ suc (length front) = omega (arith, length-append front (entry ∷ [])) in
     let longers : length (fronts ++ flag ∷ []) ≡ length (front ++ entry ∷ []) = omega (arith, length-append front (entry ∷ []), length-append fronts (flag ∷ [])) in
     let later = mask_by_front epoch (front ++ entry ∷ []) rest (fronts ++ flag ∷ []) rests longers (omega arith) in
-    let later_is : mask_to 0 epoch log back (length log) ≡ mask_to 0 epoch log back (suc (length front)) ++ mask_seen epoch (barriers_of 0 (front ++ entry ∷ [])) rest rests =
-    subst (λ (l : List Entry). mask_to 0 epoch l back (length l) ≡ mask_to 0 epoch l back (suc (length front)) ++ mask_seen epoch (barriers_of 0 (front ++ entry ∷ [])) rest rests) log_is
-    (subst (λ (b : List Bool). mask_to 0 epoch ((front ++ entry ∷ []) ++ rest) b (length ((front ++ entry ∷ []) ++ rest)) ≡ mask_to 0 epoch ((front ++ entry ∷ []) ++ rest) b (suc (length front)) ++ mask_seen epoch (barriers_of 0 (front ++ entry ∷ [])) rest rests) back_is
-    (subst (λ n. mask_to 0 epoch ((front ++ entry ∷ []) ++ rest) ((fronts ++ flag ∷ []) ++ rests) (length ((front ++ entry ∷ []) ++ rest)) ≡ mask_to 0 epoch ((front ++ entry ∷ []) ++ rest) ((fronts ++ flag ∷ []) ++ rests) n ++ mask_seen epoch (barriers_of 0 (front ++ entry ∷ [])) rest rests) longer later)) in
+    let later_is : mask_to 0 epoch log back (length log) ≡ mask_to 0 epoch log back (suc (length front)) ++ mask_seen epoch (core_barriers 0 (front ++ entry ∷ [])) rest rests =
+    subst (λ (l : List Entry). mask_to 0 epoch l back (length l) ≡ mask_to 0 epoch l back (suc (length front)) ++ mask_seen epoch (core_barriers 0 (front ++ entry ∷ [])) rest rests) log_is
+    (subst (λ (b : List Bool). mask_to 0 epoch ((front ++ entry ∷ []) ++ rest) b (length ((front ++ entry ∷ []) ++ rest)) ≡ mask_to 0 epoch ((front ++ entry ∷ []) ++ rest) b (suc (length front)) ++ mask_seen epoch (core_barriers 0 (front ++ entry ∷ [])) rest rests) back_is
+    (subst (λ n. mask_to 0 epoch ((front ++ entry ∷ []) ++ rest) ((fronts ++ flag ∷ []) ++ rests) (length ((front ++ entry ∷ []) ++ rest)) ≡ mask_to 0 epoch ((front ++ entry ∷ []) ++ rest) ((fronts ++ flag ∷ []) ++ rests) n ++ mask_seen epoch (core_barriers 0 (front ++ entry ∷ [])) rest rests) longer later)) in
     let here : flag_in 0 epoch log back (length front) (slice_get log (length front)) ≡ flag_in 0 epoch log back (length front) (Some entry) = ap (flag_in 0 epoch log back (length front)) (get_seam front entry rest) in
     let flag_is : get_or back (length front) false ≡ flag = ap (λ n. get_or back n false) (sym same) ∙ flag_seam fronts flag rests in
-    later_is ∙ ap (λ (bs : List Bool). (mask_to 0 epoch log back (length front) ++ bs) ++ mask_seen epoch (barriers_of 0 (front ++ entry ∷ [])) rest rests) here
-    ∙ append_assoc (mask_to 0 epoch log back (length front)) (flag_in 0 epoch log back (length front) (Some entry)) (mask_seen epoch (barriers_of 0 (front ++ entry ∷ [])) rest rests)
+    later_is ∙ ap (λ (bs : List Bool). (mask_to 0 epoch log back (length front) ++ bs) ++ mask_seen epoch (core_barriers 0 (front ++ entry ∷ [])) rest rests) here
+    ∙ append_assoc (mask_to 0 epoch log back (length front)) (flag_in 0 epoch log back (length front) (Some entry)) (mask_seen epoch (core_barriers 0 (front ++ entry ∷ [])) rest rests)
     ∙ ap (λ (bs : List Bool). mask_to 0 epoch log back (length front) ++ bs) (one entry flag_is)
   where
     one : (it : Entry) → get_or (fronts ++ flag ∷ rests) (length front) false ≡ flag →
-        flag_in 0 epoch (front ++ entry ∷ rest) (fronts ++ flag ∷ rests) (length front) (Some it) ++ mask_seen epoch (barriers_of 0 (front ++ it ∷ [])) rest rests ≡ mask_seen epoch (barriers_of 0 front) (it ∷ rest) (flag ∷ rests)
-    one (Load core word) flag_is = ap (λ n. mask_seen epoch n rest rests) (barriers_of-append 0 front (Load core word ∷ []) ∙ omega arith)
-    one (Barrier core) flag_is = ap (λ n. mask_seen epoch n rest rests) (barriers_of-append 0 front (Barrier core ∷ []) ∙ omega arith)
+        flag_in 0 epoch (front ++ entry ∷ rest) (fronts ++ flag ∷ rests) (length front) (Some it) ++ mask_seen epoch (core_barriers 0 (front ++ it ∷ [])) rest rests ≡ mask_seen epoch (core_barriers 0 front) (it ∷ rest) (flag ∷ rests)
+    one (Load core word) flag_is = ap (λ n. mask_seen epoch n rest rests) (core_barriers-append 0 front (Load core word ∷ []) ∙ omega arith)
+    one (Barrier core) flag_is = ap (λ n. mask_seen epoch n rest rests) (core_barriers-append 0 front (Barrier core ∷ []) ∙ omega arith)
     one (Store core word value) flag_is =
-        let seen_is : barriers_of 0 (front ++ Store core word value ∷ []) ≡ barriers_of 0 front = barriers_of-append 0 front (Store core word value ∷ []) ∙ omega arith in
+        let seen_is : core_barriers 0 (front ++ Store core word value ∷ []) ≡ core_barriers 0 front = core_barriers-append 0 front (Store core word value ∷ []) ∙ omega arith in
         ap (λ n. flag_in 0 epoch (front ++ entry ∷ rest) (fronts ++ flag ∷ rests) (length front) (Some (Store core word value)) ++ mask_seen epoch n rest rests) seen_is
-        ∙ ap (λ (bs : List Bool). bs ++ mask_seen epoch (barriers_of 0 front) rest rests) (store_flag core)
+        ∙ ap (λ (bs : List Bool). bs ++ mask_seen epoch (core_barriers 0 front) rest rests) (store_flag core)
       where
-        store_flag : (core : ℕ) → cond (eqb core 0 && eqb (epoch_at (front ++ entry ∷ rest) core (length front)) epoch) (get_or (fronts ++ flag ∷ rests) (length front) false ∷ []) [] ≡ cond (eqb core 0 && eqb (barriers_of 0 front) epoch) (flag ∷ []) []
+        store_flag : (core : ℕ) → cond (eqb core 0 && eqb (epoch_at (front ++ entry ∷ rest) core (length front)) epoch) (get_or (fronts ++ flag ∷ rests) (length front) false ∷ []) [] ≡ cond (eqb core 0 && eqb (core_barriers 0 front) epoch) (flag ∷ []) []
         store_flag core = elim (cases_eq core 0) [
           | inl same_core ↦ rw (flag_is, same_core, take_seam front (entry ∷ rest)) refl
           | inr differ ↦ rw (ne_eqb core 0 differ) refl
@@ -211,7 +211,7 @@ module _ (epoch : ℕ) where
       one zero sum rest = rw (eq-eqb seen epoch (omega arith)) (let most = rest zero sum in omega arith)
       one (suc left) sum rest = rw (ne_eqb seen epoch (λ e. omega arith)) (rest (suc left) sum)
 
-done_barriers : (log : List Entry) → barriers (done_by_first log) ≡ barriers_of 0 log
+done_barriers : (log : List Entry) → barriers (done_by_first log) ≡ core_barriers 0 log
 done_barriers [] = refl
 done_barriers (Load core word ∷ log) = done_barriers log
 done_barriers (Store core word value ∷ log) = elim (cases_Bool (eqb core 0)) [ inl own ↦ rw own (done_barriers log) | inr other ↦ rw other (done_barriers log) ]
@@ -252,16 +252,16 @@ module _ (caches : Caches) (coherent : IsCoherent caches) where
       let size = coherent.flags in
       slice_get-get_or caches.back place false (omega arith)
 
-  before_is : (place word : ℕ) → IsStore caches.log place 0 word → epoch_at caches.log 0 place < open_epoch 0 caches → (flag : Bool) → get_or caches.back place false ≡ flag → slice_get caches.back place ≡ Some true
+  before_is : (place word : ℕ) → IsStore caches.log place 0 word → epoch_at caches.log 0 place < dirty_epoch 0 caches → (flag : Bool) → get_or caches.back place false ≡ flag → slice_get caches.back place ≡ Some true
   before_is place word store low true is = flag_of place 0 word store ∙ ap (λ (b : Bool). Some b) is
   before_is place word store low false is =
       let under = coherent.waiting place 0 word store (flag_of place 0 word store ∙ ap (λ (b : Bool). Some b) is) in
-      let own = first_epoch_own 0 (barriers_of 0 caches.log) caches.owners word (record { core = 0; epoch = epoch_at caches.log 0 place }) under refl in
+      let own = first_epoch_own 0 (core_barriers 0 caches.log) caches.owners word (record { core = 0; epoch = epoch_at caches.log 0 place }) under refl in
       absurd (omega arith)
 
-  behind_is : (place word : ℕ) → IsStore caches.log place 0 word → open_epoch 0 caches < epoch_at caches.log 0 place → (flag : Bool) → get_or caches.back place false ≡ flag → slice_get caches.back place ≡ Some false
+  behind_is : (place word : ℕ) → IsStore caches.log place 0 word → dirty_epoch 0 caches < epoch_at caches.log 0 place → (flag : Bool) → get_or caches.back place false ≡ flag → slice_get caches.back place ≡ Some false
   behind_is place word store high false is = flag_of place 0 word store ∙ ap (λ (b : Bool). Some b) is
-  behind_is place word store high true is = elim (attained 0 (barriers_of 0 caches.log) caches.owners) [
+  behind_is place word store high true is = elim (attained 0 (core_barriers 0 caches.log) caches.owners) [
     | inl same ↦ let most = epoch_at-most caches.log 0 place in absurd (omega arith)
     | inr at ↦
         let its = coherent.dirty at.word at.owner at.under in
@@ -275,7 +275,7 @@ module _ (caches : Caches) (coherent : IsCoherent caches) where
   ]
 
   module _ (events : List Event) (moment : ℕ) (within : moment ≤ length events) (played : IsPlayed (take moment events) caches.log) where
-    fits : Fits (open_epoch 0 caches) (open_epoch 0 caches) caches.log caches.back
+    fits : Fits (dirty_epoch 0 caches) (dirty_epoch 0 caches) caches.log caches.back
     fits = record {
       size = coherent.flags;
       alone = played.alone;
@@ -287,25 +287,25 @@ module _ (caches : Caches) (coherent : IsCoherent caches) where
     choice_right = record {
       moment = within;
       epoch =
-          let most = first_epoch_most 0 (barriers_of 0 caches.log) caches.owners in
+          let most = first_epoch_most 0 (core_barriers 0 caches.log) caches.owners in
           let same = done_barriers caches.log in
           let by = ap barriers played.same in
           let marks = unmarked_barriers (take moment events) in
           omega arith;
       mask =
-          let most = few (open_epoch 0 caches) (open_epoch 0 caches) 0 caches.log caches.back (omega arith) in
-          let size = ap length (mask_is_seen (open_epoch 0 caches) caches.log caches.back coherent.flags) in
-          let by = ap (epoch_stores (open_epoch 0 caches)) played.same in
-          let marks = unmarked_epoch (open_epoch 0 caches) (take moment events) in
+          let most = few (dirty_epoch 0 caches) (dirty_epoch 0 caches) 0 caches.log caches.back (omega arith) in
+          let size = ap length (mask_is_seen (dirty_epoch 0 caches) caches.log caches.back coherent.flags) in
+          let by = ap (epoch_stores (dirty_epoch 0 caches)) played.same in
+          let marks = unmarked_epoch (dirty_epoch 0 caches) (take moment events) in
           omega arith;
     }
 
-    pub choice_replays : (base : List ℕ) → IsOver base caches → replay base events (cut_at caches moment) ≡ caches.memory
-    choice_replays base over =
-        let mask = mask_to 0 (open_epoch 0 caches) caches.log caches.back (length caches.log) in
-        let stays : words_back base caches.log caches.back ≡ words_after base (stores_of (open_epoch 0 caches) (mask_seen (open_epoch 0 caches) 0 caches.log caches.back) (done_by_first caches.log)) =
-        kept (open_epoch 0 caches) (open_epoch 0 caches) 0 caches.log caches.back base (omega arith) fits in
-        sym (over ∙ stays
-        ∙ ap (λ (m : List Bool). words_after base (stores_of (open_epoch 0 caches) m (done_by_first caches.log))) (sym (mask_is_seen (open_epoch 0 caches) caches.log caches.back coherent.flags))
-        ∙ ap (λ (es : List Event). words_after base (stores_of (open_epoch 0 caches) mask es)) (sym played.same)
-        ∙ ap (words_after base) (unmarked_stores (open_epoch 0 caches) mask (take moment events)))
+    pub choice_replays : (base : List ℕ) → replay base events (cut_at caches moment) ≡ memory_over base caches
+    choice_replays base =
+        let mask = mask_to 0 (dirty_epoch 0 caches) caches.log caches.back (length caches.log) in
+        let stays : words_back base caches.log caches.back ≡ words_after base (stores_of (dirty_epoch 0 caches) (mask_seen (dirty_epoch 0 caches) 0 caches.log caches.back) (done_by_first caches.log)) =
+        kept (dirty_epoch 0 caches) (dirty_epoch 0 caches) 0 caches.log caches.back base (omega arith) fits in
+        sym (stays
+        ∙ ap (λ (m : List Bool). words_after base (stores_of (dirty_epoch 0 caches) m (done_by_first caches.log))) (sym (mask_is_seen (dirty_epoch 0 caches) caches.log caches.back coherent.flags))
+        ∙ ap (λ (es : List Event). words_after base (stores_of (dirty_epoch 0 caches) mask es)) (sym played.same)
+        ∙ ap (words_after base) (unmarked_stores (dirty_epoch 0 caches) mask (take moment events)))

@@ -20,9 +20,8 @@ is_due owner log epochs number = owner_is_up_to owner (owner_since log epochs nu
 abbrev pub has_gone : Owner → List Entry → List ℕ → ℕ → ℕ → Bool
 has_gone owner log epochs place number = is_due owner log epochs number && leb number place
 
-pub record IsSettledTo (memory values since : List ℕ) (log : List Entry) (epochs : List ℕ) (owner : Owner) (low place : ℕ) (memory2 since2 : List ℕ) : Type 0 where
+pub record IsSettledTo (since : List ℕ) (log : List Entry) (epochs : List ℕ) (owner : Owner) (low place : ℕ) (since2 : List ℕ) : Type 0 where
   pub since_is : (word : ℕ) → get_or since2 word 0 ≡ cond (has_gone owner log epochs place (get_or since word 0)) 0 (get_or since word 0)
-  pub memory_is : (word : ℕ) → get_or memory2 word 0 ≡ cond (has_gone owner log epochs place (get_or since word 0)) (get_or values word 0) (get_or memory word 0)
   pub passed : (other word : ℕ) → IsStore log other owner.core word → low ≤ other → other < place → get_or epochs other 0 ≤ owner.epoch
 
 up_to_parts : (owner other : Owner) → is_up_to owner other.core other.epoch ≡ true → (other.core ≡ owner.core) × (other.epoch ≤ owner.epoch)
@@ -30,7 +29,7 @@ up_to_parts owner other is =
     let parts = and_parts (eqb other.core owner.core) (leb other.epoch owner.epoch) is in
     (eqb-true other.core owner.core parts.0, leb-true other.epoch owner.epoch parts.1)
 
-module _ (memory values since : List ℕ) (log : List Entry) (epochs : List ℕ) (sound : AreSound memory values since log epochs) (owner : Owner) where
+module _ (words : ℕ) (since : List ℕ) (log : List Entry) (epochs : List ℕ) (sound : AreSound words since log epochs) (owner : Owner) where
   pub record Due (word : ℕ) : Type 0 where
     pub first : ℕ
     pub since_is : get_or since word 0 ≡ suc first
@@ -41,7 +40,7 @@ module _ (memory values since : List ℕ) (log : List Entry) (epochs : List ℕ)
   due_by word None is up = cc
   due_by word (Some other) is up =
       let parts = up_to_parts owner other up in
-      let its = held memory values since log epochs sound word other is in
+      let its = held words since log epochs sound word other is in
       let epoch : epoch_at log owner.core its.first ≤ owner.epoch = let same = ap (λ c. epoch_at log c its.first) parts.0 in let at = its.epoch in let most = parts.1 in omega arith in
       record { first = its.first; since_is = its.since_is; waits = subst (λ c. Waits since log its.first c word) parts.0 its.waits; epoch = epoch }
 
@@ -50,7 +49,7 @@ module _ (memory values since : List ℕ) (log : List Entry) (epochs : List ℕ)
 
   pub waiting_due : (place word : ℕ) → Waits since log place owner.core word → epoch_at log owner.core place ≤ owner.epoch → is_due owner log epochs (get_or since word 0) ≡ true
   waiting_due place word waits low =
-      ap (owner_is_up_to owner) (owner_of_waiting memory values since log epochs sound place owner.core word waits)
+      ap (owner_is_up_to owner) (owner_of_waiting words since log epochs sound place owner.core word waits)
       ∙ and_from (eqb owner.core owner.core) (leb (epoch_at log owner.core place) owner.epoch) (eq-eqb owner.core owner.core refl) (le-leb (epoch_at log owner.core place) owner.epoch low)
 
   epoch_is : (place word : ℕ) → IsStore log place owner.core word → get_or epochs place 0 ≡ epoch_at log owner.core place
@@ -80,16 +79,15 @@ module _ (memory values since : List ℕ) (log : List Entry) (epochs : List ℕ)
     | inr miss ↦ rw miss refl
   ]
 
-  pub settled_start : (low : ℕ) → IsLow since log owner.core low → IsSettledTo memory values since log epochs owner low low memory since
+  pub settled_start : (low : ℕ) → IsLow since log owner.core low → IsSettledTo since log epochs owner low low since
   settled_start low is_low = record {
     since_is = λ word. ap (λ b. cond b 0 (get_or since word 0)) (sym (gone_low low is_low word));
-    memory_is = λ word. ap (λ b. cond b (get_or values word 0) (get_or memory word 0)) (sym (gone_low low is_low word));
     passed = λ other word store high less. absurd (omega arith);
   }
 
-  module _ (low place : ℕ) (memory2 since2 : List ℕ) (so_far : IsSettledTo memory values since log epochs owner low place memory2 since2) where
+  module _ (low place : ℕ) (since2 : List ℕ) (so_far : IsSettledTo since log epochs owner low place since2) where
     -- at the place stands no store of the core
-    pub settled_skip : ((word : ℕ) → IsStore log place owner.core word → ⊥) → IsSettledTo memory values since log epochs owner low (place + 1) memory2 since2
+    pub settled_skip : ((word : ℕ) → IsStore log place owner.core word → ⊥) → IsSettledTo since log epochs owner low (place + 1) since2
     settled_skip none =
         let same : (word : ℕ) → has_gone owner log epochs (place + 1) (get_or since word 0) ≡ has_gone owner log epochs place (get_or since word 0) =
         λ word. gone_next place word (λ here. elim (cases_Bool (is_due owner log epochs (get_or since word 0))) [
@@ -101,7 +99,6 @@ module _ (memory values since : List ℕ) (log : List Entry) (epochs : List ℕ)
         ]) in
         record {
           since_is = λ word. so_far.since_is word ∙ ap (λ b. cond b 0 (get_or since word 0)) (sym (same word));
-          memory_is = λ word. so_far.memory_is word ∙ ap (λ b. cond b (get_or values word 0) (get_or memory word 0)) (sym (same word));
           passed = λ other word store high less. elim (cases_eq other place) [
             | inl here ↦ absurd (none word (subst (λ n. IsStore log n owner.core word) here store))
             | inr differ ↦ so_far.passed other word store high (omega arith)
@@ -109,13 +106,11 @@ module _ (memory values since : List ℕ) (log : List Entry) (epochs : List ℕ)
         }
 
     -- there stands one, of an epoch that goes
-    pub settled_here : (here : ℕ) → IsStore log place owner.core here → get_or epochs place 0 ≤ owner.epoch → (memory3 since3 : List ℕ) →
+    pub settled_here : (here : ℕ) → IsStore log place owner.core here → get_or epochs place 0 ≤ owner.epoch → (since3 : List ℕ) →
         ((other : ℕ) → get_or since3 other 0 ≡ cond (eqb other here && eqb (get_or since2 other 0) (place + 1)) 0 (get_or since2 other 0)) →
-        ((other : ℕ) → get_or memory3 other 0 ≡ cond (eqb other here && eqb (get_or since2 other 0) (place + 1)) (get_or values other 0) (get_or memory2 other 0)) →
-        IsSettledTo memory values since log epochs owner low (place + 1) memory3 since3
-    settled_here here store low_epoch memory3 since3 since3_is memory3_is = record {
-      since_is = λ word. (both word).0;
-      memory_is = λ word. (both word).1;
+        IsSettledTo since log epochs owner low (place + 1) since3
+    settled_here here store low_epoch since3 since3_is = record {
+      since_is = both;
       passed = λ other word its high less. elim (cases_eq other place) [
         | inl same ↦ rw same low_epoch
         | inr differ ↦ so_far.passed other word its high (omega arith)
@@ -130,17 +125,13 @@ module _ (memory values since : List ℕ) (log : List Entry) (epochs : List ℕ)
 
         -- nothing is written at this word
         unwritten : (word : ℕ) → eqb word here && eqb (get_or since2 word 0) (place + 1) ≡ false → (get_or since word 0 ≡ suc place → is_due owner log epochs (get_or since word 0) ≡ false) →
-            (get_or since3 word 0 ≡ cond (has_gone owner log epochs (place + 1) (get_or since word 0)) 0 (get_or since word 0))
-            × (get_or memory3 word 0 ≡ cond (has_gone owner log epochs (place + 1) (get_or since word 0)) (get_or values word 0) (get_or memory word 0))
+            get_or since3 word 0 ≡ cond (has_gone owner log epochs (place + 1) (get_or since word 0)) 0 (get_or since word 0)
         unwritten word not_written not_now =
-            let same = gone_next place word not_now in (
-              since3_is word ∙ ap (λ b. cond b 0 (get_or since2 word 0)) not_written ∙ so_far.since_is word ∙ ap (λ b. cond b 0 (get_or since word 0)) (sym same),
-              memory3_is word ∙ ap (λ b. cond b (get_or values word 0) (get_or memory2 word 0)) not_written ∙ so_far.memory_is word ∙ ap (λ b. cond b (get_or values word 0) (get_or memory word 0)) (sym same),
-            )
+            let same = gone_next place word not_now in
+            since3_is word ∙ ap (λ b. cond b 0 (get_or since2 word 0)) not_written ∙ so_far.since_is word ∙ ap (λ b. cond b 0 (get_or since word 0)) (sym same)
 
         both : (word : ℕ) →
-            (get_or since3 word 0 ≡ cond (has_gone owner log epochs (place + 1) (get_or since word 0)) 0 (get_or since word 0))
-            × (get_or memory3 word 0 ≡ cond (has_gone owner log epochs (place + 1) (get_or since word 0)) (get_or values word 0) (get_or memory word 0))
+            get_or since3 word 0 ≡ cond (has_gone owner log epochs (place + 1) (get_or since word 0)) 0 (get_or since word 0)
         both word = elim (eqb_tells word here) [
           | inl hit ↦ elim (cases_eq (get_or since word 0) (suc place)) [
             | inl now ↦
@@ -149,10 +140,8 @@ module _ (memory values since : List ℕ) (log : List Entry) (epochs : List ℕ)
                 let not_before : has_gone owner log epochs place (get_or since word 0) ≡ false = and_right (is_due owner log epochs (get_or since word 0)) (leb (get_or since word 0) place) (lt-leb (get_or since word 0) place (omega arith)) in
                 let gone : has_gone owner log epochs (place + 1) (get_or since word 0) ≡ true = and_from (is_due owner log epochs (get_or since word 0)) (leb (get_or since word 0) (place + 1)) goes (le-leb (get_or since word 0) (place + 1) (omega arith)) in
                 let number : get_or since2 word 0 ≡ get_or since word 0 = so_far.since_is word ∙ ap (λ b. cond b 0 (get_or since word 0)) not_before in
-                let test : eqb word here && eqb (get_or since2 word 0) (place + 1) ≡ true = and_from (eqb word here) (eqb (get_or since2 word 0) (place + 1)) hit.0 (eq-eqb (get_or since2 word 0) (place + 1) (omega arith)) in (
-                  since3_is word ∙ ap (λ b. cond b 0 (get_or since2 word 0)) test ∙ ap (λ b. cond b 0 (get_or since word 0)) (sym gone),
-                  memory3_is word ∙ ap (λ b. cond b (get_or values word 0) (get_or memory2 word 0)) test ∙ ap (λ b. cond b (get_or values word 0) (get_or memory word 0)) (sym gone),
-                )
+                let test : eqb word here && eqb (get_or since2 word 0) (place + 1) ≡ true = and_from (eqb word here) (eqb (get_or since2 word 0) (place + 1)) hit.0 (eq-eqb (get_or since2 word 0) (place + 1) (omega arith)) in
+                since3_is word ∙ ap (λ b. cond b 0 (get_or since2 word 0)) test ∙ ap (λ b. cond b 0 (get_or since word 0)) (sym gone)
             | inr differ ↦
                 unwritten word (and_right (eqb word here) (eqb (get_or since2 word 0) (place + 1)) (elim (eqb_tells (get_or since2 word 0) (place + 1)) [ inl same ↦ absurd (stays word differ same.1) | inr miss ↦ miss.0 ]))
                 (λ now. absurd (differ now))
@@ -207,9 +196,6 @@ module _ (memory values since : List ℕ) (log : List Entry) (epochs : List ℕ)
       pub settled_since : (word : ℕ) → get_or since2 word 0 ≡ cond (is_due owner log epochs (get_or since word 0)) 0 (get_or since word 0)
       settled_since word = so_far.since_is word ∙ ap (λ b. cond b 0 (get_or since word 0)) (gone_all word)
 
-      pub settled_memory : (word : ℕ) → get_or memory2 word 0 ≡ cond (is_due owner log epochs (get_or since word 0)) (get_or values word 0) (get_or memory word 0)
-      settled_memory word = so_far.memory_is word ∙ ap (λ b. cond b (get_or values word 0) (get_or memory word 0)) (gone_all word)
-
   -- all that goes stands in the log
   pub all_in_log : (word : ℕ) → is_due owner log epochs (get_or since word 0) ≡ true → get_or since word 0 ≤ length log
   all_in_log word is =
@@ -234,7 +220,7 @@ module _ (memory values since : List ℕ) (log : List Entry) (epochs : List ℕ)
   -- what goes with an owner takes all of its core's earlier epochs along
   pub settle_closed : (place core word other its_word : ℕ) → Waits since log place core word → Waits since log other core its_word → epoch_at log core place < epoch_at log core other → is_due owner log epochs (get_or since its_word 0) ≡ true → is_due owner log epochs (get_or since word 0) ≡ true
   settle_closed place core word other its_word waits its_waits less its_due =
-      let own = owner_of_waiting memory values since log epochs sound other core its_word its_waits in
+      let own = owner_of_waiting words since log epochs sound other core its_word its_waits in
       let its : Owner = record { core = core; epoch = epoch_at log core other } in
       let parts = up_to_parts owner its (sym (ap (owner_is_up_to owner) own) ∙ its_due) in
       let here = subst (λ c. Waits since log place c word) parts.0 waits in

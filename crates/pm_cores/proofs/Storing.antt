@@ -1,15 +1,14 @@
 -- A core sets a word.
-use Rattle.std.proofs.Common.{◌≡◌, ◌≢◌, ℕ, zero, suc, ◌<◌, ◌≤◌, ◌⊎◌, inl, inr, true, cond, Some, List, [], ◌∷◌, ◌++◌, length, get_or, refl, sym, ◌∙◌, ap, arith, length-append}
+use Rattle.std.proofs.Common.{◌≡◌, ◌≢◌, ℕ, zero, suc, ◌<◌, ◌≤◌, ◌⊎◌, inl, inr, true, Some, List, [], ◌∷◌, ◌++◌, length, get_or, refl, sym, ◌∙◌, ap, arith, length-append}
 use Rattle.std.specs.List.{slice_get}
 use Rattle.std.proofs.lemmas.Bool.{cases_eq}
-use Rattle.std.proofs.lemmas.Bool.Decides.{eqb_tells}
 use Rattle.pm_cores.specs.declared.entry.Entry.{Entry}
 use Rattle.pm_cores.specs.declared.entry.Entry.TheVariants.{Load, Store}
-use Rattle.pm_cores.specs.Log.{barriers_of, epoch_at, last_value, line_of, IsStore, IsUse}
+use Rattle.pm_cores.specs.Log.{core_barriers, epoch_at, line_at, IsStore, IsUse}
 use Rattle.pm_cores.specs.Log.IsUse.{use_load, use_store}
 use Rattle.pm_cores.specs.Inside.{waits_at, Waits, AreSound, IsLow}
 use Rattle.pm_cores.proofs.Lists.{get_pushed, get_pushed_old, get_pushed_new, get_within}
-use Rattle.pm_cores.proofs.Logs.{epoch_at-pushed, epoch_at-end, epoch_at-most, last_value-stored}
+use Rattle.pm_cores.proofs.Logs.{epoch_at-pushed, epoch_at-end, epoch_at-most}
 use Rattle.pm_cores.proofs.Waiting.{waits_true, waits_from}
 use Rattle.pm_cores.proofs.Pushing.{counted_pushed}
 
@@ -20,16 +19,10 @@ pub record IsSince (log : List Entry) (word : ℕ) (since since2 : List ℕ) : T
   pub same : (other first : ℕ) → get_or since other 0 ≡ suc first → get_or since2 other 0 ≡ suc first
   pub others : (other : ℕ) → other ≢ word → get_or since2 other 0 ≡ get_or since other 0
 
--- the values behind a store
-pub record IsValued (word value : ℕ) (values values2 : List ℕ) : Type 0 where
-  pub size : length values2 ≡ length values
-  pub here : get_or values2 word 0 ≡ value
-  pub others : (other : ℕ) → other ≢ word → get_or values2 other 0 ≡ get_or values other 0
-
-module _ (memory values since : List ℕ) (log : List Entry) (epochs values2 since2 : List ℕ) (core word value epoch : ℕ)
-    (sound : AreSound memory values since log epochs) (epoch_is : epoch ≡ barriers_of core log) (low : word < length memory)
-    (valued : IsValued word value values values2) (waiting : IsSince log word since since2)
-    (ready : (place its_core its_word : ℕ) → Waits since log place its_core its_word → line_of its_word ≡ line_of word → (its_core ≡ core) × (epoch_at log its_core place ≡ barriers_of core log)) where
+module _ (words : ℕ) (since : List ℕ) (log : List Entry) (epochs since2 : List ℕ) (core word value epoch : ℕ)
+    (sound : AreSound words since log epochs) (epoch_is : epoch ≡ core_barriers core log) (low : word < words)
+    (waiting : IsSince log word since since2)
+    (ready : (place its_core its_word : ℕ) → Waits since log place its_core its_word → line_at its_word ≡ line_at word → (its_core ≡ core) × (epoch_at log its_core place ≡ core_barriers core log)) where
   abbrev log2 : List Entry
   log2 = log ++ Store core word value ∷ []
 
@@ -94,35 +87,35 @@ module _ (memory values since : List ℕ) (log : List Entry) (epochs values2 sin
           let early = before first store.0 word store.1 in
           waits_from (get_or since2 word 0) first (length log) (waiting.same word first is) (omega arith)
 
-  end_epoch : epoch_at log2 core (length log) ≡ barriers_of core log
+  end_epoch : epoch_at log2 core (length log) ≡ core_barriers core log
   end_epoch = epoch_at-end log (Store core word value) core
 
   -- an old store that waits on the line, beside the new one
-  beside : (place its_core its_word : ℕ) → Waits since log place its_core its_word → line_of its_word ≡ line_of word → (its_core ≡ core) × (epoch_at log2 its_core place ≡ epoch_at log2 core (length log))
+  beside : (place its_core its_word : ℕ) → Waits since log place its_core its_word → line_at its_word ≡ line_at word → (its_core ≡ core) × (epoch_at log2 its_core place ≡ epoch_at log2 core (length log))
   beside place its_core its_word waits line =
       let both = ready place its_core its_word waits line in
       (both.0, same_epoch place its_core its_word waits.store ∙ both.1 ∙ sym end_epoch)
 
-  one_owner : (place its_core its_word other other_core other_word : ℕ) → Waits since2 log2 place its_core its_word → Waits since2 log2 other other_core other_word → line_of its_word ≡ line_of other_word → (its_core ≡ other_core) × (epoch_at log2 its_core place ≡ epoch_at log2 other_core other)
+  one_owner : (place its_core its_word other other_core other_word : ℕ) → Waits since2 log2 place its_core its_word → Waits since2 log2 other other_core other_word → line_at its_word ≡ line_at other_word → (its_core ≡ other_core) × (epoch_at log2 its_core place ≡ epoch_at log2 other_core other)
   one_owner place its_core its_word other other_core other_word one two line = elim (waits_of place its_core its_word one) [
     | inl old ↦ elim (waits_of other other_core other_word two) [
       | inl old_too ↦
           let both = sound.one place its_core its_word other other_core other_word old old_too line in
           (both.0, same_epoch place its_core its_word old.store ∙ both.1 ∙ sym (same_epoch other other_core other_word old_too.store))
       | inr new ↦
-          let both = beside place its_core its_word old (line ∙ ap line_of new.2) in
+          let both = beside place its_core its_word old (line ∙ ap line_at new.2) in
           (both.0 ∙ sym new.1, both.1 ∙ sym (ap (λ c. epoch_at log2 c other) new.1 ∙ ap (epoch_at log2 core) new.0))
     ]
     | inr new ↦ elim (waits_of other other_core other_word two) [
       | inl old ↦
-          let both = beside other other_core other_word old (sym line ∙ ap line_of new.2) in
+          let both = beside other other_core other_word old (sym line ∙ ap line_at new.2) in
           (new.1 ∙ sym both.0, (ap (λ c. epoch_at log2 c place) new.1 ∙ ap (epoch_at log2 core) new.0) ∙ sym both.1)
       | inr new_too ↦
           (new.1 ∙ sym new_too.1, (ap (λ c. epoch_at log2 c place) new.1 ∙ ap (epoch_at log2 core) new.0) ∙ sym (ap (λ c. epoch_at log2 c other) new_too.1 ∙ ap (epoch_at log2 core) new_too.0))
     ]
   ]
 
-  use_at : (other its_core line : ℕ) → IsUse log2 other its_core line → IsUse log other its_core line ⊎ ((other ≡ length log) × (its_core ≡ core) × (line_of word ≡ line))
+  use_at : (other its_core line : ℕ) → IsUse log2 other its_core line → IsUse log other its_core line ⊎ ((other ≡ length log) × (its_core ≡ core) × (line_at word ≡ line))
   use_at other its_core line (use_load at is on) = elim (get_pushed log (Store core word value) other (Load its_core at) is) [
     | inl old ↦ inl (use_load at old on)
     | inr new ↦ let differ : Store core word value ≡ Load its_core at = new.1 in cc
@@ -133,23 +126,23 @@ module _ (memory values since : List ℕ) (log : List Entry) (epochs values2 sin
         let same : Store core word value ≡ Store its_core at its = new.1 in
         let core_is : its_core ≡ core = cc in
         let word_is : word ≡ at = cc in
-        inr (new.0, core_is, ap line_of word_is ∙ on)
+        inr (new.0, core_is, ap line_at word_is ∙ on)
   ]
 
   use_low : (other its_core line : ℕ) → IsUse log other its_core line → other < length log
   use_low other its_core line (use_load at is on) = get_within log other (Load its_core at) is
   use_low other its_core line (use_store at its is on) = get_within log other (Store its_core at its) is
 
-  alone_at : (place its_core its_word other other_core : ℕ) → Waits since2 log2 place its_core its_word → place < other → IsUse log2 other other_core (line_of its_word) → other_core ≡ its_core
+  alone_at : (place its_core its_word other other_core : ℕ) → Waits since2 log2 place its_core its_word → place < other → IsUse log2 other other_core (line_at its_word) → other_core ≡ its_core
   alone_at place its_core its_word other other_core waits late used = elim (waits_of place its_core its_word waits) [
-    | inl old ↦ elim (use_at other other_core (line_of its_word) used) [
+    | inl old ↦ elim (use_at other other_core (line_at its_word) used) [
       | inl used_old ↦ sound.alone place its_core its_word other other_core old late used_old
       | inr new ↦
           let both = ready place its_core its_word old (sym new.2) in
           new.1 ∙ sym both.0
     ]
-    | inr new ↦ elim (use_at other other_core (line_of its_word) used) [
-      | inl used_old ↦ let low = use_low other other_core (line_of its_word) used_old in let at = new.0 in absurd (omega arith)
+    | inr new ↦ elim (use_at other other_core (line_at its_word) used) [
+      | inl used_old ↦ let low = use_low other other_core (line_at its_word) used_old in let at = new.0 in absurd (omega arith)
       | inr new_too ↦ let at = new.0 in let at_too = new_too.0 in absurd (omega arith)
     ]
   ]
@@ -162,34 +155,12 @@ module _ (memory values since : List ℕ) (log : List Entry) (epochs values2 sin
           let two = same_epoch other its_core other_word store_old in
           still_waits other_word other (sound.in_order place its_core its_word other other_word old store_old (omega arith))
       | inr new ↦
-          let one : epoch_at log2 its_core place ≡ barriers_of core log = ap (λ c. epoch_at log2 c place) new.1 ∙ ap (epoch_at log2 core) new.0 ∙ end_epoch in
+          let one : epoch_at log2 its_core place ≡ core_barriers core log = ap (λ c. epoch_at log2 c place) new.1 ∙ ap (epoch_at log2 core) new.0 ∙ end_epoch in
           let two : epoch_at log2 its_core other ≡ epoch_at log core other = same_epoch other its_core other_word store_old ∙ ap (λ c. epoch_at log c other) new.1 in
           let most = epoch_at-most log core other in
           absurd (omega arith)
     ]
     | inr new ↦ let at : get_or since2 other_word 0 ≡ get_or since2 word 0 = ap (λ n. get_or since2 n 0) new.2 in rw (at, new.0) new_waits
-  ]
-
-  value_of : (other first now : ℕ) → get_or since2 other 0 ≡ suc first → last_value now log2 other ≡ get_or values2 other 0
-  value_of other first now is = elim (eqb_tells word other) [
-    | inl hit ↦
-        last_value-stored log core word value now other ∙ ap (λ b. cond b value (last_value now log other)) hit.0 ∙ sym valued.here ∙ ap (λ n. get_or values2 n 0) hit.1
-    | inr miss ↦
-        let differ : other ≢ word = λ e. miss.1 (sym e) in
-        last_value-stored log core word value now other ∙ ap (λ b. cond b value (last_value now log other)) miss.0
-        ∙ sound.value other first now (sym (waiting.others other differ) ∙ is) ∙ sym (valued.others other differ)
-  ]
-
-  clean_of : (other : ℕ) → get_or since2 other 0 ≡ 0 → last_value (get_or memory other 0) log2 other ≡ get_or memory other 0
-  clean_of other is = elim (eqb_tells word other) [
-    | inl hit ↦
-        let from = waits_true (get_or since2 word 0) (length log) new_waits in
-        let not : 0 ≡ suc from.first = sym is ∙ ap (λ n. get_or since2 n 0) (sym hit.1) ∙ from.is in
-        cc
-    | inr miss ↦
-        let differ : other ≢ word = λ e. miss.1 (sym e) in
-        last_value-stored log core word value (get_or memory other 0) other ∙ ap (λ b. cond b value (last_value (get_or memory other 0) log other)) miss.0
-        ∙ sound.clean other (sym (waiting.others other differ) ∙ is)
   ]
 
   first_of : (other first : ℕ) → get_or since2 other 0 ≡ suc first → (its_core : ℕ) × IsStore log2 first its_core other
@@ -203,9 +174,8 @@ module _ (memory values since : List ℕ) (log : List Entry) (epochs values2 sin
         (core, record { value = value; is = ap (slice_get log2) at ∙ get_pushed_new log (Store core word value) ∙ ap (λ n. Some (Store core n value)) (sym fresh.0) })
   ]
 
-  pub stored_sound : AreSound memory values2 since2 log2 (epochs ++ epoch ∷ [])
+  pub stored_sound : AreSound words since2 log2 (epochs ++ epoch ∷ [])
   stored_sound = record {
-    as_many_values = valued.size ∙ sound.as_many_values;
     as_many_since = waiting.size ∙ sound.as_many_since;
     as_many_epochs = let size = sound.as_many_epochs in omega (arith, length-append epochs (epoch ∷ []), length-append log (Store core word value ∷ []));
     words = λ place its_core its_word store. elim (store_of place its_core its_word store) [
@@ -215,8 +185,6 @@ module _ (memory values since : List ℕ) (log : List Entry) (epochs values2 sin
     counted = counted_pushed log epochs (Store core word value) epoch sound.as_many_epochs sound.counted epoch_is;
     first = first_of;
     one = one_owner;
-    value = value_of;
-    clean = clean_of;
     alone = alone_at;
     in_order = in_order_at;
   }

@@ -4,19 +4,19 @@ use Rattle.std.specs.Prelude.{map, is_some, IfSome}
 use Rattle.std.specs.List.{slice_get, range_with_len}
 use Rattle.std.proofs.lemmas.Bool.{cases_Bool, cases_eq, cases_lt, ne_eqb, lt-leb, or_right, or_left}
 use Rattle.std.proofs.lemmas.Option.{slice_get-get_or, get_or_from_slice_get}
-use Rattle.std.proofs.lemmas.List.{ext_get_or, get_or-set_same, get_or-set_other, length-set, length-map, length-replicate}
-use Rattle.std.proofs.lemmas.List.FromFn.{get_or-map-range_with_len, length-map-range_with_len, map-range_with_len_more}
+use Rattle.std.proofs.lemmas.List.{ext_get_or, get_or-set_same, get_or-set_other, length-set, length-map}
+use Rattle.std.proofs.lemmas.List.FromFn.{get_or-map-range_with_len, map-range_with_len_more}
 use Rattle.pm_cores.specs.declared.entry.Entry.{Entry}
 use Rattle.pm_cores.specs.declared.entry.Entry.TheVariants.{Load, Store, Barrier}
 use Rattle.pm_cores.specs.declared.entry.Owner.{Owner}
-use Rattle.pm_cores.specs.Log.{core_of, barriers_of, epoch_at, last_value, line_of, IsStore}
-use Rattle.pm_cores.specs.Caches.{Caches, is_up_to, owner_is_up_to, entry_is_up_to, first_owner, caches_over, settled, with_entry, stored}
+use Rattle.pm_cores.specs.Log.{core_of, core_barriers, epoch_at, line_at, IsStore}
+use Rattle.pm_cores.specs.Caches.{Caches, is_up_to, owner_is_up_to, entry_is_up_to, first_owner, caches_over, settled, logged, stored}
 use Rattle.pm_cores.specs.Inside.{waits_at, owner_since, entry_is_back, flags_of, owners_of, caches_by, Waits, AreSound}
 use Rattle.pm_cores.proofs.Lists.{get_within, get_before, get_pushed_new, index_before, index_past}
 use Rattle.pm_cores.proofs.Logs.{IsNoStore, epoch_at-most, epoch_at-end}
 use Rattle.pm_cores.proofs.Storing.{IsSince}
 use Rattle.pm_cores.proofs.Waiting.{first_waits, owner_of_waiting, held}
-use Rattle.pm_cores.proofs.Settling.{is_due, due}
+use Rattle.pm_cores.proofs.Settling.{is_due}
 
 -- ## Lists made of functions
 
@@ -101,37 +101,37 @@ get_dropped [] (suc n) k = refl
 get_dropped (x ∷ xs) zero k = let e : 0 + k ≡ k = omega arith in rw e refl
 get_dropped (x ∷ xs) (suc n) k = let e : suc n + k ≡ suc (n + k) = omega arith in rw e (get_dropped xs n k)
 
-module _ (memory values since : List ℕ) (log : List Entry) (epochs : List ℕ) (sound : AreSound memory values since log epochs) where
+module _ (words : ℕ) (since : List ℕ) (log : List Entry) (epochs : List ℕ) (sound : AreSound words since log epochs) where
   abbrev owners : List (Option Owner)
   owners = owners_of since log epochs
 
   abbrev line : ℕ → List (Option Owner)
-  line word = take 8 (drop (8 * line_of word) owners)
+  line word = take 8 (drop (8 * line_at word) owners)
 
-  pub one_owner : (word other : ℕ) (owner its : Owner) → owner_since log epochs (get_or since word 0) ≡ Some owner → owner_since log epochs (get_or since other 0) ≡ Some its → line_of word ≡ line_of other → owner ≡ its
+  pub one_owner : (word other : ℕ) (owner its : Owner) → owner_since log epochs (get_or since word 0) ≡ Some owner → owner_since log epochs (get_or since other 0) ≡ Some its → line_at word ≡ line_at other → owner ≡ its
   one_owner word other owner its by its_by same =
-      let one = held memory values since log epochs sound word owner by in
-      let two = held memory values since log epochs sound other its its_by in
+      let one = held words since log epochs sound word owner by in
+      let two = held words since log epochs sound other its its_by in
       let both = sound.one one.first owner.core word two.first its.core other one.waits two.waits same in
       let epoch : owner.epoch ≡ its.epoch = sym one.epoch ∙ both.1 ∙ two.epoch in
       let core : owner.core ≡ its.core = both.0 in
       cc
 
   -- where the line's owner stands
-  pub line_owner_at : (word : ℕ) (owner : Owner) → first_owner (line word) ≡ Some owner → (other : ℕ) × (line_of other ≡ line_of word) × (owner_since log epochs (get_or since other 0) ≡ Some owner)
+  pub line_owner_at : (word : ℕ) (owner : Owner) → first_owner (line word) ≡ Some owner → (other : ℕ) × (line_at other ≡ line_at word) × (owner_since log epochs (get_or since other 0) ≡ Some owner)
   line_owner_at word owner is =
       let at = first_owner_at (line word) owner is in
-      let taken = got_taken (drop (8 * line_of word) owners) 8 at.0 (Some owner) at.1 in
+      let taken = got_taken (drop (8 * line_at word) owners) 8 at.0 (Some owner) at.1 in
       let low = taken.0 in
-      let here : line_of (8 * line_of word + at.0) ≡ line_of word = omega arith in
-      (8 * line_of word + at.0, here, under_seen since log epochs (8 * line_of word + at.0) owner (sym (get_dropped owners (8 * line_of word) at.0) ∙ taken.1))
+      let here : line_at (8 * line_at word + at.0) ≡ line_at word = omega arith in
+      (8 * line_at word + at.0, here, under_seen since log epochs (8 * line_at word + at.0) owner (sym (get_dropped owners (8 * line_at word) at.0) ∙ taken.1))
 
-  pub line_owner_each : (word other : ℕ) (owner : Owner) → slice_get owners other ≡ Some (Some owner) → line_of other ≡ line_of word → first_owner (line word) ≡ Some owner
+  pub line_owner_each : (word other : ℕ) (owner : Owner) → slice_get owners other ≡ Some (Some owner) → line_at other ≡ line_at word → first_owner (line word) ≡ Some owner
   line_owner_each word other owner under same =
-      let rest : ℕ = other - 8 * line_of word in
+      let rest : ℕ = other - 8 * line_at word in
       let low : rest < 8 = omega arith in
-      let sum : 8 * line_of word + rest ≡ other = omega arith in
-      let here : slice_get (line word) rest ≡ Some (Some owner) = get_taken (drop (8 * line_of word) owners) 8 rest low ∙ get_dropped owners (8 * line_of word) rest ∙ ap (slice_get owners) sum ∙ under in
+      let sum : 8 * line_at word + rest ≡ other = omega arith in
+      let here : slice_get (line word) rest ≡ Some (Some owner) = get_taken (drop (8 * line_at word) owners) 8 rest low ∙ get_dropped owners (8 * line_at word) rest ∙ ap (slice_get owners) sum ∙ under in
       let first = first_owner_some (line word) rest owner here in
       let at = line_owner_at word first.0 first.1 in
       let one = one_owner at.0 other first.0 owner at.2 (under_seen since log epochs other owner under) (at.1 ∙ sym same) in
@@ -139,25 +139,20 @@ module _ (memory values since : List ℕ) (log : List Entry) (epochs : List ℕ)
 
   pub line_owner_epoch : (word : ℕ) (owner : Owner) → owner_since log epochs (get_or since word 0) ≡ Some owner → (place : ℕ) × IsStore log place owner.core word × (epoch_at log owner.core place ≡ owner.epoch)
   line_owner_epoch word owner by =
-      let its = held memory values since log epochs sound word owner by in
+      let its = held words since log epochs sound word owner by in
       (its.first, its.waits.store, its.epoch)
 
--- ## Values
+-- ## Dirty words
 
-pub value_seen : (memory values since : List ℕ) (log : List Entry) (epochs : List ℕ) → AreSound memory values since log epochs → (word : ℕ) → get_or since word 0 ≢ 0 → get_or values word 0 ≡ last_value (get_or memory word 0) log word
-value_seen memory values since log epochs sound word dirty =
-    let at = suc_of (get_or since word 0) dirty in
-    sym (sound.value word at.0 (get_or memory word 0) at.1)
-
-pub dirty_seen : (memory values since : List ℕ) (log : List Entry) (epochs : List ℕ) → AreSound memory values since log epochs → (word : ℕ) → is_some (get_or (owners_of since log epochs) word None) ≡ not (eqb (get_or since word 0) 0)
-dirty_seen memory values since log epochs sound word = ap is_some (owner_seen since log epochs word) ∙ at (get_or since word 0) refl
+pub dirty_seen : (words : ℕ) (since : List ℕ) (log : List Entry) (epochs : List ℕ) → AreSound words since log epochs → (word : ℕ) → is_some (get_or (owners_of since log epochs) word None) ≡ not (eqb (get_or since word 0) 0)
+dirty_seen words since log epochs sound word = ap is_some (owner_seen since log epochs word) ∙ at (get_or since word 0) refl
   where
     at : (number : ℕ) → get_or since word 0 ≡ number → is_some (owner_since log epochs (get_or since word 0)) ≡ not (eqb (get_or since word 0) 0)
     at zero is = rw is refl
     at (suc first) is =
         let store = sound.first word first is in
         let here = first_waits since log word first store.0 is store.1 in
-        let owner = owner_of_waiting memory values since log epochs sound first store.0 word here in
+        let owner = owner_of_waiting words since log epochs sound first store.0 word here in
         let test : eqb (get_or since word 0) 0 ≡ false = ne_eqb (get_or since word 0) 0 (λ nothing. omega arith) in
         ap is_some owner ∙ sym (ap not test)
 
@@ -193,43 +188,22 @@ not_back since place (Load core word) none = refl
 not_back since place (Store core word value) none = absurd (none core word value refl)
 not_back since place (Barrier core) none = refl
 
-pub pushed_seen : (cores : ℕ) (memory values since : List ℕ) (log : List Entry) (epochs : List ℕ) (capacity : ℕ) (entry : Entry) (epoch : ℕ) → AreSound memory values since log epochs → IsNoStore entry →
-    caches_by cores memory since (log ++ entry ∷ []) (epochs ++ epoch ∷ []) capacity ≡ with_entry (caches_by cores memory since log epochs capacity) entry
-pushed_seen cores memory values since log epochs capacity entry epoch sound none =
+pub pushed_seen : (cores : ℕ) (words : ℕ) (since : List ℕ) (log : List Entry) (epochs : List ℕ) (capacity : ℕ) (entry : Entry) (epoch : ℕ) → AreSound words since log epochs → IsNoStore entry →
+    caches_by cores words since (log ++ entry ∷ []) (epochs ++ epoch ∷ []) capacity ≡ logged (caches_by cores words since log epochs capacity) entry
+pushed_seen cores words since log epochs capacity entry epoch sound none =
     let owners_are = owners_pushed since log epochs entry epoch sound.as_many_epochs (λ word first is. let store = sound.first word first is in get_within log first (Store store.0 word store.1.value) store.1.is) in
     let flags_are = flags_pushed since since log entry false (λ place low. refl) (not_back since (length log) entry none) in
     rw (owners_are, flags_are) refl
 
 -- ## Words written back
 
-module _ (cores : ℕ) (memory values since : List ℕ) (log : List Entry) (epochs : List ℕ) (capacity : ℕ) (sound : AreSound memory values since log epochs) (memory2 since2 : List ℕ)
-    (memory_size : length memory2 ≡ length memory) (since_size : length since2 ≡ length since) where
+module _ (cores : ℕ) (words : ℕ) (since : List ℕ) (log : List Entry) (epochs : List ℕ) (capacity : ℕ) (sound : AreSound words since log epochs) (since2 : List ℕ)
+    (since_size : length since2 ≡ length since) where
   abbrev before : Caches
-  before = caches_by cores memory since log epochs capacity
+  before = caches_by cores words since log epochs capacity
 
   module _ (owner : Owner)
-      (since_is : (word : ℕ) → get_or since2 word 0 ≡ cond (is_due owner log epochs (get_or since word 0)) 0 (get_or since word 0))
-      (memory_is : (word : ℕ) → get_or memory2 word 0 ≡ cond (is_due owner log epochs (get_or since word 0)) (get_or values word 0) (get_or memory word 0)) where
-    settled_word : (word : ℕ) → get_or memory2 word 0 ≡ cond (owner_is_up_to owner (get_or (owners_of since log epochs) word None)) (last_value (get_or memory word 0) log word) (get_or memory word 0)
-    settled_word word = elim (cases_Bool (is_due owner log epochs (get_or since word 0))) [
-      | inl hit ↦
-          let its = due memory values since log epochs sound owner word hit in
-          let test : owner_is_up_to owner (get_or (owners_of since log epochs) word None) ≡ true = ap (owner_is_up_to owner) (owner_seen since log epochs word) ∙ hit in
-          memory_is word ∙ ap (λ b. cond b (get_or values word 0) (get_or memory word 0)) hit ∙ sym (sound.value word its.first (get_or memory word 0) its.since_is)
-          ∙ ap (λ b. cond b (last_value (get_or memory word 0) log word) (get_or memory word 0)) (sym test)
-      | inr miss ↦
-          let test : owner_is_up_to owner (get_or (owners_of since log epochs) word None) ≡ false = ap (owner_is_up_to owner) (owner_seen since log epochs word) ∙ miss in
-          memory_is word ∙ ap (λ b. cond b (get_or values word 0) (get_or memory word 0)) miss
-          ∙ ap (λ b. cond b (last_value (get_or memory word 0) log word) (get_or memory word 0)) (sym test)
-    ]
-
-    settled_memory_is : memory2 ≡ (settled before owner).memory
-    unfolding settled
-    settled_memory_is =
-        let f : ℕ → ℕ = λ word. cond (owner_is_up_to owner (get_or (owners_of since log epochs) word None)) (last_value (get_or memory word 0) log word) (get_or memory word 0) in
-        ext_get_or 0 memory2 (map f (range_with_len 0 (length memory))) (memory_size ∙ sym (length-map-range_with_len f 0 (length memory)))
-        (λ word low. settled_word word ∙ sym (get_map_range f (length memory) word 0 (omega arith)))
-
+      (since_is : (word : ℕ) → get_or since2 word 0 ≡ cond (is_due owner log epochs (get_or since word 0)) 0 (get_or since word 0)) where
     settled_owner : (number : ℕ) → owner_since log epochs (cond (is_due owner log epochs number) 0 number) ≡ cond (owner_is_up_to owner (owner_since log epochs number)) None (owner_since log epochs number)
     settled_owner number = elim (cases_Bool (is_due owner log epochs number)) [
       | inl hit ↦ rw hit refl
@@ -263,7 +237,7 @@ module _ (cores : ℕ) (memory values since : List ℕ) (log : List Entry) (epoc
           ap (λ n. not (waits_at n place)) gone ∙ sym (elim (cases_Bool (waits_at (get_or since word 0) place)) [
             | inl waits ↦
                 let store : IsStore log place core word = record { value = value; is = is } in
-                let own = owner_of_waiting memory values since log epochs sound place core word (record { store = store; waits = waits }) in
+                let own = owner_of_waiting words since log epochs sound place core word (record { store = store; waits = waits }) in
                 let up : is_up_to owner core (epoch_at log core place) ≡ true = sym (ap (owner_is_up_to owner) own) ∙ hit in
                 or_right (not (waits_at (get_or since word 0) place)) (is_up_to owner core (epoch_at log core place)) up
             | inr back ↦ or_left (not (waits_at (get_or since word 0) place)) (is_up_to owner core (epoch_at log core place)) (ap not back)
@@ -273,7 +247,7 @@ module _ (cores : ℕ) (memory values since : List ℕ) (log : List Entry) (epoc
           ap (λ n. not (waits_at n place)) stays ∙ elim (cases_Bool (waits_at (get_or since word 0) place)) [
             | inl waits ↦
                 let store : IsStore log place core word = record { value = value; is = is } in
-                let own = owner_of_waiting memory values since log epochs sound place core word (record { store = store; waits = waits }) in
+                let own = owner_of_waiting words since log epochs sound place core word (record { store = store; waits = waits }) in
                 let up : is_up_to owner core (epoch_at log core place) ≡ false = sym (ap (owner_is_up_to owner) own) ∙ miss in
                 rw (waits, up) refl
             | inr back ↦ rw back refl
@@ -288,54 +262,54 @@ module _ (cores : ℕ) (memory values since : List ℕ) (log : List Entry) (epoc
         (λ place low. settled_flag place (slice_get log place) refl
         ∙ ap (λ b. b || entry_is_up_to owner log place (slice_get log place)) (sym (get_map_range (λ at. entry_is_back since at (slice_get log at)) (length log) place false low)))
 
-    pub settled_seen : caches_by cores memory2 since2 log epochs capacity ≡ settled before owner
+    pub settled_seen : caches_by cores words since2 log epochs capacity ≡ settled before owner
     unfolding settled
-    settled_seen = rw (settled_memory_is, settled_owners_are, settled_back_is) refl
+    settled_seen = rw (settled_owners_are, settled_back_is) refl
 
 -- ## What a caller knows of the words of a line
 
-module _ (memory values since : List ℕ) (log : List Entry) (epochs : List ℕ) (sound : AreSound memory values since log epochs) (core word : ℕ) where
+module _ (words : ℕ) (since : List ℕ) (log : List Entry) (epochs : List ℕ) (sound : AreSound words since log epochs) (core word : ℕ) where
   pub under_waits : (place its_core its_word : ℕ) → Waits since log place its_core its_word → slice_get (owners_of since log epochs) its_word ≡ Some (Some (record { core = its_core; epoch = epoch_at log its_core place }))
   under_waits place its_core its_word waits =
       let owner : Owner = record { core = its_core; epoch = epoch_at log its_core place } in
-      seen_under since log epochs its_word owner (owner_of_waiting memory values since log epochs sound place its_core its_word waits)
+      seen_under since log epochs its_word owner (owner_of_waiting words since log epochs sound place its_core its_word waits)
 
-  pub ready_to_load : ((other : ℕ) (owner : Owner) → slice_get (owners_of since log epochs) other ≡ Some (Some owner) → line_of other ≡ line_of word → owner.core ≡ core) →
-      (its_core at : ℕ) → Load core word ≡ Load its_core at → (place other_core other : ℕ) → Waits since log place other_core other → line_of at ≡ line_of other → its_core ≡ other_core
+  pub ready_to_load : ((other : ℕ) (owner : Owner) → slice_get (owners_of since log epochs) other ≡ Some (Some owner) → line_at other ≡ line_at word → owner.core ≡ core) →
+      (its_core at : ℕ) → Load core word ≡ Load its_core at → (place other_core other : ℕ) → Waits since log place other_core other → line_at at ≡ line_at other → its_core ≡ other_core
   ready_to_load ready its_core at same place other_core other waits line =
       let core_is : core ≡ its_core = cc in
       let word_is : word ≡ at = cc in
       let owner : Owner = record { core = other_core; epoch = epoch_at log other_core place } in
-      let one : other_core ≡ core = ready other owner (under_waits place other_core other waits) (sym line ∙ ap line_of (sym word_is)) in
+      let one : other_core ≡ core = ready other owner (under_waits place other_core other waits) (sym line ∙ ap line_at (sym word_is)) in
       sym core_is ∙ sym one
 
-  pub ready_to_store : ((other : ℕ) (owner : Owner) → slice_get (owners_of since log epochs) other ≡ Some (Some owner) → line_of other ≡ line_of word → owner ≡ record { core = core; epoch = barriers_of core log }) →
-      (place its_core its_word : ℕ) → Waits since log place its_core its_word → line_of its_word ≡ line_of word → (its_core ≡ core) × (epoch_at log its_core place ≡ barriers_of core log)
+  pub ready_to_store : ((other : ℕ) (owner : Owner) → slice_get (owners_of since log epochs) other ≡ Some (Some owner) → line_at other ≡ line_at word → owner ≡ record { core = core; epoch = core_barriers core log }) →
+      (place its_core its_word : ℕ) → Waits since log place its_core its_word → line_at its_word ≡ line_at word → (its_core ≡ core) × (epoch_at log its_core place ≡ core_barriers core log)
   ready_to_store ready place its_core its_word waits line =
       let owner : Owner = record { core = its_core; epoch = epoch_at log its_core place } in
       let same = ready its_word owner (under_waits place its_core its_word waits) line in
       (ap (λ (o : Owner). o.core) same, ap (λ (o : Owner). o.epoch) same)
 
-pub line_owner_known : (memory values since : List ℕ) (log : List Entry) (epochs : List ℕ) → AreSound memory values since log epochs → (cores : ℕ) → ((place : ℕ) (entry : Entry) → slice_get log place ≡ Some entry → core_of entry < cores) →
-    (word : ℕ) (found : Option Owner) → found ≡ first_owner (take 8 (drop (8 * line_of word) (owners_of since log epochs))) → IfSome found (λ owner. owner.core < cores)
-line_owner_known memory values since log epochs sound cores known word None is = tt
-line_owner_known memory values since log epochs sound cores known word (Some owner) is =
-    let at = line_owner_at memory values since log epochs sound word owner (sym is) in
-    let store = line_owner_epoch memory values since log epochs sound at.0 owner at.2 in
+pub line_owner_known : (words : ℕ) (since : List ℕ) (log : List Entry) (epochs : List ℕ) → AreSound words since log epochs → (cores : ℕ) → ((place : ℕ) (entry : Entry) → slice_get log place ≡ Some entry → core_of entry < cores) →
+    (word : ℕ) (found : Option Owner) → found ≡ first_owner (take 8 (drop (8 * line_at word) (owners_of since log epochs))) → IfSome found (λ owner. owner.core < cores)
+line_owner_known words since log epochs sound cores known word None is = tt
+line_owner_known words since log epochs sound cores known word (Some owner) is =
+    let at = line_owner_at words since log epochs sound word owner (sym is) in
+    let store = line_owner_epoch words since log epochs sound at.0 owner at.2 in
     known store.0 (Store owner.core at.0 store.1.value) store.1.is
 
-pub line_owner_most : (memory values since : List ℕ) (log : List Entry) (epochs : List ℕ) → AreSound memory values since log epochs →
-    (word : ℕ) (found : Option Owner) → found ≡ first_owner (take 8 (drop (8 * line_of word) (owners_of since log epochs))) → IfSome found (λ owner. owner.epoch ≤ barriers_of owner.core log)
-line_owner_most memory values since log epochs sound word None is = tt
-line_owner_most memory values since log epochs sound word (Some owner) is =
-    let at = line_owner_at memory values since log epochs sound word owner (sym is) in
-    let store = line_owner_epoch memory values since log epochs sound at.0 owner at.2 in
+pub line_owner_most : (words : ℕ) (since : List ℕ) (log : List Entry) (epochs : List ℕ) → AreSound words since log epochs →
+    (word : ℕ) (found : Option Owner) → found ≡ first_owner (take 8 (drop (8 * line_at word) (owners_of since log epochs))) → IfSome found (λ owner. owner.epoch ≤ core_barriers owner.core log)
+line_owner_most words since log epochs sound word None is = tt
+line_owner_most words since log epochs sound word (Some owner) is =
+    let at = line_owner_at words since log epochs sound word owner (sym is) in
+    let store = line_owner_epoch words since log epochs sound at.0 owner at.2 in
     let most = epoch_at-most log owner.core store.0 in
     let epoch = store.2 in
     omega arith
 
-pub since_within : (memory values since : List ℕ) (log : List Entry) (epochs : List ℕ) → AreSound memory values since log epochs → (word : ℕ) → get_or since word 0 ≤ length log
-since_within memory values since log epochs sound word = at (get_or since word 0) refl
+pub since_within : (words : ℕ) (since : List ℕ) (log : List Entry) (epochs : List ℕ) → AreSound words since log epochs → (word : ℕ) → get_or since word 0 ≤ length log
+since_within words since log epochs sound word = at (get_or since word 0) refl
   where
     at : (number : ℕ) → get_or since word 0 ≡ number → get_or since word 0 ≤ length log
     at zero is = omega arith
@@ -344,7 +318,7 @@ since_within memory values since log epochs sound word = at (get_or since word 0
         let low = get_within log first (Store store.0 word store.1.value) store.1.is in
         omega arith
 
-pub whole_line : (word size lines : ℕ) → size ≡ 8 * lines → word < size → 8 * line_of word + 8 ≤ size
+pub whole_line : (word size lines : ℕ) → size ≡ 8 * lines → word < size → 8 * line_at word + 8 ≤ size
 whole_line word size lines is low = omega arith
 
 -- a line is gone through: what stands first in what is left of it
@@ -369,20 +343,13 @@ first_owner_skip owners left n i found left_is low is none =
     ap (λ m. first_owner (take m (drop i owners))) left_is ∙ ap first_owner (taken_at owners n i low)
     ∙ ap (λ o. first_owner (o ∷ take n (drop (i + 1) owners))) (sym is) ∙ first_owner_none found (take n (drop (i + 1) owners)) none
 
-pub new_seen : (cores words capacity : ℕ) → caches_by cores (replicate words 0) (replicate words 0) [] [] capacity ≡ caches_over cores (replicate words 0) capacity
-new_seen cores words capacity = rw (length-replicate, none_owned words) refl
-  where
-    none_owned : (n : ℕ) → map (owner_since [] []) (replicate n 0) ≡ replicate n None
-    none_owned zero = refl
-    none_owned (suc n) = ap (λ (os : List (Option Owner)). None ∷ os) (none_owned n)
-
 -- ## A store more
 
-pub stored_seen : (cores : ℕ) (memory values since : List ℕ) (log : List Entry) (epochs : List ℕ) (capacity : ℕ) (values2 since2 : List ℕ) (core word value epoch : ℕ)
-    (sound : AreSound memory values since log epochs) (sound2 : AreSound memory values2 since2 (log ++ Store core word value ∷ []) (epochs ++ epoch ∷ [])) (low : word < length memory)
+pub stored_seen : (cores : ℕ) (words : ℕ) (since : List ℕ) (log : List Entry) (epochs : List ℕ) (capacity : ℕ) (since2 : List ℕ) (core word value epoch : ℕ)
+    (sound : AreSound words since log epochs) (sound2 : AreSound words since2 (log ++ Store core word value ∷ []) (epochs ++ epoch ∷ [])) (low : word < words)
     (waiting : IsSince log word since since2) (fresh : waits_at (get_or since2 word 0) (length log) ≡ true) →
-    caches_by cores memory since2 (log ++ Store core word value ∷ []) (epochs ++ epoch ∷ []) capacity ≡ stored (caches_by cores memory since log epochs capacity) core word value
-stored_seen cores memory values since log epochs capacity values2 since2 core word value epoch sound sound2 low waiting fresh = rw (owners_are, flags_are) refl
+    caches_by cores words since2 (log ++ Store core word value ∷ []) (epochs ++ epoch ∷ []) capacity ≡ stored (caches_by cores words since log epochs capacity) core word value
+stored_seen cores words since log epochs capacity since2 core word value epoch sound sound2 low waiting fresh = rw (owners_are, flags_are) refl
   where
     log2 : List Entry
     log2 = log ++ Store core word value ∷ []
@@ -405,18 +372,18 @@ stored_seen cores memory values since log epochs capacity values2 since2 core wo
     flags_are : flags_of since2 (log ++ Store core word value ∷ []) ≡ flags_of since log ++ false ∷ []
     flags_are = flags_pushed since since2 log (Store core word value) false (λ place early. flag_at place early (slice_get log place) refl) (ap not fresh)
 
-    new_owner : owner_since (log ++ Store core word value ∷ []) (epochs ++ epoch ∷ []) (get_or since2 word 0) ≡ Some (record { core = core; epoch = barriers_of core log })
+    new_owner : owner_since (log ++ Store core word value ∷ []) (epochs ++ epoch ∷ []) (get_or since2 word 0) ≡ Some (record { core = core; epoch = core_barriers core log })
     new_owner =
         let store : IsStore (log ++ Store core word value ∷ []) (length log) core word = record { value = value; is = get_pushed_new log (Store core word value) } in
-        owner_of_waiting memory values2 since2 (log ++ Store core word value ∷ []) (epochs ++ epoch ∷ []) sound2 (length log) core word (record { store = store; waits = fresh })
+        owner_of_waiting words since2 (log ++ Store core word value ∷ []) (epochs ++ epoch ∷ []) sound2 (length log) core word (record { store = store; waits = fresh })
         ∙ ap (λ (n : ℕ). Some (record { core = core; epoch = n })) (epoch_at-end log (Store core word value) core)
 
     first_low : (at first : ℕ) → get_or since at 0 ≡ suc first → first < length log
     first_low at first is = let store = sound.first at first is in get_within log first (Store store.0 at store.1.value) store.1.is
 
-    owners_are : owners_of since2 (log ++ Store core word value ∷ []) (epochs ++ epoch ∷ []) ≡ set (owners_of since log epochs) word (Some (record { core = core; epoch = barriers_of core log }))
+    owners_are : owners_of since2 (log ++ Store core word value ∷ []) (epochs ++ epoch ∷ []) ≡ set (owners_of since log epochs) word (Some (record { core = core; epoch = core_barriers core log }))
     owners_are =
-        let new : Option Owner = Some (record { core = core; epoch = barriers_of core log }) in
+        let new : Option Owner = Some (record { core = core; epoch = core_barriers core log }) in
         let old = owners_of since log epochs in
         let size = length-owners since2 (log ++ Store core word value ∷ []) (epochs ++ epoch ∷ []) in
         let old_size = length-owners since log epochs in
@@ -434,8 +401,8 @@ stored_seen cores memory values since log epochs capacity values2 since2 core wo
               ∙ sym (get_or-set_other old word at new None differ)
         ])
 
-pub begun_seen : (cores : ℕ) (base : List ℕ) (capacity : ℕ) → caches_by cores base (replicate (length base) 0) [] [] capacity ≡ caches_over cores base capacity
-begun_seen cores base capacity = rw (none_owned (length base)) refl
+pub begun_seen : (cores words capacity : ℕ) → caches_by cores words (replicate words 0) [] [] capacity ≡ caches_over cores words capacity
+begun_seen cores words capacity = rw (none_owned words) refl
   where
     none_owned : (n : ℕ) → map (owner_since [] []) (replicate n 0) ≡ replicate n None
     none_owned zero = refl

@@ -23,7 +23,7 @@ waits_from since first place is low = rw is (le-leb first place low)
 pub first_waits : (since : List ℕ) (log : List Entry) (word first core : ℕ) → get_or since word 0 ≡ suc first → IsStore log first core word → Waits since log first core word
 first_waits since log word first core is store = record { store = store; waits = waits_from (get_or since word 0) first first is (omega arith) }
 
-module _ (memory values since : List ℕ) (log : List Entry) (epochs : List ℕ) (sound : AreSound memory values since log epochs) where
+module _ (words : ℕ) (since : List ℕ) (log : List Entry) (epochs : List ℕ) (sound : AreSound words since log epochs) where
   -- the owner of a word to which a store waits
   pub owner_of_waiting : (place core word : ℕ) → Waits since log place core word → owner_since log epochs (get_or since word 0) ≡ Some (record { core = core; epoch = epoch_at log core place })
   owner_of_waiting place core word waits =

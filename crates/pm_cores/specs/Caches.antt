@@ -4,32 +4,37 @@ use Rattle.std.specs.List.{range_with_len}
 use Rattle.pm_cores.specs.declared.entry.Entry.{Entry}
 use Rattle.pm_cores.specs.declared.entry.Entry.TheVariants.{Load, Store, Barrier}
 use Rattle.pm_cores.specs.declared.entry.Owner.{Owner}
-use Rattle.pm_cores.specs.Log.{barriers_of, epoch_at, last_value, line_of}
+use Rattle.pm_cores.specs.Log.{core_barriers, epoch_at, last_value, words_back, line_at}
 
--- How many cores there are; the words of the memory; of each word whose it is where it is dirty; the log, with a flag for
--- each entry, whether it is a store that is back; and how many entries the log has room for.
+-- How many cores there are, and words; of each word whose it is where it is dirty; the log, with a flag for each entry, whether it
+-- is a store that is back; and how many entries the log has room for. The words of the memory are not among them: they are a
+-- region's, with the stores that are back.
 pub record Caches : Type 0 where
   pub cores : ℕ
-  pub memory : List ℕ
+  pub words : ℕ
   pub owners : List (Option Owner)
   pub log : List Entry
   pub back : List Bool
   pub capacity : ℕ
 
--- nothing done over these words
-abbrev pub caches_over : ℕ → List ℕ → ℕ → Caches
+-- nothing done
+abbrev pub caches_over : ℕ → ℕ → ℕ → Caches
 caches_over cores words capacity = record {
   cores = cores;
-  memory = words;
-  owners = replicate (length words) None;
+  words = words;
+  owners = replicate words None;
   log = [];
   back = [];
   capacity = capacity;
 }
 
--- a word as each core sees it: the last store to it, or the memory's word
-abbrev pub value_at : Caches → ℕ → ℕ
-value_at caches word = last_value (slice_index caches.memory word) caches.log word
+-- the words of the memory: the base with the stores that are back, in the order of the log
+abbrev pub memory_over : List ℕ → Caches → List ℕ
+memory_over base caches = words_back base caches.log caches.back
+
+-- a word as each core sees it: the last store to it, or the base's word
+abbrev pub value_at : List ℕ → Caches → ℕ → ℕ
+value_at base caches word = last_value (slice_index base word) caches.log word
 
 abbrev pub owner_at : Caches → ℕ → Option Owner
 owner_at caches word = slice_index_or caches.owners word None
@@ -41,7 +46,7 @@ first_owner (None ∷ owners) = first_owner owners
 first_owner (Some owner ∷ owners) = Some owner
 
 abbrev pub line_owner : Caches → ℕ → Option Owner
-line_owner caches word = first_owner (take 8 (drop (8 * line_of word) caches.owners))
+line_owner caches word = first_owner (take 8 (drop (8 * line_at word) caches.owners))
 
 -- ## What is written back
 
@@ -64,8 +69,6 @@ entry_is_up_to owner log place (Some (Barrier core)) = false
 -- are back.
 unfoldable pub settled : Caches → Owner → Caches
 settled caches owner = record caches {
-  memory = map (λ word. if owner_is_up_to owner (owner_at caches word) then value_at caches word else slice_index caches.memory word)
-      (range_with_len 0 (length caches.memory));
   owners = map (λ other. if owner_is_up_to owner other then None else other) caches.owners;
   back = map (λ place. slice_index_or caches.back place false || entry_is_up_to owner caches.log place (slice_get caches.log place))
       (range_with_len 0 (length caches.log));
@@ -82,7 +85,6 @@ entry_is_of owner word log place (Some (Barrier core)) = false
 -- One dirty word is written back, and all stores so far of its owner to it are back.
 unfoldable pub written_by : Caches → ℕ → Owner → Caches
 written_by caches word owner = record caches {
-  memory = slice_set caches.memory word (value_at caches word);
   owners = slice_set caches.owners word None;
   back = map (λ place. slice_index_or caches.back place false || entry_is_of owner word caches.log place (slice_get caches.log place))
       (range_with_len 0 (length caches.log));
@@ -92,13 +94,13 @@ abbrev pub written_under : Caches → ℕ → Option Owner → Caches
 written_under caches word None = caches
 written_under caches word (Some owner) = written_by caches word owner
 
-abbrev pub written : Caches → ℕ → Caches
-written caches word = written_under caches word (owner_at caches word)
+abbrev pub with_back : Caches → ℕ → Caches
+with_back caches word = written_under caches word (owner_at caches word)
 
 -- ## What the calls do
 
-abbrev pub with_entry : Caches → Entry → Caches
-with_entry caches entry = record caches { log = caches.log ++ entry ∷ []; back = caches.back ++ false ∷ [] }
+abbrev pub logged : Caches → Entry → Caches
+logged caches entry = record caches { log = caches.log ++ entry ∷ []; back = caches.back ++ false ∷ [] }
 
 -- before a load: a line that is dirty under another core is settled
 abbrev pub ready_to_load : Caches → ℕ → Option Owner → Caches
@@ -113,39 +115,39 @@ ready_to_store caches core epoch (Some owner) =
 
 -- the word is dirty, and waits with its new value
 abbrev pub stored : Caches → ℕ → ℕ → ℕ → Caches
-stored caches core word value = record (with_entry caches (Store core word value)) {
-  owners = slice_set caches.owners word (Some (record { core = core; epoch = barriers_of core caches.log }));
+stored caches core word value = record (logged caches (Store core word value)) {
+  owners = slice_set caches.owners word (Some (record { core = core; epoch = core_barriers core caches.log }));
 }
 
 unfoldable pub after_load : Caches → ℕ → ℕ → Caches
-after_load caches core word = with_entry (ready_to_load caches core (line_owner caches word)) (Load core word)
+after_load caches core word = logged (ready_to_load caches core (line_owner caches word)) (Load core word)
 
 unfoldable pub after_store : Caches → ℕ → ℕ → ℕ → Caches
 after_store caches core word value =
-    stored (ready_to_store caches core (barriers_of core caches.log) (line_owner caches word)) core word value
+    stored (ready_to_store caches core (core_barriers core caches.log) (line_owner caches word)) core word value
 
 abbrev pub after_barrier : Caches → ℕ → Caches
-after_barrier caches core = with_entry caches (Barrier core)
+after_barrier caches core = logged caches (Barrier core)
 
 -- ## Which words may be written back alone
 
 -- this word is dirty under this owner
-abbrev pub IsUnder : Caches → ℕ → Owner → Type 0
-IsUnder caches word owner = slice_get caches.owners word ≡ Some (Some owner)
+abbrev pub IsDirtyUnder : Caches → ℕ → Owner → Type 0
+IsDirtyUnder caches word owner = slice_get caches.owners word ≡ Some (Some owner)
 
 -- the word is dirty, and its owner has no dirty word of an earlier epoch
-pub record MayGoBack (caches : Caches) (word : ℕ) : Type 0 where
+pub record MayLeave (caches : Caches) (word : ℕ) : Type 0 where
   pub owner : Owner
-  pub under : IsUnder caches word owner
-  pub earliest : (other : ℕ) (its : Owner) → IsUnder caches other its → its.core ≡ owner.core → owner.epoch ≤ its.epoch
+  pub under : IsDirtyUnder caches word owner
+  pub earliest : (other : ℕ) (its : Owner) → IsDirtyUnder caches other its → its.core ≡ owner.core → owner.epoch ≤ its.epoch
 
 -- the lowest dirty word of the earliest epoch of which a word's owner has some, where that is an earlier one than its own
 pub record IsNeeded (caches : Caches) (word needs : ℕ) : Type 0 where
   pub owner : Owner
-  pub under : IsUnder caches word owner
+  pub under : IsDirtyUnder caches word owner
   pub first : Owner
-  pub needed : IsUnder caches needs first
+  pub needed : IsDirtyUnder caches needs first
   pub same_core : first.core ≡ owner.core
   pub earlier : first.epoch < owner.epoch
-  pub earliest : (other : ℕ) (its : Owner) → IsUnder caches other its → its.core ≡ owner.core → first.epoch ≤ its.epoch
-  pub lowest : (other : ℕ) → IsUnder caches other first → needs ≤ other
+  pub earliest : (other : ℕ) (its : Owner) → IsDirtyUnder caches other its → its.core ≡ owner.core → first.epoch ≤ its.epoch
+  pub lowest : (other : ℕ) → IsDirtyUnder caches other first → needs ≤ other

@@ -5,7 +5,7 @@ use Rattle.pm_epochs.specs.Replay.{PowerCut}
 use Rattle.pm_cores.specs.declared.entry.Entry.{Entry}
 use Rattle.pm_cores.specs.declared.entry.Entry.TheVariants.{Load, Store, Barrier}
 use Rattle.pm_cores.specs.declared.entry.Owner.{Owner}
-use Rattle.pm_cores.specs.Log.{barriers_of, epoch_at}
+use Rattle.pm_cores.specs.Log.{core_barriers, epoch_at}
 use Rattle.pm_cores.specs.Caches.{Caches}
 
 -- the earliest epoch of which the core has a dirty word, or this one where that is earlier
@@ -16,8 +16,8 @@ first_epoch core otherwise (Some owner ∷ owners) =
     first_epoch core (if owner.core == core && nat_lt owner.epoch otherwise then owner.epoch else otherwise) owners
 
 -- the first epoch of a core that holds a dirty word, the last where none does
-abbrev pub open_epoch : ℕ → Caches → ℕ
-open_epoch core caches = first_epoch core (barriers_of core caches.log) caches.owners
+abbrev pub dirty_epoch : ℕ → Caches → ℕ
+dirty_epoch core caches = first_epoch core (core_barriers core caches.log) caches.owners
 
 -- the flag of the entry at a place, where it is the core's store of an epoch
 abbrev pub flag_in : ℕ → ℕ → List Entry → List Bool → ℕ → Option Entry → List Bool
@@ -37,6 +37,6 @@ mask_to core epoch log back (suc place) =
 abbrev pub cut_at : Caches → ℕ → PowerCut
 cut_at caches moment = record {
   moment = moment;
-  epoch = open_epoch 0 caches;
-  mask = mask_to 0 (open_epoch 0 caches) caches.log caches.back (length caches.log);
+  epoch = dirty_epoch 0 caches;
+  mask = mask_to 0 (dirty_epoch 0 caches) caches.log caches.back (length caches.log);
 }

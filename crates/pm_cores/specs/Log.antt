@@ -10,15 +10,15 @@ core_of (Store core word value) = core
 core_of (Barrier core) = core
 
 -- how many barriers of this core the log has
-abbrev pub barriers_of : ℕ → List Entry → ℕ
-barriers_of core [] = 0
-barriers_of core (Load other word ∷ log) = barriers_of core log
-barriers_of core (Store other word value ∷ log) = barriers_of core log
-barriers_of core (Barrier other ∷ log) = (if other == core then 1 else 0) + barriers_of core log
+abbrev pub core_barriers : ℕ → List Entry → ℕ
+core_barriers core [] = 0
+core_barriers core (Load other word ∷ log) = core_barriers core log
+core_barriers core (Store other word value ∷ log) = core_barriers core log
+core_barriers core (Barrier other ∷ log) = (if other == core then 1 else 0) + core_barriers core log
 
 -- the epoch that this core had before the entry at a place: the number of its barriers before it
 abbrev pub epoch_at : List Entry → ℕ → ℕ → ℕ
-epoch_at log core place = barriers_of core (take place log)
+epoch_at log core place = core_barriers core (take place log)
 
 -- a word after all stores of the log, whichever are back
 abbrev pub last_value : ℕ → List Entry → ℕ → ℕ
@@ -37,8 +37,8 @@ words_back words (Store core word value ∷ log) (false ∷ back) = words_back w
 words_back words (Barrier core ∷ log) (flag ∷ back) = words_back words log back
 
 -- a line has eight words
-abbrev pub line_of : ℕ → ℕ
-line_of word = word / 8
+abbrev pub line_at : ℕ → ℕ
+line_at word = word / 8
 
 -- the entry at a place is this core's store to this word
 pub record IsStore (log : List Entry) (place core word : ℕ) : Type 0 where
@@ -47,5 +47,5 @@ pub record IsStore (log : List Entry) (place core word : ℕ) : Type 0 where
 
 -- it is this core's load of or store to a word of this line
 pub data IsUse (log : List Entry) (place core line : ℕ) : Type 0 where
-  use_load : (word : ℕ) → slice_get log place ≡ Some (Load core word) → line_of word ≡ line → IsUse log place core line
-  use_store : (word value : ℕ) → slice_get log place ≡ Some (Store core word value) → line_of word ≡ line → IsUse log place core line
+  use_load : (word : ℕ) → slice_get log place ≡ Some (Load core word) → line_at word ≡ line → IsUse log place core line
+  use_store : (word value : ℕ) → slice_get log place ≡ Some (Store core word value) → line_at word ≡ line → IsUse log place core line

@@ -4,15 +4,17 @@ ghost use Rattle.std.specs.Prelude.{◌≡◌, ◌≢◌, ◌<◌, ◌≤◌, �
 ghost use Rattle.pm_region.specs.Memory.{Memory};
 ghost use Rattle.pm_cores.specs.declared.entry.Entry.TheVariants.{Load};
 ghost use Rattle.pm_cores.specs.declared.entry.Owner.{Owner as TheOwner};
-ghost use Rattle.pm_cores.specs.Log.{barriers_of, line_of};
-ghost use Rattle.pm_cores.specs.Caches.{Caches, caches_over, value_at, owner_at as owner_in, line_owner as line_owner_in, settled, ready_to_load, ready_to_store, after_load, after_store, after_barrier, stored, written, with_entry, IsUnder, MayGoBack, IsNeeded};
-ghost use Rattle.pm_cores.specs.Order.{IsCoherent, BacksTo};
-ghost use Rattle.pm_cores.specs.Choice.{open_epoch, cut_at};
+ghost use Rattle.pm_cores.specs.Log.{core_barriers, line_at};
+ghost use Rattle.pm_cores.specs.Caches.{Caches, caches_over, memory_over, value_at, owner_at as owner_in, line_owner as line_owner_in, settled, ready_to_load, ready_to_store, after_load, after_store, after_barrier, stored, with_back, logged, IsDirtyUnder, MayLeave, IsNeeded};
+ghost use Rattle.pm_cores.specs.Order.{IsCoherent, words_up_to, BacksTo};
+ghost use Rattle.pm_cores.specs.Choice.{dirty_epoch, cut_at};
+ghost use Rattle.pm_cores.specs.Inside.{told_by};
 ghost use Rattle.pm_epochs.specs.Replay.{Chosen};
 
 use super::entry::{Entry, Owner};
 use super::search::{
     clean_words, first_waiting, line_owner, lowest_word, owner_at, push_flags, settle_words,
+    word_told,
 };
 use pm_epochs::Choice;
 use pm_region::Region;
@@ -26,17 +28,20 @@ pub struct NotYet {
     pub needs: u32,
 }
 
-/// Several cores over one memory, each with a cache.
+/// Several cores over one memory, each with a cache. The memory is a region's words at its last drain with the stores that are
+/// back: what reads a word is given the region.
 #[derive(Drop)]
 pub struct Cores {
-    memory: Vec<u64>,
-    // Of each dirty word, its value.
-    values: Vec<u64>,
+    words: u32,
     // Of each dirty word, how many entries the log has up to the first store to it that waits. 0 for a clean word.
     since: Vec<u32>,
+    // Of each word, how many entries the log has up to the last store to it. 0 where there is none.
+    lasts: Vec<u32>,
     log: Vec<Entry>,
     // Of each entry, its core's epoch.
     epochs: Vec<u32>,
+    // Of each store, how many entries the log has up to the one to its word before it. 0 where there is none.
+    befores: Vec<u32>,
     // Of each core, its epoch now.
     counts: Vec<u32>,
     // Of each core, a place of the log before which none of its stores waits.
@@ -49,54 +54,55 @@ impl Model for Cores {
 
     ghost Value = { Caches };
 
-    ghost use Rattle.pm_cores.specs.Inside.{caches_of, IsSound};
+    ghost use Rattle.pm_cores.specs.Inside.{caches_of, HoldsCaches};
 
     ghost view = { caches_of };
 
-    ghost invariant = { IsSound };
+    ghost invariant = { HoldsCaches };
 }
 
 impl Cores {
-    /// Cores that have done nothing, over a memory of zeros, with room for so many entries of their log. Fails only for want of
-    /// memory; no other call takes any.
+    /// Cores that have done nothing, with room for so many entries of their log. Takes 8 bytes a word, and about 32 an entry.
+    /// Fails only for want of memory; no other call takes any.
     pub fn new(alloc: Global, cores: u32, words: u32, room: usize) -> Result<Cores, AllocError>
         requires few { 1 ≤ cores }
         requires whole { (lines : ℕ) × (1 ≤ lines) × (words ≡ 8 * lines) }
-        ensures { IfOk result (λ it. it ≡ caches_over cores (replicate words 0) room) }
+        ensures { IfOk result (λ it. it ≡ caches_over cores words room) }
     {
         if room >= 4_294_967_295 {
             return Err(AllocError);
         }
-        let memory = vec![in alloc; 0u64; words as usize]?;
-        let values = vec![in alloc; 0u64; words as usize]?;
         let since = vec![in alloc; 0u32; words as usize]?;
+        let lasts = vec![in alloc; 0u32; words as usize]?;
         let log = Vec::with_capacity(alloc, room)?;
         let epochs = Vec::with_capacity(alloc, room)?;
+        let befores = Vec::with_capacity(alloc, room)?;
         let counts = vec![in alloc; 0u32; cores as usize]?;
         let lows = vec![in alloc; 0usize; cores as usize]?;
         Ok(Cores {
-            memory,
-            values,
+            words,
             since,
+            lasts,
             log,
             epochs,
+            befores,
             counts,
             lows,
             room,
         })
     }
 
-    /// Begins anew over a region's words at its last drain. Takes time for all words.
-    pub fn begin<R: Region>(&mut self, region: &R)
-        requires { length (R.memory region.now).base ≡ length self.old.memory }
-        ensures { self.new ≡ caches_over self.old.cores (R.memory region.now).base self.old.capacity }
+    /// Begins anew. Takes time for the entries of the log, whatever the number of words.
+    pub fn begin(&mut self)
+        ensures { self.new ≡ caches_over self.old.cores self.old.words self.old.capacity }
     {
         clean_words(&mut self.since, &self.log);
-        copy_base(region, &mut self.memory);
+        clean_words(&mut self.lasts, &self.log);
         clear_counts(&mut self.counts);
         clear_places(&mut self.lows);
         self.log.clear();
         self.epochs.clear();
+        self.befores.clear();
     }
 
     /// How many more entries the log can take.
@@ -108,18 +114,19 @@ impl Cores {
 
     /// Whether a word is dirty.
     pub fn is_dirty(&self, i: u32) -> bool
-        requires { i < length self.now.memory }
+        requires { i < self.now.words }
         ensures { result ≡ is_some (owner_in self.now i) }
     {
         self.since[i as usize] != 0
     }
 
-    /// A word of the memory.
-    pub fn memory_word(&self, i: u32) -> u64
-        requires { i < length self.now.memory }
-        ensures { result ≡ slice_index self.now.memory i }
+    /// A word of the memory over a region: the last store to it that is back, or the region's word at its last drain.
+    pub fn memory_word<R: Region>(&self, region: &R, i: u32) -> u64
+        requires word { i < self.now.words }
+        requires region { self.now.words ≡ length (R.memory region.now).base }
+        ensures { result ≡ slice_index (memory_over (R.memory region.now).base self.now) i }
     {
-        self.memory[i as usize]
+        word_told(&self.log, self.last_back(i), region, i)
     }
 
     /// What holds behind every list of calls.
@@ -129,22 +136,25 @@ impl Cores {
         let _ = &self.log;
     }
 
-    /// A settle is a list of writes back, each allowed.
+    /// A settle is a list of writes back, each allowed: of the core's dirty words up to the epoch, by epoch, then by word.
     pub fn settles_by_backs(&self)
-        ensures { (owner : TheOwner) → (words : List ℕ) × BacksTo self.now words (settled self.now owner) }
+        ensures { (owner : TheOwner) →
+            BacksTo self.now (words_up_to owner.core owner.epoch self.now.owners) (settled self.now owner) }
     {
         let _ = &self.log;
     }
 
-    /// A core reads a word. A line that is dirty under another core is settled first.
-    pub fn load(&mut self, core: u32, i: u32) -> u64
+    /// A core reads a word: the last store to it, or the region's word at its last drain. A line that is dirty under another core is
+    /// settled first.
+    pub fn load<R: Region>(&mut self, region: &R, core: u32, i: u32) -> u64
         requires core { core < self.old.cores }
-        requires word { i < length self.old.memory }
+        requires word { i < self.old.words }
+        requires region { self.old.words ≡ length (R.memory region.now).base }
         requires room { length self.old.log < self.old.capacity }
-        ensures value { result ≡ value_at self.old i }
+        ensures value { result ≡ value_at (R.memory region.now).base self.old i }
         ensures after { self.new ≡ after_load self.old core i }
     {
-        let value = self.value(i);
+        let value = word_told(&self.log, self.last_store(i), region, i);
         self.open_to_load(core, i);
         self.push_load(core, i);
         value
@@ -153,7 +163,7 @@ impl Cores {
     /// A core sets a word. A line that is dirty under another core, or under an older epoch of the same core, is settled first.
     pub fn store(&mut self, core: u32, i: u32, v: u64)
         requires core { core < self.old.cores }
-        requires word { i < length self.old.memory }
+        requires word { i < self.old.words }
         requires room { length self.old.log < self.old.capacity }
         ensures { self.new ≡ after_store self.old core i v }
     {
@@ -169,7 +179,8 @@ impl Cores {
     {
         let epoch = self.counts[core as usize];
         push_entry(&mut self.log, Entry::Barrier { core });
-        push_epoch(&mut self.epochs, epoch);
+        push_number(&mut self.epochs, epoch);
+        push_number(&mut self.befores, 0);
         self.counts[core as usize] = epoch + 1;
     }
 
@@ -177,10 +188,10 @@ impl Cores {
     /// the earliest such epoch, and then nothing changes. Takes time for the entries from the owner's first store that waits to
     /// its next epoch, and for those before it once.
     pub fn back(&mut self, i: u32) -> Result<(), NotYet>
-        requires word { i < length self.old.memory }
+        requires word { i < self.old.words }
         requires dirty { is_some (owner_in self.old i) ≡ true }
-        ensures allowed { IsOk result ↔ MayGoBack self.old i }
-        ensures written { OnOk result (self.new ≡ written self.old i) }
+        ensures allowed { IsOk result ↔ MayLeave self.old i }
+        ensures written { OnOk result (self.new ≡ with_back self.old i) }
         ensures needs { IfErr result (λ not_yet. IsNeeded self.old i not_yet.needs) }
         ensures err { OnErr result (self.new ≡ self.old) }
     {
@@ -195,9 +206,9 @@ impl Cores {
 
     /// Whose a dirty word is.
     fn owner_of_word(&self, i: u32) -> Owner
-        requires word { i < length self.now.memory }
+        requires word { i < self.now.words }
         requires dirty { is_some (owner_in self.now i) ≡ true }
-        ensures under { IsUnder self.now i result }
+        ensures under { IsDirtyUnder self.now i result }
         ensures core { result.core < self.now.cores }
     {
         match owner_at(&self.log, &self.epochs, self.since[i as usize]) {
@@ -208,10 +219,10 @@ impl Cores {
 
     /// The word that must go back before this one, or none where it may go.
     fn needed(&mut self, i: u32) -> Option<u32>
-        requires word { i < length self.old.memory }
+        requires word { i < self.old.words }
         requires dirty { is_some (owner_in self.old i) ≡ true }
         ensures same { self.new ≡ self.old }
-        ensures needed { MatchOption result (MayGoBack self.old i) (IsNeeded self.old i) }
+        ensures needed { MatchOption result (MayLeave self.old i) (IsNeeded self.old i) }
     {
         let owner = self.owner_of_word(i);
         let core = owner.core as usize;
@@ -230,11 +241,10 @@ impl Cores {
 
     /// Writes back one word.
     fn write_back(&mut self, i: u32)
-        requires word { i < length self.old.memory }
-        requires may { MayGoBack self.old i }
-        ensures { self.new ≡ written self.old i }
+        requires word { i < self.old.words }
+        requires may { MayLeave self.old i }
+        ensures { self.new ≡ with_back self.old i }
     {
-        self.memory[i as usize] = self.values[i as usize];
         self.since[i as usize] = 0;
     }
 
@@ -244,14 +254,14 @@ impl Cores {
         requires { length self.now.log ≤ choice.old.room }
         ensures { choice.new ≡ record { cut = cut_at self.now moment; room = choice.old.room } }
     {
-        let epoch = self.open_epoch();
+        let epoch = self.dirty_epoch();
         choice.start(moment, epoch as usize);
         push_flags(&self.since, &self.log, &self.epochs, epoch, choice);
     }
 
     /// The first epoch of core 0 that has a dirty word, the last where none has.
-    fn open_epoch(&self) -> u32
-        ensures { result ≡ open_epoch 0 self.now }
+    fn dirty_epoch(&self) -> u32
+        ensures { result ≡ dirty_epoch 0 self.now }
     {
         let first = first_waiting(&self.since, &self.log, self.lows[0], 0);
         if first < self.log.len() {
@@ -264,30 +274,42 @@ impl Cores {
     /// A core's epoch: how many barriers it made.
     fn epoch(&self, core: u32) -> u32
         requires { core < self.now.cores }
-        ensures { result ≡ barriers_of core self.now.log }
+        ensures { result ≡ core_barriers core self.now.log }
     {
         self.counts[core as usize]
     }
 
-    /// A word as each core sees it.
-    fn value(&self, i: u32) -> u64
-        requires { i < length self.now.memory }
-        ensures { result ≡ value_at self.now i }
+    /// How many entries the log has up to the last store to a word. 0 where there is none.
+    fn last_store(&self, i: u32) -> u32
+        requires { i < self.now.words }
+        ensures within { result ≤ length self.now.log }
+        ensures told { (base : List ℕ) → told_by self.now.log result (slice_index base i) ≡ value_at base self.now i }
     {
-        if self.since[i as usize] == 0 {
-            self.memory[i as usize]
+        self.lasts[i as usize]
+    }
+
+    /// How many entries the log has up to the last store to a word that is back. 0 where there is none.
+    fn last_back(&self, i: u32) -> u32
+        requires { i < self.now.words }
+        ensures within { result ≤ length self.now.log }
+        ensures told { (base : List ℕ) → i < length base →
+            told_by self.now.log result (slice_index base i) ≡ slice_index (memory_over base self.now) i }
+    {
+        let since = self.since[i as usize];
+        if since == 0 {
+            self.lasts[i as usize]
         } else {
-            self.values[i as usize]
+            self.befores[since as usize - 1]
         }
     }
 
     /// Whose the dirty words of a word's line are.
     fn owner_of_line(&self, i: u32) -> Option<Owner>
-        requires { i < length self.now.memory }
+        requires { i < self.now.words }
         ensures line { result ≡ line_owner_in self.now i }
         ensures core { IfSome result (λ owner. owner.core < self.now.cores) }
-        ensures epoch { IfSome result (λ owner. owner.epoch ≤ barriers_of owner.core self.now.log) }
-        ensures each { (other : ℕ) (owner : TheOwner) → IsUnder self.now other owner → line_of other ≡ line_of i →
+        ensures epoch { IfSome result (λ owner. owner.epoch ≤ core_barriers owner.core self.now.log) }
+        ensures each { (other : ℕ) (owner : TheOwner) → IsDirtyUnder self.now other owner → line_at other ≡ line_at i →
             result ≡ Some owner }
     {
         line_owner(&self.since, &self.log, &self.epochs, i)
@@ -300,22 +322,14 @@ impl Cores {
     {
         let core = owner.core as usize;
         let low = self.lows[core];
-        self.lows[core] = settle_words(
-            &mut self.memory,
-            &mut self.since,
-            &self.values,
-            &self.log,
-            &self.epochs,
-            low,
-            owner,
-        );
+        self.lows[core] = settle_words(&mut self.since, &self.log, &self.epochs, low, owner);
     }
 
     /// Settles a word's line where it is dirty under another core.
     fn open_to_load(&mut self, core: u32, i: u32)
-        requires { i < length self.old.memory }
+        requires { i < self.old.words }
         ensures after { self.new ≡ ready_to_load self.old core (line_owner_in self.old i) }
-        ensures ready { (other : ℕ) (owner : TheOwner) → IsUnder self.new other owner → line_of other ≡ line_of i →
+        ensures ready { (other : ℕ) (owner : TheOwner) → IsDirtyUnder self.new other owner → line_at other ≡ line_at i →
             owner.core ≡ core }
     {
         if let Some(owner) = self.owner_of_line(i) {
@@ -327,12 +341,12 @@ impl Cores {
 
     /// Settles a word's line where it is dirty under another core, or under an older epoch of this one.
     fn open_to_store(&mut self, core: u32, i: u32)
-        requires word { i < length self.old.memory }
+        requires word { i < self.old.words }
         requires core { core < self.old.cores }
         ensures after { self.new ≡
-            ready_to_store self.old core (barriers_of core self.old.log) (line_owner_in self.old i) }
-        ensures ready { (other : ℕ) (owner : TheOwner) → IsUnder self.new other owner → line_of other ≡ line_of i →
-            owner ≡ record { core = core; epoch = barriers_of core self.new.log } }
+            ready_to_store self.old core (core_barriers core self.old.log) (line_owner_in self.old i) }
+        ensures ready { (other : ℕ) (owner : TheOwner) → IsDirtyUnder self.new other owner → line_at other ≡ line_at i →
+            owner ≡ record { core = core; epoch = core_barriers core self.new.log } }
     {
         let epoch = self.epoch(core);
         if let Some(owner) = self.owner_of_line(i) {
@@ -347,34 +361,38 @@ impl Cores {
     fn push_load(&mut self, core: u32, i: u32)
         requires core { core < self.old.cores }
         requires room { length self.old.log < self.old.capacity }
-        requires ready { (other : ℕ) (owner : TheOwner) → IsUnder self.old other owner → line_of other ≡ line_of i →
+        requires ready { (other : ℕ) (owner : TheOwner) → IsDirtyUnder self.old other owner → line_at other ≡ line_at i →
             owner.core ≡ core }
-        ensures { self.new ≡ with_entry self.old (Load core i) }
+        ensures { self.new ≡ logged self.old (Load core i) }
     {
         let epoch = self.counts[core as usize];
         push_entry(&mut self.log, Entry::Load { core, word: i });
-        push_epoch(&mut self.epochs, epoch);
+        push_number(&mut self.epochs, epoch);
+        push_number(&mut self.befores, 0);
     }
 
     /// Writes a store to the log. Its word waits.
     fn push_store(&mut self, core: u32, i: u32, v: u64)
         requires core { core < self.old.cores }
-        requires word { i < length self.old.memory }
+        requires word { i < self.old.words }
         requires room { length self.old.log < self.old.capacity }
-        requires ready { (other : ℕ) (owner : TheOwner) → IsUnder self.old other owner → line_of other ≡ line_of i →
-            owner ≡ record { core = core; epoch = barriers_of core self.old.log } }
+        requires ready { (other : ℕ) (owner : TheOwner) → IsDirtyUnder self.old other owner → line_at other ≡ line_at i →
+            owner ≡ record { core = core; epoch = core_barriers core self.old.log } }
         ensures { self.new ≡ stored self.old core i v }
     {
         let epoch = self.counts[core as usize];
+        let before = self.lasts[i as usize];
+        let place = self.log.len();
         let entry = Entry::Store {
             core,
             word: i,
             value: v,
         };
-        wait_since(&mut self.since, i as usize, self.log.len());
+        wait_since(&mut self.since, i as usize, place);
         push_entry(&mut self.log, entry);
-        push_epoch(&mut self.epochs, epoch);
-        self.values[i as usize] = v;
+        push_number(&mut self.epochs, epoch);
+        push_number(&mut self.befores, before);
+        self.lasts[i as usize] = place as u32 + 1;
     }
 }
 
@@ -383,17 +401,6 @@ fn is_of_epoch(owner: Owner, core: u32, epoch: u32) -> bool
     ensures { result ≡ (owner.core == core && nat_le epoch owner.epoch) }
 {
     owner.core == core && epoch <= owner.epoch
-}
-
-/// Copies the words of a region at its last drain.
-fn copy_base<R: Region>(region: &R, memory: &mut [u64])
-    requires { length (R.memory region.now).base ≡ length memory.old }
-    ensures { memory.new ≡ (R.memory region.now).base }
-{
-    let words = region.words();
-    for i in 0..words {
-        memory[i as usize] = region.base_word(i);
-    }
 }
 
 fn clear_counts(counts: &mut [u32])
@@ -418,13 +425,13 @@ fn push_entry(log: &mut Vec<Entry>, entry: Entry)
     let _ = log.push(entry);
 }
 
-/// Puts the epoch of an entry behind the others, where there is room.
-fn push_epoch(epochs: &mut Vec<u32>, epoch: u32)
-    requires { vec_len epochs.old < vec_capacity epochs.old }
-    ensures items { epochs.new.items ≡ epochs.old.items ++ epoch ∷ [] }
-    ensures capacity { vec_capacity epochs.old ≤ vec_capacity epochs.new }
+/// Puts the number of an entry behind the others, where there is room.
+fn push_number(numbers: &mut Vec<u32>, number: u32)
+    requires { vec_len numbers.old < vec_capacity numbers.old }
+    ensures items { numbers.new.items ≡ numbers.old.items ++ number ∷ [] }
+    ensures capacity { vec_capacity numbers.old ≤ vec_capacity numbers.new }
 {
-    let _ = epochs.push(epoch);
+    let _ = numbers.push(number);
 }
 
 /// A word that was clean waits since the store at this place of the log.

@@ -3,14 +3,16 @@
 ghost use Rattle.std.specs.Prelude.{◌≡◌, ℕ, List, ◌+◌, ◌*◌, ◌<◌, ◌≤◌, ◌^◌, ◌-◌, ◌==◌, ◌&&◌, nat_lt, if◌then◌else◌, length, take, drop, slice_index, replicate, Some, [], ◌∷◌, ◌++◌, not};
 ghost use Rattle.std.proofs.Common.{suc};
 ghost use Rattle.pm_cores.specs.declared.entry.Entry.TheVariants.{Store};
-ghost use Rattle.pm_cores.specs.Log.{line_of, IsStore};
+ghost use Rattle.pm_cores.specs.Log.{line_at, IsStore};
 ghost use Rattle.pm_cores.specs.Caches.{first_owner, owner_is_up_to};
 ghost use Rattle.pm_cores.specs.Choice.{mask_to};
 ghost use Rattle.pm_epochs.specs.Replay.{Chosen};
-ghost use Rattle.pm_cores.specs.Inside.{waits_at, owner_since, owners_of, flags_of, AreSound, AreCounted, IsLow, Waits};
+ghost use Rattle.pm_region.specs.Memory.{Memory};
+ghost use Rattle.pm_cores.specs.Inside.{waits_at, owner_since, owners_of, flags_of, AreSound, AreCounted, IsLow, Waits, told_by};
 
 use super::entry::{Entry, Owner};
 use pm_epochs::Choice;
+use pm_region::Region;
 
 /// Whether a store at a place of the log waits, where so many entries stand up to the first one to its word that does.
 pub fn waits(since: u32, place: usize) -> bool
@@ -43,8 +45,8 @@ pub fn owner_at(log: &[Entry], epochs: &[u32], since: u32) -> Option<Owner>
 pub fn line_owner(since: &[u32], log: &[Entry], epochs: &[u32], word: u32) -> Option<Owner>
     requires sized { length epochs.now ≡ length log.now }
     requires in_log { (other : ℕ) → slice_index since.now other ≤ length log.now }
-    requires whole { 8 * line_of word + 8 ≤ length since.now }
-    ensures { result ≡ first_owner (take 8 (drop (8 * line_of word) (owners_of since.now log.now epochs.now))) }
+    requires whole { 8 * line_at word + 8 ≤ length since.now }
+    ensures { result ≡ first_owner (take 8 (drop (8 * line_at word) (owners_of since.now log.now epochs.now))) }
 {
     let first = 8 * (word as usize / 8);
     for i in first..first + 8 {
@@ -56,26 +58,39 @@ pub fn line_owner(since: &[u32], log: &[Entry], epochs: &[u32], word: u32) -> Op
     None
 }
 
+/// A word as a number tells it: the value of the store up to which so many entries of the log stand, or the region's word at its
+/// last drain.
+pub fn word_told<R: Region>(log: &[Entry], number: u32, region: &R, word: u32) -> u64
+    requires in_log { number ≤ length log.now }
+    requires in_region { word < length (R.memory region.now).base }
+    ensures { result ≡ told_by log.now number (slice_index (R.memory region.now).base word) }
+{
+    if number == 0 {
+        return region.base_word(word);
+    }
+    let place = number as usize - 1;
+    match log[place] {
+        Entry::Load { .. } => region.base_word(word),
+        Entry::Store { value, .. } => value,
+        Entry::Barrier { .. } => region.base_word(word),
+    }
+}
+
 /// Writes back all dirty words of an owner's core, of its epoch and those before. None of the core's stores before `low` waits,
 /// and then none before the result. Takes time for the entries of the log from `low` to the result.
 pub fn settle_words(
-    memory: &mut [u64],
     since: &mut [u32],
-    values: &[u64],
     log: &[Entry],
     epochs: &[u32],
     low: usize,
     owner: Owner,
 ) -> usize
-    requires sound { AreSound memory.old values.now since.old log.now epochs.now }
+    requires sound { AreSound (length since.old) since.old log.now epochs.now }
     requires low { IsLow since.old log.now owner.core low }
     requires high { low ≤ length log.now }
     ensures since { (word : ℕ) → slice_index since.new word ≡
         (if owner_is_up_to owner (owner_since log.now epochs.now (slice_index since.old word))
         then 0 else slice_index since.old word) }
-    ensures memory { (word : ℕ) → slice_index memory.new word ≡
-        (if owner_is_up_to owner (owner_since log.now epochs.now (slice_index since.old word))
-        then slice_index values.now word else slice_index memory.old word) }
     ensures low { IsLow since.new log.now owner.core result }
     ensures high { result ≤ length log.now }
 {
@@ -87,7 +102,7 @@ pub fn settle_words(
                     if owner.epoch < epochs[k] {
                         return k;
                     }
-                    write_waiting(memory, since, values, word as usize, k);
+                    clean_waiting(since, word as usize, k);
                 }
             }
             Entry::Barrier { .. } => {}
@@ -96,20 +111,14 @@ pub fn settle_words(
     log.len()
 }
 
-/// Writes a word back where the store at a place is the first to it that waits.
-fn write_waiting(memory: &mut [u64], since: &mut [u32], values: &[u64], word: usize, place: usize)
-    requires in_memory { word < length memory.old }
+/// Makes a word clean where the store at a place is the first to it that waits.
+fn clean_waiting(since: &mut [u32], word: usize, place: usize)
     requires in_since { word < length since.old }
-    requires in_values { word < length values.now }
     requires place { place < 2 ^ 64 - 1 }
-    ensures since { (other : ℕ) → slice_index since.new other ≡
+    ensures { (other : ℕ) → slice_index since.new other ≡
         (if other == word && slice_index since.old other == place + 1 then 0 else slice_index since.old other) }
-    ensures memory { (other : ℕ) → slice_index memory.new other ≡
-        (if other == word && slice_index since.old other == place + 1 then slice_index values.now other
-        else slice_index memory.old other) }
 {
     if since[word] as usize == place + 1 {
-        memory[word] = values[word];
         since[word] = 0;
     }
 }
@@ -144,7 +153,7 @@ pub fn first_waiting(since: &[u32], log: &[Entry], low: usize, core: u32) -> usi
 /// The lowest dirty word of an owner, whose first store that waits is the first of its core. Takes time for the entries from
 /// there to the core's next epoch.
 pub fn lowest_word(since: &[u32], log: &[Entry], epochs: &[u32], first: usize, owner: Owner) -> u32
-    requires sound { (memory values : List ℕ) × AreSound memory values since.now log.now epochs.now }
+    requires sound { AreSound (length since.now) since.now log.now epochs.now }
     requires low { IsLow since.now log.now owner.core first }
     requires found { (word : ℕ) × Waits since.now log.now first owner.core word }
     requires epoch { owner.epoch ≡ slice_index epochs.now first }

@@ -27,6 +27,7 @@ play_event-requires-clause-word g c = λ word value same.
     let events = (g.R.Region.memory c.args.region.now).events in
     let low = stored_below (length base) events c.loop-i.i word value c.requires.stores (c.event-event.ensures.get ∙ ap (λ e. Some e) same) in
     let words = c.loop-i.invariant.like.words in
+    let same = c.requires.words in
     omega arith
 
 pub play_event-requires-clause-room : goal.play_event-requires-clause-room
@@ -63,7 +64,7 @@ play_draw-requires-clause-word g c =
     let base = (g.R.Region.memory c.args.region.now).base in
     let events = (g.R.Region.memory c.args.region.now).events in
     let like = event_like _ (2 * c.loop-i.i) c.loop-i.cores c.event-event.result c.loop-i.invariant.like in
-    let words : length c.play_event.new.cores.memory ≡ length base = ap (λ (s : Caches). length s.memory) c.play_event.ensures ∙ like.words in
+    let words : c.play_event.new.cores.words ≡ length base = ap (λ (s : Caches). s.words) c.play_event.ensures ∙ like.words ∙ c.requires.words in
     let below = last_below (length base) c.loop-i.last c.event-event.result c.loop-i.invariant.last (λ word value same. stored_below (length base) events c.loop-i.i word value c.requires.stores (c.event-event.ensures.get ∙ ap (λ e. Some e) same)) in
     rw (words, c.word_behind-last.ensures) below
 
@@ -71,7 +72,7 @@ pub loop-i-preserved : goal.loop-i-preserved
 loop-i-preserved g c =
     let base = (g.R.Region.memory c.args.region.now).base in
     let events = (g.R.Region.memory c.args.region.now).events in
-    let begun = caches_over c.args.cores.now.cores base c.args.cores.now.capacity in
+    let begun = caches_over c.args.cores.now.cores c.args.cores.now.words c.args.cores.now.capacity in
     let event = c.event-event.result in
     let moment = c.draw_up_to-moment.result in
     let like = draw_like begun (2 * c.loop-i.i + 1) (after_event c.loop-i.cores event) (last_word c.loop-i.last event) (drawn c.loop-i.generator.state) (event_like begun (2 * c.loop-i.i) c.loop-i.cores event c.loop-i.invariant.like) in
@@ -97,3 +98,15 @@ returns-clause-right g c =
     let played = subst (λ n. IsPlayed (take n events) c.loop-i.cores.log) at c.loop-i.invariant.played in
     let cut_is = ap (λ (it : Chosen). it.cut) c.choice.ensures in
     rw cut_is (c.a_choice_leaves_the_memory.ensures.right c.loop-i.cores events moment c.is_coherent.ensures c.loop-i.invariant.moment played)
+
+pub play_draw-requires-clause-region : goal.play_draw-requires-clause-region
+play_draw-requires-clause-region g c =
+    let like = event_like _ (2 * c.loop-i.i) c.loop-i.cores c.event-event.result c.loop-i.invariant.like in
+    ap (λ (s : Caches). s.words) c.play_event.ensures ∙ like.words ∙ c.requires.words
+
+pub returns-clause-cores_like : goal.returns-clause-cores_like
+returns-clause-cores_like g c =
+    let like = c.loop-i.invariant.like in
+    let most = c.loop-i.invariant.moment in
+    let test = c.loop-i-test.false in
+    record { cores = like.cores; words = like.words; capacity = like.capacity; few = let few = like.few in omega arith }

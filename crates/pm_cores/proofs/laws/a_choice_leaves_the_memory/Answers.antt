@@ -5,4 +5,4 @@ pub returns-clause-right : goal.returns-clause-right
 returns-clause-right c = λ caches events moment coherent within played. choice_right caches coherent events moment within played
 
 pub returns-clause-replay : goal.returns-clause-replay
-returns-clause-replay c = λ base caches events moment coherent over within played. choice_replays caches coherent events moment within played base over
+returns-clause-replay c = λ base caches events moment coherent within played. choice_replays caches coherent events moment within played base

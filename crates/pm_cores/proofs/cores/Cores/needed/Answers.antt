@@ -1,7 +1,7 @@
-use Rattle.std.proofs.Common.{◌≡◌, ◌<◌, ◌≤◌, ◌∙◌, ℕ, sym, subst, arith, length, get_or}
+use Rattle.std.proofs.Common.{◌≡◌, ◌<◌, ◌≤◌, ◌∙◌, ℕ, ap, sym, subst, arith, length, get_or}
 use Rattle.std.proofs.lemmas.Grind.{get_or_default_zero}
 use Rattle.pm_cores.specs.Log.{IsStore}
-use Rattle.pm_cores.specs.Caches.{Caches, IsUnder, MayGoBack, IsNeeded}
+use Rattle.pm_cores.specs.Caches.{Caches, IsDirtyUnder, MayLeave, IsNeeded}
 use Rattle.pm_cores.specs.Inside.{IsLow, Waits}
 use Rattle.pm_cores.proofs.Backs.{first_in, may_go, is_needed}
 use Rattle.pm_cores.proofs.Whole.{with_low}
@@ -39,8 +39,8 @@ index-epoch-requires c =
     let owner = c.owner_of_word-owner.result in
     let first = c.first_waiting-first.result in
     let low : IsLow inside.since.items inside.log.items owner.core first = rw (c.deref.ensures.value, c.deref-2.ensures.value) at c.first_waiting-first.ensures.low in
-    let under = subst (λ (s : Caches). IsUnder s c.args.i owner) (sym c.self.view_is) c.owner_of_word-owner.ensures.under in
-    let within = first_in inside.counts.len inside.memory.items inside.values.items inside.since.items inside.log.items inside.epochs.items inside.room old.sound c.args.i owner under first low in
+    let under = subst (λ (s : Caches). IsDirtyUnder s c.args.i owner) (sym c.self.view_is) c.owner_of_word-owner.ensures.under in
+    let within = first_in inside.counts.len inside.words inside.since.items inside.log.items inside.epochs.items inside.room old.sound c.args.i owner under first low in
     let size = old.sound.as_many_epochs in
     let e = inside.epochs.ok.0 in
     omega arith
@@ -72,18 +72,19 @@ returns-then-epoch-owner-clause-needed c =
     let owner = c.owner_of_word-owner.result in
     let first = c.first_waiting-first.result in
     let low : IsLow inside.since.items inside.log.items owner.core first = rw (c.deref.ensures.value, c.deref-2.ensures.value) at c.first_waiting-first.ensures.low in
-    let under = subst (λ (s : Caches). IsUnder s c.args.i owner) (sym c.self.view_is) c.owner_of_word-owner.ensures.under in
-    let within = first_in inside.counts.len inside.memory.items inside.values.items inside.since.items inside.log.items inside.epochs.items inside.room old.sound c.args.i owner under first low in
+    let under = subst (λ (s : Caches). IsDirtyUnder s c.args.i owner) (sym c.self.view_is) c.owner_of_word-owner.ensures.under in
+    let within = first_in inside.counts.len inside.words inside.since.items inside.log.items inside.epochs.items inside.room old.sound c.args.i owner under first low in
     let in_epochs : first < length inside.epochs.items = let size = old.sound.as_many_epochs in omega arith in
     let found : (other : ℕ) × Waits inside.since.items inside.log.items first owner.core other = (rw (c.deref.ensures.value, c.deref-2.ensures.value) at c.first_waiting-first.ensures.found) within in
     let epoch = sym (get_or_default_zero inside.epochs.items first c.index-epoch.result.now in_epochs) ∙ sym c.index-epoch.ensures ∙ c.if-epoch-owner.true in
-    subst (λ (s : Caches). MayGoBack s c.args.i) c.self.view_is
-    (may_go inside.counts.len inside.memory.items inside.values.items inside.since.items inside.log.items inside.epochs.items inside.room old.sound c.args.i owner under first low found epoch)
+    subst (λ (s : Caches). MayLeave s c.args.i) c.self.view_is
+    (may_go inside.counts.len inside.words inside.since.items inside.log.items inside.epochs.items inside.room old.sound c.args.i owner under first low found epoch)
 
 pub lowest_word-requires-clause-sound : goal.lowest_word-requires-clause-sound
 lowest_word-requires-clause-sound c =
     let inside = c.self.inside in
-    (inside.memory.items, inside.values.items, rw (c.deref-3.ensures.value, c.deref-4.ensures.value, c.deref-5.ensures.value) c.self.invariant.sound)
+    let sound = c.self.invariant.sound in
+    rw (ap length c.deref-3.ensures.value ∙ sound.as_many_since, c.deref-3.ensures.value, c.deref-4.ensures.value, c.deref-5.ensures.value) sound
 
 pub lowest_word-requires-clause-low : goal.lowest_word-requires-clause-low
 lowest_word-requires-clause-low c =
@@ -97,8 +98,8 @@ lowest_word-requires-clause-found c =
     let owner = c.owner_of_word-owner.result in
     let first = c.first_waiting-first.result in
     let low : IsLow inside.since.items inside.log.items owner.core first = rw (c.deref.ensures.value, c.deref-2.ensures.value) at c.first_waiting-first.ensures.low in
-    let under = subst (λ (s : Caches). IsUnder s c.args.i owner) (sym c.self.view_is) c.owner_of_word-owner.ensures.under in
-    let within = first_in inside.counts.len inside.memory.items inside.values.items inside.since.items inside.log.items inside.epochs.items inside.room old.sound c.args.i owner under first low in
+    let under = subst (λ (s : Caches). IsDirtyUnder s c.args.i owner) (sym c.self.view_is) c.owner_of_word-owner.ensures.under in
+    let within = first_in inside.counts.len inside.words inside.since.items inside.log.items inside.epochs.items inside.room old.sound c.args.i owner under first low in
     let found : (other : ℕ) × Waits inside.since.items inside.log.items first owner.core other = (rw (c.deref.ensures.value, c.deref-2.ensures.value) at c.first_waiting-first.ensures.found) within in
     rw (c.deref-3.ensures.value, c.deref-4.ensures.value) found
 
@@ -109,8 +110,8 @@ lowest_word-requires-clause-epoch c =
     let owner = c.owner_of_word-owner.result in
     let first = c.first_waiting-first.result in
     let low : IsLow inside.since.items inside.log.items owner.core first = rw (c.deref.ensures.value, c.deref-2.ensures.value) at c.first_waiting-first.ensures.low in
-    let under = subst (λ (s : Caches). IsUnder s c.args.i owner) (sym c.self.view_is) c.owner_of_word-owner.ensures.under in
-    let within = first_in inside.counts.len inside.memory.items inside.values.items inside.since.items inside.log.items inside.epochs.items inside.room old.sound c.args.i owner under first low in
+    let under = subst (λ (s : Caches). IsDirtyUnder s c.args.i owner) (sym c.self.view_is) c.owner_of_word-owner.ensures.under in
+    let within = first_in inside.counts.len inside.words inside.since.items inside.log.items inside.epochs.items inside.room old.sound c.args.i owner under first low in
     let in_epochs : first < length inside.epochs.items = let size = old.sound.as_many_epochs in omega arith in
     rw c.deref-5.ensures.value (c.index-epoch.ensures ∙ get_or_default_zero inside.epochs.items first c.index-epoch.result.now in_epochs)
 
@@ -121,12 +122,12 @@ returns-clause-needed c =
     let owner = c.owner_of_word-owner.result in
     let first = c.first_waiting-first.result in
     let low : IsLow inside.since.items inside.log.items owner.core first = rw (c.deref.ensures.value, c.deref-2.ensures.value) at c.first_waiting-first.ensures.low in
-    let under = subst (λ (s : Caches). IsUnder s c.args.i owner) (sym c.self.view_is) c.owner_of_word-owner.ensures.under in
-    let within = first_in inside.counts.len inside.memory.items inside.values.items inside.since.items inside.log.items inside.epochs.items inside.room old.sound c.args.i owner under first low in
+    let under = subst (λ (s : Caches). IsDirtyUnder s c.args.i owner) (sym c.self.view_is) c.owner_of_word-owner.ensures.under in
+    let within = first_in inside.counts.len inside.words inside.since.items inside.log.items inside.epochs.items inside.room old.sound c.args.i owner under first low in
     let in_epochs : first < length inside.epochs.items = let size = old.sound.as_many_epochs in omega arith in
     let found : (other : ℕ) × Waits inside.since.items inside.log.items first owner.core other = (rw (c.deref.ensures.value, c.deref-2.ensures.value) at c.first_waiting-first.ensures.found) within in
     let epoch : c.index-epoch.result.now ≡ get_or inside.epochs.items first 0 = c.index-epoch.ensures ∙ get_or_default_zero inside.epochs.items first c.index-epoch.result.now in_epochs in
     let its = simp (c.deref-3.ensures.value, c.deref-4.ensures.value, c.deref-5.ensures.value, epoch) at c.lowest_word.ensures.under in
     let lowest = simp (c.deref-3.ensures.value, c.deref-4.ensures.value, c.deref-5.ensures.value, epoch) at c.lowest_word.ensures.lowest in
     subst (λ (s : Caches). IsNeeded s c.args.i c.lowest_word.result) c.self.view_is
-    (is_needed inside.counts.len inside.memory.items inside.values.items inside.since.items inside.log.items inside.epochs.items inside.room old.sound c.args.i owner under first low found (λ same. c.if-epoch-owner.false (epoch ∙ same)) c.lowest_word.result its lowest)
+    (is_needed inside.counts.len inside.words inside.since.items inside.log.items inside.epochs.items inside.room old.sound c.args.i owner under first low found (λ same. c.if-epoch-owner.false (epoch ∙ same)) c.lowest_word.result its lowest)

@@ -2,10 +2,10 @@ use Rattle.std.proofs.Common.{◌≡◌, ◌<◌, ◌≤◌, ◌∙◌, ℕ, sub
 use Rattle.std.proofs.lemmas.Grind.{get_or_default_zero}
 use Rattle.pm_cores.specs.Log.{IsStore}
 use Rattle.pm_cores.specs.Caches.{Caches}
-use Rattle.pm_cores.specs.Choice.{open_epoch}
+use Rattle.pm_cores.specs.Choice.{dirty_epoch}
 use Rattle.pm_cores.specs.Inside.{IsLow, Waits}
 use Rattle.pm_cores.proofs.Flags.{open_epoch_found, open_epoch_none}
-use Rattle.pm_cores.proofs.cores.Cores.open_epoch.Goals as goal
+use Rattle.pm_cores.proofs.cores.Cores.dirty_epoch.Goals as goal
 
 pub index-requires : goal.index-requires
 index-requires c = let same = c.self.invariant.as_many_lows in let some = c.self.invariant.some_core in omega arith
@@ -44,8 +44,8 @@ returns-then-first-len c =
     let low : IsLow inside.since.items inside.log.items 0 first = rw (c.deref.ensures.value, c.deref-2.ensures.value) at c.first_waiting-first.ensures.low in
     let found : (word : ℕ) × Waits inside.since.items inside.log.items first 0 word = (rw (c.deref.ensures.value, c.deref-2.ensures.value) at c.first_waiting-first.ensures.found) within in
     let is = c.index-then-first-len.ensures ∙ get_or_default_zero inside.epochs.items first c.index-then-first-len.result.now in_epochs in
-    subst (λ (s : Caches). c.index-then-first-len.result.now ≡ open_epoch 0 s) c.self.view_is
-    (is ∙ open_epoch_found inside.counts.len inside.memory.items inside.values.items inside.since.items inside.log.items inside.epochs.items inside.room old.sound 0 first low found.0 found.1)
+    subst (λ (s : Caches). c.index-then-first-len.result.now ≡ dirty_epoch 0 s) c.self.view_is
+    (is ∙ open_epoch_found inside.counts.len inside.words inside.since.items inside.log.items inside.epochs.items inside.room old.sound 0 first low found.0 found.1)
 
 pub returns-else-first-len : goal.returns-else-first-len
 returns-else-first-len c =
@@ -56,5 +56,5 @@ returns-else-first-len c =
     let in_counts : 0 < length inside.counts.items = let e = inside.counts.ok.0 in let some = old.some_core in omega arith in
     let low : IsLow inside.since.items inside.log.items 0 first = rw (c.deref.ensures.value, c.deref-2.ensures.value) at c.first_waiting-first.ensures.low in
     let is = c.index-else-first-len.ensures ∙ get_or_default_zero inside.counts.items 0 c.index-else-first-len.result.now in_counts ∙ old.counts 0 old.some_core in
-    subst (λ (s : Caches). c.index-else-first-len.result.now ≡ open_epoch 0 s) c.self.view_is
-    (is ∙ open_epoch_none inside.counts.len inside.memory.items inside.values.items inside.since.items inside.log.items inside.epochs.items inside.room old.sound 0 first low past)
+    subst (λ (s : Caches). c.index-else-first-len.result.now ≡ dirty_epoch 0 s) c.self.view_is
+    (is ∙ open_epoch_none inside.counts.len inside.words inside.since.items inside.log.items inside.epochs.items inside.room old.sound 0 first low past)

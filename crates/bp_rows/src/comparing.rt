@@ -15,12 +15,26 @@ use std::alloc::{AllocError, Global};
 /// The beginnings of replies that a volume gives for want of blocks or of memory. A plain tree lacks neither.
 const OWN_REPLIES: [&str; 2] = ["err 11 ", "err 12 "];
 
+/// A plain tree, and the answer of its last call.
+#[derive(Drop)]
+struct Asked {
+    tree: Plain,
+    reply: Reply,
+}
+
+impl Asked {
+    fn new(alloc: Global, version: Version) -> Result<Asked, AllocError> {
+        let tree = Plain::of(alloc, version)?;
+        let reply = Reply::new(alloc)?;
+        Ok(Asked { tree, reply })
+    }
+}
+
 /// A plain tree, what it takes to ask it, and the replies that were not compared yet.
 #[derive(Drop)]
 pub struct Comparison<'a> {
-    tree: Plain,
+    asked: Asked,
     decoded: Decoded,
-    reply: Reply,
     replies: &'a str,
     lines: u64,
     ghost decodes: { max_line ≤ decoded_room decoded },
@@ -57,9 +71,8 @@ impl<'a> Comparison<'a> {
         replies: &'a str,
     ) -> Result<Comparison<'a>, AllocError> {
         Ok(Comparison {
-            tree: Plain::of(alloc, version)?,
+            asked: Asked::new(alloc, version)?,
             decoded: Decoded::new(alloc, MAX_LINE)?,
-            reply: Reply::new(alloc)?,
             replies,
             lines: 0,
         })
@@ -123,8 +136,9 @@ impl<'a> Comparison<'a> {
         }
         match self.decoded.line(line.as_bytes()) {
             Ok(Line::Call(call)) if can_ask(&call) => {
-                self.tree.apply(alloc, &call, &mut self.reply)?;
-                put_answer(alloc, &self.reply, told)?;
+                let asked = &mut self.asked;
+                asked.tree.apply(alloc, &call, &mut asked.reply)?;
+                put_answer(alloc, &asked.reply, told)?;
             }
             Ok(Line::Sync) => put_said(alloc, &Said::Synced, told)?,
             Ok(Line::Space | Line::Log | Line::Crash(_) | Line::Storm(_)) => return Ok(false),

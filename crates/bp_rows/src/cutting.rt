@@ -66,26 +66,14 @@ pub fn cut_all_over(
     image: &[u8],
     report: &mut String,
 ) -> Result<(), AllocError> {
-    let mut cuts = Cuts {
-        alloc,
-        version: row.version,
-        image,
-        script: row.script.as_str(),
-        asks: row.asks.as_str(),
-        work: Work::new(alloc)?,
-        choice: Choice::new(alloc, LOG_EVENTS)?,
-        events: Vec::new(alloc),
-        kept: 0,
-    };
+    let mut cuts = Cuts::new(alloc, row, image)?;
     if !cuts.read_log()? {
         return report.push_str("  the script can't be run\n");
     }
-    for moment in 0..cuts.events.len() + 1 {
-        if is_tried(&cuts.events, moment) && !cuts.cut_at(moment, report)? {
-            return Ok(());
-        }
+    if cuts.cut_at_all(report)? {
+        cuts.finish(report)?;
     }
-    cuts.finish(report)
+    Ok(())
 }
 
 /// Whether cuts at a moment are tried.
@@ -149,7 +137,24 @@ fn serve_over<K: Sink>(
     Ok(Some(volume))
 }
 
-impl Cuts<'_> {
+impl<'a> Cuts<'a> {
+    /// No cut yet.
+    fn new(alloc: Global, row: &'a Row, image: &'a [u8]) -> Result<Cuts<'a>, AllocError> {
+        let work = Work::new(alloc)?;
+        let choice = Choice::new(alloc, LOG_EVENTS)?;
+        Ok(Cuts {
+            alloc,
+            version: row.version,
+            image,
+            script: row.script.as_str(),
+            asks: row.asks.as_str(),
+            work,
+            choice,
+            events: Vec::new(alloc),
+            kept: 0,
+        })
+    }
+
     /// Runs the script, without its replies.
     fn run(&mut self) -> Result<Option<Volume<RawRegion>>, AllocError> {
         let mut sink = NullSink::new();
@@ -170,6 +175,16 @@ impl Cuts<'_> {
         let region = volume.region();
         for i in 0..region.event_count() {
             self.events.push(region.event(i))?;
+        }
+        Ok(true)
+    }
+
+    /// Tries the cuts at each moment that is tried. False is the answer where one is wrong.
+    fn cut_at_all(&mut self, report: &mut String) -> Result<bool, AllocError> {
+        for moment in 0..self.events.len().saturating_add(1) {
+            if is_tried(&self.events, moment) && !self.cut_at(moment, report)? {
+                return Ok(false);
+            }
         }
         Ok(true)
     }
@@ -234,15 +249,21 @@ impl Cuts<'_> {
     /// What the plain tree answers after the first calls of the script.
     fn expected(&self, calls: usize) -> Result<String, AllocError> {
         let mut tree = Comparison::new(self.alloc, self.version, "")?;
-        let mut unused = String::new(self.alloc);
-        for line in self.script.lines().take(calls) {
-            tree.answer(self.alloc, line, &mut unused)?;
-        }
+        self.do_first(calls, &mut tree)?;
         let mut told = String::new(self.alloc);
         for line in self.asks.lines() {
             tree.answer(self.alloc, line, &mut told)?;
         }
         Ok(told)
+    }
+
+    /// Does the first calls of the script in the plain tree.
+    fn do_first(&self, calls: usize, tree: &mut Comparison<'_>) -> Result<(), AllocError> {
+        let mut unused = String::new(self.alloc);
+        for line in self.script.lines().take(calls) {
+            tree.answer(self.alloc, line, &mut unused)?;
+        }
+        Ok(())
     }
 
     /// Writes what is wrong with a cut.

@@ -54,17 +54,30 @@ pub fn formatted(
     image_of(alloc, &files)
 }
 
-/// Runs a row.
-pub fn play(alloc: Global, row: &Row) -> Result<Ran, AllocError> {
+/// What a run leaves in these devices.
+fn left(
+    alloc: Global,
+    status: u8,
+    sink: &MemSink<'_>,
+    files: &MemFiles<'_>,
+) -> Result<Ran, AllocError> {
+    let told = Vec::from_slice(alloc, sink.bytes())?;
+    let file = image_of(alloc, files)?;
+    Ok(Ran { status, told, file })
+}
+
+/// Runs the words of a row over its devices.
+fn play_words(alloc: Global, row: &Row, words: &[&str]) -> Result<Ran, AllocError> {
     let failing = &row.failing;
-    let words: Vec<&str> = row.words.split_whitespace().collect(alloc)?;
     let mut files = MemFiles::new(alloc, row.file.as_deref(), &failing.files)?;
     let mut source = MemSource::new(row.script.as_bytes(), row.piece.max(1), &failing.source);
     let mut sink = MemSink::new(alloc, ROOM, &failing.sink)?;
-    let status = run(alloc, &words, &mut source, &mut sink, &mut files);
-    Ok(Ran {
-        status,
-        told: Vec::from_slice(alloc, sink.bytes())?,
-        file: image_of(alloc, &files)?,
-    })
+    let status = run(alloc, words, &mut source, &mut sink, &mut files);
+    left(alloc, status, &sink, &files)
+}
+
+/// Runs a row.
+pub fn play(alloc: Global, row: &Row) -> Result<Ran, AllocError> {
+    let words: Vec<&str> = row.words.split_whitespace().collect(alloc)?;
+    play_words(alloc, row, &words)
 }

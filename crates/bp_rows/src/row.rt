@@ -58,6 +58,13 @@ pub struct Row {
     pub failing: Failing,
 }
 
+/// Adds a line, whose copies are spelled out. False is the answer where it has no such form.
+fn add_line(text: &str, script: &mut String) -> Result<bool, AllocError> {
+    let is_whole = expand(text, script)?;
+    script.push_str("\n")?;
+    Ok(is_whole)
+}
+
 impl Row {
     /// `run` over a file that is missing, with no script, and no call fails.
     pub fn new(alloc: Global, version: Version) -> Result<Row, AllocError> {
@@ -93,17 +100,9 @@ impl Row {
             InputLine::Fail(device, calls) => return self.fail(device, calls),
             InputLine::Piece(most) => self.piece = most.min(PIECE as u64) as usize,
             InputLine::Words(words) => self.words = String::from_str(alloc, words)?,
-            InputLine::Script(text) => {
-                let is_whole = expand(text, &mut self.script)?;
-                self.script.push_str("\n")?;
-                return Ok(is_whole);
-            }
+            InputLine::Script(text) => return add_line(text, &mut self.script),
             InputLine::Part(text) => return expand(text, &mut self.script),
-            InputLine::Ask(text) => {
-                let is_whole = expand(text, &mut self.asks)?;
-                self.asks.push_str("\n")?;
-                return Ok(is_whole);
-            }
+            InputLine::Ask(text) => return add_line(text, &mut self.asks),
             _ => {}
         }
         Ok(true)

@@ -70,10 +70,15 @@ impl Rows {
         self.first.take(text, line, &mut first)?;
         let mut second = String::new(self.alloc);
         self.second.take(text, line, &mut second)?;
-        self.report.push_str(first.as_str())?;
-        if first.as_str() != second.as_str() {
+        self.tell_both(first.as_str(), second.as_str())
+    }
+
+    /// Tells what came of a line in the first version and in the second.
+    fn tell_both(&mut self, first: &str, second: &str) -> Result<(), AllocError> {
+        self.report.push_str(first)?;
+        if first != second {
             self.report.push_str("version 2\n")?;
-            self.report.push_str(second.as_str())
+            self.report.push_str(second)
         } else if second.is_empty() {
             Ok(())
         } else {

@@ -1,16 +1,14 @@
 -- What each change of an image does to the names that a cache of directories knows.
-use Rattle.std.proofs.Common.{◌≡◌, ◌≢◌, ◌⊎◌, ℕ, ◌+◌, ◌*◌, ◌/◌, ◌%◌, ◌<◌, zero, suc, refl, sym, ◌∙◌, ap, ap₂, subst, subst₂, arith, inl, inr}
+use Rattle.std.proofs.Common.{◌≡◌, ◌≢◌, ◌⊎◌, ℕ, ◌<◌, sym, ◌∙◌, ap₂, subst, subst₂, inl, inr}
 use Rattle.std.proofs.lemmas.Bool.{cases_eq}
 use Rattle.bp_layout.specs.Directory.{EntryNames, entry_count, inumber_at, name_at}
 use Rattle.bp_layout.specs.Inode.{IsDirectory, root_of}
 use Rattle.bp_layout.specs.Reached.{IsReached}
 use Rattle.bp_layout.specs.Reached.IsReached.{inode_file, root_directory, named}
-use Rattle.bp_layout.specs.Tree.{byte, content_word, word_at}
 use Rattle.bp_layout.specs.WellFormed.{IsWellFormed}
-use Rattle.bp_layout.specs.Words.{Image, block_of, byte_of, slot_word}
+use Rattle.bp_layout.specs.Words.{Image}
 use Rattle.bp_layout.proofs.BesideTrees as beside
 use Rattle.bp_layout.proofs.BesideTrees.{SameTrees}
-use Rattle.bp_layout.proofs.Finding.{map-same}
 use Rattle.bp_layout.proofs.HintLaws.{IsEntryFor, entry_of_slot, slot_of_entry}
 use Rattle.bp_layout.proofs.View.{SameDirectories}
 use Rattle.bp_changes.specs.Effects.{AddsNames, CanMoveEntry, CanUnlink, CarriesEntry, ChangesFile, IsAtOrBelow, LinksName, MovesEntry, RemovesEntry, RespellsEntry}
@@ -224,33 +222,8 @@ pub meaning_keeps_all : (old new : Image) → IsWellFormed old → SameMeaning o
 meaning_keeps_all old new wf same = directories_keep_all old new (meaning.view-same old new wf same).directories (meaning.well_formed-same old new wf same)
 
 -- and where words of the superblock change in which no tree stands
-module _ (old new : Image) (same : SameTrees old new) where
-  slots_same : (b s : ℕ) → slot_word new b s ≡ slot_word old b s
-  slots_same zero s = refl
-  slots_same (suc b) s = same.blocks (512 * suc b + s) (omega arith)
-
-  words_same : (root d k : ℕ) → word_at new root d k ≡ word_at old root d k
-  unfolding word_at
-  words_same root zero k = refl
-  words_same root (suc d) k =
-      ap (λ w. slot_word new (block_of w) (k % 512)) (words_same root d (k / 512)) ∙ slots_same (block_of (word_at old root d (k / 512))) (k % 512)
-
-  contents_same : (t k : ℕ) → content_word new (root_of new t) k ≡ content_word old (root_of old t) k
-  contents_same t k = ap (λ r. content_word new r k) (beside.root-same old new same t) ∙ words_same (root_of old t) _ k
-
-  bytes_same : (t o : ℕ) → byte new (root_of new t) o ≡ byte old (root_of old t) o
-  bytes_same t o = ap (λ w. byte_of w (o % 8)) (contents_same t (o / 8))
-
-  spelled_same : (i s : ℕ) → name_at new i s ≡ name_at old i s
-  spelled_same i s = rw (contents_same i (32 * s + 1)) (map-same _ _ 0 _ (λ o low high. bytes_same i (256 * s + 16 + o)))
-
-  pub same_trees_keep_all : IsWellFormed new → KeepsAllNames old new
-  same_trees_keep_all = directories_keep_all old new (record {
-    kind = λ i reached. beside.kind-same old new same i;
-    count = λ i reached kind. ap (λ z. z / 256) (beside.size-same old new same i);
-    inumber = λ i s reached kind low. contents_same i (32 * s + 0);
-    name = λ i s j reached n. spelled_same i s;
-  })
+pub same_trees_keep_all : (old new : Image) (same : SameTrees old new) → IsWellFormed new → KeepsAllNames old new
+same_trees_keep_all old new same = directories_keep_all old new (beside.view-same old new same).directories
 
 -- ---- a cache
 

@@ -147,6 +147,13 @@ one_fits s used count i counted low out = let less = count_less s i low out in o
 
 -- ---- the least number
 
+-- a set without members has no number
+pub none_in : (s : Set) → members s ≡ [] → (i : ℕ) → has s i ≡ false
+none_in s none i = lacks s i (λ there.
+    let less = count_without s i (has_low s i there) there in
+    let long : length (members s) ≡ 0 = ap length none in
+    omega (arith, less, long))
+
 pub none_used : (s used : Set) → IsSummary s used → ((word : ℕ) → has used word ≡ false) → members s ≡ []
 none_used s used sum none = members_none s (λ i. lacks s i (λ there. both (sum.all i there) (none (i / 64))))
 

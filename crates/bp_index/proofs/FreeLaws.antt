@@ -1,22 +1,15 @@
 -- What the slots that may be empty tell of those that are.
-use Rattle.std.proofs.Common.{◌≡◌, ◌≢◌, ℕ, ◌/◌, ◌<◌, ◌≤◌, ◌==◌, true, false, ◌⊎◌, inl, inr, [], length, Contains, None, Some, sym, ◌∙◌, ap, arith}
+use Rattle.std.proofs.Common.{◌≡◌, ◌≢◌, ℕ, ◌/◌, ◌<◌, ◌≤◌, ◌==◌, true, false, ◌⊎◌, inl, inr, [], length, None, Some, sym, ◌∙◌, ap, arith}
 use Rattle.std.proofs.Math.ListN.{length-set}
 use Rattle.std.proofs.lemmas.Bool.{eqb-true, eq-eqb, false_from_ne_true, cases_eq, both_ways}
 use Rattle.bp_free.specs.Set.{Set, has, members, without, IsLeast}
-use Rattle.bp_free.proofs.Members.{has_without_other, members_all, taken_least}
-use Rattle.bp_free.proofs.Summary.{has_low, lacks}
+use Rattle.bp_free.proofs.Members.{has_without_other, taken_least}
+use Rattle.bp_free.proofs.Summary.{none_in}
 use Rattle.bp_layout.specs.Words.{Image}
 use Rattle.bp_layout.specs.Directory.{inumber_in, empty_slot_in}
 use Rattle.bp_layout.proofs.Finding.{find-first, find-nothing}
 use Rattle.bp_index.specs.declared.index.Index.{Index}
 use Rattle.bp_index.specs.Index.{IsIndexOf}
-
--- a set without members has no number
-none_in : (set : Set) → members set ≡ [] → (slot : ℕ) → has set slot ≡ false
-none_in set none slot = lacks set slot (λ there.
-    let within : Contains (members set) slot = members_all set slot (has_low set slot there) there in
-    let long : length (members set) ≡ 0 = ap length none in
-    omega (arith, within.1, long))
 
 -- one slot fewer is left where the least was taken out
 pub fewer_left : (old new : Set) (slot : ℕ) → IsLeast old slot → new ≡ without old slot → length (members new) < length (members old)

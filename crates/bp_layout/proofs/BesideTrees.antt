@@ -106,7 +106,7 @@ module _ (old new : Image) (same : SameTrees old new) where
     names_once = λ i s q j k r n m e. wf.names_once i s q j k (reached_back i r) (names_back i s j n) (names_back i q k m) (sym (name-same i s) ∙ e ∙ name-same i q);
   }
 
-  view-same : SameView old new
+  pub view-same : SameView old new
   view-same = record {
     directories = record {
       kind = λ i r. kind-same i;

@@ -62,7 +62,7 @@ file_found image bytes (Some u) e = go (kind_of image u == 1) refl
 -- ---- one map
 
 module _ (image : Image) (map : PathMap) (stands : Shows image map) where
-  step_at : (path : Path) (name : Name) (node : Node) → shown image (path ++ name ∷ []) ≡ Some node → (i : ℕ) × LastStep image stands.well_formed path name i
+  pub step_at : (path : Path) (name : Name) (node : Node) → shown image (path ++ name ∷ []) ≡ Some node → (i : ℕ) × LastStep image stands.well_formed path name i
   step_at path name node is = go (lookup image (path ++ name ∷ [])) refl
     where
       go : (found : Option ℕ) → lookup image (path ++ name ∷ []) ≡ found → (i : ℕ) × LastStep image stands.well_formed path name i

@@ -168,7 +168,7 @@ get-with_bytes_at (p ∷ paths) bytes nodes q =
 
 -- ---- one more path of a file
 
-pairs_of-any : (a b q : Path) (paths : List Path) → any_pair (a, b) (pairs_with q paths) ≡
+pub pairs_of-any : (a b q : Path) (paths : List Path) → any_pair (a, b) (pairs_with q paths) ≡
     (same_path a q && same_path b q || (same_path a q && any_path b paths || same_path b q && any_path a paths))
 pairs_of-any a b q [] = rw (tie_paths a b q q) (go (same_path a q) (same_path b q))
   where

@@ -15,3 +15,11 @@ pub mod MapLaws
 pub mod LinkCounts
 pub mod Carried
 pub mod KeptMaps
+pub mod PathTexts
+pub mod PathWays
+pub mod FirstPaths
+pub mod MadeFiles
+pub mod ExportedNodes
+pub mod Exported
+pub mod Exportable
+pub mod Walked

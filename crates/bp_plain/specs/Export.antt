@@ -1,98 +1,112 @@
--- The calls that make a plain tree anew.
-use Rattle.std.specs.Prelude.{◌≡◌, ◌≤◌, ℕ, ◌+◌, ◌-◌, ◌*◌, ◌/◌, List, [], ◌∷◌, ◌++◌, length, take, drop, Bool, false, ◌&&◌, ◌==◌, nat_lt, flat_map, Option, None, Some, if◌then◌else◌}
-use Rattle.std.specs.List.{filter, list_all, list_any, range_with_len}
-use Rattle.std.specs.FinMap.{entries, get, keys}
-use Rattle.bp_limits.specs.Limits.{block_size, max_path, greatest_size}
+-- A plain file tree as the calls that make it, from the root directory alone.
+use Rattle.std.specs.Prelude.{◌≡◌, ◌≤◌, ◌+◌, ◌-◌, ◌*◌, ◌/◌, ◌==◌, ◌&&◌, ℕ, List, [], ◌∷◌, ◌++◌, length, take, drop, find, flat_map, Bool, true, None, Some, is_some, unwrap_or, nat_lt, if◌then◌else◌}
+use Rattle.std.specs.List.{filter, list_all, range_with_len}
+use Rattle.std.specs.FinMap.{get, entries, keys}
+use Rattle.bp_limits.specs.Limits.{block_size, greatest_size, max_path}
+use Rattle.bp_layout.specs.Below.{rest_below, same_path}
 use Rattle.bp_layout.specs.Lookup.{Path, Node}
 use Rattle.bp_layout.specs.Lookup.Node.{dir, file}
-use Rattle.bp_layout.specs.Below.{same_path}
-use Rattle.bp_plain.specs.Calls.{Call, Answer}
+use Rattle.bp_plain.specs.Calls.{Call}
+use Rattle.bp_plain.specs.Calls.Call.{create, link, mkdir, write, truncate}
 use Rattle.bp_plain.specs.Calls.Answer.{done}
-use Rattle.bp_plain.specs.Calls.Call.{create, link, mkdir, truncate, write}
-use Rattle.bp_plain.specs.Plain.{plain}
-use Rattle.bp_plain.specs.PlainTree.{FileTree, IsFileTree, PathMap, empty_tree, is_one}
+use Rattle.bp_plain.specs.Plain.{is_root_path, listing, plain}
+use Rattle.bp_plain.specs.PlainTree.{FileTree, IsFileTree, PathMap, is_one}
 
--- the text of a path: a `/` before each name, or one alone
-abbrev pub names_text : Path → List ℕ
-names_text [] = []
-names_text (name ∷ names) = 47 ∷ (name ++ names_text names)
-
+-- a `/` and a name, once for each name of a path
 abbrev pub path_text : Path → List ℕ
-path_text [] = 47 ∷ []
-path_text (name ∷ names) = names_text (name ∷ names)
+path_text path = flat_map (λ name. 47 ∷ name) path
 
--- the bytes of block k of a file, and whether one of them is not 0
+-- ---- the calls that make a file
+
+-- The bytes of a file in stretches, as long as a block each but for the last: how many there are, and each of them.
+abbrev pub stretches : List ℕ → ℕ
+stretches content = (length content + (block_size - 1)) / block_size
+
 abbrev pub stretch : List ℕ → ℕ → List ℕ
 stretch content k = take block_size (drop (block_size * k) content)
 
-abbrev pub is_plain : List ℕ → Bool
-is_plain bytes = list_all (λ b. b == 0) bytes
+abbrev pub is_zeros : List ℕ → Bool
+is_zeros bytes = list_all (λ b. b == 0) bytes
 
--- how many blocks have bytes
-abbrev pub stretches : List ℕ → ℕ
-stretches content = (length content + block_size - 1) / block_size
+-- a stretch is written whole, unless it has zeros alone
+abbrev pub write_of : List ℕ → List ℕ → ℕ → List Call
+write_of text content k =
+    if is_zeros (stretch content k) then [] else write text (block_size * k) (stretch content k) ∷ []
 
-abbrev pub write_stretch : List ℕ → List ℕ → ℕ → List Call
-write_stretch text content k =
-    if is_plain (stretch content k) then [] else write text (block_size * k) (stretch content k) ∷ []
+abbrev pub writes_of : List ℕ → List ℕ → List Call
+writes_of text content = flat_map (write_of text content) (range_with_len 0 (stretches content))
 
--- the size, where the last block with bytes is not written
-abbrev pub size_call : List ℕ → List ℕ → List Call
-size_call text content =
-    if nat_lt 0 (length content) && is_plain (stretch content (stretches content - 1))
+-- where the last stretch is not written, the size is given behind the writes
+abbrev pub size_of : List ℕ → List ℕ → List Call
+size_of text content =
+    if nat_lt 0 (length content) && is_zeros (stretch content (stretches content - 1))
     then truncate text (length content) ∷ [] else []
 
-abbrev pub file_calls : List ℕ → List ℕ → List Call
-file_calls text content = create text
-    ∷ flat_map (write_stretch text content) (range_with_len 0 (stretches content)) ++ size_call text content
+-- ---- the calls that make a tree
 
--- the paths of the file at a path, in their order
-abbrev pub same_file : PathMap → Path → List Path
-same_file map path = filter (λ other. is_one map.one path other) (keys map.nodes)
+abbrev pub calls_for : List ℕ → Node → List Call
+calls_for text dir = mkdir text ∷ []
+calls_for text (file content) = create text ∷ writes_of text content ++ size_of text content
 
--- the first of the paths of a file, where another one is it
-abbrev pub earlier : Path → List Path → Option Path
-earlier path [] = None
-earlier path (first ∷ paths) = if same_path first path then None else Some first
+-- the first path, in their order, of the file at a path; of a directory its own
+abbrev pub first_of : PathMap → Path → Path
+first_of map path = unwrap_or (find (is_one map.one path) (keys map.nodes)) path
 
-abbrev pub file_or_link : Path → List ℕ → Option Path → List Call
-file_or_link path content None = file_calls (path_text path) content
-file_or_link path content (Some other) = link (path_text other) (path_text path) ∷ []
+-- The root is there from the first. A later path of a file is a link to its first one.
+abbrev pub calls_at : PathMap → Path × Node → List Call
+calls_at map entry =
+    if is_root_path entry.0 then []
+    else if same_path (first_of map entry.0) entry.0 then calls_for (path_text entry.0) entry.1
+    else link (path_text (first_of map entry.0)) (path_text entry.0) ∷ []
 
--- what makes the node at a path; the root is there
-abbrev pub entry_calls : PathMap → Path × Node → List Call
-entry_calls map ([], node) = []
-entry_calls map (name ∷ path, dir) = mkdir (path_text (name ∷ path)) ∷ []
-entry_calls map (name ∷ path, file content) =
-    file_or_link (name ∷ path) content (earlier (name ∷ path) (same_file map (name ∷ path)))
+-- The paths of the tree come in their order, so that each stands behind the one above it.
+abbrev pub export_calls : FileTree → List Call
+export_calls tree = flat_map (calls_at tree.now) (entries tree.now.nodes)
 
--- in the order of the paths, name by name
-abbrev pub export : PathMap → List Call
-export map = flat_map (entry_calls map) (entries map.nodes)
+-- ---- what they come to
 
--- a path is longer than a call takes
-abbrev pub is_deep : PathMap → Bool
-is_deep map = list_any (λ entry. nat_lt max_path (length (path_text entry.0))) (entries map.nodes)
+-- each call is carried out, has nothing to tell, and the last one leaves this tree
+abbrev pub AllDone : FileTree → List Call → FileTree → Type 0
+AllDone before [] after = before ≡ after
+AllDone before (call ∷ calls) after =
+    (middle : FileTree) × (plain before call ≡ (done, middle)) × AllDone middle calls after
 
--- ---- the law
+-- a tree but for its snapshot
+abbrev pub without_snapshot : FileTree → FileTree
+without_snapshot tree = record tree { snap = None }
 
-abbrev pub if_done : Answer × FileTree → (FileTree → Option FileTree) → Option FileTree
-if_done (done, tree) rest = rest tree
-if_done (other, tree) rest = None
+-- no path has more bytes than a call can spell
+abbrev pub HasShortPaths : FileTree → Type 0
+HasShortPaths tree =
+    (path : Path) (node : Node) → get tree.now.nodes path ≡ Some node → length (path_text path) ≤ max_path
 
--- the tree after these calls, where each is done
-abbrev pub all_done : FileTree → List Call → Option FileTree
-all_done tree [] = Some tree
-all_done tree (call ∷ calls) = if_done (plain tree call) (λ after. all_done after calls)
-
--- the paths are no longer than a call takes, and the files no larger than the version has them
-pub record CanExport (tree : FileTree) : Type 0 where
-  pub is : IsFileTree tree
-  pub shallow : is_deep tree.now ≡ false
-  pub small : (p : Path) (content : List ℕ) → get tree.now.nodes p ≡ Some (file content)
+-- Each path is one that a call can spell, and each file is no larger than the version has them.
+pub record IsExportable (tree : FileTree) : Type 0 where
+  pub is_tree : IsFileTree tree
+  pub spelled : HasShortPaths tree
+  pub sized : (path : Path) (content : List ℕ) → get tree.now.nodes path ≡ Some (file content)
       → length content ≤ greatest_size tree.version
 
--- the calls make the tree, but for its snapshot, of the empty tree of its version
-abbrev pub IsMadeByExport : FileTree → Type 0
-IsMadeByExport tree =
-    all_done (empty_tree tree.version) (export tree.now) ≡ Some (record tree { snap = None })
+-- Names and files are of bytes.
+abbrev pub are_bytes : List ℕ → Bool
+are_bytes xs = list_all (λ b. nat_lt b 256) xs
+
+pub record IsOfBytes (tree : FileTree) : Type 0 where
+  pub names : (path : Path) (node : Node) → get tree.now.nodes path ≡ Some node → list_all are_bytes path ≡ true
+  pub contents : (path : Path) (content : List ℕ) → get tree.now.nodes path ≡ Some (file content)
+      → are_bytes content ≡ true
+
+-- ---- a tree as a walk finds it
+
+-- the entries at a path and below it, in their order
+abbrev pub entries_below : PathMap → Path → List (Path × Node)
+entries_below map path = filter (λ entry. is_some (rest_below path entry.0)) (entries map.nodes)
+
+-- The entries below a directory are its own, and then name by name those below each name.
+pub record IsWalked (map : PathMap) : Type 0 where
+  pub all : entries_below map [] ≡ entries map.nodes
+  pub at_file : (path : Path) (content : List ℕ) → get map.nodes path ≡ Some (file content)
+      → entries_below map path ≡ (path, file content) ∷ []
+  pub at_dir : (path : Path) → get map.nodes path ≡ Some dir
+      → entries_below map path
+      ≡ (path, dir) ∷ flat_map (λ entry. entries_below map (path ++ entry.1 ∷ [])) (listing map.nodes path)

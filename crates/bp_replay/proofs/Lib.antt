@@ -3,3 +3,5 @@ pub mod Bits
 pub mod Storms
 pub mod Rule
 pub mod Standing
+pub mod CacheRuns
+pub mod CachePlayed

@@ -1,3 +1,4 @@
 pub mod Wanted
 pub mod Generator
 pub mod Storm
+pub mod Cache

@@ -1,12 +1,14 @@
 //! What a script's crash keeps: choices that are written out, and storms.
 #![tactic(auto)]
 
+pub mod caching;
 mod cut;
 pub mod generator;
 pub mod laws;
 pub mod storming;
 pub mod wanted;
 
+pub use caching::cache;
 pub use cut::Cut;
 pub use generator::Generator;
 pub use storming::storm;

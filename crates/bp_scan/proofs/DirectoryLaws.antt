@@ -1,14 +1,13 @@
 -- A directory is taken up, and is done.
-use Rattle.std.proofs.Common.{◌≡◌, ◌⊎◌, ℕ, zero, suc, ◌+◌, ◌*◌, ◌/◌, ◌<◌, ◌≤◌, true, false, [], length, sym, ◌∙◌, ap, subst, arith, inl, inr}
-use Rattle.std.proofs.lemmas.Bool.{cases_lt}
+use Rattle.std.proofs.Common.{◌≡◌, ℕ, zero, suc, ◌+◌, ◌*◌, ◌/◌, ◌<◌, ◌≤◌, true, length, sym, ◌∙◌, ap, subst, arith}
 use Rattle.bp_free.specs.Set.{Set, has, members, without, IsLeast}
-use Rattle.bp_free.proofs.Members.{has_past, count_without}
+use Rattle.bp_free.proofs.Members.{count_without}
 use Rattle.bp_layout.specs.Words.{Image, block_count}
 use Rattle.bp_layout.specs.Tree.{IsSound, IsFull}
 use Rattle.bp_layout.specs.Inode.{kind_of, root_of, size_of}
 use Rattle.bp_layout.specs.Checks.{Fails}
 use Rattle.bp_layout.specs.declared.check.Check.{Check}
-use Rattle.bp_walk.proofs.TakenLaws.{known, length_without, has_without}
+use Rattle.bp_walk.proofs.TakenLaws.{length_without, has_without}
 use Rattle.bp_scan.specs.Misspelled.{FailsNames}
 use Rattle.bp_scan.specs.Reading.{IsReading, IsAtHand, IsInside, steps}
 use Rattle.bp_scan.specs.declared.directories.Directory.{Directory}
@@ -81,18 +80,6 @@ finished image work directory inside = record {
       finish_counts image work.inodes work.todo directory.inode (directory.tree.size / 256) (ap (λ (x : ℕ). x / 256) (sym inside.size)) inside.at.entered inside.at.kind inside.at.out
       work.counts inside.at.reading.counts;
 }
-
--- no member is left
-pub none_of : (set : Set) → members set ≡ [] → (i : ℕ) → has set i ≡ false
-none_of set none i = go (cases_lt i (length set)) (known (has set i))
-  where
-    go : (i < length set) ⊎ (length set ≤ i) → (has set i ≡ true) ⊎ (has set i ≡ false) → has set i ≡ false
-    go (inr high) other = has_past set i high
-    go (inl low) (inr gone) = gone
-    go (inl low) (inl there) =
-        let less : length (members (without set i)) + 1 ≡ length (members set) = count_without set i low there in
-        let zero_long : length (members set) ≡ 0 = ap length none in
-        absurd (omega (arith, less, zero_long))
 
 -- a directory less
 pub steps_fall : (work : Scan) (later : Set) (after : Scan) (i : ℕ) → IsLeast work.todo i → later ≡ without work.todo i → steps after ≤ steps (to_do work later) → steps after < steps work

@@ -11,3 +11,6 @@ pub mod Rows
 pub mod ServedLines
 pub mod Splitting
 pub mod WrittenPieces
+pub mod CallLines
+pub mod PathWord
+pub mod ExportLines

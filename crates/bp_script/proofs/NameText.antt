@@ -29,12 +29,12 @@ all_agree : all_below agrees 128 ≡ true
 unfolding all_below agrees same_bit should_percent_encode
 all_agree = refl
 
-high_escaped : (b : ℕ) → 128 ≤ b → is_escaped b ≡ true
+pub high_escaped : (b : ℕ) → 128 ≤ b → is_escaped b ≡ true
 high_escaped b high = grind (arith, nat_tests)
 
-high_encoded : (b : ℕ) → nat_lt b 128 ≡ false → should_percent_encode ESCAPED b ≡ true
+pub high_encoded : (set : AsciiSet) (b : ℕ) → nat_lt b 128 ≡ false → should_percent_encode set b ≡ true
 unfolding should_percent_encode
-high_encoded b e = rw e refl
+high_encoded set b e = rw e refl
 
 pub same_escape : (b : ℕ) → should_percent_encode ESCAPED b ≡ is_escaped b
 unfolding agrees
@@ -42,13 +42,13 @@ same_escape b = go (nat_lt b 128) refl
   where
     go : (low : Bool) → nat_lt b 128 ≡ low → should_percent_encode ESCAPED b ≡ is_escaped b
     go true e = same_bit-is (should_percent_encode ESCAPED b) (is_escaped b) (from_all_below agrees 128 b all_agree (ltb-true b 128 e))
-    go false e = high_encoded b e ∙ sym (high_escaped b (ltb-false b 128 e))
+    go false e = high_encoded ESCAPED b e ∙ sym (high_escaped b (ltb-false b 128 e))
 
 -- ---- so the text is that of the encoder
 
-pub percent_encode-name : (name : List ℕ) → percent_encode ESCAPED name ≡ name_text name
-percent_encode-name [] = percent_encode-nil ESCAPED
-percent_encode-name (b ∷ name) = go (is_escaped b) refl (percent_encode-name name)
+pub encoded_name : (name : List ℕ) → percent_encode ESCAPED name ≡ name_text name
+encoded_name [] = percent_encode-nil ESCAPED
+encoded_name (b ∷ name) = go (is_escaped b) refl (encoded_name name)
   where
     go : (e : Bool) → is_escaped b ≡ e → percent_encode ESCAPED name ≡ name_text name → percent_encode ESCAPED (b ∷ name) ≡ name_text (b ∷ name)
     go true e rest = rw e (percent_encode_escaped ESCAPED b name (same_escape b ∙ e) ∙ ap (λ x. percent_encode_byte b ++ x) rest)
@@ -68,4 +68,4 @@ length-percent_encode set (b ∷ bytes) = go (should_percent_encode set b) refl 
 
 -- the text of a name is three times as long at most
 pub name_text_fits : (name : List ℕ) → length name ≤ 240 → length (name_text name) ≤ 720
-name_text_fits name short = omega (arith, short, length-percent_encode ESCAPED name, ap length (percent_encode-name name))
+name_text_fits name short = omega (arith, short, length-percent_encode ESCAPED name, ap length (encoded_name name))

@@ -49,5 +49,6 @@ notice_text (notice.BadSize found wanted) = pair_text (codes "err 31 badsize ") 
 notice_text (notice.Damaged check place) = pair_text (codes "err 32 damaged ") check place
 notice_text (notice.Clean files dirs bytes live free) = clean_text files dirs bytes live free
 notice_text notice.NoFile = codes "err 34 nofile\n"
+notice_text notice.Deep = codes "err 40 deep\n"
 notice_text notice.Usage =
     codes "usage: bpfs format FILE --blocks N [--version V] / run FILE / check FILE / play FILE --seed S --count C\n"

@@ -49,6 +49,8 @@ pub enum Notice {
     },
     /// The file is not there.
     NoFile,
+    /// A file or a directory has a path that is longer than a call takes.
+    Deep,
     /// The words of the command line mean nothing.
     Usage,
 }
@@ -78,6 +80,7 @@ pub fn announce(notice: &Notice, into: &mut [u8]) -> usize
             free,
         } => announce_clean(files, dirs, bytes, live, free, into),
         Notice::NoFile => write_pieces(into, &[b"err 34 nofile\n"]),
+        Notice::Deep => write_pieces(into, &[b"err 40 deep\n"]),
         Notice::Usage => write_pieces(
             into,
             &[

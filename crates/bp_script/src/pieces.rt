@@ -2,9 +2,11 @@
 
 ghost use Rattle.bp_script.specs.Texts.{pair_text};
 ghost use Rattle.hex.specs.Hex.{encode_lower};
+ghost use Rattle.percent_encoding.specs.Percent.{percent_encode};
 ghost use Rattle.std.specs.Prelude.{drop, flat_map, length, take, ◌*◌, ◌+◌, ◌++◌, ◌≡◌, ◌≤◌};
 
 use crate::digits::encode_digits;
+use percent_encoding::AsciiSet;
 
 /// The room in bytes that serves two numbers with a space between them and a newline behind them.
 const PAIR_ROOM: usize = 82;
@@ -62,5 +64,20 @@ pub(crate) fn put_digits(into: &mut [u8], at: usize, content: &[u8]) -> usize
 {
     let end = at + 2 * content.len();
     encode_digits(content, &mut into[at..end]);
+    end
+}
+
+/// Writes bytes at a place of a buffer, run by run, with an escape for each byte of a set and each outside ASCII, and tells where
+/// they end.
+pub(crate) fn put_escaped(into: &mut [u8], at: usize, bytes: &[u8], escaped: AsciiSet) -> usize
+    requires { at + length (percent_encode escaped bytes.now) ≤ length into.old }
+    ensures text { into.new ≡ take at into.old ++ percent_encode escaped bytes.now
+        ++ drop (at + length (percent_encode escaped bytes.now)) into.old }
+    ensures end { result ≡ at + length (percent_encode escaped bytes.now) }
+{
+    let mut end = at;
+    for piece in percent_encoding::percent_encode(bytes, escaped) {
+        end = put(into, end, piece.as_bytes());
+    }
     end
 }

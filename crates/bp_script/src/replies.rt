@@ -7,10 +7,10 @@ ghost use Rattle.bp_script.specs.Sayings.{FitsReply, IsLine, said_text};
 ghost use Rattle.bp_script.specs.Texts.{answer_text, data_text, entry_text, is_escaped, kept_text, kind_letter, log_text, name_text, refusal_text};
 ghost use Rattle.std.specs.Prelude.{IsTrue, codes, drop, length, take, ◌*◌, ◌+◌, ◌++◌, ◌≡◌, ◌≤◌};
 
-use crate::pieces::{put, put_digits, write_pair, write_pieces};
+use crate::pieces::{put, put_digits, put_escaped, write_pair, write_pieces};
 use bp_layout::Kind;
 use bp_plain::{Answer, FsError};
-use percent_encoding::{AsciiSet, CONTROLS, ascii_set, percent_encode};
+use percent_encoding::{AsciiSet, CONTROLS, ascii_set};
 
 /// The bytes of ASCII that a name's text escapes: control bytes, the space, `%` and `/`.
 const ESCAPED: AsciiSet = ascii_set!(CONTROLS.add(b' ').add(b'%').add(b'/'));
@@ -225,7 +225,7 @@ fn put_name(into: &mut [u8], at: usize, name: &[u8]) -> usize
     if is_plain(name) {
         put(into, at, name)
     } else {
-        put_escaped(into, at, name)
+        put_escaped(into, at, name, ESCAPED)
     }
 }
 
@@ -245,20 +245,6 @@ fn is_escaped(byte: u8) -> bool
     ensures { result ≡ is_escaped byte }
 {
     (byte <= b' ') | (byte >= 127) | (byte == b'%') | (byte == b'/')
-}
-
-/// Writes the text of a name run by run, as [`put_name`] does.
-fn put_escaped(into: &mut [u8], at: usize, name: &[u8]) -> usize
-    requires { at + length (name_text name.now) ≤ length into.old }
-    ensures text { into.new ≡
-        take at into.old ++ name_text name.now ++ drop (at + length (name_text name.now)) into.old }
-    ensures end { result ≡ at + length (name_text name.now) }
-{
-    let mut end = at;
-    for piece in percent_encode(name, ESCAPED) {
-        end = put(into, end, piece.as_bytes());
-    }
-    end
 }
 
 /// Writes the line of bytes of a file.

@@ -13,3 +13,4 @@ pub mod SetSizes
 pub mod StepDown
 pub mod StoredBytes
 pub mod OneStore
+pub mod NextLeaves

@@ -22,13 +22,13 @@ leaf_root image root size sound flat present leaf live null =
 abbrev pub NoNullBefore : Image → ℕ → ℕ → ℕ → ℕ → Type 0
 NoNullBefore image root size level slot = (leaf : ℕ) → leaf / 512 ^ level < slot → 4096 * leaf < size → node image root (height_of root) leaf ≢ 0
 
-power_some : (d : ℕ) → 0 < 512 ^ d
+pub power_some : (d : ℕ) → 0 < 512 ^ d
 power_some zero = omega arith
 power_some (suc d) = rw pow-suc (omega (arith, power_some d))
 
 module _ (image : Image) (root size level slot : ℕ) (has : HasBelow image root size level slot) (sub part : ℕ) (root_is : sub ≡ child image (block_of root) level slot) (size_is : part ≡ piece size level slot) where
   -- a leaf of the slot's tree
-  leaf_in : (k : ℕ) → k < 512 ^ level → node image root (height_of root) (slot * 512 ^ level + k) ≡ node image sub (height_of sub) k
+  pub leaf_in : (k : ℕ) → k < 512 ^ level → node image root (height_of root) (slot * 512 ^ level + k) ≡ node image sub (height_of sub) k
   leaf_in k low =
       let height : height_of sub ≡ level = ap height_of root_is ∙ has.height in
       ap (λ h. node image root h (slot * 512 ^ level + k)) has.shape.height
@@ -36,16 +36,16 @@ module _ (image : Image) (root size level slot : ℕ) (has : HasBelow image root
       ∙ sym (ap (λ h. node image sub h k) height ∙ ap (λ r. node image r level k) root_is)
 
   -- the bytes before it
-  before : slot * span level ≡ 4096 * (slot * 512 ^ level)
+  pub before : slot * span level ≡ 4096 * (slot * 512 ^ level)
   before = let q : ℕ = 512 ^ level in ap (λ s. slot * s) (span-is level) ∙ omega arith
 
-  low_in : (k : ℕ) → 4096 * k < part → k < 512 ^ level
+  pub low_in : (k : ℕ) → 4096 * k < part → k < 512 ^ level
   low_in k live = omega (arith, live, size_is, span-is level)
 
-  live_out : (k : ℕ) → 4096 * k < part → 4096 * (slot * 512 ^ level + k) < size
+  pub live_out : (k : ℕ) → 4096 * k < part → 4096 * (slot * 512 ^ level + k) < size
   live_out k live = omega (arith, live, size_is, before)
 
-  live_back : (k : ℕ) → k < 512 ^ level → 4096 * (slot * 512 ^ level + k) < size → 4096 * k < part
+  pub live_back : (k : ℕ) → k < 512 ^ level → 4096 * (slot * 512 ^ level + k) < size → 4096 * k < part
   live_back k low live = omega (arith, low, live, size_is, before, span-is level)
 
   pub null_in : NoNullBefore image root size level slot → (leaf : ℕ) → IsFirstNullLeaf image sub part leaf → IsFirstNullLeaf image root size (slot * 512 ^ level + leaf)

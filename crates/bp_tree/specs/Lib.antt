@@ -3,3 +3,4 @@ pub mod Counts
 pub mod Nulls
 pub mod Paths
 pub mod Within
+pub mod Leaves

@@ -6,6 +6,7 @@
 
 pub mod counts;
 mod descent;
+pub mod leaves;
 pub mod marks;
 pub mod nulls;
 pub mod paths;
@@ -14,6 +15,7 @@ mod subtrees;
 pub mod tree;
 
 pub use counts::count_live;
+pub use leaves::next_leaf;
 pub use marks::version;
 pub use nulls::first_null;
 pub use paths::{Slots, address, word_path};

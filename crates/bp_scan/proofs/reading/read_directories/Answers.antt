@@ -1,7 +1,8 @@
 use Rattle.std.proofs.Common.{◌∙◌, ap}
 use Rattle.bp_free.specs.Set.{members}
 use Rattle.pm_region.specs.Memory.{current_words}
-use Rattle.bp_scan.proofs.DirectoryLaws.{none_of, steps_fall, taken_least}
+use Rattle.bp_free.proofs.Summary.{none_in}
+use Rattle.bp_scan.proofs.DirectoryLaws.{steps_fall, taken_least}
 use Rattle.bp_scan.proofs.reading.read_directories.Goals as goal
 
 pub read_directory-requires : goal.read_directory-requires
@@ -13,4 +14,4 @@ loop-inode-smaller g c =
     steps_fall c.loop-inode.work c.take.new.self c.read_directory.new.work c.in-Some.inode c.in-Some.ensures.0 c.in-Some.ensures.1 c.in_ok-read_directory.ensures.steps
 
 pub returns-clause-none_left : goal.returns-clause-none_left
-returns-clause-none_left g c i = none_of c.take.new.self (ap members c.in_default.ensures.1 ∙ c.in_default.ensures.0) i
+returns-clause-none_left g c i = none_in c.take.new.self (ap members c.in_default.ensures.1 ∙ c.in_default.ensures.0) i

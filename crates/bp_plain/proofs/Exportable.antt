@@ -1,0 +1,128 @@
+-- The tree of an image can be exported, where its paths can be spelled.
+use Rattle.std.proofs.Common.{◌≡◌, ℕ, zero, suc, ◌*◌, ◌^◌, ◌<◌, ◌≤◌, ◌==◌, Bool, true, false, List, [], ◌∷◌, ◌++◌, length, map, nat_lt, Option, None, Some, refl, sym, ◌∙◌, ap, subst, arith, append_assoc}
+use Rattle.std.specs.List.{list_all, range_with_len}
+use Rattle.std.specs.FinMap.{get}
+use Rattle.std.proofs.lemmas.Bool.{lt-ltb, ltb-false, ltb-true}
+use Rattle.std.proofs.lemmas.List.FromFn.{length-map-range_with_len}
+use Rattle.bp_limits.specs.Limits.{greatest_height, greatest_size}
+use Rattle.bp_limits.specs.declared.version.Version.{Version}
+use Rattle.bp_limits.specs.declared.version.Version.TheVariants.{One, Two}
+use Rattle.bp_layout.specs.Directory.{Name}
+use Rattle.bp_layout.specs.Formatted.{version_of}
+use Rattle.bp_layout.specs.Inode.{kind_of, root_of, size_of}
+use Rattle.bp_layout.specs.Lookup.{Path, Node, lookup, node_of, shown}
+use Rattle.bp_layout.specs.Lookup.Node.{dir, file}
+use Rattle.bp_layout.specs.Reached.{IsReached}
+use Rattle.bp_layout.specs.Reached.IsReached.{root_directory}
+use Rattle.bp_layout.specs.Tree.{byte, content}
+use Rattle.bp_layout.specs.WellFormed.{IsWellFormed}
+use Rattle.bp_layout.specs.Words.{Image, height_of}
+use Rattle.bp_layout.proofs.View.{lookup_from-reached}
+use Rattle.bp_plain.specs.Export.{HasShortPaths, IsExportable, IsOfBytes, are_bytes}
+use Rattle.bp_plain.specs.PlainTree.{FileTree, PathMap}
+use Rattle.bp_plain.specs.Stands.{Shows, Stands}
+use Rattle.bp_plain.proofs.FileTrees.{shows_path_map, stands_file_tree, step_at}
+use Rattle.bp_plain.proofs.PathTexts.{both_true}
+use Rattle.bp_plain.proofs.PathWays.{HasWay, map_has_way}
+
+-- ---- bytes
+
+bytes_all : (f : ℕ → ℕ) → ((x : ℕ) → f x < 256) → (xs : List ℕ) → are_bytes (map f xs) ≡ true
+bytes_all f low [] = refl
+bytes_all f low (x ∷ xs) = both_true _ _ (lt-ltb (f x) 256 (low x)) (bytes_all f low xs)
+
+byte_low : (image : Image) (root offset : ℕ) → byte image root offset < 256
+byte_low image root offset = omega arith
+
+-- ---- the sizes of files
+
+covers : (version : Version) (h : ℕ) → h ≤ greatest_height version → 8 * 512 ^ suc h ≤ greatest_size version
+covers One zero low = omega arith
+covers One (suc zero) low = omega arith
+covers One (suc (suc zero)) low = omega arith
+covers One (suc (suc (suc zero))) low = omega arith
+covers One (suc (suc (suc (suc h)))) low = absurd (omega (arith, low))
+covers Two zero low = omega arith
+covers Two (suc zero) low = omega arith
+covers Two (suc (suc zero)) low = omega arith
+covers Two (suc (suc (suc zero))) low = omega arith
+covers Two (suc (suc (suc (suc zero)))) low = omega arith
+covers Two (suc (suc (suc (suc (suc zero))))) low = omega arith
+covers Two (suc (suc (suc (suc (suc (suc h)))))) low = absurd (omega (arith, low))
+
+module _ (image : Image) (stands : (tree_map : PathMap) × Shows image tree_map) where
+  abbrev now : PathMap
+  now = stands.0
+
+  wf : IsWellFormed image
+  wf = stands.1.well_formed
+
+  size_fits : (i : ℕ) → IsReached image i → size_of image i ≤ greatest_size (version_of image)
+  size_fits i reached = go (nat_lt 0 (size_of image i)) refl
+    where
+      go : (b : Bool) → nat_lt 0 (size_of image i) ≡ b → size_of image i ≤ greatest_size (version_of image)
+      go true at =
+          let some : 0 < size_of image i = ltb-true 0 (size_of image i) at in
+          omega (arith, (wf.sound i reached).fits, covers (version_of image) (height_of (root_of image i)) (wf.low i reached some))
+      go false at = omega (arith, ltb-false 0 (size_of image i) at)
+
+  -- ---- the bytes of a file
+
+  module _ (path : Path) (found : List ℕ) (is : shown image path ≡ Some (file found)) where
+    file_is : (n : ℕ) × IsReached image n × (found ≡ content image (root_of image n) (size_of image n))
+    file_is = go (lookup image path) refl
+      where
+        at_inode : (n : ℕ) → (b : Bool) → (kind_of image n == 1) ≡ b → node_of image n ≡ file found → found ≡ content image (root_of image n) (size_of image n)
+        at_inode n true at same = let here : file (content image (root_of image n) (size_of image n)) ≡ file found = rw at at same in cc
+        at_inode n false at same = let other : dir ≡ file found = rw at at same in absurd (cc)
+
+        go : (o : Option ℕ) → lookup image path ≡ o → (n : ℕ) × IsReached image n × (found ≡ content image (root_of image n) (size_of image n))
+        go None at = let none : ◌≡◌ {A = Option Node} None (Some (file found)) = rw at at is in absurd (cc)
+        go (Some n) at =
+            let same : ◌≡◌ {A = Option Node} (Some (node_of image n)) (Some (file found)) = rw at at is in
+            let here : node_of image n ≡ file found = cc in
+            (n, lookup_from-reached image 1 n path root_directory at, at_inode n (kind_of image n == 1) refl here)
+
+    file_fits : length found ≤ greatest_size (version_of image)
+    file_fits =
+        omega (arith, ap length file_is.2, length-map-range_with_len (byte image (root_of image file_is.0)) 0 (size_of image file_is.0), size_fits file_is.0 file_is.1)
+
+    file_of_bytes : are_bytes found ≡ true
+    file_of_bytes = ap are_bytes file_is.2 ∙ bytes_all (byte image (root_of image file_is.0)) (λ x. byte_low image (root_of image file_is.0) x) (range_with_len 0 (size_of image file_is.0))
+
+  -- ---- the names of a path
+
+  names_of_bytes : (path : Path) (node : Node) → get now.nodes path ≡ Some node → list_all are_bytes path ≡ true
+  names_of_bytes path node at = go [] path refl
+    where
+      way : HasWay now.nodes path
+      way = map_has_way now (shows_path_map image now stands.1) path node at
+
+      last : (front : Path) (name : Name) (other : Node) → get now.nodes (front ++ name ∷ []) ≡ Some other → are_bytes name ≡ true
+      last front name other there =
+          let step = step_at image now stands.1 front name other (sym (stands.1.shows (front ++ name ∷ [])) ∙ there) in
+          subst (λ n. are_bytes n ≡ true) step.1.shows.spelled (bytes_all _ (λ x. byte_low image (root_of image step.1.parent) _) _)
+
+      here : (front : Path) (name : Name) (rest : Path) → path ≡ front ++ name ∷ rest → are_bytes name ≡ true
+      here front name [] cut = last front name node (ap (get now.nodes) (sym cut) ∙ at)
+      here front name (other ∷ rest) cut = last front name dir (way (front ++ name ∷ []) other rest (cut ∙ sym (append_assoc front (name ∷ []) (other ∷ rest))))
+
+      go : (front rest : Path) → path ≡ front ++ rest → list_all are_bytes rest ≡ true
+      go front [] cut = refl
+      go front (name ∷ rest) cut = both_true _ _ (here front name rest cut) (go (front ++ name ∷ []) rest (cut ∙ sym (append_assoc front (name ∷ []) rest)))
+
+pub image_exportable : (image : Image) (tree : FileTree) → Stands image tree → HasShortPaths tree → IsExportable tree × IsOfBytes tree
+image_exportable image tree stands short = (
+  record {
+    is_tree = stands_file_tree image tree stands;
+    spelled = short;
+    sized = λ path bytes is. subst (λ version. length bytes ≤ greatest_size version) (sym stands.version) (file_fits image shows path bytes (sym (stands.now.shows path) ∙ is));
+  },
+  record {
+    names = λ path node is. names_of_bytes image shows path node is;
+    contents = λ path bytes is. file_of_bytes image shows path bytes (sym (stands.now.shows path) ∙ is);
+  },
+)
+  where
+    shows : (tree_map : PathMap) × Shows image tree_map
+    shows = (tree.now, stands.now)

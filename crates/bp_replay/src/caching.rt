@@ -1,0 +1,110 @@
+//! Crashes of a run with two cores' caches.
+
+ghost use Rattle.std.specs.Prelude.{◌≡◌, ℕ, ◌+◌, ◌*◌, ◌<◌, ◌≤◌, length};
+ghost use Rattle.pm_region.specs.Memory.{Memory};
+ghost use Rattle.pm_epochs.specs.declared.event.Event.TheVariants.{Store};
+ghost use Rattle.pm_epochs.specs.May.{StoresMay};
+ghost use Rattle.pm_epochs.specs.Replay.{IsRight};
+ghost use Rattle.pm_cores.specs.Caches.{Caches, caches_over};
+ghost use Rattle.bp_replay.specs.Generator.{next_state, drawn};
+ghost use Rattle.bp_replay.specs.Cache.{after_back, after_event, last_word, by_draw, after_draw, cache_cut, IsLike, IsWordBelow};
+
+use super::generator::Generator;
+use pm_cores::Cores;
+use pm_cores::laws::a_choice_leaves_the_memory;
+use pm_epochs::{Choice, Event};
+use pm_region::Region;
+
+/// A random run of two cores' caches over the region's log, and the choice of what a crash then keeps. A moment is drawn. Core
+/// 0 does the events before it, and behind each a number is drawn: core 1 reads the word of the last store, or that word is
+/// written back where that is allowed, or nothing is done. The same log and seed give the same choice. Takes no memory, and
+/// time for the events of the log.
+pub fn cache<R: Region>(region: &R, seed: u64, cores: &mut Cores, choice: &mut Choice)
+    requires cores { 2 ≤ cores.old.cores }
+    requires words { cores.old.words ≡ length (R.memory region.now).base }
+    requires stores { StoresMay (λ word value. word < length (R.memory region.now).base) (R.memory region.now).events }
+    requires room { 2 * length (R.memory region.now).events ≤ cores.old.capacity }
+    requires choice { 2 * length (R.memory region.now).events ≤ choice.old.room }
+    ensures chosen { choice.new.cut ≡
+        cache_cut (caches_over cores.old.cores cores.old.words cores.old.capacity) (R.memory region.now).events seed }
+    ensures right { IsRight (R.memory region.now).events choice.new.cut }
+    ensures choice_room { choice.new.room ≡ choice.old.room }
+    ensures cores_like { IsLike cores.old (2 * length (R.memory region.now).events) cores.new }
+{
+    let mut generator = Generator::new(seed);
+    let moment = generator.draw_up_to(region.event_count());
+    cores.begin();
+    let mut last = None;
+    for i in 0..moment {
+        let event = region.event(i);
+        play_event(event, cores);
+        last = word_behind(last, event);
+        play_draw(region, generator.draw(), last, cores);
+    }
+    cores.is_coherent();
+    a_choice_leaves_the_memory();
+    cores.choice(choice, moment);
+}
+
+/// Core 0 does an event.
+fn play_event(event: Event, cores: &mut Cores)
+    requires cores { 0 < cores.old.cores }
+    requires word { (word value : ℕ) → event ≡ Store word value → word < cores.old.words }
+    requires room { length cores.old.log < cores.old.capacity }
+    ensures { cores.new ≡ after_event cores.old event }
+{
+    match event {
+        Event::Store { word, value } => cores.store(0, word, value),
+        Event::Barrier => cores.barrier(0),
+        Event::Mark => {}
+    }
+}
+
+/// The word of the last store, behind one more event.
+fn word_behind(last: Option<u32>, event: Event) -> Option<u32>
+    ensures { result ≡ last_word last event }
+{
+    match event {
+        Event::Store { word, .. } => Some(word),
+        Event::Barrier => last,
+        Event::Mark => last,
+    }
+}
+
+/// Does what is drawn behind an event.
+fn play_draw<R: Region>(region: &R, draw: u32, last: Option<u32>, cores: &mut Cores)
+    requires region { cores.old.words ≡ length (R.memory region.now).base }
+    requires cores { 1 < cores.old.cores }
+    requires word { IsWordBelow cores.old.words last }
+    requires room { length cores.old.log < cores.old.capacity }
+    ensures { cores.new ≡ after_draw cores.old last draw }
+{
+    if let Some(word) = last {
+        play_eighth(region, draw % 8, word, cores);
+    }
+}
+
+/// Does what is drawn for a word.
+fn play_eighth<R: Region>(region: &R, eighth: u32, word: u32, cores: &mut Cores)
+    requires region { cores.old.words ≡ length (R.memory region.now).base }
+    requires cores { 1 < cores.old.cores }
+    requires word { word < cores.old.words }
+    requires room { length cores.old.log < cores.old.capacity }
+    ensures { cores.new ≡ by_draw cores.old word eighth }
+{
+    if eighth == 0 {
+        let _ = cores.load(region, 1, word);
+    } else if eighth <= 4 {
+        write_back(word, cores);
+    }
+}
+
+/// Writes a word back where it is dirty and may go.
+fn write_back(word: u32, cores: &mut Cores)
+    requires { word < cores.old.words }
+    ensures { cores.new ≡ after_back cores.old word }
+{
+    if cores.is_dirty(word) {
+        let _ = cores.back(word);
+    }
+}

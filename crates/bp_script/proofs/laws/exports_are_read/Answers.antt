@@ -1,0 +1,8 @@
+use Rattle.bp_script.proofs.ExportLines.{export_read, export_short}
+use Rattle.bp_script.proofs.laws.exports_are_read.Goals as goal
+
+pub returns-clause-read : goal.returns-clause-read
+returns-clause-read c = λ tree can of_bytes. export_read tree can of_bytes
+
+pub returns-clause-short : goal.returns-clause-short
+returns-clause-short c = λ tree can of_bytes. export_short tree can of_bytes

@@ -1,0 +1,79 @@
+-- The lines of calls, and the script that makes a plain file tree.
+use Rattle.std.specs.Prelude.{◌≡◌, ◌≤◌, ◌<◌, ◌^◌, ◌==◌, ◌&&◌, ℕ, List, [], ◌∷◌, ◌++◌, length, map, flat_map, not, true, codes, decimal, if◌then◌else◌}
+use Rattle.percent_encoding.specs.Percent.{percent_encode_byte}
+use Rattle.bp_limits.specs.Limits.{max_line, max_read, max_text}
+use Rattle.bp_plain.specs.Calls.{Call}
+use Rattle.bp_plain.specs.Calls.Call.{create, mkdir, unlink, rmdir, list, stat, read, write, truncate, rename, link, links, upgrade}
+use Rattle.bp_plain.specs.Export.{are_bytes, export_calls}
+use Rattle.bp_plain.specs.PlainTree.{FileTree}
+use Rattle.bp_script.specs.Commands.{command_of}
+use Rattle.bp_script.specs.Commands.Command.{file_call}
+use Rattle.bp_script.specs.Texts.{digits_or_dash, is_escaped}
+
+-- the word of a path: each byte but `/` as the text of a name has it
+abbrev pub path_word : List ℕ → List ℕ
+path_word text = flat_map (λ b. if is_escaped b && not (b == 47) then percent_encode_byte b else b ∷ []) text
+
+-- the line that asks for a call
+abbrev pub call_line : Call → List ℕ
+call_line (create text) = codes "create " ++ path_word text
+call_line (mkdir text) = codes "mkdir " ++ path_word text
+call_line (unlink text) = codes "unlink " ++ path_word text
+call_line (rmdir text) = codes "rmdir " ++ path_word text
+call_line (list text) = codes "list " ++ path_word text
+call_line (stat text) = codes "stat " ++ path_word text
+call_line (read text off len) = codes "read " ++ path_word text ++ codes " " ++ decimal off ++ codes " " ++ decimal len
+call_line (write text off new) =
+    codes "write " ++ path_word text ++ codes " " ++ decimal off ++ codes " " ++ digits_or_dash new
+call_line (truncate text size) = codes "truncate " ++ path_word text ++ codes " " ++ decimal size
+call_line (rename from to) = codes "rename " ++ path_word from ++ codes " " ++ path_word to
+call_line (link from to) = codes "link " ++ path_word from ++ codes " " ++ path_word to
+call_line (links text) = codes "links " ++ path_word text
+call_line upgrade = codes "upgrade"
+-- the others have no line
+call_line call = []
+
+-- ---- the calls that can be spelled
+
+-- what a word can spell: some bytes
+pub record IsWord (text : List ℕ) : Type 0 where
+  pub some : 1 ≤ length text
+  pub bytes : are_bytes text ≡ true
+
+-- A call that has a line: its paths are some bytes, its numbers below 2 ^ 64, and a read is of as much as one call reads.
+abbrev pub IsSpelled : Call → Type 0
+IsSpelled (create text) = IsWord text
+IsSpelled (mkdir text) = IsWord text
+IsSpelled (unlink text) = IsWord text
+IsSpelled (rmdir text) = IsWord text
+IsSpelled (list text) = IsWord text
+IsSpelled (stat text) = IsWord text
+IsSpelled (read text off len) = IsWord text × (off < 2 ^ 64) × (len ≤ max_read)
+IsSpelled (write text off new) = IsWord text × (off < 2 ^ 64) × (are_bytes new ≡ true)
+IsSpelled (truncate text size) = IsWord text × (size < 2 ^ 64)
+IsSpelled (rename from to) = IsWord from × IsWord to
+IsSpelled (link from to) = IsWord from × IsWord to
+IsSpelled (links text) = IsWord text
+IsSpelled upgrade = Unit {0}
+IsSpelled call = ⊥
+
+-- its line is no longer than a line may be
+abbrev pub FitsLine : Call → Type 0
+FitsLine call = length (call_line call) ≤ max_line
+
+-- a call that an export makes, whose line with its newline has room where a reply has
+abbrev pub FitsText : Call → Type 0
+FitsText (create text) = length (call_line (create text)) < max_text
+FitsText (mkdir text) = length (call_line (mkdir text)) < max_text
+FitsText (write text off new) = length (call_line (write text off new)) < max_text
+FitsText (truncate text size) = length (call_line (truncate text size)) < max_text
+FitsText (link from to) = length (call_line (link from to)) < max_text
+FitsText call = ⊥
+
+-- each of these calls is what its line asks for
+abbrev pub AreRead : List Call → Type 0
+AreRead calls = map (λ call. command_of (call_line call)) calls ≡ map file_call calls
+
+-- the script that makes the tree
+abbrev pub export_text : FileTree → List ℕ
+export_text tree = flat_map (λ call. call_line call ++ codes "\n") (export_calls tree)

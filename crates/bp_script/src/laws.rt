@@ -1,0 +1,25 @@
+//! Laws of the lines of a script.
+
+ghost use Rattle.bp_plain.specs.Calls.{Call};
+ghost use Rattle.bp_plain.specs.Export.{IsExportable, IsOfBytes, are_bytes, export_calls};
+ghost use Rattle.bp_plain.specs.PlainTree.{FileTree};
+ghost use Rattle.bp_script.specs.Commands.Command.{file_call};
+ghost use Rattle.bp_script.specs.Commands.{command_of, path_bytes};
+ghost use Rattle.bp_script.specs.Export.{AreRead, FitsLine, FitsText, IsSpelled, call_line, path_word};
+ghost use Rattle.std.specs.Prelude.{All, ◌≡◌, List, true, ℕ};
+
+/// The word of a path is decoded to the path.
+pub fn path_words_are_decoded()
+    ensures { (text : List ℕ) → are_bytes text ≡ true → path_bytes (path_word text) ≡ text }
+{}
+
+/// The line of a call that can be spelled asks for that call.
+pub fn call_lines_ask_for_their_calls()
+    ensures { (call : Call) → IsSpelled call → FitsLine call → command_of (call_line call) ≡ file_call call }
+{}
+
+/// Each line of the export of a tree asks for the call that it tells, and has room where a reply has.
+pub fn exports_are_read()
+    ensures read { (tree : FileTree) → IsExportable tree → IsOfBytes tree → AreRead (export_calls tree) }
+    ensures short { (tree : FileTree) → IsExportable tree → IsOfBytes tree → All FitsText (export_calls tree) }
+{}

@@ -1,0 +1,17 @@
+-- The live leaves of a tree that are there: not null, and below no null.
+use Rattle.std.specs.Prelude.{◌≡◌, ◌≢◌, ℕ, ◌*◌, ◌<◌, ◌≤◌}
+use Rattle.bp_limits.specs.Limits.{block_size}
+use Rattle.bp_layout.specs.Words.{Image, height_of}
+use Rattle.bp_layout.specs.Tree.{node}
+
+-- each live leaf from one on is null
+abbrev pub HasNoLeafFrom : Image → ℕ → ℕ → ℕ → Type 0
+HasNoLeafFrom image root size from =
+    (leaf : ℕ) → from ≤ leaf → block_size * leaf < size → node image root (height_of root) leaf ≡ 0
+
+-- the leaf is live and not null, and those from that one on before it are null
+pub record IsNextLeaf (image : Image) (root size from leaf : ℕ) : Type 0 where
+  pub behind : from ≤ leaf
+  pub live : block_size * leaf < size
+  pub present : node image root (height_of root) leaf ≢ 0
+  pub first : (other : ℕ) → from ≤ other → other < leaf → node image root (height_of root) other ≡ 0

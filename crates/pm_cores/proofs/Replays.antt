@@ -1,0 +1,311 @@
+-- The memory is the replay of the choice.
+use Rattle.std.proofs.Common.{◌≡◌, ℕ, zero, suc, ◌+◌, ◌<◌, ◌≤◌, ◌⊎◌, inl, inr, Bool, true, false, cond, eqb, ltb, ◌&&◌, Option, Some, None, List, [], ◌∷◌, ◌++◌, length, get_or, set, take, refl, sym, ◌∙◌, ap, subst, arith, length-append, append-nil, append_assoc}
+use Rattle.std.specs.List.{slice_get}
+use Rattle.std.proofs.lemmas.Bool.{cases_Bool, cases_eq, eq-eqb, ne_eqb, eqb-true, and_right, and_parts}
+use Rattle.std.proofs.lemmas.Option.{slice_get-get_or}
+use Rattle.pm_epochs.specs.declared.event.Event.{Event}
+use Rattle.pm_epochs.specs.declared.event.Event.TheVariants.{Store as Set, Barrier as Fence, Mark}
+use Rattle.pm_epochs.specs.Log.{words_after, barriers, epoch_stores}
+use Rattle.pm_epochs.specs.Replay.{IsRight, stores_of, replay}
+use Rattle.pm_cores.specs.declared.entry.Entry.{Entry}
+use Rattle.pm_cores.specs.declared.entry.Entry.TheVariants.{Load, Store, Barrier}
+use Rattle.pm_cores.specs.declared.entry.Owner.{Owner}
+use Rattle.pm_cores.specs.Log.{core_barriers, epoch_at, words_back, IsStore}
+use Rattle.pm_cores.specs.Caches.{Caches, memory_over}
+use Rattle.pm_cores.specs.Order.{IsCoherent}
+use Rattle.pm_cores.specs.Choice.{first_epoch, dirty_epoch, flag_in, mask_to, cut_at}
+use Rattle.pm_cores.specs.Played.{unmarked, done_by_first, IsPlayed}
+use Rattle.pm_cores.proofs.Lists.{get_within}
+use Rattle.pm_cores.proofs.Logs.{epoch_at-most, core_barriers-append}
+use Rattle.pm_cores.proofs.Flags.{first_epoch_most, first_epoch_own}
+
+-- ## Marks are nothing
+
+unmarked_stores : (epoch : ℕ) (mask : List Bool) (events : List Event) → stores_of epoch mask (unmarked events) ≡ stores_of epoch mask events
+unmarked_stores epoch mask [] = refl
+unmarked_stores zero [] (Set word value ∷ events) = refl
+unmarked_stores zero (true ∷ mask) (Set word value ∷ events) = ap (λ es. Set word value ∷ es) (unmarked_stores zero mask events)
+unmarked_stores zero (false ∷ mask) (Set word value ∷ events) = unmarked_stores zero mask events
+unmarked_stores (suc epoch) mask (Set word value ∷ events) = ap (λ es. Set word value ∷ es) (unmarked_stores (suc epoch) mask events)
+unmarked_stores zero mask (Fence ∷ events) = refl
+unmarked_stores (suc epoch) mask (Fence ∷ events) = unmarked_stores epoch mask events
+unmarked_stores epoch mask (Mark ∷ events) = unmarked_stores epoch mask events
+
+unmarked_barriers : (events : List Event) → barriers (unmarked events) ≡ barriers events
+unmarked_barriers [] = refl
+unmarked_barriers (Set word value ∷ events) = unmarked_barriers events
+unmarked_barriers (Fence ∷ events) = ap suc (unmarked_barriers events)
+unmarked_barriers (Mark ∷ events) = unmarked_barriers events
+
+unmarked_epoch : (epoch : ℕ) (events : List Event) → epoch_stores epoch (unmarked events) ≡ epoch_stores epoch events
+unmarked_epoch epoch [] = refl
+unmarked_epoch zero (Set word value ∷ events) = ap suc (unmarked_epoch zero events)
+unmarked_epoch (suc epoch) (Set word value ∷ events) = unmarked_epoch (suc epoch) events
+unmarked_epoch zero (Fence ∷ events) = refl
+unmarked_epoch (suc epoch) (Fence ∷ events) = unmarked_epoch epoch events
+unmarked_epoch epoch (Mark ∷ events) = unmarked_epoch epoch events
+
+-- ## The mask, from the front
+
+abbrev mask_seen : ℕ → ℕ → List Entry → List Bool → List Bool
+mask_seen epoch seen [] back = []
+mask_seen epoch seen (entry ∷ log) [] = []
+mask_seen epoch seen (Load core word ∷ log) (flag ∷ back) = mask_seen epoch seen log back
+mask_seen epoch seen (Store core word value ∷ log) (flag ∷ back) = cond (eqb core 0 && eqb seen epoch) (flag ∷ []) [] ++ mask_seen epoch seen log back
+mask_seen epoch seen (Barrier core ∷ log) (flag ∷ back) = mask_seen epoch (seen + cond (eqb core 0) 1 0) log back
+
+get_seam : {A : Type 0} (front : List A) (x : A) (rest : List A) → slice_get (front ++ x ∷ rest) (length front) ≡ Some x
+get_seam [] x rest = refl
+get_seam (y ∷ front) x rest = get_seam front x rest
+
+flag_seam : (front : List Bool) (x : Bool) (rest : List Bool) → get_or (front ++ x ∷ rest) (length front) false ≡ x
+flag_seam [] x rest = refl
+flag_seam (y ∷ front) x rest = flag_seam front x rest
+
+take_seam : {A : Type 0} (front rest : List A) → take (length front) (front ++ rest) ≡ front
+take_seam [] [] = refl
+take_seam [] (x ∷ rest) = refl
+take_seam (y ∷ front) rest = ap (λ xs. y ∷ xs) (take_seam front rest)
+
+mask_by_front : (epoch : ℕ) (front rest : List Entry) (fronts rests : List Bool) → length fronts ≡ length front → length rests ≡ length rest →
+    mask_to 0 epoch (front ++ rest) (fronts ++ rests) (length (front ++ rest)) ≡ mask_to 0 epoch (front ++ rest) (fronts ++ rests) (length front) ++ mask_seen epoch (core_barriers 0 front) rest rests
+mask_by_front epoch front [] fronts rests same sizes =
+    let size : length (front ++ []) ≡ length front = ap length (append-nil front) in
+    ap (mask_to 0 epoch (front ++ []) (fronts ++ rests)) size ∙ sym (append-nil (mask_to 0 epoch (front ++ []) (fronts ++ rests) (length front)))
+mask_by_front epoch front (entry ∷ rest) fronts [] same sizes = absurd (omega arith)
+mask_by_front epoch front (entry ∷ rest) fronts (flag ∷ rests) same sizes =
+    let log : List Entry = front ++ entry ∷ rest in
+    let back : List Bool = fronts ++ flag ∷ rests in
+    let log_is : (front ++ entry ∷ []) ++ rest ≡ front ++ entry ∷ rest = append_assoc front (entry ∷ []) rest in
+    let back_is : (fronts ++ flag ∷ []) ++ rests ≡ fronts ++ flag ∷ rests = append_assoc fronts (flag ∷ []) rests in
+    let longer : length (front ++ entry ∷ []) ≡ suc (length front) = omega (arith, length-append front (entry ∷ [])) in
+    let longers : length (fronts ++ flag ∷ []) ≡ length (front ++ entry ∷ []) = omega (arith, length-append front (entry ∷ []), length-append fronts (flag ∷ [])) in
+    let later = mask_by_front epoch (front ++ entry ∷ []) rest (fronts ++ flag ∷ []) rests longers (omega arith) in
+    let later_is : mask_to 0 epoch log back (length log) ≡ mask_to 0 epoch log back (suc (length front)) ++ mask_seen epoch (core_barriers 0 (front ++ entry ∷ [])) rest rests =
+    subst (λ (l : List Entry). mask_to 0 epoch l back (length l) ≡ mask_to 0 epoch l back (suc (length front)) ++ mask_seen epoch (core_barriers 0 (front ++ entry ∷ [])) rest rests) log_is
+    (subst (λ (b : List Bool). mask_to 0 epoch ((front ++ entry ∷ []) ++ rest) b (length ((front ++ entry ∷ []) ++ rest)) ≡ mask_to 0 epoch ((front ++ entry ∷ []) ++ rest) b (suc (length front)) ++ mask_seen epoch (core_barriers 0 (front ++ entry ∷ [])) rest rests) back_is
+    (subst (λ n. mask_to 0 epoch ((front ++ entry ∷ []) ++ rest) ((fronts ++ flag ∷ []) ++ rests) (length ((front ++ entry ∷ []) ++ rest)) ≡ mask_to 0 epoch ((front ++ entry ∷ []) ++ rest) ((fronts ++ flag ∷ []) ++ rests) n ++ mask_seen epoch (core_barriers 0 (front ++ entry ∷ [])) rest rests) longer later)) in
+    let here : flag_in 0 epoch log back (length front) (slice_get log (length front)) ≡ flag_in 0 epoch log back (length front) (Some entry) = ap (flag_in 0 epoch log back (length front)) (get_seam front entry rest) in
+    let flag_is : get_or back (length front) false ≡ flag = ap (λ n. get_or back n false) (sym same) ∙ flag_seam fronts flag rests in
+    later_is ∙ ap (λ (bs : List Bool). (mask_to 0 epoch log back (length front) ++ bs) ++ mask_seen epoch (core_barriers 0 (front ++ entry ∷ [])) rest rests) here
+    ∙ append_assoc (mask_to 0 epoch log back (length front)) (flag_in 0 epoch log back (length front) (Some entry)) (mask_seen epoch (core_barriers 0 (front ++ entry ∷ [])) rest rests)
+    ∙ ap (λ (bs : List Bool). mask_to 0 epoch log back (length front) ++ bs) (one entry flag_is)
+  where
+    one : (it : Entry) → get_or (fronts ++ flag ∷ rests) (length front) false ≡ flag →
+        flag_in 0 epoch (front ++ entry ∷ rest) (fronts ++ flag ∷ rests) (length front) (Some it) ++ mask_seen epoch (core_barriers 0 (front ++ it ∷ [])) rest rests ≡ mask_seen epoch (core_barriers 0 front) (it ∷ rest) (flag ∷ rests)
+    one (Load core word) flag_is = ap (λ n. mask_seen epoch n rest rests) (core_barriers-append 0 front (Load core word ∷ []) ∙ omega arith)
+    one (Barrier core) flag_is = ap (λ n. mask_seen epoch n rest rests) (core_barriers-append 0 front (Barrier core ∷ []) ∙ omega arith)
+    one (Store core word value) flag_is =
+        let seen_is : core_barriers 0 (front ++ Store core word value ∷ []) ≡ core_barriers 0 front = core_barriers-append 0 front (Store core word value ∷ []) ∙ omega arith in
+        ap (λ n. flag_in 0 epoch (front ++ entry ∷ rest) (fronts ++ flag ∷ rests) (length front) (Some (Store core word value)) ++ mask_seen epoch n rest rests) seen_is
+        ∙ ap (λ (bs : List Bool). bs ++ mask_seen epoch (core_barriers 0 front) rest rests) (store_flag core)
+      where
+        store_flag : (core : ℕ) → cond (eqb core 0 && eqb (epoch_at (front ++ entry ∷ rest) core (length front)) epoch) (get_or (fronts ++ flag ∷ rests) (length front) false ∷ []) [] ≡ cond (eqb core 0 && eqb (core_barriers 0 front) epoch) (flag ∷ []) []
+        store_flag core = elim (cases_eq core 0) [
+          | inl same_core ↦ rw (flag_is, same_core, take_seam front (entry ∷ rest)) refl
+          | inr differ ↦ rw (ne_eqb core 0 differ) refl
+        ]
+
+pub mask_is_seen : (epoch : ℕ) (log : List Entry) (back : List Bool) → length back ≡ length log → mask_to 0 epoch log back (length log) ≡ mask_seen epoch 0 log back
+mask_is_seen epoch log back same = mask_by_front epoch [] log [] back refl same
+
+-- ## The stores that are kept
+
+module _ (epoch : ℕ) where
+  record Fits (left : ℕ) (log : List Entry) (back : List Bool) : Type 0 where
+    size : length back ≡ length log
+    alone : (place core word : ℕ) → IsStore log place core word → core ≡ 0
+    before : (place word : ℕ) → IsStore log place 0 word → epoch_at log 0 place < left → slice_get back place ≡ Some true
+    behind : (place word : ℕ) → IsStore log place 0 word → left < epoch_at log 0 place → slice_get back place ≡ Some false
+
+  none_back : (log : List Entry) (back : List Bool) (words : List ℕ) → length back ≡ length log → ((place core word : ℕ) → IsStore log place core word → slice_get back place ≡ Some false) → words_back words log back ≡ words
+  none_back [] back words size none = refl
+  none_back (entry ∷ log) [] words size none = absurd (omega arith)
+  none_back (Load core word ∷ log) (flag ∷ back) words size none = none_back log back words (omega arith) (λ place its at store. none (suc place) its at (record { value = store.value; is = store.is }))
+  none_back (Barrier core ∷ log) (flag ∷ back) words size none = none_back log back words (omega arith) (λ place its at store. none (suc place) its at (record { value = store.value; is = store.is }))
+  none_back (Store core word value ∷ log) (false ∷ back) words size none = none_back log back words (omega arith) (λ place its at store. none (suc place) its at (record { value = store.value; is = store.is }))
+  none_back (Store core word value ∷ log) (true ∷ back) words size none =
+      let flag : Some true ≡ Some false = none 0 core word (record { value = value; is = refl }) in
+      cc
+
+  load_fits : (left core word : ℕ) (log : List Entry) (flag : Bool) (back : List Bool) → Fits left (Load core word ∷ log) (flag ∷ back) → Fits left log back
+  load_fits left core word log flag back fits = record {
+    size = let size = fits.size in omega arith;
+    alone = λ place its at store. fits.alone (suc place) its at (record { value = store.value; is = store.is });
+    before = λ place at store low. fits.before (suc place) at (record { value = store.value; is = store.is }) low;
+    behind = λ place at store high. fits.behind (suc place) at (record { value = store.value; is = store.is }) high;
+  }
+
+  store_fits : (left core word value : ℕ) (log : List Entry) (flag : Bool) (back : List Bool) → Fits left (Store core word value ∷ log) (flag ∷ back) → Fits left log back
+  store_fits left core word value log flag back fits = record {
+    size = let size = fits.size in omega arith;
+    alone = λ place its at store. fits.alone (suc place) its at (record { value = store.value; is = store.is });
+    before = λ place at store low. fits.before (suc place) at (record { value = store.value; is = store.is }) low;
+    behind = λ place at store high. fits.behind (suc place) at (record { value = store.value; is = store.is }) high;
+  }
+
+  barrier_fits : (left next core : ℕ) (log : List Entry) (flag : Bool) (back : List Bool) → cond (eqb core 0) 1 0 + next ≡ left → Fits left (Barrier core ∷ log) (flag ∷ back) → Fits next log back
+  barrier_fits left next core log flag back sum fits = record {
+    size = let size = fits.size in omega arith;
+    alone = λ place its at store. fits.alone (suc place) its at (record { value = store.value; is = store.is });
+    before = λ place at store low. fits.before (suc place) at (record { value = store.value; is = store.is }) (omega arith);
+    behind = λ place at store high. fits.behind (suc place) at (record { value = store.value; is = store.is }) (omega arith);
+  }
+
+  kept : (left seen : ℕ) (log : List Entry) (back : List Bool) (words : List ℕ) → seen + left ≡ epoch → Fits left log back → words_back words log back ≡ words_after words (stores_of left (mask_seen epoch seen log back) (done_by_first log))
+  kept left seen [] back words sum fits = refl
+  kept left seen (entry ∷ log) [] words sum fits = let size = fits.size in absurd (omega arith)
+  kept left seen (Load core word ∷ log) (flag ∷ back) words sum fits = kept left seen log back words sum (load_fits left core word log flag back fits)
+  kept left seen (Barrier core ∷ log) (flag ∷ back) words sum fits = elim (cases_Bool (eqb core 0)) [
+    | inr other ↦
+        rw other (kept left (seen + 0) log back words (omega arith) (barrier_fits left left core log flag back (rw other (omega arith)) fits))
+    | inl own ↦ rw own (fence left sum fits own (λ next total its. kept next (seen + 1) log back words total its))
+  ]
+    where
+      fence : (left : ℕ) → seen + left ≡ epoch → Fits left (Barrier core ∷ log) (flag ∷ back) → eqb core 0 ≡ true → ((next : ℕ) → (seen + 1) + next ≡ epoch → Fits next log back → words_back words log back ≡ words_after words (stores_of next (mask_seen epoch (seen + 1) log back) (done_by_first log))) → words_back words log back ≡ words_after words (stores_of left (mask_seen epoch (seen + 1) log back) (Fence ∷ done_by_first log))
+      fence zero sum fits own rest =
+          none_back log back words (let size = fits.size in omega arith)
+          (λ place its at store.
+          let first = fits.alone (suc place) its at (record { value = store.value; is = store.is }) in
+          let here : IsStore (Barrier core ∷ log) (suc place) 0 at = record { value = store.value; is = store.is ∙ ap (λ n. Some (Store n at store.value)) first } in
+          fits.behind (suc place) at here (rw own (omega arith)))
+      fence (suc left) sum fits own rest = rest left (omega arith) (barrier_fits (suc left) left core log flag back (rw own (omega arith)) fits)
+  kept left seen (Store core word value ∷ log) (flag ∷ back) words sum fits =
+      let first : core ≡ 0 = fits.alone 0 core word (record { value = value; is = refl }) in
+      let own : eqb core 0 ≡ true = eq-eqb core 0 first in
+      rw own (one left flag sum fits first (λ now next total its. kept next seen log back now total its))
+    where
+      one : (left : ℕ) (flag : Bool) → seen + left ≡ epoch → Fits left (Store core word value ∷ log) (flag ∷ back) → core ≡ 0 → ((now : List ℕ) (next : ℕ) → seen + next ≡ epoch → Fits next log back → words_back now log back ≡ words_after now (stores_of next (mask_seen epoch seen log back) (done_by_first log))) → words_back words (Store core word value ∷ log) (flag ∷ back) ≡ words_after words (stores_of left (cond (true && eqb seen epoch) (flag ∷ []) [] ++ mask_seen epoch seen log back) (Set word value ∷ done_by_first log))
+      one zero true sum fits first rest = rw (eq-eqb seen epoch (omega arith)) (rest (set words word value) zero sum (store_fits zero core word value log true back fits))
+      one zero false sum fits first rest = rw (eq-eqb seen epoch (omega arith)) (rest words zero sum (store_fits zero core word value log false back fits))
+      one (suc left) true sum fits first rest = rw (ne_eqb seen epoch (λ e. omega arith)) (rest (set words word value) (suc left) sum (store_fits (suc left) core word value log true back fits))
+      one (suc left) false sum fits first rest =
+          let flag_is : Some false ≡ Some true = fits.before 0 word (record { value = value; is = ap (λ n. Some (Store n word value)) first }) (omega arith) in
+          cc
+
+  few : (left seen : ℕ) (log : List Entry) (back : List Bool) → seen + left ≡ epoch → length (mask_seen epoch seen log back) ≤ epoch_stores left (done_by_first log)
+  few left seen [] back sum = omega arith
+  few left seen (entry ∷ log) [] sum = omega arith
+  few left seen (Load core word ∷ log) (flag ∷ back) sum = few left seen log back sum
+  few left seen (Barrier core ∷ log) (flag ∷ back) sum = elim (cases_Bool (eqb core 0)) [
+    | inr other ↦ rw other (few left (seen + 0) log back (omega arith))
+    | inl own ↦ rw own (fence left sum (λ next total. few next (seen + 1) log back total))
+  ]
+    where
+      past : (seen : ℕ) (log : List Entry) (back : List Bool) → epoch < seen → mask_seen epoch seen log back ≡ []
+      past seen [] back high = refl
+      past seen (entry ∷ log) [] high = refl
+      past seen (Load core word ∷ log) (flag ∷ back) high = past seen log back high
+      past seen (Barrier core ∷ log) (flag ∷ back) high = past (seen + cond (eqb core 0) 1 0) log back (omega arith)
+      past seen (Store core word value ∷ log) (flag ∷ back) high = rw (and_right (eqb core 0) (eqb seen epoch) (ne_eqb seen epoch (λ e. omega arith))) (past seen log back high)
+
+      fence : (left : ℕ) → seen + left ≡ epoch → ((next : ℕ) → (seen + 1) + next ≡ epoch → length (mask_seen epoch (seen + 1) log back) ≤ epoch_stores next (done_by_first log)) → length (mask_seen epoch (seen + 1) log back) ≤ epoch_stores left (Fence ∷ done_by_first log)
+      fence zero sum rest = rw (past (seen + 1) log back (omega arith)) (omega arith)
+      fence (suc left) sum rest = rest left (omega arith)
+  few left seen (Store core word value ∷ log) (flag ∷ back) sum = elim (cases_Bool (eqb core 0)) [
+    | inr other ↦ rw other (few left seen log back sum)
+    | inl own ↦ rw own (one left sum (λ next total. few next seen log back total))
+  ]
+    where
+      one : (left : ℕ) → seen + left ≡ epoch → ((next : ℕ) → seen + next ≡ epoch → length (mask_seen epoch seen log back) ≤ epoch_stores next (done_by_first log)) → length (cond (true && eqb seen epoch) (flag ∷ []) [] ++ mask_seen epoch seen log back) ≤ epoch_stores left (Set word value ∷ done_by_first log)
+      one zero sum rest = rw (eq-eqb seen epoch (omega arith)) (let most = rest zero sum in omega arith)
+      one (suc left) sum rest = rw (ne_eqb seen epoch (λ e. omega arith)) (rest (suc left) sum)
+
+done_barriers : (log : List Entry) → barriers (done_by_first log) ≡ core_barriers 0 log
+done_barriers [] = refl
+done_barriers (Load core word ∷ log) = done_barriers log
+done_barriers (Store core word value ∷ log) = elim (cases_Bool (eqb core 0)) [ inl own ↦ rw own (done_barriers log) | inr other ↦ rw other (done_barriers log) ]
+done_barriers (Barrier core ∷ log) = let rest = done_barriers log in elim (cases_Bool (eqb core 0)) [ inl own ↦ rw own (omega arith) | inr other ↦ rw other (omega arith) ]
+
+-- ## The choice
+
+record IsAttained (core otherwise : ℕ) (owners : List (Option Owner)) (epoch : ℕ) : Type 0 where
+  word : ℕ
+  owner : Owner
+  under : slice_get owners word ≡ Some (Some owner)
+  same : owner.core ≡ core
+  is : owner.epoch ≡ epoch
+
+attained : (core otherwise : ℕ) (owners : List (Option Owner)) → (first_epoch core otherwise owners ≡ otherwise) ⊎ IsAttained core otherwise owners (first_epoch core otherwise owners)
+attained core otherwise [] = inl refl
+attained core otherwise (None ∷ owners) = elim (attained core otherwise owners) [
+  | inl same ↦ inl same
+  | inr at ↦ inr (record { word = suc at.word; owner = at.owner; under = at.under; same = at.same; is = at.is })
+]
+attained core otherwise (Some first ∷ owners) = elim (cases_Bool (eqb first.core core && ltb first.epoch otherwise)) [
+  | inl hit ↦ elim (attained core first.epoch owners) [
+    | inl same ↦
+        let parts = and_parts (eqb first.core core) (ltb first.epoch otherwise) hit in
+        inr (rw hit (record { word = 0; owner = first; under = refl; same = eqb-true first.core core parts.0; is = sym same }))
+    | inr at ↦ inr (rw hit (record { word = suc at.word; owner = at.owner; under = at.under; same = at.same; is = at.is }))
+  ]
+  | inr miss ↦ elim (attained core otherwise owners) [
+    | inl same ↦ inl (rw miss same)
+    | inr at ↦ inr (rw miss (record { word = suc at.word; owner = at.owner; under = at.under; same = at.same; is = at.is }))
+  ]
+]
+
+module _ (caches : Caches) (coherent : IsCoherent caches) where
+  flag_of : (place core word : ℕ) → IsStore caches.log place core word → slice_get caches.back place ≡ Some (get_or caches.back place false)
+  flag_of place core word store =
+      let low : place < length caches.log = get_within caches.log place (Store core word store.value) store.is in
+      let size = coherent.flags in
+      slice_get-get_or caches.back place false (omega arith)
+
+  before_is : (place word : ℕ) → IsStore caches.log place 0 word → epoch_at caches.log 0 place < dirty_epoch 0 caches → (flag : Bool) → get_or caches.back place false ≡ flag → slice_get caches.back place ≡ Some true
+  before_is place word store low true is = flag_of place 0 word store ∙ ap (λ (b : Bool). Some b) is
+  before_is place word store low false is =
+      let under = coherent.waiting place 0 word store (flag_of place 0 word store ∙ ap (λ (b : Bool). Some b) is) in
+      let own = first_epoch_own 0 (core_barriers 0 caches.log) caches.owners word (record { core = 0; epoch = epoch_at caches.log 0 place }) under refl in
+      absurd (omega arith)
+
+  behind_is : (place word : ℕ) → IsStore caches.log place 0 word → dirty_epoch 0 caches < epoch_at caches.log 0 place → (flag : Bool) → get_or caches.back place false ≡ flag → slice_get caches.back place ≡ Some false
+  behind_is place word store high false is = flag_of place 0 word store ∙ ap (λ (b : Bool). Some b) is
+  behind_is place word store high true is = elim (attained 0 (core_barriers 0 caches.log) caches.owners) [
+    | inl same ↦ let most = epoch_at-most caches.log 0 place in absurd (omega arith)
+    | inr at ↦
+        let its = coherent.dirty at.word at.owner at.under in
+        let its_store = subst (λ c. IsStore caches.log its.0 c at.word) at.same its.1 in
+        let its_epoch = ap (λ c. epoch_at caches.log c its.0) at.same in
+        let epoch_is = its.2 in
+        let epoch = at.is in
+        let back = coherent.epochs its.0 0 at.word place word its_store store (omega arith) (flag_of place 0 word store ∙ ap (λ (b : Bool). Some b) is) in
+        let not : Some true ≡ Some false = sym back ∙ its.3 in
+        cc
+  ]
+
+  module _ (events : List Event) (moment : ℕ) (within : moment ≤ length events) (played : IsPlayed (take moment events) caches.log) where
+    fits : Fits (dirty_epoch 0 caches) (dirty_epoch 0 caches) caches.log caches.back
+    fits = record {
+      size = coherent.flags;
+      alone = played.alone;
+      before = λ place word store low. before_is place word store low (get_or caches.back place false) refl;
+      behind = λ place word store high. behind_is place word store high (get_or caches.back place false) refl;
+    }
+
+    pub choice_right : IsRight events (cut_at caches moment)
+    choice_right = record {
+      moment = within;
+      epoch =
+          let most = first_epoch_most 0 (core_barriers 0 caches.log) caches.owners in
+          let same = done_barriers caches.log in
+          let by = ap barriers played.same in
+          let marks = unmarked_barriers (take moment events) in
+          omega arith;
+      mask =
+          let most = few (dirty_epoch 0 caches) (dirty_epoch 0 caches) 0 caches.log caches.back (omega arith) in
+          let size = ap length (mask_is_seen (dirty_epoch 0 caches) caches.log caches.back coherent.flags) in
+          let by = ap (epoch_stores (dirty_epoch 0 caches)) played.same in
+          let marks = unmarked_epoch (dirty_epoch 0 caches) (take moment events) in
+          omega arith;
+    }
+
+    pub choice_replays : (base : List ℕ) → replay base events (cut_at caches moment) ≡ memory_over base caches
+    choice_replays base =
+        let mask = mask_to 0 (dirty_epoch 0 caches) caches.log caches.back (length caches.log) in
+        let stays : words_back base caches.log caches.back ≡ words_after base (stores_of (dirty_epoch 0 caches) (mask_seen (dirty_epoch 0 caches) 0 caches.log caches.back) (done_by_first caches.log)) =
+        kept (dirty_epoch 0 caches) (dirty_epoch 0 caches) 0 caches.log caches.back base (omega arith) fits in
+        sym (stays
+        ∙ ap (λ (m : List Bool). words_after base (stores_of (dirty_epoch 0 caches) m (done_by_first caches.log))) (sym (mask_is_seen (dirty_epoch 0 caches) caches.log caches.back coherent.flags))
+        ∙ ap (λ (es : List Event). words_after base (stores_of (dirty_epoch 0 caches) mask es)) (sym played.same)
+        ∙ ap (words_after base) (unmarked_stores (dirty_epoch 0 caches) mask (take moment events)))

@@ -1,0 +1,6 @@
+pub mod Log
+pub mod Caches
+pub mod Inside
+pub mod Order
+pub mod Choice
+pub mod Played

@@ -1,4 +1,4 @@
-//! Searches of larger directories.
+//! Searches apart from walks.
 
 ghost use Rattle.std.specs.Prelude.{◌≡◌, ◌≤◌, length, IfSome};
 ghost use Rattle.bp_dirs.specs.Spots.{found_slot};
@@ -11,8 +11,8 @@ use bp_dirs::{Found, Spot, find_or_free, inumber};
 use bp_tree::Tree;
 use pm_region::Region;
 
-/// What [`bp_dirs::find_entry`] tells. That one is left to directories of few entries: with a single caller it is compiled into
-/// the walk, which makes a step of a path a fifth cheaper.
+/// What [`bp_dirs::find_entry`] tells. That one is left to the walk: with a single caller it is compiled into it, which makes a
+/// step of a path a fifth cheaper.
 pub(crate) fn search<R: Region>(region: &R, tree: Tree, name: &[u8]) -> Option<Found>
     requires sound { IsSound (current_words (R.memory region.now)) tree.root tree.size }
     requires short { length name.now ≤ max_name }

@@ -16,13 +16,11 @@ ghost use Rattle.bp_limits.specs.Limits.{max_name};
 ghost use Rattle.bp_names.specs.Names.{known_of};
 ghost use Rattle.pm_region.specs.Memory.{current_words};
 
-use crate::both::Both;
 use crate::held::Held;
 use crate::name_at::NameAt;
 use crate::recalled::Recalled;
 use crate::searches::Searches;
-use crate::searching::search;
-use bp_dirs::{Finder, Found, Spot, find_entry, find_or_free, inumber};
+use bp_dirs::{Both, Finder, Found, Spot, find_both, find_entry, find_or_free, inumber};
 use bp_layout::Hints;
 use bp_limits::ENTRY_SIZE;
 use bp_names::Names;
@@ -206,7 +204,8 @@ impl DirectoryCache {
         }
     }
 
-    /// What [`Finder::find`] tells of one name and [`DirectoryCache::find_or_free`] of another one in the same directory.
+    /// What [`Finder::find`] tells of one name and [`DirectoryCache::find_or_free`] of another one in the same directory: by one
+    /// scan, where the first is not remembered.
     pub fn find_both<R: Region>(
         &mut self,
         region: &R,
@@ -230,12 +229,13 @@ impl DirectoryCache {
         ensures free { FreeIs result.spot (empty_slot (current_words (R.memory region.now)) dir) }
         ensures right { IsCacheOf (current_words (R.memory region.now)) self.new }
     {
-        let found = match self.recall(region, dir, tree, one) {
-            Recalled::Told(told) => told,
-            Recalled::Unknown => search(region, tree, one),
-        };
-        let spot = self.find_or_free(region, dir, tree, other);
-        Both { found, spot }
+        match self.recall(region, dir, tree, one) {
+            Recalled::Told(found) => {
+                let spot = self.find_or_free(region, dir, tree, other);
+                Both { found, spot }
+            }
+            Recalled::Unknown => find_both(region, tree, one, other),
+        }
     }
 
     /// What is held of a directory is told that a name comes to its slot.

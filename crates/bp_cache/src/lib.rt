@@ -4,14 +4,11 @@
 //! It is memory of the program alone. What is not remembered, or finds no memory, is searched for in the image.
 #![tactic(auto)]
 
-mod both;
 mod cache;
 mod held;
 mod name_at;
 mod recalled;
 mod searches;
-mod searching;
 
-pub use both::Both;
 pub use cache::DirectoryCache;
 pub use name_at::NameAt;

@@ -19,8 +19,8 @@ ghost use Rattle.bp_volume.specs.Told.{RefusesEntry, RefusesFileAt, RefusesNew, 
 ghost use Rattle.bp_volume.specs.Told.{StopsAtEntry, StopsAtFile, StopsAtNew, StopsWalk};
 ghost use Rattle.pm_region.specs.Memory.{current_words};
 
-use bp_cache::{Both, DirectoryCache, NameAt};
-use bp_dirs::{Spot, inumber};
+use bp_cache::{DirectoryCache, NameAt};
+use bp_dirs::{Both, Spot, inumber};
 use bp_inodes::{get, tree_of};
 use bp_layout::Kind;
 use bp_limits::ENTRY_SIZE;

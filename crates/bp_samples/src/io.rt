@@ -1,6 +1,6 @@
 //! The outside: the edge to std, and each call once on its happy path.
 
-ghost use Rattle.std.specs.Prelude.{◌≡◌, List, ℕ, true};
+ghost use Rattle.std.specs.Prelude.{◌<◌, ◌≡◌, List, ℕ, true};
 
 use bp_io::{
     Access, DiskFiles, Failed, FairFiles, FairSource, Files, MemFiles, MemSink, MemSource,
@@ -36,13 +36,36 @@ fn disk_files_keep_blocks(rt: HostRuntime) -> Result<(), Fail> {
     Ok(())
 }
 
+/// Writes a block of one byte alone.
+fn fill_block<F: Files>(files: &mut F, i: u32, byte: u8) -> Result<(), Failed>
+    requires inside { i < (F.view files.old).blocks }
+    requires may_write { (F.view files.old).may_write ≡ true }
+    ensures blocks { (F.view files.new).blocks ≡ (F.view files.old).blocks }
+    ensures may_write { (F.view files.new).may_write ≡ true }
+    ensures attached { (name : List ℕ) → (F.view files.new).is_attached name ≡ (F.view files.old).is_attached name }
+{
+    files.write_block(i, &[byte; 4096])
+}
+
+/// Whether a block is of one byte alone.
+fn is_filled<F: Files>(files: &mut F, i: u32, byte: u8) -> Result<bool, Failed>
+    requires inside { i < (F.view files.old).blocks }
+    ensures blocks { (F.view files.new).blocks ≡ (F.view files.old).blocks }
+    ensures may_write { (F.view files.new).may_write ≡ (F.view files.old).may_write }
+    ensures attached { (name : List ℕ) → (F.view files.new).is_attached name ≡ (F.view files.old).is_attached name }
+{
+    let mut read = [1u8; 4096];
+    files.read_blocks(i, &mut read)?;
+    Ok(read == [byte; 4096])
+}
+
 /// Makes a file of 8 blocks, and writes one of them. The answer is whether it was not there.
 fn make_short<F: Files>(files: &mut F) -> Result<bool, Failed> {
     if files.attach("short.img", Access::Make)? != Some(0) {
         return Ok(false);
     }
     files.set_blocks(8)?;
-    files.write_block(3, &[77; 4096])?;
+    fill_block(files, 3, 77)?;
     files.flush()?;
     Ok(true)
 }
@@ -52,11 +75,7 @@ fn reads_short<F: Files>(files: &mut F) -> Result<bool, Failed> {
     if files.attach("short.img", Access::Write)? != Some(32_768) {
         return Ok(false);
     }
-    let mut read = [1u8; 4096];
-    files.read_blocks(3, &mut read)?;
-    let is_written = read == [77; 4096];
-    files.read_blocks(4, &mut read)?;
-    Ok(is_written && read == [0; 4096])
+    Ok(is_filled(files, 3, 77)? && is_filled(files, 4, 0)?)
 }
 
 /// Cuts the file of 8 blocks. The answer is whether it had them.
@@ -98,9 +117,7 @@ fn disk_files_are_read(rt: HostRuntime) -> Result<(), Fail> {
     fs::write(&rt, "read.img", [5u8; 8192].as_slice())?;
     let mut files = DiskFiles::new(rt.alloc(), &rt)?;
     assert_eq!(rt; files.attach("read.img", Access::Write), Ok(Some(8192)));
-    let mut read = [1u8; 4096];
-    assert_eq!(rt; files.read_blocks(1, &mut read), Ok(()));
-    assert!(rt; read == [5u8; 4096]);
+    assert_eq!(rt; is_filled(&mut files, 1, 5), Ok(true));
     fs::remove_file(&rt, "read.img")?;
     Ok(())
 }
@@ -161,7 +178,7 @@ fn write_row<F: Files>(files: &mut F) -> Result<(), Failed>
     ensures attached { (name : List ℕ) → (F.view files.new).is_attached name ≡ (F.view files.old).is_attached name }
 {
     for i in 0..131u8 {
-        files.write_block(u32::from(i), &[i; 4096])?;
+        fill_block(files, u32::from(i), i)?;
     }
     Ok(())
 }
@@ -197,13 +214,12 @@ fn write_over<F: Files>(files: &mut F) -> Result<bool, Failed>
     ensures may_write { (F.view files.new).may_write ≡ true }
     ensures attached { (name : List ℕ) → (F.view files.new).is_attached name ≡ (F.view files.old).is_attached name }
 {
-    files.write_block(200, &[200; 4096])?;
-    files.write_block(0, &[77; 4096])?;
-    let mut read = [1u8; 4096];
-    files.read_blocks(0, &mut read)?;
-    files.write_block(2, &[78; 4096])?;
-    files.write_block(4, &[79; 4096])?;
-    Ok(read == [77; 4096])
+    fill_block(files, 200, 200)?;
+    fill_block(files, 0, 77)?;
+    let is_read = is_filled(files, 0, 77)?;
+    fill_block(files, 2, 78)?;
+    fill_block(files, 4, 79)?;
+    Ok(is_read)
 }
 
 /// Makes the long file. The answer is whether it was not there, and whether a block was read as it was written.

@@ -1,6 +1,6 @@
 //! The outside: the edge to std, and each call once on its happy path.
 
-ghost use Rattle.std.specs.Prelude.{◌≡◌, List, ℕ, true};
+ghost use Rattle.std.specs.Prelude.{◌<◌, ◌≡◌, List, ℕ, true};
 
 use bp_io::{
     Access, DiskFiles, Failed, FairFiles, FairSource, Files, MemFiles, MemSink, MemSource,
@@ -36,17 +36,79 @@ fn disk_files_keep_blocks(rt: HostRuntime) -> Result<(), Fail> {
     Ok(())
 }
 
+/// Writes a block of one byte alone.
+fn fill_block<F: Files>(files: &mut F, i: u32, byte: u8) -> Result<(), Failed>
+    requires inside { i < (F.view files.old).blocks }
+    requires may_write { (F.view files.old).may_write ≡ true }
+    ensures blocks { (F.view files.new).blocks ≡ (F.view files.old).blocks }
+    ensures may_write { (F.view files.new).may_write ≡ true }
+    ensures attached { (name : List ℕ) → (F.view files.new).is_attached name ≡ (F.view files.old).is_attached name }
+{
+    files.write_block(i, &[byte; 4096])
+}
+
+/// Whether a block is of one byte alone.
+fn is_filled<F: Files>(files: &mut F, i: u32, byte: u8) -> Result<bool, Failed>
+    requires inside { i < (F.view files.old).blocks }
+    ensures blocks { (F.view files.new).blocks ≡ (F.view files.old).blocks }
+    ensures may_write { (F.view files.new).may_write ≡ (F.view files.old).may_write }
+    ensures attached { (name : List ℕ) → (F.view files.new).is_attached name ≡ (F.view files.old).is_attached name }
+{
+    let mut read = [1u8; 4096];
+    files.read_blocks(i, &mut read)?;
+    Ok(read == [byte; 4096])
+}
+
+/// Makes a file of 8 blocks, and writes one of them. The answer is whether it was not there.
+fn make_short<F: Files>(files: &mut F) -> Result<bool, Failed> {
+    if files.attach("short.img", Access::Make)? != Some(0) {
+        return Ok(false);
+    }
+    files.set_blocks(8)?;
+    fill_block(files, 3, 77)?;
+    files.flush()?;
+    Ok(true)
+}
+
+/// Whether the file of 8 blocks has the block that was written, and zeros in the one behind it.
+fn reads_short<F: Files>(files: &mut F) -> Result<bool, Failed> {
+    if files.attach("short.img", Access::Write)? != Some(32_768) {
+        return Ok(false);
+    }
+    Ok(is_filled(files, 3, 77)? && is_filled(files, 4, 0)?)
+}
+
+/// Cuts the file of 8 blocks. The answer is whether it had them.
+fn cut_short<F: Files>(files: &mut F) -> Result<bool, Failed> {
+    if files.attach("short.img", Access::Write)? != Some(32_768) {
+        return Ok(false);
+    }
+    files.set_blocks(2)?;
+    files.flush()?;
+    Ok(true)
+}
+
+/// Whether a file is there for nobody else.
+fn is_locked<F: Files>(files: &mut F, name: &str) -> bool {
+    for access in [Access::Read, Access::Write, Access::Make] {
+        if files.attach(name, access) != Err(Failed) {
+            return false;
+        }
+    }
+    true
+}
+
 #[test]
 fn disk_files_are_locked(rt: HostRuntime) -> Result<(), Fail> {
     let mut files = DiskFiles::new(rt.alloc(), &rt)?;
-    assert_eq!(rt; files.attach("locked.img", Access::Make), Ok(Some(0)));
+    assert_eq!(rt; make_short(&mut files), Ok(true));
     let mut again = DiskFiles::new(rt.alloc(), &rt)?;
-    for access in [Access::Read, Access::Write, Access::Make] {
-        assert_eq!(rt; again.attach("locked.img", access), Err(Failed));
-    }
+    assert!(rt; is_locked(&mut again, "short.img"));
     drop(files);
-    assert_eq!(rt; again.attach("locked.img", Access::Write), Ok(Some(0)));
-    fs::remove_file(&rt, "locked.img")?;
+    assert_eq!(rt; reads_short(&mut again), Ok(true));
+    assert_eq!(rt; cut_short(&mut again), Ok(true));
+    assert_eq!(rt; fs::read(&rt, "short.img")?.len(), 8192);
+    fs::remove_file(&rt, "short.img")?;
     Ok(())
 }
 
@@ -55,33 +117,8 @@ fn disk_files_are_read(rt: HostRuntime) -> Result<(), Fail> {
     fs::write(&rt, "read.img", [5u8; 8192].as_slice())?;
     let mut files = DiskFiles::new(rt.alloc(), &rt)?;
     assert_eq!(rt; files.attach("read.img", Access::Write), Ok(Some(8192)));
-    let mut read = [1u8; 4096];
-    assert_eq!(rt; files.read_blocks(1, &mut read), Ok(()));
-    assert!(rt; read == [5u8; 4096]);
+    assert_eq!(rt; is_filled(&mut files, 1, 5), Ok(true));
     fs::remove_file(&rt, "read.img")?;
-    Ok(())
-}
-
-/// Attaches a file twice, and cuts it. The answer is whether it had 8 blocks both times.
-fn cut_short<F: Files>(files: &mut F) -> Result<bool, Failed> {
-    if files.attach("cut.img", Access::Write)? != Some(32_768) {
-        return Ok(false);
-    }
-    if files.attach("cut.img", Access::Write)? != Some(32_768) {
-        return Ok(false);
-    }
-    files.set_blocks(2)?;
-    files.flush()?;
-    Ok(true)
-}
-
-#[test]
-fn disk_files_are_cut(rt: HostRuntime) -> Result<(), Fail> {
-    fs::write(&rt, "cut.img", [5u8; 32_768].as_slice())?;
-    let mut files = DiskFiles::new(rt.alloc(), &rt)?;
-    assert_eq!(rt; cut_short(&mut files), Ok(true));
-    assert_eq!(rt; fs::read(&rt, "cut.img")?.len(), 8192);
-    fs::remove_file(&rt, "cut.img")?;
     Ok(())
 }
 
@@ -141,7 +178,7 @@ fn write_row<F: Files>(files: &mut F) -> Result<(), Failed>
     ensures attached { (name : List ℕ) → (F.view files.new).is_attached name ≡ (F.view files.old).is_attached name }
 {
     for i in 0..131u8 {
-        files.write_block(u32::from(i), &[i; 4096])?;
+        fill_block(files, u32::from(i), i)?;
     }
     Ok(())
 }
@@ -177,13 +214,12 @@ fn write_over<F: Files>(files: &mut F) -> Result<bool, Failed>
     ensures may_write { (F.view files.new).may_write ≡ true }
     ensures attached { (name : List ℕ) → (F.view files.new).is_attached name ≡ (F.view files.old).is_attached name }
 {
-    files.write_block(200, &[200; 4096])?;
-    files.write_block(0, &[77; 4096])?;
-    let mut read = [1u8; 4096];
-    files.read_blocks(0, &mut read)?;
-    files.write_block(2, &[78; 4096])?;
-    files.write_block(4, &[79; 4096])?;
-    Ok(read == [77; 4096])
+    fill_block(files, 200, 200)?;
+    fill_block(files, 0, 77)?;
+    let is_read = is_filled(files, 0, 77)?;
+    fill_block(files, 2, 78)?;
+    fill_block(files, 4, 79)?;
+    Ok(is_read)
 }
 
 /// Makes the long file. The answer is whether it was not there, and whether a block was read as it was written.
@@ -210,8 +246,8 @@ fn keeps_long<F: Files>(alloc: Global, files: &mut F) -> Result<bool, AllocError
 fn disk_files_keep_many_blocks(rt: HostRuntime) -> Result<(), Fail> {
     let mut files = DiskFiles::new(rt.alloc(), &rt)?;
     assert_eq!(rt; make_long(&mut files), Ok(true));
-    drop(files);
     assert!(rt; is_long(&fs::read(&rt, "long.img")?));
+    drop(files);
     let mut again = DiskFiles::new(rt.alloc(), &rt)?;
     assert!(rt; keeps_long(rt.alloc(), &mut again)?);
     fs::remove_file(&rt, "long.img")?;
@@ -234,11 +270,11 @@ fn disk_files_report_faults(rt: HostRuntime) -> Result<(), Fail> {
 
 #[test]
 fn disk_files_miss_a_lost_block(rt: HostRuntime) -> Result<(), Fail> {
-    fs::write(&rt, "short.img", [5u8; 8192].as_slice())?;
+    fs::write(&rt, "lost.img", [5u8; 8192].as_slice())?;
     let mut files = DiskFiles::new(rt.alloc(), &rt)?;
-    let length = files.attach("short.img", Access::Read);
-    fs::write(&rt, "short.img", [5u8; 5000].as_slice())?;
-    fs::remove_file(&rt, "short.img")?;
+    let length = files.attach("lost.img", Access::Read);
+    fs::write(&rt, "lost.img", [5u8; 5000].as_slice())?;
+    fs::remove_file(&rt, "lost.img")?;
     assert_eq!(rt; length, Ok(Some(8192)));
     let mut read = [0u8; 4096];
     assert_eq!(rt; files.read_blocks(1, &mut read), Err(Failed));
@@ -324,9 +360,9 @@ fn std_source_fails_at_a_folder(rt: HostRuntime) -> Result<(), Fail> {
 #[test]
 fn std_source_reads_behind_signals(rt: HostRuntime) {
     let mut interrupted = StdSource::new(Interrupted { signals: 3 });
-    let mut into = [0u8; 3];
+    let mut into = *b"lol";
     assert_eq!(rt; interrupted.read(&mut into), Ok(1));
-    assert!(rt; into == [7, 0, 0]);
+    assert!(rt; into == [7, b'o', b'l']);
 }
 
 #[test]
@@ -393,28 +429,32 @@ fn memory_sinks_take_pieces(rt: HostRuntime) -> Result<(), Fail> {
     Ok(())
 }
 
-#[test]
-fn memory_files_grow(rt: HostRuntime) -> Result<(), Fail> {
-    let mut fair = FairFiles::new(rt.alloc(), &[5; 5000])?;
-    assert_eq!(rt; fair.attach("disk.img", Access::Write), Ok(Some(5000)));
-    assert_eq!(rt; fair.set_blocks(2), Ok(()));
-    assert_eq!(rt; fair.attach("disk.img", Access::Write), Ok(Some(8192)));
+/// Makes two blocks of the bytes of a file. The second one.
+fn grown(rt: &impl Abort, files: &mut FairFiles) -> [u8; 4096] {
+    assert_eq!(rt; files.attach("disk.img", Access::Write), Ok(Some(5000)));
+    assert_eq!(rt; files.set_blocks(2), Ok(()));
+    assert_eq!(rt; files.attach("disk.img", Access::Write), Ok(Some(8192)));
     let mut read = [1u8; 4096];
-    assert_eq!(rt; fair.read_blocks(1, &mut read), Ok(()));
-    assert!(rt; read.starts_with(&[5; 904]));
-    assert!(rt; read.ends_with(&[0; 3192]));
-    Ok(())
+    assert_eq!(rt; files.read_blocks(1, &mut read), Ok(()));
+    read
+}
+
+/// Writes over the first block of two.
+fn write_first(rt: &impl Abort, files: &mut FairFiles, block: &[u8; 4096]) {
+    assert_eq!(rt; files.attach("disk.img", Access::Write), Ok(Some(8192)));
+    assert_eq!(rt; files.write_block(0, block), Ok(()));
+    assert_eq!(rt; files.flush(), Ok(()));
+    assert!(rt; files.image().starts_with(block));
+    assert_eq!(rt; files.image().len(), 8192);
 }
 
 #[test]
 fn memory_files_keep_blocks(rt: HostRuntime) -> Result<(), Fail> {
-    let mut fair = FairFiles::new(rt.alloc(), &[5; 8192])?;
-    assert_eq!(rt; fair.attach("disk.img", Access::Write), Ok(Some(8192)));
-    let block = [6u8; 4096];
-    assert_eq!(rt; fair.write_block(0, &block), Ok(()));
-    assert_eq!(rt; fair.flush(), Ok(()));
-    assert!(rt; fair.image().starts_with(&block));
-    assert_eq!(rt; fair.image().len(), 8192);
+    let mut fair = FairFiles::new(rt.alloc(), &[5; 5000])?;
+    let read = grown(&rt, &mut fair);
+    assert!(rt; read.starts_with(&[5; 904]));
+    assert!(rt; read.ends_with(&[0; 3192]));
+    write_first(&rt, &mut fair, &read);
     Ok(())
 }
 

@@ -2,9 +2,11 @@
 
 ghost use Rattle.bp_plain.specs.Seen.{CanAsk};
 
+use bp_layout::Listing;
 use bp_limits::Version;
 use bp_plain::{Answer, Call, FsError, Plain, Reply};
 use std::alloc::{AllocError, Global};
+use std::process::Abort;
 use std::test::Fail;
 
 /// Refusals, their numbers and their words.
@@ -47,43 +49,44 @@ fn tells(reply: &Reply, bytes: &[u8]) -> bool {
     }
 }
 
-#[test]
-fn numbers_are_answered(rt: HostRuntime) -> Result<(), Fail> {
-    let mut reply = Reply::new(rt.alloc())?;
-    assert!(rt; is_done(&reply));
+fn answers_numbers(rt: &impl Abort, reply: &mut Reply) {
     reply.set_file(7);
     assert!(rt; matches!(reply.answer(), Answer::FileOf(7)));
     reply.set_dir(2);
     assert!(rt; matches!(reply.answer(), Answer::DirOf(2)));
     reply.set_links(3);
     assert!(rt; matches!(reply.answer(), Answer::LinksOf(3)));
-    Ok(())
 }
 
-#[test]
-fn bytes_are_answered(rt: HostRuntime) -> Result<(), Fail> {
-    let mut reply = Reply::new(rt.alloc())?;
+fn answers_bytes(rt: &impl Abort, reply: &mut Reply) {
     reply.buffer()[..3].copy_from_slice(b"abc");
     reply.set_bytes(3);
-    assert!(rt; tells(&reply, b"abc"));
+    assert!(rt; tells(reply, b"abc"));
     reply.buffer()[0] = b'x';
-    assert!(rt; is_done(&reply));
+    assert!(rt; is_done(reply));
     reply.set_bytes(2);
-    assert!(rt; tells(&reply, b"xb"));
+    assert!(rt; tells(reply, b"xb"));
     reply.set_bytes(0);
-    assert!(rt; tells(&reply, b""));
-    Ok(())
+    assert!(rt; tells(reply, b""));
 }
 
-#[test]
-fn other_answers(rt: HostRuntime) -> Result<(), Fail> {
-    let mut reply = Reply::new(rt.alloc())?;
+fn answers_others(rt: &impl Abort, reply: &mut Reply, listing: Listing) {
     reply.set_refused(FsError::Exists);
     assert!(rt; matches!(reply.answer(), Answer::Refused(FsError::Exists)));
-    reply.set_names(bp_layout::Listing::of(rt.alloc(), &[])?);
+    reply.set_names(listing);
     assert!(rt; matches!(reply.answer(), Answer::Names(_)));
     reply.set_done();
+    assert!(rt; is_done(reply));
+}
+
+/// One reply is given every answer, in place of the one before.
+#[test]
+fn answers(rt: HostRuntime) -> Result<(), Fail> {
+    let mut reply = Reply::new(rt.alloc())?;
     assert!(rt; is_done(&reply));
+    answers_numbers(&rt, &mut reply);
+    answers_bytes(&rt, &mut reply);
+    answers_others(&rt, &mut reply, Listing::of(rt.alloc(), &[])?);
     Ok(())
 }
 

@@ -156,9 +156,26 @@ none_left
 "$program" run FILE < listing > out
 expect 'files of that run' 10 "$(grep -c 'entry f [a-z]*$' out)"
 
-# The steps of the second sync of a run, each killed before it is done.
 if command -v strace > /dev/null; then
   printf 'create /k\nsync\nunlink /k\nsync\n' > script
+
+  # fails MADE RENAMED CALL:WHICH: a run of two syncs in which these calls of the system fail saves, makes so many second files, and
+  # gives FILE's name to so many.
+  fails() {
+    strace -f -o trace -e trace=openat,link,rename,fsync -e inject="${3%%:*}:${3#*:}" "$program" run FILE < script > out 2> err
+    expect "where $3: run" 0 $?
+    expect "where $3: second files" "$1" "$(grep -c 'bpfs-sync", O_RDWR|O_CREAT' trace)"
+    expect "where $3: renamed" "$2" "$(grep -c '/FILE") = 0$' trace)"
+    expect 'its links' 1 "$(stat -c %h FILE)"
+    none_left
+  }
+  fails 1 2 mkdir:error=EPERM # no call of a run
+  fails 2 2 link:error=EPERM
+  fails 2 2 fsync:error=EINVAL:when=2+2
+  fails 2 2 rename:error=EIO:when=2+2
+  fails 2 0 rename:error=EACCES
+
+  # The steps of the second sync of a run, each killed before it is done.
   for step in link:1 rename:1 rename:2 fsync:2 ftruncate:2 pwrite64:2 fsync:3 link:2 rename:3 rename:4 fsync:4 unlink:1; do
     strace -f -o trace -e trace="${step%:*}" -e inject="${step%:*}:signal=KILL:when=${step#*:}" "$program" run FILE < script > out 2> err
     [ $? -gt 128 ] || { echo "FAILED: no kill at $step"; failed=1; }

@@ -155,6 +155,18 @@ ended 0
 none_left
 "$program" run FILE < listing > out
 expect 'files of that run' 10 "$(grep -c 'entry f [a-z]*$' out)"
+began
+did 'create /mine' sync
+rm $second
+echo mine > $second
+ended 0
+expect 'a file that was put under the second name' mine "$(cat $second)"
+rm $second
+began
+did 'create /linked' sync
+ln $second LINKED
+ended 0
+none_left
 
 if command -v strace > /dev/null; then
   printf 'create /k\nsync\nunlink /k\nsync\n' > script
@@ -174,6 +186,17 @@ if command -v strace > /dev/null; then
   fails 2 2 fsync:error=EINVAL:when=2+2
   fails 2 2 rename:error=EIO:when=2+2
   fails 2 0 rename:error=EACCES
+  strace -f -o trace -e trace=link -e inject=link:delay_enter=900000:when=2 "$program" run FILE < script > out 2> err &
+  first=$!
+  turns=0
+  while ! [ "$(grep -c ^ok out)" = 3 ] && [ $turns -lt 500 ]; do sleep 0.01; turns=$((turns + 1)); done
+  sleep 0.3
+  ln FILE HARD
+  wait "$first"
+  expect 'where FILE gets a hard link within a sync: run' 0 $?
+  first=
+  none_left
+  rm HARD
 
   # The steps of the second sync of a run, each killed before it is done.
   for step in link:1 rename:1 rename:2 fsync:2 ftruncate:2 pwrite64:2 fsync:3 link:2 rename:3 rename:4 fsync:4 unlink:1; do

@@ -89,12 +89,12 @@ impl Saver {
 
     /// Removes the second file, and the one that waits to be it.
     pub(crate) fn remove_second<R: rt::Files<File = File>>(&mut self, runtime: &R) {
-        let is_there = self.waiting.is_some() || matches!(self.way, Way::Beside(_));
-        match &self.names {
-            Some(names) if is_there => names.remove_second(runtime),
+        let waiting = self.waiting.take();
+        match (&self.names, &self.way, &waiting) {
+            (Some(names), Way::Beside(_), _) => names.remove_second(runtime),
+            (Some(names), _, Some(file)) => names.take_from(runtime, file),
             _ => {}
         }
-        self.waiting = None;
     }
 
     /// Gives up what was written since the last flush, and each later write.
@@ -107,8 +107,8 @@ impl Saver {
     /// A file that waits, or is to wait, where it has the second name and no other one.
     fn if_second<R: rt::Files<File = File>>(&self, runtime: &R, file: File) -> Option<File> {
         match &self.names {
-            Some(names) if matches!(names.is_second(runtime, &file), Ok(true)) => Some(file),
-            _ => None,
+            Some(names) => names.if_second(runtime, file),
+            None => None,
         }
     }
 

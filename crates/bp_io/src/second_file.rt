@@ -52,13 +52,31 @@ impl Names {
         let _ = fs::remove_file(runtime, &self.second);
     }
 
+    /// Takes the second name from a file, where it has it.
+    pub(crate) fn take_from<R: rt::Files<File = File>>(&self, runtime: &R, file: &File) {
+        if matches!(is_name_of(runtime, self.second.as_str(), file), Ok(true)) {
+            self.remove_second(runtime);
+        }
+    }
+
     /// Whether a file has the second name, and no other one.
-    pub(crate) fn is_second<R: rt::Files<File = File>>(
+    fn is_second<R: rt::Files<File = File>>(&self, runtime: &R, file: &File) -> io::Result<bool> {
+        Ok(file.metadata()?.nlink() == 1 && is_name_of(runtime, self.second.as_str(), file)?)
+    }
+
+    /// The file, where it has the second name and no other one. Else it has that name no more.
+    pub(crate) fn if_second<R: rt::Files<File = File>>(
         &self,
         runtime: &R,
-        file: &File,
-    ) -> io::Result<bool> {
-        Ok(file.metadata()?.nlink() == 1 && is_name_of(runtime, self.second.as_str(), file)?)
+        file: File,
+    ) -> Option<File> {
+        match self.is_second(runtime, &file) {
+            Ok(true) => Some(file),
+            Ok(false) | Err(_) => {
+                self.take_from(runtime, &file);
+                None
+            }
+        }
     }
 
     /// Removes the name on the way, where a process left it that was killed. It may be one more of the

@@ -74,6 +74,10 @@ FitsText call = ⊥
 abbrev pub AreRead : List Call → Type 0
 AreRead calls = map (λ call. command_of (call_line call)) calls ≡ map file_call calls
 
+-- the lines of calls, each with its newline
+abbrev pub call_lines : List Call → List ℕ
+call_lines calls = flat_map (λ call. call_line call ++ codes "\n") calls
+
 -- the script that makes the tree
 abbrev pub export_text : FileTree → List ℕ
-export_text tree = flat_map (λ call. call_line call ++ codes "\n") (export_calls tree)
+export_text tree = call_lines (export_calls tree)

@@ -1,12 +1,10 @@
 pub mod PlainLaws
 pub mod ServingLaws
 pub mod ActingLaws
-pub mod Pieces
 pub mod SavingLaws
 pub mod BlockLaws
 pub mod TellingLaws
 pub mod OutcomeLaws
-pub mod GatheringLaws
 pub mod AheadLaws
 pub mod Runs
 pub mod OthersLaws

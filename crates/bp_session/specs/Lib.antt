@@ -1,4 +1,3 @@
-pub mod Taking
 pub mod Pieces
 pub mod Lines
 pub mod Session

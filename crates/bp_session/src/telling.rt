@@ -5,11 +5,11 @@ ghost use Rattle.bp_io.specs.Causes.{HasCause};
 ghost use Rattle.bp_plain.specs.Calls.Answer.{names};
 ghost use Rattle.bp_script.specs.Texts.{answer_text, reply_text};
 ghost use Rattle.bp_session.specs.Acting.{reply_of};
-ghost use Rattle.bp_session.specs.Gathering.{PassesOn, waiting};
-ghost use Rattle.bp_session.specs.Taking.{TakesPart};
+ghost use Rattle.bp_replies.specs.Gathering.{PassesOn, waiting};
+ghost use Rattle.bp_replies.specs.Taking.{TakesPart};
 
 use crate::outcome::Outcome;
-use crate::replies::Replies;
+use bp_replies::Replies;
 use bp_io::{Failed, Sink};
 use bp_layout::Listing;
 use bp_plain::{Answer, Reply};

@@ -5,7 +5,7 @@ use Rattle.std.specs.Io.KnownBytes.{Appends}
 use Rattle.bp_io.specs.Causes.{Rose}
 use Rattle.bp_io.specs.Files.{Known}
 use Rattle.bp_session.specs.Outside.{Faults, IsFirstFault, IsIdle, SinkTookAll, IsUntouched, Outside}
-use Rattle.bp_session.specs.Taking.{TakesPart}
+use Rattle.bp_replies.specs.Taking.{TakesPart}
 use Rattle.bp_session.proofs.OutcomeLaws.{files_fault, no_device_fault, no_fault, sink_fault}
 use Rattle.bp_shell.specs.Ending.{ReadOutcome, StopOutcome, TellsStop}
 use Rattle.bp_shell.specs.Statuses.{code_of}

@@ -13,7 +13,7 @@ use Rattle.bp_shell.specs.Opening.{HoldsFileSystem, start}
 use Rattle.bp_session.specs.Outside.{IsIdle, IsUntouched, Outside, counts, outside}
 use Rattle.bp_limits.specs.declared.version.Version.{Version}
 use Rattle.bp_shell.specs.Running.{FormatOutcome, RunOutcome, Runs, RunsBroken, RunsLong, RunsPart, RunsStopped, RunsUnsaved, format_text}
-use Rattle.bp_session.specs.Pieces.{gathered_size}
+use Rattle.bp_replies.specs.Room.{gathered_size}
 use Rattle.bp_session.specs.Serving.{Carries, CarriesPartly, HoldsAt, Input, Moment, ServeOutcome}
 use Rattle.bp_session.proofs.OutcomeLaws.{files_fault, first_then, no_fault, sink_fault}
 use Rattle.bp_shell.specs.Ending.{StopOutcome, TellsStop}

@@ -16,7 +16,7 @@ use Rattle.bp_scan.specs.Length.{wanted_length}
 use Rattle.bp_session.specs.Acting.{state}
 use Rattle.bp_session.specs.Files.{AreWordsOf64Bits, IsAbsent}
 use Rattle.bp_session.specs.Lines.{commands_from}
-use Rattle.bp_session.specs.Pieces.{gathered_size}
+use Rattle.bp_replies.specs.Room.{gathered_size}
 use Rattle.bp_shell.specs.Opening.{HoldsFileSystem, RefusesFile, start}
 use Rattle.bp_shell.specs.Opening.RefusesFile.{by_length, not_formatted, by_count, damaged}
 use Rattle.bp_session.specs.PlainSession.{FollowsTree}

@@ -28,8 +28,9 @@ use Rattle.bp_session.specs.Outside.{Outside, SourceFailed, SinkFailed, FilesFai
 use Rattle.bp_shell.specs.Checking.{CheckOutcome}
 use Rattle.bp_shell.specs.Ending.{StopOutcome}
 use Rattle.bp_shell.specs.Playing.{PlayOutcome}
-use Rattle.bp_session.specs.Pieces.{gathered_size, piece_size}
-use Rattle.bp_session.specs.Taking.{TakesPart}
+use Rattle.bp_session.specs.Pieces.{piece_size}
+use Rattle.bp_replies.specs.Room.{gathered_size}
+use Rattle.bp_replies.specs.Taking.{TakesPart}
 
 -- ---- `run FILE`
 

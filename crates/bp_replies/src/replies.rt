@@ -1,8 +1,8 @@
-//! Replies on their way to a sink.
+//! Lines on their way to a sink.
 
 ghost use Rattle.std.specs.Prelude.{◌+◌, ◌≡◌, ◌≤◌, IfOk, [], length, vec_len};
 ghost use Rattle.bp_limits.specs.Limits.{max_text};
-ghost use Rattle.bp_session.specs.Pieces.{gathered_size};
+ghost use Rattle.bp_replies.specs.Room.{gathered_size};
 
 use crate::sending::send;
 use bp_io::{Failed, Sink};
@@ -10,12 +10,12 @@ use bp_limits::MAX_TEXT;
 use bp_script::{Said, say};
 use std::alloc::{AllocError, Global};
 
-/// The bytes of replies that wait before they are handed over, where more follow.
-pub(crate) const GATHERED: usize = 65_536;
+/// The bytes of lines that may wait where more follow, before they are handed over.
+pub const GATHERED: usize = 65_536;
 
-/// Replies that are told and that a sink did not take yet, in order. There is always room for one line more.
+/// Lines that are told and that a sink did not take yet, in order. There is always room for one line more.
 #[derive(Drop)]
-pub(crate) struct Replies {
+pub struct Replies {
     bytes: Vec<u8>,
     count: usize,
     ghost room: { vec_len bytes ≡ gathered_size + max_text },
@@ -27,11 +27,15 @@ impl Replies {
     ghost use Rattle.std.specs.Io.KnownBytes.{Appends};
     ghost use Rattle.bp_io.specs.Causes.{HasCause};
     ghost use Rattle.bp_script.specs.Sayings.{said_text, FitsReply};
-    ghost use Rattle.bp_session.specs.Gathering.{PassesOn, waiting};
-    ghost use Rattle.bp_session.specs.Taking.{TakesPart};
+    ghost use Rattle.bp_replies.specs.Gathering.{PassesOn, waiting};
+    ghost use Rattle.bp_replies.specs.Taking.{TakesPart};
 
-    /// None yet. It fails for want of memory alone.
-    pub(crate) fn new(alloc: Global) -> Result<Self, AllocError>
+    /// None yet.
+    ///
+    /// # Errors
+    ///
+    /// `AllocError` for want of memory.
+    pub fn new(alloc: Global) -> Result<Self, AllocError>
         ensures { IfOk result (λ replies. waiting replies ≡ []) }
     {
         Ok(Replies {
@@ -41,14 +45,18 @@ impl Replies {
     }
 
     /// Gives up what waits.
-    pub(crate) fn clear(&mut self)
+    pub fn clear(&mut self)
         ensures { waiting self.new ≡ [] }
     {
         self.count = 0;
     }
 
-    /// Hands all that waits to a sink. Where it failed, it took a proper front, and the rest is given up.
-    pub(crate) fn hand_over<K: Sink>(&mut self, out: &mut K) -> Result<(), Failed>
+    /// Hands all that waits to a sink. Then nothing waits.
+    ///
+    /// # Errors
+    ///
+    /// `Failed` where the sink failed. It took a proper front then, and the rest is given up.
+    pub fn hand_over<K: Sink>(&mut self, out: &mut K) -> Result<(), Failed>
         ensures all { OnOk result (Appends (K.taken out.old) (K.taken out.new) (waiting self.old)) }
         ensures some { OnErr result (TakesPart (waiting self.old) (K.taken out.old) (K.taken out.new)) }
         ensures none { waiting self.new ≡ [] }
@@ -60,7 +68,11 @@ impl Replies {
     }
 
     /// Hands over what waits, where it is more than so many bytes.
-    pub(crate) fn hand_over_above<K: Sink>(
+    ///
+    /// # Errors
+    ///
+    /// As of `hand_over`.
+    pub fn hand_over_above<K: Sink>(
         &mut self,
         most: usize,
         out: &mut K,
@@ -77,7 +89,7 @@ impl Replies {
         Ok(())
     }
 
-    /// Adds a line of a reply, where there is room for it.
+    /// Adds a line, where there is room for it.
     fn add(&mut self, said: &Said<'_>)
         requires room { length (waiting self.old) ≤ gathered_size }
         requires short { FitsReply said.now }
@@ -86,8 +98,12 @@ impl Replies {
         self.count += say(said, &mut self.bytes[self.count..]);
     }
 
-    /// Adds a line of a reply. What waited before is handed over first where it is much.
-    pub(crate) fn tell<K: Sink>(&mut self, said: &Said<'_>, out: &mut K) -> Result<(), Failed>
+    /// Adds a line. What waited before is handed over first where it is more than `GATHERED` bytes.
+    ///
+    /// # Errors
+    ///
+    /// `Failed` where the sink failed. It took a proper front of what waited then, the rest is given up, and the line isn't added.
+    pub fn tell<K: Sink>(&mut self, said: &Said<'_>, out: &mut K) -> Result<(), Failed>
         requires { FitsReply said.now }
         ensures all { OnOk result (PassesOn (said_text said.now) (waiting self.old) (waiting self.new)
             (K.taken out.old) (K.taken out.new)) }

@@ -5,8 +5,8 @@ use Rattle.std.proofs.Math.Seq.{take-append-add}
 use Rattle.std.specs.Prelude.{Option, Some, None, Result, Ok, Err, OnOk, OnErr}
 use Rattle.std.specs.Io.KnownBytes.{Appends}
 use Rattle.std.proofs.KnownBytes.{Appends-trans}
-use Rattle.bp_session.specs.Gathering.{PassesOn}
-use Rattle.bp_session.specs.Taking.{TakesPart}
+use Rattle.bp_replies.specs.Gathering.{PassesOn}
+use Rattle.bp_replies.specs.Taking.{TakesPart}
 
 -- ---- one text behind another
 

@@ -1,6 +1,6 @@
 use Rattle.std.proofs.Common.{rules}
-use Rattle.bp_session.proofs.Pieces.{more_taken}
-use Rattle.bp_session.proofs.sending.send.Goals as goal
+use Rattle.bp_replies.proofs.Pieces.{more_taken}
+use Rattle.bp_replies.proofs.sending.send.Goals as goal
 
 pub loop-at-preserved : goal.loop-at-preserved
 loop-at-preserved g c = record {

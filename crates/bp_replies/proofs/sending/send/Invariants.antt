@@ -1,6 +1,6 @@
 use Rattle.std.proofs.Common.{length, ◌-◌, ◌≡◌, ◌≤◌, take}
 use Rattle.std.specs.Io.KnownBytes.{Appends}
-use Rattle.bp_session.proofs.sending.send.Given as goal
+use Rattle.bp_replies.proofs.sending.send.Given as goal
 
 -- the front of the bytes was taken, and no fault counted
 abbrev pub invariant-loop-at : goal.invariant-loop-at

@@ -1,0 +1,1 @@
+//! The first path of each file with several names.

@@ -1,0 +1,4 @@
+pub mod FileLines
+pub mod Fronts
+pub mod TellingLaws
+pub mod TreeStretches

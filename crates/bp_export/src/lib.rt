@@ -9,6 +9,7 @@ mod fault;
 mod files;
 mod firsts;
 mod standing;
+mod telling;
 mod trees;
 
 pub use depth::has_long_path;

@@ -1,1 +1,5 @@
 pub mod Exports
+pub mod Rows
+pub mod Depth
+pub mod Named
+pub mod Entries

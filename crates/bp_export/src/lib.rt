@@ -8,9 +8,9 @@ mod entries;
 mod fault;
 mod files;
 mod firsts;
+mod rows;
 mod standing;
 mod trees;
 
-pub use depth::has_long_path;
 pub use fault::Fault;
 pub use trees::export;

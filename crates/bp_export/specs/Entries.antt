@@ -1,6 +1,8 @@
 -- The entries of a directory in the order of their names.
-use Rattle.std.specs.Prelude.{◌≡◌, ℕ, ◌==◌, List, All, map, Option, None, Some, if◌then◌else◌}
+use Rattle.std.specs.Prelude.{◌≡◌, ℕ, ◌==◌, List, All, Bool, map, Option, None, Some, if◌then◌else◌}
+use Rattle.std.specs.Cmp.Lexicographic.{slice_cmp}
 use Rattle.std.specs.List.{filter_map, range_with_len}
+use Rattle.std.specs.Ordering.{is_lt, nat_cmp}
 use Rattle.bp_layout.specs.Directory.{Name, inumber_at, lookup_in, name_at}
 use Rattle.bp_layout.specs.Lookup.{Path, lookup}
 use Rattle.bp_layout.specs.Words.{Image}
@@ -16,6 +18,10 @@ entry_named image i slot =
 -- those of so many entries, from a slot on
 abbrev pub entries_named : Image → ℕ → ℕ → ℕ → List (ℕ × Name)
 entries_named image i first count = filter_map (entry_named image i) (range_with_len first count)
+
+-- the name of the one comes before that of the other, in the order of bytes
+abbrev pub comes_before : ℕ × Name → ℕ × Name → Bool
+comes_before one other = is_lt (slice_cmp nat_cmp one.1 other.1)
 
 -- Names, each behind the inode that directory i has there: all that a plain tree lists at the directory's path, in the same
 -- order.

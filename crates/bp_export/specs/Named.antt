@@ -1,7 +1,5 @@
 -- Names that stand one behind the other, each with the inode that it names.
-use Rattle.std.specs.Prelude.{ℕ, ◌+◌, ◌≤◌, List, All, Bool, map, length, take, drop}
-use Rattle.std.specs.Cmp.Lexicographic.{slice_cmp}
-use Rattle.std.specs.Ordering.{is_lt, nat_cmp}
+use Rattle.std.specs.Prelude.{ℕ, ◌+◌, ◌≤◌, List, All, map, length, take, drop}
 use Rattle.bp_limits.specs.Limits.{max_name}
 use Rattle.bp_layout.specs.Directory.{Name}
 use Rattle.bp_export.specs.declared.entries.Row.{Row}
@@ -16,7 +14,3 @@ named_rows bytes rows = map (named_row bytes) rows
 -- all bytes of each name are there, and no name is longer than names are
 abbrev pub AreWithin : List ℕ → List Row → Type 0
 AreWithin bytes rows = All (λ row. (row.first + row.len ≤ length bytes) × (row.len ≤ max_name)) rows
-
--- the one name comes before the other, in the order of bytes
-abbrev pub comes_before : ℕ × Name → ℕ × Name → Bool
-comes_before one other = is_lt (slice_cmp nat_cmp one.1 other.1)

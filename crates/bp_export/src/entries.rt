@@ -4,8 +4,7 @@ ghost use Rattle.std.specs.Prelude.{[], ◌++◌, ◌≡◌, ◌≤◌, ◌<◌,
 ghost use Rattle.std.specs.List.{cons_option};
 ghost use Rattle.std.specs.List.Sorted.{IsSortedBy};
 ghost use Rattle.bp_dirs.specs.EntryWords.{HasWords, IsRow};
-ghost use Rattle.bp_export.specs.Entries.{AreEntries, entries_named, entry_named};
-ghost use Rattle.bp_export.specs.Named.{comes_before};
+ghost use Rattle.bp_export.specs.Entries.{AreEntries, comes_before, entries_named, entry_named};
 ghost use Rattle.bp_export.specs.Rows.{EachEntry, IsEntry};
 ghost use Rattle.bp_layout.specs.Directory.{entry_count};
 ghost use Rattle.bp_layout.specs.Inode.{IsDirectory, root_of};

@@ -1,2 +1,6 @@
+pub mod Depth
+pub mod Entries
 pub mod Exports
+pub mod Named
+pub mod Rows
 pub mod Telling

@@ -8,10 +8,10 @@ mod entries;
 mod fault;
 mod files;
 mod firsts;
+mod rows;
 mod standing;
 mod telling;
 mod trees;
 
-pub use depth::has_long_path;
 pub use fault::Fault;
 pub use trees::export;

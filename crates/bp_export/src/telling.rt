@@ -21,8 +21,8 @@ pub(crate) fn tell<K: Sink>(
     replies: &mut Replies,
     out: &mut K,
 ) -> Result<(), Failed>
-    requires { FitsText (call_of call) }
-    ensures { Tells (call_of call ∷ []) result (waiting replies.old) (waiting replies.new) (K.taken out.old) (K.taken out.new)
+    requires { FitsText (call_of call.entry) }
+    ensures { Tells (call_of call.entry ∷ []) result (waiting replies.old) (waiting replies.new) (K.taken out.old) (K.taken out.new)
         (K.faults out.old) (K.faults out.new) }
 {
     replies.tell(&Said::Call(call), out)

@@ -9,8 +9,8 @@ use Rattle.bp_export.proofs.FileLines.{ToldTo, writes_until}
 use Rattle.bp_export.proofs.files.export_leaves.Given as goal
 
 -- the stretches before one are told
-abbrev pub invariant-loop-from : goal.invariant-loop-from
-invariant-loop-from g l =
+abbrev pub invariant-loop-leaf : goal.invariant-loop-from
+invariant-loop-leaf g l =
     let bytes = content (current_words (g.R.Region.memory l.region)) l.tree.root l.tree.size in
     record {
       lines : Tells (writes_until l.path bytes l.from) (Ok 0) (waiting l.fn.replies) (waiting l.replies) (g.K.Sink.taken l.fn.out) (g.K.Sink.taken l.out) (g.K.Sink.faults l.fn.out) (g.K.Sink.faults l.out);
@@ -19,5 +19,5 @@ invariant-loop-from g l =
       room : length l.block ≡ 4096;
     }
 
-abbrev pub decreases-loop-from : goal.decreases-loop-from
-decreases-loop-from g l = stretches (content (current_words (g.R.Region.memory l.region)) l.tree.root l.tree.size) - l.from
+abbrev pub decreases-loop-leaf : goal.decreases-loop-from
+decreases-loop-leaf g l = stretches (content (current_words (g.R.Region.memory l.region)) l.tree.root l.tree.size) - l.from

@@ -21,7 +21,7 @@ pub(crate) fn tell<K: Sink>(
     replies: &mut Replies,
     out: &mut K,
 ) -> Result<(), Failed>
-    requires { FitsText (call_of call.entry) }
+    requires { FitsText (call_of call) }
     ensures { Tells (call_of call.entry ∷ []) result (waiting replies.old) (waiting replies.new) (K.taken out.old) (K.taken out.new)
         (K.faults out.old) (K.faults out.new) }
 {

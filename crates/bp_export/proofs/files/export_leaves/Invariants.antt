@@ -9,7 +9,7 @@ use Rattle.bp_export.proofs.FileLines.{ToldTo, writes_until}
 use Rattle.bp_export.proofs.files.export_leaves.Given as goal
 
 -- the stretches before one are told
-abbrev pub invariant-loop-leaf : goal.invariant-loop-from
+abbrev pub invariant-loop-leaf : goal.invariant-loop-leaf
 invariant-loop-leaf g l =
     let bytes = content (current_words (g.R.Region.memory l.region)) l.tree.root l.tree.size in
     record {
@@ -19,5 +19,5 @@ invariant-loop-leaf g l =
       room : length l.block ≡ 4096;
     }
 
-abbrev pub decreases-loop-leaf : goal.decreases-loop-from
+abbrev pub decreases-loop-leaf : goal.decreases-loop-leaf
 decreases-loop-leaf g l = stretches (content (current_words (g.R.Region.memory l.region)) l.tree.root l.tree.size) - l.from

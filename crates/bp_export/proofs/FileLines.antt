@@ -55,10 +55,9 @@ module _ (text bytes : List ℕ) where
   pub written_to : (k leaf : ℕ) → k ≤ leaf → ((j : ℕ) → k ≤ j → j < leaf → is_zeros (stretch bytes j) ≡ true) → writes_until (leaf + 1) ≡ writes_until k ++ write_of text bytes leaf
   written_to k leaf low zeros = one_more leaf ∙ ap (λ calls. calls ++ write_of text bytes leaf) (passed_to k leaf low zeros)
 
-  pub behind : ℕ → List Call
+  abbrev pub behind : ℕ → List Call
   behind leaf = rest_of (leaf + 1) (stretches bytes - (leaf + 1))
 
-  unfolding behind
   split_behind : (leaf : ℕ) → leaf < stretches bytes → writes_of text bytes ≡ writes_until (leaf + 1) ++ behind leaf
   split_behind leaf low =
       let more : stretches bytes ≡ leaf + 1 + (stretches bytes - (leaf + 1)) = omega (arith, low) in

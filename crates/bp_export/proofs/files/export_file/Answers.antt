@@ -32,7 +32,7 @@ returns-in_err-told-clause-lines g c =
     let p = err_from_is_err_and c.from_residual-in_err-told.result c.from_residual-in_err-told.ensures.1 in
     rw p.1 (
       fails_before _ _ (create c.args.path.now ∷ writes_of c.args.path.now bytes) (size_of c.args.path.now bytes) _ _ _ _ _ _ _
-      (tells_then _ _ (create c.args.path.now ∷ []) (writes_of c.args.path.now bytes) _ _ _ _ _ _ _ _ _ c.in_ok-tell.ensures c.in_err-told.ensures.lines),
+      (tells_then _ _ (create c.args.path.now ∷ []) (writes_of c.args.path.now bytes) _ _ _ _ _ _ _ _ _ c.in_ok-tell.ensures c.in_err-told.ensures.lines)
     )
 
 pub export_size-requires : goal.export_size-requires

@@ -31,7 +31,7 @@ returns-in_err-end-clause-lines g c =
       (written_whole c.args.path.now bytes c.loop-leaf.from c.in-Some.leaf next.behind (live_stretch image c.args.tree.root c.args.tree.size c.in-Some.leaf next.live)
           (zeros_before image c.args.tree.root c.args.tree.size c.loop-leaf.from c.in-Some.leaf next))
       (fails_before _ _ (writes_until c.args.path.now bytes c.loop-leaf.from ++ write_of c.args.path.now bytes c.in-Some.leaf) (behind c.args.path.now bytes c.in-Some.leaf) _ _ _ _ _ _ _
-          (tells_then _ _ (writes_until c.args.path.now bytes c.loop-leaf.from) (write_of c.args.path.now bytes c.in-Some.leaf) _ _ _ _ _ _ _ _ _ c.loop-leaf.invariant.lines c.in_err-end.ensures.lines)),
+          (tells_then _ _ (writes_until c.args.path.now bytes c.loop-leaf.from) (write_of c.args.path.now bytes c.in-Some.leaf) _ _ _ _ _ _ _ _ _ c.loop-leaf.invariant.lines c.in_err-end.ensures.lines))
     )
 
 pub loop-leaf-smaller : goal.loop-leaf-smaller

@@ -41,7 +41,7 @@ returns-in_err-tell-clause-lines g c =
     rw p.1 (
       tells_same _ _ _ _ _ _ _ _ _
       (one_write c.args.path.now (content image c.args.tree.root c.args.tree.size) c.args.leaf _ here (sym (c.are_zeros.ensures ∙ ap is_zeros here) ∙ c.if-are_zeros.false))
-      (fails_as _ _ _ _ _ _ _ _ _ _ c.in_err-tell.ensures),
+      (fails_as _ _ _ _ _ _ _ _ _ _ c.in_err-tell.ensures)
     )
 
 pub returns-clause-told : goal.returns-clause-told

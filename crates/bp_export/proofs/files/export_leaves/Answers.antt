@@ -1,11 +1,11 @@
-use Rattle.std.proofs.Common.{◌≡◌, ◌∙◌, ◌+◌, sym, ap, arith, refl, length}
+use Rattle.std.proofs.Common.{◌∙◌, ◌+◌, ◌++◌, sym, subst, ap, arith}
 use Rattle.std.proofs.lemmas.Result.{err_from_is_err_and}
 use Rattle.bp_layout.specs.Tree.{content}
-use Rattle.bp_plain.specs.Export.{size_of, stretches, write_of, writes_of}
+use Rattle.bp_plain.specs.Export.{stretches, write_of}
 use Rattle.bp_script.specs.Export.{FitsText}
 use Rattle.pm_region.specs.Memory.{current_words}
 use Rattle.bp_export.specs.Telling.{size_behind}
-use Rattle.bp_export.proofs.FileLines.{behind, fits_at, passed_to, size_told, told_next, told_none, written_to, written_whole, writes_until}
+use Rattle.bp_export.proofs.FileLines.{ToldTo, behind, fits_at, passed_to, size_told, told_next, told_none, written_to, written_whole, writes_until}
 use Rattle.bp_export.proofs.TellingLaws.{fails_before, tells_as, tells_nothing, tells_same, tells_then}
 use Rattle.bp_export.proofs.TreeStretches.{length_content, live_stretch, zeros_before, zeros_from, zeros_left}
 use Rattle.bp_export.proofs.files.export_leaves.Goals as goal
@@ -50,8 +50,10 @@ loop-leaf-preserved g c =
           (tells_same _ _ _ _ _ _ _ _ _
               (sym (written_to c.args.path.now bytes c.loop-leaf.from c.in-Some.leaf next.behind (zeros_before image c.args.tree.root c.args.tree.size c.loop-leaf.from c.in-Some.leaf next)))
               (tells_then _ _ (writes_until c.args.path.now bytes c.loop-leaf.from) (write_of c.args.path.now bytes c.in-Some.leaf) _ _ _ _ _ _ _ _ _ c.loop-leaf.invariant.lines c.in_ok-end.ensures.lines));
-      told = told_next bytes c.loop-leaf.from c.in-Some.leaf c.loop-leaf.told c.args.tree.size _ (length_content image c.args.tree.root c.args.tree.size) next.live c.loop-leaf.invariant.told c.in_ok-end.ensures.told;
-      low = live_stretch image c.args.tree.root c.args.tree.size c.in-Some.leaf next.live;
+      told =
+          subst (ToldTo bytes (c.in-Some.leaf + 1)) (sym c.unwrap_or-told.ensures)
+          (told_next bytes c.loop-leaf.from c.in-Some.leaf c.loop-leaf.told c.args.tree.size _ (length_content image c.args.tree.root c.args.tree.size) next.live c.loop-leaf.invariant.told c.in_ok-end.ensures.told);
+      low = omega (arith, live_stretch image c.args.tree.root c.args.tree.size c.in-Some.leaf next.live);
       room = c.in_ok-end.ensures.room;
     }
 

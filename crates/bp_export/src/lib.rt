@@ -12,6 +12,7 @@ mod rows;
 mod standing;
 mod telling;
 mod trees;
+mod work;
 
 pub use fault::Fault;
 pub use trees::export;

@@ -8,9 +8,10 @@ mod entries;
 mod fault;
 mod files;
 mod firsts;
-mod standing;
+mod rows;
+mod telling;
 mod trees;
+mod work;
 
-pub use depth::has_long_path;
 pub use fault::Fault;
 pub use trees::export;

@@ -323,7 +323,7 @@ const NOTICES: [(Notice, &[u8]); 9] = [
     (Notice::Deep, b"err 40 deep\n"),
     (
         Notice::Usage,
-        b"usage: bpfs format FILE --blocks N [--version V] / run FILE / check FILE / play FILE --seed S --count C\n",
+        b"usage: bpfs format FILE --blocks N [--version V] / run FILE / check FILE / play FILE --seed S --count C / export FILE\n",
     ),
 ];
 

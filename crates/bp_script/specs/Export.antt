@@ -1,5 +1,6 @@
 -- The lines of calls, and the script that makes a plain file tree.
 use Rattle.std.specs.Prelude.{◌≡◌, ◌≤◌, ◌<◌, ◌^◌, ◌==◌, ◌&&◌, ℕ, List, [], ◌∷◌, ◌++◌, length, map, flat_map, not, true, codes, decimal, if◌then◌else◌}
+use Rattle.std.specs.List.{list_all}
 use Rattle.percent_encoding.specs.Percent.{percent_encode_byte}
 use Rattle.bp_limits.specs.Limits.{max_line, max_read, max_text}
 use Rattle.bp_plain.specs.Calls.{Call}
@@ -70,10 +71,18 @@ FitsText (truncate text size) = length (call_line (truncate text size)) < max_te
 FitsText (link from to) = length (call_line (link from to)) < max_text
 FitsText call = ⊥
 
+-- no byte of it, 10, would end the line
+abbrev pub IsOneLine : List ℕ → Type 0
+IsOneLine line = list_all (λ b. not (b == 10)) line ≡ true
+
 -- each of these calls is what its line asks for
 abbrev pub AreRead : List Call → Type 0
 AreRead calls = map (λ call. command_of (call_line call)) calls ≡ map file_call calls
 
+-- the lines of calls, each with its newline
+abbrev pub call_lines : List Call → List ℕ
+call_lines calls = flat_map (λ call. call_line call ++ codes "\n") calls
+
 -- the script that makes the tree
 abbrev pub export_text : FileTree → List ℕ
-export_text tree = flat_map (λ call. call_line call ++ codes "\n") (export_calls tree)
+export_text tree = call_lines (export_calls tree)

@@ -3,11 +3,13 @@ use Rattle.std.specs.Prelude.{ℕ, ◌≤◌, List, length, codes, decimal, ◌+
 use Rattle.bp_limits.specs.Limits.{max_name}
 use Rattle.bp_plain.specs.declared.replies.Answer.{Answer}
 use Rattle.bp_plain.specs.declared.replies.Answer.TheVariants as answer
+use Rattle.bp_plain.specs.Seen.{call_of}
 use Rattle.bp_plain.specs.SeenAnswers.{answer_seen, IsShortAnswer}
 use Rattle.bp_script.specs.declared.replies.Said.{Said}
 use Rattle.bp_script.specs.declared.replies.Said.TheVariants as said
 use Rattle.bp_script.specs.declared.notices.Notice.{Notice}
 use Rattle.bp_script.specs.declared.notices.Notice.TheVariants as notice
+use Rattle.bp_script.specs.Export.{FitsText, call_line}
 use Rattle.bp_script.specs.Texts.{answer_text, done_text, entry_text, end_text, space_text, kept_text, log_text, syntax_text, long_line_text, choice_text, pair_text}
 
 abbrev pub said_text : Said → List ℕ
@@ -21,16 +23,18 @@ said_text (said.Log events barriers calls) = log_text events barriers calls
 said_text said.Syntax = syntax_text
 said_text said.LongLine = long_line_text
 said_text said.BadChoice = choice_text
+said_text (said.Call call) = call_line (call_of call) ++ codes "\n"
 
 -- an answer of one line, with no more bytes than one call reads
 abbrev pub IsLine : Answer → Type 0
 IsLine (answer.Names listing) = ⊥
 IsLine given = IsShortAnswer given
 
--- an answer is one line, and a name is no longer than names are
+-- an answer is one line, a name is no longer than names are, and a call is one of an export
 abbrev pub FitsReply : Said → Type 0
 FitsReply (said.Answer given) = IsLine given
 FitsReply (said.Name kind name) = length name.now ≤ max_name
+FitsReply (said.Call call) = FitsText (call_of call)
 FitsReply _ = Unit {0}
 
 -- the line of a clean image, of the digits of its numbers
@@ -51,4 +55,4 @@ notice_text (notice.Clean files dirs bytes live free) = clean_text files dirs by
 notice_text notice.NoFile = codes "err 34 nofile\n"
 notice_text notice.Deep = codes "err 40 deep\n"
 notice_text notice.Usage =
-    codes "usage: bpfs format FILE --blocks N [--version V] / run FILE / check FILE / play FILE --seed S --count C\n"
+    codes "usage: bpfs format FILE --blocks N [--version V] / run FILE / check FILE / play FILE --seed S --count C / export FILE\n"

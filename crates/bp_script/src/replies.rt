@@ -7,15 +7,16 @@ ghost use Rattle.bp_script.specs.Sayings.{FitsReply, IsLine, said_text};
 ghost use Rattle.bp_script.specs.Texts.{answer_text, data_text, entry_text, is_escaped, kept_text, kind_letter, log_text, name_text, refusal_text};
 ghost use Rattle.std.specs.Prelude.{IsTrue, codes, drop, length, take, ◌*◌, ◌+◌, ◌++◌, ◌≡◌, ◌≤◌};
 
+use crate::calls::say_call;
 use crate::pieces::{put, put_digits, put_escaped, write_pair, write_pieces};
 use bp_layout::Kind;
-use bp_plain::{Answer, FsError};
+use bp_plain::{Answer, Call, FsError};
 use percent_encoding::{AsciiSet, CONTROLS, ascii_set};
 
 /// The bytes of ASCII that a name's text escapes: control bytes, the space, `%` and `/`.
 const ESCAPED: AsciiSet = ascii_set!(CONTROLS.add(b' ').add(b'%').add(b'/'));
 
-/// A line of a reply.
+/// A line that is told: of a reply, or one that asks for a call.
 #[derive(Clone, Copy)]
 pub enum Said<'a> {
     /// The answer of a call. One of names is none of these: each name is a line of its own.
@@ -60,9 +61,11 @@ pub enum Said<'a> {
     LongLine,
     /// The log allows no such crash.
     BadChoice,
+    /// The line that asks for a call of an export.
+    Call(Call<'a>),
 }
 
-/// Writes a line of a reply with its newline to the front of `into`, and tells how many bytes it is.
+/// Writes a line with its newline to the front of `into`, and tells how many bytes it is.
 pub fn say(said: &Said<'_>, into: &mut [u8]) -> usize
     requires room { max_text ≤ length into.old }
     requires short { FitsReply said.now }
@@ -86,6 +89,7 @@ pub fn say(said: &Said<'_>, into: &mut [u8]) -> usize
         Said::Syntax => write_pieces(into, &[b"err 20 syntax\n"]),
         Said::LongLine => write_pieces(into, &[b"err 21 line\n"]),
         Said::BadChoice => write_pieces(into, &[b"err 23 choice\n"]),
+        Said::Call(call) => say_call(&call, into),
     }
 }
 

@@ -19,9 +19,10 @@ use Rattle.bp_session.specs.Lines.{commands_from}
 use Rattle.bp_session.specs.Outside.{IsFirstFault, counts}
 use Rattle.bp_session.specs.Session.{State}
 use Rattle.bp_session.specs.Serving.{BreaksOff, Carries, DoesBreakOff, FailsLine, Input, Keeps, LineOutcome, Moment, PieceOutcome, ServeOutcome, StopsAtSave, SyncFails}
-use Rattle.bp_session.specs.Taking.{TakesPart}
-use Rattle.bp_session.specs.Gathering.{Clears, AwaitsReply, IsUnheard, IsUntold, LineGathers, PassesOn}
-use Rattle.bp_session.proofs.GatheringLaws.{handed_behind, part_behind, passed_part, passes_behind, taken_behind, with_nothing, with_waiting}
+use Rattle.bp_replies.specs.Taking.{TakesPart}
+use Rattle.bp_session.specs.Gathering.{Clears, AwaitsReply, IsUnheard, IsUntold, LineGathers}
+use Rattle.bp_replies.specs.Gathering.{PassesOn}
+use Rattle.bp_replies.proofs.PassingLaws.{handed_behind, part_behind, passed_part, passes_behind, taken_behind, with_nothing, with_waiting}
 use Rattle.bp_session.proofs.OutcomeLaws.{files_fault, first_after, line_broken, line_stopped, line_whole, no_fault, piece_newline, piece_quiet, piece_then, sink_fault, stops_after}
 use Rattle.bp_session.proofs.OthersLaws.{others_same, others_then}
 use Rattle.bp_session.proofs.SavingLaws.{stays_attached, still_attached}

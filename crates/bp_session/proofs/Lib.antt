@@ -1,12 +1,12 @@
 pub mod PlainLaws
 pub mod ServingLaws
 pub mod ActingLaws
-pub mod Pieces
+pub mod CachingLaws
 pub mod SavingLaws
 pub mod BlockLaws
 pub mod TellingLaws
 pub mod OutcomeLaws
-pub mod GatheringLaws
 pub mod AheadLaws
 pub mod Runs
 pub mod OthersLaws
+pub mod ExportedLines

@@ -1,5 +1,5 @@
--- Replies that wait for a sink, and what serving does meanwhile.
-use Rattle.std.specs.Prelude.{◌≡◌, ◌⊎◌, ℕ, List, [], ◌++◌, Option, take}
+-- What serving does while replies wait for a sink.
+use Rattle.std.specs.Prelude.{◌≡◌, ◌⊎◌, ℕ, List, [], ◌++◌, Option}
 use Rattle.std.specs.Io.KnownBytes.{Appends}
 use Rattle.bp_io.specs.Files.{View}
 use Rattle.bp_script.specs.Commands.{Command}
@@ -7,18 +7,8 @@ use Rattle.bp_script.specs.Commands.Command.{sync}
 use Rattle.bp_script.specs.Texts.{LineReply, reply_text}
 use Rattle.bp_session.specs.Outside.{IsFirstFault, counts}
 use Rattle.bp_session.specs.Serving.{DoesLine, FailsLine, Keeps, Moment}
-use Rattle.bp_session.specs.Taking.{TakesPart}
-use Rattle.bp_session.specs.declared.replies.Replies.{Replies}
-
--- the bytes that wait
-abbrev pub waiting : Replies → List ℕ
-waiting replies = take replies.count replies.bytes.items
-
--- A text was added to what waited, and a sink took a front of both: the rest waits.
-pub record PassesOn (text before after : List ℕ) (taken now : Option (List ℕ)) : Type 0 where
-  pub sent : List ℕ
-  pub whole : before ++ text ≡ sent ++ after
-  pub took : Appends taken now sent
+use Rattle.bp_replies.specs.Gathering.{PassesOn}
+use Rattle.bp_replies.specs.Taking.{TakesPart}
 
 -- behind a command that is no sync, what waited may still wait, and no file has changed; else a sink took it all
 abbrev pub Clears : Command → List ℕ → List ℕ → Option (List ℕ) → Option (List ℕ) → View → View → Type 0

@@ -1,4 +1,3 @@
-pub mod Taking
 pub mod Pieces
 pub mod Lines
 pub mod Session
@@ -8,4 +7,5 @@ pub mod Serving
 pub mod Gathering
 pub mod Work
 pub mod Acting
+pub mod Caching
 pub mod Outside

@@ -2,7 +2,7 @@
 use Rattle.std.specs.Prelude.{ℕ, List, length, nat_lt, Option, Some, None, if◌then◌else◌}
 use Rattle.bp_limits.specs.Limits.{max_line}
 use Rattle.bp_plain.specs.Calls.{Answer}
-use Rattle.bp_session.specs.Gathering.{waiting}
+use Rattle.bp_replies.specs.Gathering.{waiting}
 use Rattle.bp_session.specs.declared.work.LineBuffers.{LineBuffers}
 use Rattle.bp_session.specs.declared.work.Work.{Work}
 

@@ -3,11 +3,10 @@
 
 mod acting;
 pub mod blocks;
+mod caching;
 pub mod laws;
 mod outcome;
-mod replies;
 pub mod saving;
-pub mod sending;
 mod serving;
 mod telling;
 mod work;

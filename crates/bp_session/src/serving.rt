@@ -10,13 +10,14 @@ ghost use Rattle.bp_script.specs.Commands.{command_of};
 ghost use Rattle.bp_session.specs.Files.{IsReady};
 ghost use Rattle.bp_session.specs.Lines.{commands_from};
 ghost use Rattle.bp_session.specs.Gathering.{LineGathers};
-ghost use Rattle.bp_session.specs.Pieces.{gathered_size, piece_size};
+ghost use Rattle.bp_replies.specs.Room.{gathered_size};
+ghost use Rattle.bp_session.specs.Pieces.{piece_size};
 ghost use Rattle.bp_session.specs.Serving.{CanServe, LineOutcome, PieceOutcome, ServeOutcome, ServesAgain};
 ghost use Rattle.bp_session.specs.Serving.{moment, saved_if, told};
 ghost use Rattle.bp_session.specs.Work.{held_line, held_replies, read_piece};
 
 use crate::acting::act_and_save;
-use crate::replies::GATHERED;
+use bp_replies::GATHERED;
 use crate::telling::tell_by;
 use crate::work::Work;
 use bp_io::{Failed, Files, Sink, Source};

@@ -5,14 +5,14 @@ ghost use Rattle.bp_io.specs.Causes.{HasCause};
 ghost use Rattle.bp_plain.specs.Calls.Answer.{names};
 ghost use Rattle.bp_script.specs.Texts.{answer_text, reply_text};
 ghost use Rattle.bp_session.specs.Acting.{reply_of};
-ghost use Rattle.bp_session.specs.Gathering.{PassesOn, waiting};
-ghost use Rattle.bp_session.specs.Taking.{TakesPart};
+ghost use Rattle.bp_replies.specs.Gathering.{PassesOn, waiting};
+ghost use Rattle.bp_replies.specs.Taking.{TakesPart};
 
 use crate::outcome::Outcome;
-use crate::replies::Replies;
 use bp_io::{Failed, Sink};
 use bp_layout::Listing;
-use bp_plain::{Answer, Reply};
+use bp_plain::{Answer, FsError, Reply};
+use bp_replies::Replies;
 use bp_script::Said;
 
 /// Tells a line for each name, and the line that ends a listing.
@@ -75,6 +75,7 @@ fn tell<K: Sink>(
             replies.tell(&said, out)
         }
         Outcome::BadChoice => replies.tell(&Said::BadChoice, out),
+        Outcome::NoMemory => { replies.tell(&Said::Answer(Answer::Refused(FsError::Memory)), out) }
         Outcome::BadSyntax => replies.tell(&Said::Syntax, out),
         Outcome::TooLong => replies.tell(&Said::LongLine, out),
     }

@@ -16,7 +16,7 @@ use Rattle.bp_scan.specs.Length.{wanted_length}
 use Rattle.bp_session.specs.Acting.{state}
 use Rattle.bp_session.specs.Files.{AreWordsOf64Bits, IsAbsent}
 use Rattle.bp_session.specs.Lines.{commands_from}
-use Rattle.bp_session.specs.Pieces.{gathered_size}
+use Rattle.bp_replies.specs.Room.{gathered_size}
 use Rattle.bp_shell.specs.Opening.{HoldsFileSystem, RefusesFile, start}
 use Rattle.bp_shell.specs.Opening.RefusesFile.{by_length, not_formatted, by_count, damaged}
 use Rattle.bp_session.specs.PlainSession.{FollowsTree}
@@ -137,7 +137,7 @@ wanted_whole n least most = omega arith
 
 -- ---- completeness
 
-not_refused : (image : Image) (notice : Notice) → AreWordsOf64Bits image → IsFileSystem image → RefusesFile (Some (Some (image_bytes image))) notice → ⊥
+pub not_refused : (image : Image) (notice : Notice) → AreWordsOf64Bits image → IsFileSystem image → RefusesFile (Some (Some (image_bytes image))) notice → ⊥
 not_refused image line words well (by_length {len = len} has wrong) =
     let size : len ≡ 4096 * (length image / 512) = omega (arith, has, length-image_bytes image, well.first.formatted.sized.whole) in
     wrong (size ∙ sym (wanted_whole (length image / 512) well.first.formatted.sized.at_least well.first.formatted.sized.at_most) ∙ ap wanted_length (sym size))

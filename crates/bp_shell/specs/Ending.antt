@@ -10,7 +10,7 @@ use Rattle.bp_script.specs.declared.notices.Notice.TheVariants.{NoFile}
 use Rattle.bp_session.specs.Files.{AreWordsOf64Bits, IsAbsent}
 use Rattle.bp_session.specs.Outside.{Outside, FilesFailed, SinkFailed}
 use Rattle.bp_session.specs.Outside.{IsFirstFault, IsIdle, IsUntouched, Prints, TellsLine}
-use Rattle.bp_session.specs.Taking.{TakesPart}
+use Rattle.bp_replies.specs.Taking.{TakesPart}
 use Rattle.bp_shell.specs.Opening.{RefusesFile}
 use Rattle.bp_shell.specs.declared.status.Status.{Status}
 use Rattle.bp_shell.specs.declared.status.Status.TheVariants as status

@@ -17,7 +17,7 @@ use crate::stop::Stop;
 use bp_io::{Failed, Files, Sink};
 use bp_play::{PlayBuffers, Summary, play_on};
 use bp_scan::Totals;
-use bp_session::sending::send;
+use bp_replies::sending::send;
 use bp_volume::Volume;
 use pm_region::Region;
 use std::alloc::{AllocError, Global};

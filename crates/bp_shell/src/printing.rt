@@ -3,7 +3,7 @@
 ghost use Rattle.bp_io.specs.Causes.{HasCause};
 ghost use Rattle.bp_script.specs.Sayings.{notice_text};
 ghost use Rattle.bp_session.specs.Outside.{Prints};
-ghost use Rattle.bp_session.specs.Taking.{TakesPart};
+ghost use Rattle.bp_replies.specs.Taking.{TakesPart};
 ghost use Rattle.bp_shell.specs.Ending.{TellsStop};
 ghost use Rattle.std.specs.Io.KnownBytes.{Appends};
 ghost use Rattle.std.specs.Prelude.{OnErr, OnOk};
@@ -12,7 +12,7 @@ use crate::status::Status;
 use crate::stop::Stop;
 use bp_io::{Failed, Sink};
 use bp_script::{MAX_NOTICE, Notice, announce};
-use bp_session::sending::send;
+use bp_replies::sending::send;
 
 /// Prints a line. Where the sink failed, it took a proper front of it.
 pub(crate) fn print<K: Sink>(notice: &Notice, out: &mut K) -> Result<(), Failed>

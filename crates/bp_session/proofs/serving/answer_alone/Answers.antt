@@ -1,6 +1,6 @@
 use Rattle.std.proofs.Common.{◌≤◌, length, arith}
 use Rattle.std.proofs.lemmas.List.{nil_from_length}
-use Rattle.bp_session.specs.Gathering.{waiting}
+use Rattle.bp_replies.specs.Gathering.{waiting}
 use Rattle.bp_session.proofs.AheadLaws.{line_alone}
 use Rattle.bp_session.proofs.serving.answer_alone.Goals as goal
 

@@ -1,7 +1,7 @@
 use Rattle.std.proofs.Common.{refl, arith, rules, sym, ap, ◌∙◌, ◌≡◌, ◌≤◌, ◌-◌, ◌++◌, take, drop, length, get_or}
 use Rattle.std.proofs.lemmas.Bool.{eqb-true}
 use Rattle.std.proofs.lemmas.List.{nil_from_length}
-use Rattle.bp_session.specs.Gathering.{waiting}
+use Rattle.bp_replies.specs.Gathering.{waiting}
 use Rattle.bp_session.specs.Lines.{commands_from}
 use Rattle.bp_session.proofs.AheadLaws.{waits_broken, waits_handed, waits_nothing}
 use Rattle.bp_session.proofs.OutcomeLaws.{piece_nothing}

@@ -1,6 +1,6 @@
 use Rattle.std.proofs.Common.{◌≡◌, ◌≤◌, ◌-◌, take}
 use Rattle.bp_session.specs.Serving.{moment, saved_if}
-use Rattle.bp_session.specs.Gathering.{waiting}
+use Rattle.bp_replies.specs.Gathering.{waiting}
 use Rattle.bp_session.proofs.AheadLaws.{Waits}
 use Rattle.bp_session.proofs.serving.take_piece.Given as goal
 

@@ -1,4 +1,4 @@
-use Rattle.bp_session.proofs.GatheringLaws.{passed_handed, passed_part_of}
+use Rattle.bp_replies.proofs.PassingLaws.{passed_handed, passed_part_of}
 use Rattle.bp_session.proofs.telling.tell_by.Goals as goal
 
 pub returns-clause-all : goal.returns-clause-all

@@ -3,7 +3,7 @@ use Rattle.std.specs.Prelude.{codes}
 use Rattle.std.proofs.lemmas.Result.{err_from_is_err_and}
 use Rattle.std.proofs.Math.Seq.{take-length}
 use Rattle.bp_script.specs.Texts.{entry_text}
-use Rattle.bp_session.proofs.GatheringLaws.{part_before, passes_nothing, passes_then, then_part, then_passes}
+use Rattle.bp_replies.proofs.PassingLaws.{part_before, passes_nothing, passes_then, then_part, then_passes}
 use Rattle.bp_session.proofs.TellingLaws.{listed, around}
 use Rattle.bp_session.proofs.telling.tell_names.Goals as goal
 

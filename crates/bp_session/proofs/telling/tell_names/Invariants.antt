@@ -1,7 +1,7 @@
 use Rattle.std.proofs.Common.{◌≡◌, take}
 use Rattle.std.specs.Prelude.{flat_map}
 use Rattle.bp_script.specs.Texts.{entry_text}
-use Rattle.bp_session.specs.Gathering.{PassesOn, waiting}
+use Rattle.bp_replies.specs.Gathering.{PassesOn, waiting}
 use Rattle.bp_session.proofs.telling.tell_names.Given as goal
 
 -- the lines of the first names were told

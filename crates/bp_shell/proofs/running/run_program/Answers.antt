@@ -1,5 +1,7 @@
+use Rattle.std.proofs.Common.{inl, inr}
 use Rattle.std.specs.Prelude.{None}
-use Rattle.bp_shell.proofs.ProgramLaws.{format_asked, read_asked}
+use Rattle.bp_shell.proofs.ProgramLaws.{format_asked, read_asked, run_short}
+use Rattle.bp_shell.proofs.ExportingLaws.{export_asked}
 use Rattle.bp_shell.proofs.running.run_program.Goals as goal
 
 pub returns-in-Format-clause-outcome : goal.returns-in-Format-clause-outcome
@@ -7,6 +9,14 @@ returns-in-Format-clause-outcome g c = rw c.in-Format.is (c.format_file.ensures.
 
 pub returns-in-Run-clause-outcome : goal.returns-in-Run-clause-outcome
 returns-in-Run-clause-outcome g c = rw c.in-Run.is c.run_file.ensures.outcome
+
+pub returns-in-Run-clause-unread : goal.returns-in-Run-clause-unread
+returns-in-Run-clause-unread g c = λ among. elim among [
+  | inl e ↦ c.run_file.ensures.unread (inl e)
+  | inr (inl e) ↦ c.run_file.ensures.unread (inr (inl e))
+  | inr (inr (inl e)) ↦ c.run_file.ensures.unread (inr (inr e))
+  | inr (inr (inr e)) ↦ absurd (run_short _ c.run_file.ensures.outcome.one_of e)
+]
 
 pub returns-in-Check-clause-outcome : goal.returns-in-Check-clause-outcome
 returns-in-Check-clause-outcome g c = rw c.in-Check.is (c.check_file.ensures.outcome _ _)
@@ -25,3 +35,9 @@ returns-in-Check-clause-asked g c = read_asked _ (c.check_file.ensures.outcome N
 
 pub returns-in-Play-clause-asked : goal.returns-in-Play-clause-asked
 returns-in-Play-clause-asked g c = read_asked _ (c.play_file.ensures.outcome None 0).one_of
+
+pub returns-in-Export-clause-outcome : goal.returns-in-Export-clause-outcome
+returns-in-Export-clause-outcome g c = rw c.in-Export.is (c.export_file.ensures.outcome _ _)
+
+pub returns-in-Export-clause-asked : goal.returns-in-Export-clause-asked
+returns-in-Export-clause-asked g c = export_asked _ (c.export_file.ensures.outcome None 0).one_of

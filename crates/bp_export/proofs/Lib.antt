@@ -1,0 +1,10 @@
+pub mod DepthLaws
+pub mod FileLines
+pub mod Fronts
+pub mod NamesInOrder
+pub mod TellingLaws
+pub mod TreeStretches
+pub mod SinglePaths
+pub mod FirstTexts
+pub mod Places
+pub mod GoingLaws

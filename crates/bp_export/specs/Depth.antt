@@ -1,0 +1,28 @@
+-- Which directories have a path below them that is too long.
+use Rattle.std.specs.Prelude.{◌≡◌, ◌≢◌, ℕ, ◌+◌, ◌<◌, ◌≤◌, ◌∷◌, length, Some}
+use Rattle.bp_layout.specs.Directory.{inumber_at, name_at}
+use Rattle.bp_layout.specs.Lookup.{Path, lookup_from}
+use Rattle.bp_layout.specs.Words.{Image}
+use Rattle.bp_plain.specs.Export.{path_text}
+
+-- a path that is there, from inode i on, has more bytes than are left for it
+pub record HasLongPath (image : Image) (i left : ℕ) : Type 0 where
+  pub path : Path
+  pub found : ℕ
+  pub finds : lookup_from image i path ≡ Some found
+  pub long : left < length (path_text path)
+
+-- such a path begins with the entry in a slot of directory i
+pub record IsLongEntry (image : Image) (i slot left : ℕ) : Type 0 where
+  pub some : inumber_at image i slot ≢ 0
+  pub path : Path
+  pub found : ℕ
+  pub finds : lookup_from image (inumber_at image i slot) path ≡ Some found
+  pub long : left < length (path_text (name_at image i slot ∷ path))
+
+-- or with one of so many entries, from a slot on
+pub record HasLongEntry (image : Image) (i first count left : ℕ) : Type 0 where
+  pub slot : ℕ
+  pub low : first ≤ slot
+  pub high : slot < first + count
+  pub is : IsLongEntry image i slot left

@@ -1,0 +1,31 @@
+-- The entries of a directory in the order of their names.
+use Rattle.std.specs.Prelude.{◌≡◌, ℕ, ◌==◌, List, All, Bool, map, Option, None, Some, if◌then◌else◌}
+use Rattle.std.specs.Cmp.Lexicographic.{slice_cmp}
+use Rattle.std.specs.List.{filter_map, range_with_len}
+use Rattle.std.specs.Ordering.{is_lt, nat_cmp}
+use Rattle.bp_layout.specs.Directory.{Name, inumber_at, lookup_in, name_at}
+use Rattle.bp_layout.specs.Lookup.{Path, lookup}
+use Rattle.bp_layout.specs.Words.{Image}
+use Rattle.bp_plain.specs.Plain.{listing}
+use Rattle.bp_plain.specs.PlainTree.{PathMap}
+use Rattle.bp_plain.specs.Stands.{Shows}
+
+-- the inode and the name of an entry of directory i, where it names an inode
+abbrev pub entry_named : Image → ℕ → ℕ → Option (ℕ × Name)
+entry_named image i slot =
+    if inumber_at image i slot == 0 then None else Some (inumber_at image i slot, name_at image i slot)
+
+-- those of so many entries, from a slot on
+abbrev pub entries_named : Image → ℕ → ℕ → ℕ → List (ℕ × Name)
+entries_named image i first count = filter_map (entry_named image i) (range_with_len first count)
+
+-- the name of the one comes before that of the other, in the order of bytes
+abbrev pub comes_before : ℕ × Name → ℕ × Name → Bool
+comes_before one other = is_lt (slice_cmp nat_cmp one.1 other.1)
+
+-- Names, each behind the inode that directory i has there: all that a plain tree lists at the directory's path, in the same
+-- order.
+pub record AreEntries (image : Image) (i : ℕ) (entries : List (ℕ × Name)) : Type 0 where
+  pub names : (tree : PathMap) (path : Path) → Shows image tree → lookup image path ≡ Some i
+      → map (λ entry. entry.1) entries ≡ map (λ entry. entry.1) (listing tree.nodes path)
+  pub found : All (λ entry. lookup_in image i entry.1 ≡ Some entry.0) entries

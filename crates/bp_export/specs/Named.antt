@@ -1,0 +1,16 @@
+-- Names that stand one behind the other, each with the inode that it names.
+use Rattle.std.specs.Prelude.{ℕ, ◌+◌, ◌≤◌, List, All, map, length, take, drop}
+use Rattle.bp_limits.specs.Limits.{max_name}
+use Rattle.bp_layout.specs.Directory.{Name}
+use Rattle.bp_export.specs.declared.entries.Row.{Row}
+
+-- the inode of a row and its name, those of the name's bytes that there are
+abbrev pub named_row : List ℕ → Row → ℕ × Name
+named_row bytes row = (row.inode, take row.len (drop row.first bytes))
+
+abbrev pub named_rows : List ℕ → List Row → List (ℕ × Name)
+named_rows bytes rows = map (named_row bytes) rows
+
+-- all bytes of each name are there, and no name is longer than names are
+abbrev pub AreWithin : List ℕ → List Row → Type 0
+AreWithin bytes rows = All (λ row. (row.first + row.len ≤ length bytes) × (row.len ≤ max_name)) rows

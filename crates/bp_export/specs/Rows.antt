@@ -1,0 +1,24 @@
+-- Entries of a directory in a row, as the words in which they stand.
+use Rattle.std.specs.Prelude.{◌≢◌, ℕ, ◌+◌, ◌-◌, ◌*◌, ◌/◌, ◌^◌, ◌<◌, ◌≤◌, min, List, length, slice_index, slice_range}
+use Rattle.bp_limits.specs.Limits.{block_entries, entry_size, entry_words, max_name}
+use Rattle.bp_layout.specs.Reached.{IsReached}
+use Rattle.bp_layout.specs.Words.{Image}
+
+-- how many entries of a leaf lie below the size
+abbrev pub row_length : ℕ → ℕ → ℕ
+row_length size leaf = min block_entries (size / entry_size - block_entries * leaf)
+
+-- The entry is empty, or has a number of 32 bits and a name that is not too long.
+pub record IsEntry (words : List ℕ) : Type 0 where
+  pub few : slice_index words 0 < 2 ^ 32
+  pub short : slice_index words 0 ≢ 0 → slice_index words 1 ≤ max_name
+
+-- The entry is empty, or names an inode that is reached by a name that is not too long.
+pub record NamesReached (image : Image) (words : List ℕ) : Type 0 where
+  pub reached : slice_index words 0 ≢ 0 → IsReached image (slice_index words 0)
+  pub short : slice_index words 0 ≢ 0 → slice_index words 1 ≤ max_name
+
+-- what holds of the words of each entry
+abbrev pub EachEntry : (List ℕ → Type 0) → List ℕ → Type 0
+EachEntry P words = (index : ℕ) → index < length words / entry_words
+    → P (slice_range words (entry_words * index) (entry_words * index + entry_words))

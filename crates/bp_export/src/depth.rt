@@ -1,0 +1,78 @@
+//! Whether a tree has a path that no call can spell.
+
+ghost use Rattle.std.specs.Prelude.{◌≡◌, ◌↔◌, ℕ, IsTrue};
+ghost use Rattle.bp_dirs.specs.EntryWords.{HasWords, IsRow};
+ghost use Rattle.bp_export.specs.Depth.{HasLongEntry, HasLongPath, IsLongEntry};
+ghost use Rattle.bp_export.specs.Rows.{EachEntry, NamesReached};
+ghost use Rattle.bp_layout.specs.Inode.{IsDirectory, root_of};
+ghost use Rattle.bp_layout.specs.Reached.{IsReached};
+ghost use Rattle.bp_layout.specs.WellFormed.{IsWellFormed};
+ghost use Rattle.pm_region.specs.Memory.{current_words};
+
+use crate::rows::{ENTRY, entry_row, leaf_count};
+use bp_dirs::EntryView;
+use bp_inodes::{get, tree_of};
+use bp_layout::Kind;
+use pm_region::Region;
+
+/// Whether some path below directory `i` has more bytes than are left for it. It takes no memory, and goes down no further
+/// than there are bytes left.
+#[cycle(depth)]
+pub(crate) fn has_long_path<R: Region>(region: &R, i: u32, left: usize) -> bool
+    requires well_formed { IsWellFormed (current_words (R.memory region.now)) }
+    requires reached { IsReached (current_words (R.memory region.now)) i }
+    requires directory { IsDirectory (current_words (R.memory region.now)) i }
+    ensures { IsTrue result ↔ HasLongPath (current_words (R.memory region.now)) i left }
+{
+    let tree = tree_of(region, i);
+    for leaf in 0..leaf_count(tree) {
+        if let Some(words) = entry_row(region, tree, leaf) {
+            if has_long_entry(region, words, left) {
+                return true;
+            }
+        }
+    }
+    false
+}
+
+/// Whether such a path begins with an entry of a row.
+#[cycle(depth)]
+fn has_long_entry<R: Region>(region: &R, words: &[u64], left: usize) -> bool
+    requires well_formed { IsWellFormed (current_words (R.memory region.now)) }
+    requires entries { EachEntry (NamesReached (current_words (R.memory region.now))) words.now }
+    ensures { let image = current_words (R.memory region.now) in
+        (i first count : ℕ) → IsRow image (root_of image i) first count words.now
+        → (IsTrue result ↔ HasLongEntry image i first count left) }
+{
+    for index in 0..words.len() / ENTRY {
+        let view = EntryView::new(&words[ENTRY * index..ENTRY * index + ENTRY]);
+        if is_long(region, view, left) {
+            return true;
+        }
+    }
+    false
+}
+
+/// Whether such a path begins with an entry.
+#[cycle(depth)]
+fn is_long<R: Region>(region: &R, view: EntryView<'_>, left: usize) -> bool
+    requires well_formed { IsWellFormed (current_words (R.memory region.now)) }
+    requires entry { NamesReached (current_words (R.memory region.now)) view.words.now }
+    ensures { let image = current_words (R.memory region.now) in
+        (i slot : ℕ) → HasWords image (root_of image i) slot view.entry.words.now
+        → (IsTrue result ↔ IsLongEntry image i slot left) }
+{
+    let inumber = view.inumber();
+    if inumber == 0 {
+        return false;
+    }
+    // A `/` stands before each name.
+    let taken = view.name_len() as usize + 1;
+    if left < taken {
+        return true;
+    }
+    match get(region, inumber as u32).kind {
+        Kind::File => false,
+        Kind::Dir => has_long_path(region, inumber as u32, left - taken),
+    }
+}

@@ -1,0 +1,173 @@
+//! The entries of a directory, in the order of their names.
+
+ghost use Rattle.std.specs.Prelude.{[], ◌++◌, ◌≡◌, ◌≤◌, ◌<◌, ◌∷◌, ℕ, IfOk, IsPermutation, OnOk, Some, drop, length, slice_get, take};
+ghost use Rattle.std.specs.List.{cons_option};
+ghost use Rattle.std.specs.List.Sorted.{IsSortedBy};
+ghost use Rattle.bp_dirs.specs.EntryWords.{HasWords, IsRow};
+ghost use Rattle.bp_export.specs.Entries.{AreEntries, comes_before, entries_named, entry_named};
+ghost use Rattle.bp_export.specs.Rows.{EachEntry, IsEntry};
+ghost use Rattle.bp_layout.specs.Directory.{entry_count};
+ghost use Rattle.bp_layout.specs.Inode.{IsDirectory, root_of};
+ghost use Rattle.bp_layout.specs.Reached.{IsReached};
+ghost use Rattle.bp_layout.specs.WellFormed.{IsWellFormed};
+ghost use Rattle.bp_layout.specs.Words.{Image};
+ghost use Rattle.bp_limits.specs.Limits.{max_name};
+ghost use Rattle.pm_region.specs.Memory.{current_words};
+
+use crate::rows::{ENTRY, entry_row, leaf_count};
+use bp_dirs::{EntryView, count};
+use bp_inodes::tree_of;
+use bp_limits::MAX_NAME;
+use pm_region::Region;
+use std::alloc::{AllocError, Global};
+use std::marker::Model;
+
+/// An entry: the inode that it names, and where the bytes of its name stand among those of all names.
+#[derive(Clone, Copy)]
+struct Row {
+    inode: u32,
+    first: usize,
+    len: usize,
+}
+
+/// Inodes and names, as a directory has them.
+#[derive(Drop)]
+pub(crate) struct Entries {
+    rows: Vec<Row>,
+    bytes: Vec<u8>,
+}
+
+impl Model for Entries {
+    ghost use Rattle.std.specs.Prelude.{List, ℕ};
+    ghost use Rattle.bp_layout.specs.Directory.{Name};
+    ghost use Rattle.bp_export.specs.Named.{AreWithin, named_rows};
+
+    ghost Value = { List (ℕ × Name) };
+
+    ghost view = { λ entries. named_rows entries.bytes.items entries.rows.items };
+
+    // So a name that is added moves none of the others.
+    ghost invariant = { λ entries. AreWithin entries.bytes.items entries.rows.items };
+}
+
+/// The bytes of a name, those of them that stand in `bytes`.
+fn name_in(bytes: &[u8], row: Row) -> &[u8]
+    ensures bytes { result.now ≡ take row.len (drop row.first bytes.now) }
+    ensures few { length result.now ≤ row.len }
+{
+    let rest = &bytes[row.first.min(bytes.len())..];
+    &rest[..row.len.min(rest.len())]
+}
+
+/// The entries of directory `i` that name an inode, in the order of their slots.
+fn entries_of<R: Region>(alloc: Global, region: &R, i: u32) -> Result<Entries, AllocError>
+    requires well_formed { IsWellFormed (current_words (R.memory region.now)) }
+    requires reached { IsReached (current_words (R.memory region.now)) i }
+    requires directory { IsDirectory (current_words (R.memory region.now)) i }
+    ensures { let image = current_words (R.memory region.now) in
+        IfOk result (λ entries. entries ≡ entries_named image i 0 (entry_count image i)) }
+{
+    let tree = tree_of(region, i);
+    let mut entries = Entries::with_capacity(alloc, count(region, tree) as usize)?;
+    for leaf in 0..leaf_count(tree) {
+        if let Some(words) = entry_row(region, tree, leaf) {
+            entries.add_row(words)?;
+        }
+    }
+    Ok(entries)
+}
+
+impl Entries {
+    /// The entries of directory `i` that name an inode, in the order of the bytes of their names.
+    ///
+    /// # Errors
+    ///
+    /// Where there is no memory for them.
+    pub(crate) fn of<R: Region>(alloc: Global, region: &R, i: u32) -> Result<Entries, AllocError>
+        requires well_formed { IsWellFormed (current_words (R.memory region.now)) }
+        requires reached { IsReached (current_words (R.memory region.now)) i }
+        requires directory { IsDirectory (current_words (R.memory region.now)) i }
+        ensures { IfOk result (λ entries. AreEntries (current_words (R.memory region.now)) i entries) }
+    {
+        let mut entries = entries_of(alloc, region, i)?;
+        entries.sort();
+        Ok(entries)
+    }
+
+    /// No entries, with memory for so many, but for the bytes of their names.
+    fn with_capacity(alloc: Global, count: usize) -> Result<Entries, AllocError>
+        ensures { IfOk result (λ entries. entries ≡ []) }
+    {
+        Ok(Entries {
+            rows: Vec::with_capacity(alloc, count)?,
+            bytes: Vec::new(alloc),
+        })
+    }
+
+    /// Adds those entries of a row that name an inode.
+    fn add_row(&mut self, words: &[u64]) -> Result<(), AllocError>
+        requires { EachEntry IsEntry words.now }
+        ensures { (image : Image) (i first count : ℕ) → IsRow image (root_of image i) first count words.now
+            → OnOk result (self.new ≡ self.old ++ entries_named image i first count) }
+    {
+        for index in 0..words.len() / ENTRY {
+            self.add(EntryView::new(&words[ENTRY * index..ENTRY * index + ENTRY]))?;
+        }
+        Ok(())
+    }
+
+    /// Adds an entry, where it names an inode.
+    fn add(&mut self, view: EntryView<'_>) -> Result<(), AllocError>
+        requires { IsEntry view.words.now }
+        ensures { (image : Image) (i slot : ℕ) → HasWords image (root_of image i) slot view.entry.words.now
+            → OnOk result (self.new ≡ self.old ++ cons_option (entry_named image i slot) []) }
+    {
+        let inumber = view.inumber();
+        if inumber == 0 {
+            return Ok(());
+        }
+        let mut name = [0; MAX_NAME];
+        self.push(inumber as u32, view.read_name(&mut name))
+    }
+
+    /// Adds a name of 240 bytes at most at the end.
+    fn push(&mut self, inode: u32, name: &[u8]) -> Result<(), AllocError>
+        requires { length name.now ≤ max_name }
+        ensures { OnOk result (self.new ≡ self.old ++ (inode, name.now) ∷ []) }
+    {
+        let first = self.bytes.len();
+        self.bytes.extend_from_slice(name)?;
+        self.rows.push(Row {
+            inode,
+            first,
+            len: name.len(),
+        })?;
+        Ok(())
+    }
+
+    /// Puts the names in the order of their bytes.
+    fn sort(&mut self)
+        ensures all { IsPermutation self.old self.new }
+        ensures sorted { IsSortedBy comes_before self.new }
+    {
+        let bytes = self.bytes.as_slice();
+        self.rows.sort_unstable_by(|one, other| name_in(bytes, *one).cmp(name_in(bytes, *other)));
+    }
+
+    /// How many there are.
+    pub(crate) fn len(&self) -> usize
+        ensures { result ≡ length self.now }
+    {
+        self.rows.len()
+    }
+
+    /// The inode and the name at an index, from 0 on.
+    pub(crate) fn at(&self, index: usize) -> (u32, &[u8])
+        requires { index < length self.now }
+        ensures entry { slice_get self.now index ≡ Some (result.0, result.1.now) }
+        ensures short { length result.1.now ≤ max_name }
+    {
+        let row = self.rows[index];
+        (row.inode, name_in(&self.bytes, row))
+    }
+}

@@ -1,0 +1,44 @@
+//! The entries of a directory, leaf by leaf.
+
+ghost use Rattle.std.specs.Prelude.{◌≡◌, ℕ, ◌+◌, ◌*◌, ◌/◌, ◌<◌, ◌≤◌, IfNone, IfSome};
+ghost use Rattle.bp_dirs.specs.EntryWords.{IsRow};
+ghost use Rattle.bp_export.specs.Rows.{row_length};
+ghost use Rattle.bp_layout.specs.Directory.{inumber_in};
+ghost use Rattle.bp_layout.specs.Tree.{IsSound};
+ghost use Rattle.bp_limits.specs.Limits.{block_entries, entry_size};
+ghost use Rattle.pm_region.specs.Memory.{current_words};
+
+use bp_limits::{BLOCK_ENTRIES, ENTRY_SIZE, ENTRY_WORDS};
+use bp_tree::{Tree, leaf_words};
+use pm_region::Region;
+
+/// The words of an entry, as a length.
+pub(crate) const ENTRY: usize = ENTRY_WORDS as usize;
+
+/// How many leaves have the entries of a directory.
+pub(crate) fn leaf_count(tree: Tree) -> u64
+    ensures most { (leaf : ℕ) → leaf < result → block_entries * leaf < tree.size / entry_size }
+    ensures all { tree.size / entry_size ≤ block_entries * result }
+{
+    (tree.size / ENTRY_SIZE).div_ceil(BLOCK_ENTRIES)
+}
+
+/// The words of those entries of a leaf that lie below the size, where they stand. None where the leaf is null, so that each
+/// of them is empty.
+pub(crate) fn entry_row<R: Region>(region: &R, tree: Tree, leaf: u64) -> Option<&[u64]>
+    requires sound { IsSound (current_words (R.memory region.now)) tree.root tree.size }
+    requires live { block_entries * leaf < tree.size / entry_size }
+    ensures some { let image = current_words (R.memory region.now) in
+        IfSome result (λ words. IsRow image tree.root (block_entries * leaf) (row_length tree.size leaf) words.now) }
+    ensures none { let image = current_words (R.memory region.now) in
+        IfNone result ((slot : ℕ) → block_entries * leaf ≤ slot → slot < block_entries * (leaf + 1)
+        → inumber_in image tree.root slot ≡ 0) }
+{
+    match leaf_words(region, tree, leaf) {
+        Some(words) => {
+            let rest = tree.size / ENTRY_SIZE - BLOCK_ENTRIES * leaf;
+            Some(&words[..ENTRY * rest.min(BLOCK_ENTRIES) as usize])
+        }
+        None => None,
+    }
+}

@@ -1,0 +1,25 @@
+//! Bytes for a sink.
+
+ghost use Rattle.std.specs.Prelude.{OnOk, OnErr};
+ghost use Rattle.std.specs.Io.KnownBytes.{Appends};
+ghost use Rattle.bp_io.specs.Causes.{HasCause};
+ghost use Rattle.bp_replies.specs.Taking.{TakesPart};
+
+use bp_io::{Failed, Sink};
+
+/// Hands all bytes to a sink.
+///
+/// # Errors
+///
+/// `Failed` where the sink failed. It took a proper front of them then.
+pub fn send<K: Sink>(out: &mut K, bytes: &[u8]) -> Result<(), Failed>
+    ensures all { OnOk result (Appends (K.taken out.old) (K.taken out.new) bytes.now) }
+    ensures some { OnErr result (TakesPart bytes.now (K.taken out.old) (K.taken out.new)) }
+    ensures cause { HasCause (K.faults out.old) (K.faults out.new) result }
+{
+    let mut at = 0;
+    while at < bytes.len() {
+        at += out.write(&bytes[at..])?;
+    }
+    Ok(())
+}

@@ -5,7 +5,7 @@ use Rattle.std.specs.List.{range_with_len}
 use Rattle.std.proofs.lemmas.Bool.Decides.{eqb_tells}
 use Rattle.pm_epochs.specs.declared.event.Event.{Event}
 use Rattle.pm_epochs.specs.declared.event.Event.TheVariants.{Store}
-use Rattle.pm_region.specs.Memory.{stores_from}
+use Rattle.pm_region.specs.Memory.{AreWithin, stores_from}
 use Rattle.pm_raw.specs.Entries.{no_word, signal_of, event_of, events_of, event_word}
 
 pub event_of-store : (word value : ℕ) → word < no_word → event_of word value ≡ Store word value
@@ -18,6 +18,13 @@ word_of-signal : (value : ℕ) → event_word (signal_of value) ≡ no_word
 word_of-signal value = elim (eqb_tells value 0) [
   | inl same ↦ rw same.0 refl
   | inr differ ↦ rw differ.0 refl
+]
+
+-- what is no store goes nowhere
+pub within-signal : (count value : ℕ) → AreWithin count (signal_of value ∷ [])
+within-signal count value = elim (eqb_tells value 0) [
+  | inl same ↦ rw same.0 tt
+  | inr differ ↦ rw differ.0 tt
 ]
 
 pub word_of-event : (word value : ℕ) → event_word (event_of word value) ≡ word

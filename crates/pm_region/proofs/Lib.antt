@@ -3,4 +3,5 @@ pub mod SafeLaws
 pub mod MayLaws
 pub mod PutBack
 pub mod RunLaws
+pub mod WithinLaws
 pub mod EpochLaws

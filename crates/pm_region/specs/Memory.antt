@@ -1,9 +1,10 @@
 -- What a region of persistent memory is: the words at the last drain, and what was done since.
-use Rattle.std.specs.Prelude.{◌≡◌, ℕ, ◌+◌, ◌-◌, ◌^◌, min, nat_lt, if◌then◌else◌, List, [], ◌∷◌, ◌++◌, length, drop}
+use Rattle.std.specs.Prelude.{◌≡◌, ℕ, ◌+◌, ◌-◌, ◌^◌, ◌<◌, min, nat_lt, if◌then◌else◌, List, [], ◌∷◌, ◌++◌, length, drop}
 use Rattle.std.specs.List.{splice}
 use Rattle.pm_epochs.specs.declared.event.Event.{Event}
 use Rattle.pm_epochs.specs.declared.event.Event.TheVariants.{Store}
 use Rattle.pm_epochs.specs.Log.{words_after}
+use Rattle.pm_epochs.specs.May.{StoresMay}
 use Rattle.pm_epochs.specs.Replay.{PowerCut, replay}
 
 -- The words at the last drain, the events since, how many events the log can hold, and how often it was drained.
@@ -24,6 +25,10 @@ room_in memory = memory.capacity - length memory.events
 -- the new memory is the old one with these events at the end of its log
 abbrev pub Adds : Memory → Memory → List Event → Type 0
 Adds old new more = new ≡ record old { events = old.events ++ more }
+
+-- each store of these goes to one of so many words
+abbrev pub AreWithin : ℕ → List Event → Type 0
+AreWithin count events = StoresMay (λ word value. word < count) events
 
 -- what one memory's log has behind another's
 abbrev pub events_between : Memory → Memory → List Event

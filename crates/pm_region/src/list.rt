@@ -32,7 +32,7 @@ impl Model for ListRegion {
 }
 
 impl ListRegion {
-    ghost use Rattle.pm_region.specs.Memory.{Memory};
+    ghost use Rattle.pm_region.specs.Memory.{Memory, AreWithin};
 
     /// A region of these words, with an empty log that can take `capacity` events. Fails only for want of memory; no other call
     /// takes any.
@@ -57,7 +57,8 @@ impl ListRegion {
     }
 
     fn push(&mut self, event: Event)
-        requires { length self.old.events < self.old.capacity }
+        requires within { AreWithin (length self.old.base) (event ∷ []) }
+        requires room { length self.old.events < self.old.capacity }
         ensures { self.new ≡ record self.old { events = self.old.events ++ event ∷ [] } }
     {
         apply_event(&mut self.now, event);

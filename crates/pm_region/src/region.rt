@@ -5,7 +5,7 @@ ghost use Rattle.pm_epochs.specs.declared.event.Event.TheVariants.{Store, Barrie
 ghost use Rattle.pm_epochs.specs.Log.{barriers, marks};
 ghost use Rattle.pm_epochs.specs.Replay.{IsRight, kept_calls};
 ghost use Rattle.pm_region.specs.Epochs.{epoch_start};
-ghost use Rattle.pm_region.specs.Memory.{Memory, crashed, current_words, room_in, drained, stores_from, with_values, Adds};
+ghost use Rattle.pm_region.specs.Memory.{Memory, crashed, current_words, room_in, drained, stores_from, AreWithin, with_values, Adds};
 
 use pm_epochs::{BadChoice, Choice, Event, Kept};
 
@@ -64,10 +64,11 @@ pub trait Region {
     fn room(&self) -> usize
         ensures { result ≡ room_in (memory self.now) };
 
-    /// How many events the log has.
+    /// How many events the log has. Each store of it went to one of the words.
     fn event_count(&self) -> usize
         ensures count { result ≡ length (memory self.now).events }
-        ensures few { result ≤ (memory self.now).capacity };
+        ensures few { result ≤ (memory self.now).capacity }
+        ensures within { AreWithin (length (memory self.now).base) (memory self.now).events };
 
     /// An event of the log, by its number from 0.
     fn event(&self, i: usize) -> Event

@@ -1,5 +1,6 @@
 use Rattle.std.proofs.Common.{◌∙◌, ap, refl}
 use Rattle.pm_region.specs.Memory.{Memory}
+use Rattle.pm_region.proofs.WithinLaws.{within-none}
 use Rattle.pm_raw.specs.Entries.{events_of}
 use Rattle.pm_raw.specs.Undo.{undone}
 use Rattle.pm_raw.proofs.UndoLaws.{current-adopted, saved-adopted, memory-adopted}
@@ -17,6 +18,7 @@ invariant_of-self c =
       saved = saved-adopted (undone region.current log replaced) _ log replaced none step.saved;
       barriers = step.barriers;
       marks = step.marks;
+      within = within-none _ log none;
       few = c.requires.few;
       values_counted = step.values_counted;
       replaced_counted = step.replaced_counted;

@@ -1,10 +1,11 @@
-use Rattle.std.proofs.Common.{◌≡◌, ◌<◌, ◌∙◌, [], ◌∷◌, ap, arith, length, sym}
+use Rattle.std.proofs.Common.{◌≡◌, ◌<◌, ◌∙◌, [], ◌∷◌, ◌++◌, ap, arith, length, refl, sym}
 use Rattle.std.proofs.lemmas.List.{length-append}
 use Rattle.pm_region.specs.Memory.{Memory}
+use Rattle.pm_region.proofs.WithinLaws.{within-append, within-same}
 use Rattle.pm_raw.specs.Entries.{no_word, events_of, signal_of}
 use Rattle.pm_raw.specs.Places.{Placed, is_barrier, is_mark}
 use Rattle.pm_raw.specs.Undo.{undone}
-use Rattle.pm_raw.proofs.EntryLaws.{length_events, log-pushed}
+use Rattle.pm_raw.proofs.EntryLaws.{length_events, log-pushed, within-signal}
 use Rattle.pm_raw.proofs.PlaceLaws.{places-few, placed-more}
 use Rattle.pm_raw.proofs.UndoLaws.{saved-signal, after-signal, base-pushed, current-pushed, saved-pushed, memory-pushed}
 use Rattle.pm_raw.proofs.region.RawRegion.push_signal.Goals as goal
@@ -74,6 +75,7 @@ invariant_of-self c =
       saved = saved-pushed region.current region.current log _ (event ∷ []) replaced _ (0 ∷ []) each undoes next_is log_is replaced_is step.current step.saved;
       barriers = placed-more is_barrier region.barriers _ log _ (event ∷ []) c.len-place.result region.entries.room _ there log_is c.push.ensures.room step.barriers c.note_signal.ensures.barriers;
       marks = placed-more is_mark region.marks _ log _ (event ∷ []) c.len-place.result region.entries.room _ there log_is c.push.ensures.room step.marks c.note_signal.ensures.marks;
+      within = within-same _ _ (log ++ event ∷ []) _ refl (sym log_is) (within-append _ log _ step.within (within-signal _ c.args.value));
       few = step.few;
       values_counted = omega (arith, ap length c.push.ensures.words, ap length c.push.ensures.values, length-append words (no_word ∷ []), length-append values (c.args.value ∷ []), step.values_counted);
       replaced_counted = omega (arith, ap length c.push.ensures.words, ap length c.push.ensures.replaced, length-append words (no_word ∷ []), length-append replaced (0 ∷ []), step.replaced_counted);

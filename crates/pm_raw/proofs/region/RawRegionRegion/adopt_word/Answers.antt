@@ -1,6 +1,7 @@
 use Rattle.std.proofs.Common.{◌∙◌, ap, arith, length, set}
 use Rattle.std.proofs.lemmas.List.{length-set}
 use Rattle.pm_region.specs.Memory.{Memory}
+use Rattle.pm_region.proofs.WithinLaws.{within-none}
 use Rattle.pm_raw.specs.Entries.{events_of}
 use Rattle.pm_raw.proofs.UndoLaws.{length-undone, current-adopted, saved-adopted, memory-adopted}
 use Rattle.pm_raw.specs.Undo.{undone}
@@ -30,6 +31,7 @@ invariant_of-self c =
       saved = saved-adopted (undone region.current log replaced) _ log replaced none step.saved;
       barriers = step.barriers;
       marks = step.marks;
+      within = within-none _ log none;
       few = omega (arith, ap length c.set.ensures, length-set region.current c.args.word c.args.value, step.few);
       values_counted = step.values_counted;
       replaced_counted = step.replaced_counted;

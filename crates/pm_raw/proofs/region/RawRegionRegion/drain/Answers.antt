@@ -1,5 +1,6 @@
 use Rattle.std.proofs.Common.{◌+◌, ◌-◌, ◌^◌, ◌∙◌, ap, arith, length, min, sym, []}
 use Rattle.pm_region.specs.Memory.{drained}
+use Rattle.pm_region.proofs.WithinLaws.{within-none}
 use Rattle.pm_raw.specs.Entries.{Entered, events_of}
 use Rattle.pm_raw.specs.Places.{is_barrier, is_mark}
 use Rattle.pm_raw.proofs.PlaceLaws.{placed-none}
@@ -19,6 +20,7 @@ invariant_of-self c =
       saved = saved-none _ _ _ none (ap (λ (e : Entered). e.replaced) cleared);
       barriers = placed-none is_barrier region.barriers _ log _ region.entries.room _ none size step.barriers c.clear-2.ensures;
       marks = placed-none is_mark region.marks _ log _ region.entries.room _ none size step.marks c.clear-3.ensures;
+      within = within-none _ _ none;
       few = step.few;
       values_counted = ap (λ (e : Entered). length e.values) cleared ∙ sym (ap (λ (e : Entered). length e.words) cleared);
       replaced_counted = ap (λ (e : Entered). length e.replaced) cleared ∙ sym (ap (λ (e : Entered). length e.words) cleared);

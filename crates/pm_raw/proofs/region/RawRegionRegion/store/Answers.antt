@@ -2,6 +2,7 @@ use Rattle.std.proofs.Common.{◌≡◌, ◌<◌, ◌∙◌, ◌++◌, [], ◌�
 use Rattle.std.proofs.lemmas.List.{length-append, length-set}
 use Rattle.pm_epochs.specs.declared.event.Event.TheVariants.{Store}
 use Rattle.pm_region.specs.Memory.{Memory}
+use Rattle.pm_region.proofs.WithinLaws.{within-append, within-same, within-store}
 use Rattle.pm_raw.specs.Entries.{no_word, events_of}
 use Rattle.pm_raw.specs.Places.{is_barrier, is_mark}
 use Rattle.pm_raw.specs.Undo.{undone}
@@ -77,6 +78,7 @@ invariant_of-self c =
       saved = saved-pushed region.current _ log _ more replaced _ (old ∷ []) each refl next_is log_is replaced_is step.current step.saved;
       barriers = placed-stores is_barrier region.barriers log _ c.args.word (c.args.value ∷ []) region.entries.room _ (λ place value. refl) log_is c.push.ensures.room step.barriers;
       marks = placed-stores is_mark region.marks log _ c.args.word (c.args.value ∷ []) region.entries.room _ (λ place value. refl) log_is c.push.ensures.room step.marks;
+      within = within-same (length region.current) _ (log ++ more) _ (omega (arith, ap length c.set.ensures, length-set region.current c.args.word c.args.value)) (sym log_is) (within-append _ log more step.within (within-store _ c.args.word c.args.value inside));
       few = omega (arith, ap length c.set.ensures, length-set region.current c.args.word c.args.value, step.few);
       values_counted = omega (arith, ap length c.push.ensures.words, ap length c.push.ensures.values, length-append words (c.args.word ∷ []), length-append values (c.args.value ∷ []), step.values_counted);
       replaced_counted = omega (arith, ap length c.push.ensures.words, ap length replaced_is, length-append words (c.args.word ∷ []), length-append replaced (old ∷ []), step.replaced_counted);

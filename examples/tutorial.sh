@@ -36,6 +36,16 @@ done
 printf 'turns 5\nok 2\nrefused 0 2 0 0 0 0 0 0 0 0 0 0\ncrashes 1 kept 0 of 0\ntree 1 2 0 space 5 2\n' > wanted
 "$program" play disk.img --seed 23323 --count 5 > found; expect 'a play' 0 $?
 
+"$program" format disk.img --blocks 8 > formatted || exit 1
+"$program" run disk.img < "$examples/export.bpfs" > replies
+printf 'create /b\ntruncate /b 5000\nmkdir /d\ncreate /d/a\nwrite /d/a 0 0022\nlink /b /d/z\n' > wanted
+"$program" export disk.img > found; expect 'an export' 0 $?
+"$program" format larger.img --blocks 64 > formatted || exit 1
+cp found wanted
+"$program" export disk.img | "$program" run larger.img > replies
+"$program" export larger.img > found; expect 'the export of a copy' 0 $?
+"$program" format disk.img --blocks 8 > formatted || exit 1
+
 # Word 520 is the kind of inode 1.
 printf '\003' | dd of=disk.img bs=1 seek=$((8 * 520)) conv=notrunc 2> dd
 echo 'err 32 damaged 9 520' > wanted

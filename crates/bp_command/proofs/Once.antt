@@ -6,7 +6,7 @@ use Rattle.clap.specs.Words.{Row, Text}
 use Rattle.bp_limits.specs.Numbers.{version_numbered}
 use Rattle.bp_limits.specs.declared.version.Version.{Version}
 use Rattle.bp_command.specs.Programs.{AsksForVersion, GivesNumber, Names, Program, Requests}
-use Rattle.bp_command.specs.Programs.Program.{formats, runs, checks, plays}
+use Rattle.bp_command.specs.Programs.Program.{formats, runs, checks, plays, exports}
 
 inside : {A : Type 0} {x y : A} → Some x ≡ Some y → x ≡ y
 inside e = cc
@@ -25,19 +25,28 @@ module _ (rows : List Row) where
   named_once verb (formats n b v) (runs m) first second = absurd (let no : codes "format" ≡ codes "run" = sym first.0 ∙ second.0 in cc)
   named_once verb (formats n b v) (checks m) first second = absurd (let no : codes "format" ≡ codes "check" = sym first.0 ∙ second.0 in cc)
   named_once verb (formats n b v) (plays m s c) first second = absurd (let no : codes "format" ≡ codes "play" = sym first.0 ∙ second.0 in cc)
+  named_once verb (formats n b v) (exports m) first second = absurd (let no : codes "format" ≡ codes "export" = sym first.0 ∙ second.0 in cc)
   named_once verb (runs n) (runs m) first second = ap runs (inside (sym second.1 ∙ first.1))
   named_once verb (runs n) (formats m c w) first second = absurd (let no : codes "run" ≡ codes "format" = sym first.0 ∙ second.0 in cc)
   named_once verb (runs n) (checks m) first second = absurd (let no : codes "run" ≡ codes "check" = sym first.0 ∙ second.0 in cc)
   named_once verb (runs n) (plays m s c) first second = absurd (let no : codes "run" ≡ codes "play" = sym first.0 ∙ second.0 in cc)
+  named_once verb (runs n) (exports m) first second = absurd (let no : codes "run" ≡ codes "export" = sym first.0 ∙ second.0 in cc)
   named_once verb (checks n) (checks m) first second = ap checks (inside (sym second.1 ∙ first.1))
   named_once verb (checks n) (formats m c w) first second = absurd (let no : codes "check" ≡ codes "format" = sym first.0 ∙ second.0 in cc)
   named_once verb (checks n) (runs m) first second = absurd (let no : codes "check" ≡ codes "run" = sym first.0 ∙ second.0 in cc)
   named_once verb (checks n) (plays m s c) first second = absurd (let no : codes "check" ≡ codes "play" = sym first.0 ∙ second.0 in cc)
+  named_once verb (checks n) (exports m) first second = absurd (let no : codes "check" ≡ codes "export" = sym first.0 ∙ second.0 in cc)
   named_once verb (plays n s c) (plays m t d) first second =
       ap (λ (name : Text). plays name t d) (inside (sym second.1 ∙ first.1)) ∙ ap₂ (plays n) (number_once _ _ _ _ _ first.2 second.2) (number_once _ _ _ _ _ first.3 second.3)
   named_once verb (plays n s c) (formats m b w) first second = absurd (let no : codes "play" ≡ codes "format" = sym first.0 ∙ second.0 in cc)
   named_once verb (plays n s c) (runs m) first second = absurd (let no : codes "play" ≡ codes "run" = sym first.0 ∙ second.0 in cc)
   named_once verb (plays n s c) (checks m) first second = absurd (let no : codes "play" ≡ codes "check" = sym first.0 ∙ second.0 in cc)
+  named_once verb (plays n s c) (exports m) first second = absurd (let no : codes "play" ≡ codes "export" = sym first.0 ∙ second.0 in cc)
+  named_once verb (exports n) (exports m) first second = ap exports (inside (sym second.1 ∙ first.1))
+  named_once verb (exports n) (formats m b w) first second = absurd (let no : codes "export" ≡ codes "format" = sym first.0 ∙ second.0 in cc)
+  named_once verb (exports n) (runs m) first second = absurd (let no : codes "export" ≡ codes "run" = sym first.0 ∙ second.0 in cc)
+  named_once verb (exports n) (checks m) first second = absurd (let no : codes "export" ≡ codes "check" = sym first.0 ∙ second.0 in cc)
+  named_once verb (exports n) (plays m s c) first second = absurd (let no : codes "export" ≡ codes "play" = sym first.0 ∙ second.0 in cc)
 
 pub requested_once : (words : List Text) (program other : Program) → Requests words program → Requests words other → other ≡ program
 requested_once words program other first second =

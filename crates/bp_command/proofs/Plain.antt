@@ -20,7 +20,7 @@ use Rattle.bp_command.specs.Programs.{Asks, IsProper, Names, Program, Requests, 
 use Rattle.bp_command.proofs.Walking.{Numbers, numbers_of, parts, some_name}
 use Rattle.bp_command.proofs.FormatWords.{met_format, met_short, taken_format, taken_short}
 use Rattle.bp_command.proofs.PlayWords.{met_play, taken_play}
-use Rattle.bp_command.specs.Programs.Program.{formats, runs, checks, plays}
+use Rattle.bp_command.specs.Programs.Program.{formats, runs, checks, plays, exports}
 
 -- ---- by computing
 
@@ -32,6 +32,10 @@ taken_check : (called : Text) (x : ℕ) (xs : Text) → nat_eq x 45 ≡ false �
 unfolding IsTaken clap_on_literals
 taken_check called x xs h = let n = some_name x xs in simp (h, n) refl
 
+taken_export : (called : Text) (x : ℕ) (xs : Text) → nat_eq x 45 ≡ false → IsTaken (called ∷ codes "export" ∷ (x ∷ xs) ∷ [])
+unfolding IsTaken clap_on_literals
+taken_export called x xs h = let n = some_name x xs in simp (h, n) refl
+
 met_run : (called : Text) (x : ℕ) (xs : Text) → nat_eq x 45 ≡ false → parts (subcommand_named (called ∷ codes "run" ∷ (x ∷ xs) ∷ [])) ≡ Some (codes "run", Some (x ∷ xs), (None, None, None, None))
 unfolding subcommand_named clap_on_literals
 met_run called x xs h = simp h refl
@@ -39,6 +43,10 @@ met_run called x xs h = simp h refl
 met_check : (called : Text) (x : ℕ) (xs : Text) → nat_eq x 45 ≡ false → parts (subcommand_named (called ∷ codes "check" ∷ (x ∷ xs) ∷ [])) ≡ Some (codes "check", Some (x ∷ xs), (None, None, None, None))
 unfolding subcommand_named clap_on_literals
 met_check called x xs h = simp h refl
+
+met_export : (called : Text) (x : ℕ) (xs : Text) → nat_eq x 45 ≡ false → parts (subcommand_named (called ∷ codes "export" ∷ (x ∷ xs) ∷ [])) ≡ Some (codes "export", Some (x ∷ xs), (None, None, None, None))
+unfolding subcommand_named clap_on_literals
+met_export called x xs h = simp h refl
 
 -- ---- plain words
 
@@ -124,6 +132,8 @@ module _ (called : Text) where
   taken (runs (x ∷ xs)) proper = taken_run called x xs (ne_eqb _ _ proper.plain)
   taken (checks []) proper = absurd (omega (arith, proper.some))
   taken (checks (x ∷ xs)) proper = taken_check called x xs (ne_eqb _ _ proper.plain)
+  taken (exports []) proper = absurd (omega (arith, proper.some))
+  taken (exports (x ∷ xs)) proper = taken_export called x xs (ne_eqb _ _ proper.plain)
   taken (plays [] seed count) proper = absurd (omega (arith, proper.0.some))
   taken (plays (x ∷ xs) seed count) proper =
       let first = digits_of 0 max_seed seed (omega arith) proper.1 (omega (arith, proper.1)) in
@@ -140,6 +150,7 @@ module _ (called : Text) where
   taken_in_short (formats (x ∷ xs) blocks Two) proper = taken (formats (x ∷ xs) blocks Two) proper
   taken_in_short (runs name) proper = taken (runs name) proper
   taken_in_short (checks name) proper = taken (checks name) proper
+  taken_in_short (exports name) proper = taken (exports name) proper
   taken_in_short (plays name seed count) proper = taken (plays name seed count) proper
 
   -- what the words give has these parts
@@ -160,6 +171,7 @@ module _ (called : Text) where
       go (runs name) file n = ap runs (inside (sym n.1 ∙ file))
       go (checks name) file n = let no : codes "run" ≡ codes "check" = n.0 in cc
       go (plays name seed count) file n = let no : codes "run" ≡ codes "play" = n.0 in cc
+      go (exports name) file n = let no : codes "run" ≡ codes "export" = n.0 in cc
 
   only_check : (x : ℕ) (xs : Text) (other : Program) → nat_eq x 45 ≡ false → Requests (called ∷ codes "check" ∷ (x ∷ xs) ∷ []) other → other ≡ checks (x ∷ xs)
   only_check x xs other h asked = let n = named_by _ (codes "check") (x ∷ xs) (None, None, None, None) other asked.verb asked.rows (met_check called x xs h) asked.is asked.names in go other n.0 n.2
@@ -169,6 +181,17 @@ module _ (called : Text) where
       go (runs name) file n = let no : codes "check" ≡ codes "run" = n.0 in cc
       go (checks name) file n = ap checks (inside (sym n.1 ∙ file))
       go (plays name seed count) file n = let no : codes "check" ≡ codes "play" = n.0 in cc
+      go (exports name) file n = let no : codes "check" ≡ codes "export" = n.0 in cc
+
+  only_export : (x : ℕ) (xs : Text) (other : Program) → nat_eq x 45 ≡ false → Requests (called ∷ codes "export" ∷ (x ∷ xs) ∷ []) other → other ≡ exports (x ∷ xs)
+  only_export x xs other h asked = let n = named_by _ (codes "export") (x ∷ xs) (None, None, None, None) other asked.verb asked.rows (met_export called x xs h) asked.is asked.names in go other n.0 n.2
+    where
+      go : (p : Program) → first_of (codes "FILE") asked.rows ≡ Some (x ∷ xs) → Names (codes "export") asked.rows p → p ≡ exports (x ∷ xs)
+      go (formats name blocks version) file n = let no : codes "export" ≡ codes "format" = n.0 in cc
+      go (runs name) file n = let no : codes "export" ≡ codes "run" = n.0 in cc
+      go (checks name) file n = let no : codes "export" ≡ codes "check" = n.0 in cc
+      go (plays name seed count) file n = let no : codes "export" ≡ codes "play" = n.0 in cc
+      go (exports name) file n = ap exports (inside (sym n.1 ∙ file))
 
   -- a format of these values asks for these numbers
   values_of_format : (x blocks : ℕ) (xs : Text) (version : Version) (rows : List Row) (p : Program) (d : ℕ) (ds digit : Text) → AreDigits 8 65536 blocks d ds → version_numbered (digits_value 10 (without_leading_plus digit)) ≡ version →
@@ -181,6 +204,7 @@ module _ (called : Text) where
   values_of_format x blocks xs version rows (runs name) d ds digit are value file number named n = let no : codes "format" ≡ codes "run" = n.0 in cc
   values_of_format x blocks xs version rows (checks name) d ds digit are value file number named n = let no : codes "format" ≡ codes "check" = n.0 in cc
   values_of_format x blocks xs version rows (plays name seed count) d ds digit are value file number named n = let no : codes "format" ≡ codes "play" = n.0 in cc
+  values_of_format x blocks xs version rows (exports name) d ds digit are value file number named n = let no : codes "format" ≡ codes "export" = n.0 in cc
 
   only_format : (x blocks : ℕ) (xs : Text) (version : Version) (other : Program) → nat_eq x 45 ≡ false → 8 ≤ blocks → blocks ≤ 65536 → Requests (all_words x xs (decimal blocks) (version_words version)) other →
       other ≡ formats (x ∷ xs) blocks version
@@ -219,6 +243,7 @@ module _ (called : Text) where
       go rows (formats name blocks version) d e ds es are these file first second n = let no : codes "play" ≡ codes "format" = n.0 in cc
       go rows (runs name) d e ds es are these file first second n = let no : codes "play" ≡ codes "run" = n.0 in cc
       go rows (checks name) d e ds es are these file first second n = let no : codes "play" ≡ codes "check" = n.0 in cc
+      go rows (exports name) d e ds es are these file first second n = let no : codes "play" ≡ codes "export" = n.0 in cc
       go rows (plays name given turns) d e ds es are these file first second n =
           let seeds : given ≡ seed = same_value 0 max_seed seed given d ds n.2.digits are (inside (sym n.2.given ∙ first)) n.2.value in
           let counts : turns ≡ count = same_value 0 1000000 count turns e es n.3.digits these (inside (sym n.3.given ∙ second)) n.3.value in
@@ -231,6 +256,8 @@ module _ (called : Text) where
   only (runs (x ∷ xs)) other proper asked = only_run x xs other (ne_eqb _ _ proper.plain) asked
   only (checks []) other proper asked = absurd (omega (arith, proper.some))
   only (checks (x ∷ xs)) other proper asked = only_check x xs other (ne_eqb _ _ proper.plain) asked
+  only (exports []) other proper asked = absurd (omega (arith, proper.some))
+  only (exports (x ∷ xs)) other proper asked = only_export x xs other (ne_eqb _ _ proper.plain) asked
   only (plays [] seed count) other proper asked = absurd (omega (arith, proper.0.some))
   only (plays (x ∷ xs) seed count) other proper asked = only_play x seed count xs other (ne_eqb _ _ proper.0.plain) proper.1 proper.2 asked
 
@@ -240,6 +267,7 @@ module _ (called : Text) where
   only_in_short (formats (x ∷ xs) blocks Two) other proper asked = only (formats (x ∷ xs) blocks Two) other proper asked
   only_in_short (runs name) other proper asked = only (runs name) other proper asked
   only_in_short (checks name) other proper asked = only (checks name) other proper asked
+  only_in_short (exports name) other proper asked = only (exports name) other proper asked
   only_in_short (plays name seed count) other proper asked = only (plays name seed count) other proper asked
 
 pub plain_taken : (words : List Text) (program : Program) → Asks words program → IsTaken words

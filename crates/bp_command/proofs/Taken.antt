@@ -23,7 +23,7 @@ use Rattle.clap.specs.declared.error.kind.ErrorKind.TheVariants as kind
 use Rattle.clap.specs.declared.builder.value_parser.Reading.{Reading}
 use Rattle.clap.specs.declared.parser.matches.ValueSource.{ValueSource}
 use Rattle.clap.specs.declared.parser.matches.ValueSource.TheVariants.{CommandLine, DefaultValue}
-use Rattle.bp_command.specs.Commands.{IsTaken, blocks_rule, bpfs_app, check_app, count_rule, file_rule, format_app, subcommand_named, play_app, run_app, seed_rule, version_rule}
+use Rattle.bp_command.specs.Commands.{IsTaken, blocks_rule, bpfs_app, check_app, count_rule, export_app, file_rule, format_app, subcommand_named, play_app, run_app, seed_rule, version_rule}
 use Rattle.bp_command.specs.Programs.{HasValues, IsNamed}
 
 -- ---- chains of faults, and tests
@@ -480,6 +480,9 @@ usable_run = (record { own = refl; serves = inl (refl, omega arith); defaults = 
 usable_check : Each (IsUsable (built_of check_app.top)) (built_of check_app.top).rules
 usable_check = (record { own = refl; serves = inl (refl, omega arith); defaults = refl }, (record { own = refl; serves = inr refl; defaults = refl }, tt))
 
+usable_export : Each (IsUsable (built_of export_app.top)) (built_of export_app.top).rules
+usable_export = (record { own = refl; serves = inl (refl, omega arith); defaults = refl }, (record { own = refl; serves = inr refl; defaults = refl }, tt))
+
 usable_play : Each (IsUsable (built_of play_app.top)) (built_of play_app.top).rules
 usable_play = (
   record { own = refl; serves = inl (refl, omega arith); defaults = refl },
@@ -520,33 +523,34 @@ format_values rows fit check there =
       count = λ e. absurd (let no : codes "format" ≡ codes "play" = e in cc);
     }
 
+-- a subcommand that takes a file's name alone
+named_alone : (s : Shape) (verb : Text) (rows : List Row) → (verb ≡ codes "format") ⊎ (verb ≡ codes "run") ⊎ (verb ≡ codes "check") ⊎ (verb ≡ codes "play") ⊎ (verb ≡ codes "export") →
+    (verb ≡ codes "format" → ⊥) → (verb ≡ codes "play" → ⊥) → HasValue s (codes "FILE") file_arg rows → HasValues verb rows
+named_alone s verb rows program no_format no_play name = record {
+  program = program;
+  name = name.text;
+  named = name.first;
+  some = ltb-true 0 (length name.text) (accepted _ _ name.pass);
+  blocks = λ e. absurd (no_format e);
+  version = λ e. absurd (no_format e);
+  seed = λ e. absurd (no_play e);
+  count = λ e. absurd (no_play e);
+}
+
 run_values : (rows : List Row) → AllFit (built_of run_app.top) rows → check_fault (built_of run_app.top) rows false ≡ [] → HasValues (codes "run") rows
 run_values rows fit check =
-    let name = has_value (built_of run_app.top) (codes "FILE") file_arg rows refl fit (given_there _ rows (first_given (codes "FILE") rows false (last_checks (built_of run_app.top) rows false check).1).0) in
-    record {
-      program = inr (inl refl);
-      name = name.text;
-      named = name.first;
-      some = ltb-true 0 (length name.text) (accepted _ _ name.pass);
-      blocks = λ e. absurd (let no : codes "run" ≡ codes "format" = e in cc);
-      version = λ e. absurd (let no : codes "run" ≡ codes "format" = e in cc);
-      seed = λ e. absurd (let no : codes "run" ≡ codes "play" = e in cc);
-      count = λ e. absurd (let no : codes "run" ≡ codes "play" = e in cc);
-    }
+    named_alone (built_of run_app.top) (codes "run") rows (inr (inl refl)) (λ e. let no : codes "run" ≡ codes "format" = e in cc) (λ e. let no : codes "run" ≡ codes "play" = e in cc)
+    (has_value (built_of run_app.top) (codes "FILE") file_arg rows refl fit (given_there _ rows (first_given (codes "FILE") rows false (last_checks (built_of run_app.top) rows false check).1).0))
 
 check_values : (rows : List Row) → AllFit (built_of check_app.top) rows → check_fault (built_of check_app.top) rows false ≡ [] → HasValues (codes "check") rows
 check_values rows fit check =
-    let name = has_value (built_of check_app.top) (codes "FILE") file_arg rows refl fit (given_there _ rows (first_given (codes "FILE") rows false (last_checks (built_of check_app.top) rows false check).1).0) in
-    record {
-      program = inr (inr (inl refl));
-      name = name.text;
-      named = name.first;
-      some = ltb-true 0 (length name.text) (accepted _ _ name.pass);
-      blocks = λ e. absurd (let no : codes "check" ≡ codes "format" = e in cc);
-      version = λ e. absurd (let no : codes "check" ≡ codes "format" = e in cc);
-      seed = λ e. absurd (let no : codes "check" ≡ codes "play" = e in cc);
-      count = λ e. absurd (let no : codes "check" ≡ codes "play" = e in cc);
-    }
+    named_alone (built_of check_app.top) (codes "check") rows (inr (inr (inl refl))) (λ e. let no : codes "check" ≡ codes "format" = e in cc) (λ e. let no : codes "check" ≡ codes "play" = e in cc)
+    (has_value (built_of check_app.top) (codes "FILE") file_arg rows refl fit (given_there _ rows (first_given (codes "FILE") rows false (last_checks (built_of check_app.top) rows false check).1).0))
+
+export_values : (rows : List Row) → AllFit (built_of export_app.top) rows → check_fault (built_of export_app.top) rows false ≡ [] → HasValues (codes "export") rows
+export_values rows fit check =
+    named_alone (built_of export_app.top) (codes "export") rows (inr (inr (inr (inr refl)))) (λ e. let no : codes "export" ≡ codes "format" = e in cc) (λ e. let no : codes "export" ≡ codes "play" = e in cc)
+    (has_value (built_of export_app.top) (codes "FILE") file_arg rows refl fit (given_there _ rows (first_given (codes "FILE") rows false (last_checks (built_of export_app.top) rows false check).1).0))
 
 play_values : (rows : List Row) → AllFit (built_of play_app.top) rows → check_fault (built_of play_app.top) rows false ≡ [] → HasValues (codes "play") rows
 play_values rows fit check =
@@ -556,7 +560,7 @@ play_values rows fit check =
     let seed = has_value (built_of play_app.top) (codes "seed") seed_arg rows refl fit (given_there _ rows second.0) in
     let count = has_value (built_of play_app.top) (codes "count") count_arg rows refl fit (given_there _ rows (first_given (codes "count") rows false second.1).0) in
     record {
-      program = inr (inr (inr refl));
+      program = inr (inr (inr (inl refl)));
       name = name.text;
       named = name.first;
       some = ltb-true 0 (length name.text) (accepted _ _ name.pass);
@@ -579,7 +583,10 @@ each_serves p other = (
       λ _ fault. check_values _ (fit-level (built_of check_app.top) usable_check [] p.1 false [] fault) (level_checks (built_of check_app.top) [] p.1 false [] fault).1,
       (
         λ _ fault. play_values _ (fit-level (built_of play_app.top) usable_play [] p.1 false [] fault) (level_checks (built_of play_app.top) [] p.1 false [] fault).1,
-        (λ answers fault. absurd (true≢false (sym ((bytes_eq-Decides p.0 (codes "help")).1 (helps answers)) ∙ other)), tt),
+        (
+          λ _ fault. export_values _ (fit-level (built_of export_app.top) usable_export [] p.1 false [] fault) (level_checks (built_of export_app.top) [] p.1 false [] fault).1,
+          (λ answers fault. absurd (true≢false (sym ((bytes_eq-Decides p.0 (codes "help")).1 (helps answers)) ∙ other)), tt),
+        ),
       ),
     ),
   ),

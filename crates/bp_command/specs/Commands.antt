@@ -54,12 +54,15 @@ check_app = with_rule (new_app (codes "check")) file_rule
 abbrev pub play_app : App
 play_app = with_rule (with_rule (with_rule (new_app (codes "play")) file_rule) seed_rule) count_rule
 
+abbrev pub export_app : App
+export_app = with_rule (new_app (codes "export")) file_rule
+
 abbrev pub bare_app : App
 bare_app = let a = new_app (codes "bpfs") in record a { top = record a.top { subcommand_required = true } }
 
 abbrev pub bpfs_app : App
-bpfs_app = with_subcommand (with_subcommand (with_subcommand (with_subcommand bare_app format_app.top) run_app.top)
-    check_app.top) play_app.top
+bpfs_app = with_subcommand (with_subcommand (with_subcommand (with_subcommand (with_subcommand bare_app format_app.top)
+    run_app.top) check_app.top) play_app.top) export_app.top
 
 pub record IsArgument (r : Rule) (a : Arg) : Type 0 where
   pub rule : rule_of a ≡ r

@@ -10,7 +10,7 @@ use Rattle.bp_limits.specs.declared.version.Version.{Version}
 use Rattle.bp_limits.specs.declared.version.Version.TheVariants.{One, Two}
 use Rattle.bp_command.specs.Commands.{IsTaken, subcommand_named}
 use Rattle.bp_command.specs.declared.reading.Program.{Program as Asked}
-use Rattle.bp_command.specs.declared.reading.Program.TheVariants.{Format, Run, Check, Play}
+use Rattle.bp_command.specs.declared.reading.Program.TheVariants.{Format, Run, Check, Play, Export}
 
 pub data Program : Type 0 where
   -- a file's name, its number of blocks, and its version
@@ -19,12 +19,14 @@ pub data Program : Type 0 where
   checks : List ℕ → Program
   -- a file's name, the number that the turns are made from, and how many there are
   plays : List ℕ → ℕ → ℕ → Program
+  exports : List ℕ → Program
 
 abbrev pub program_of : Asked → Program
 program_of (Format name blocks version) = formats name.now blocks version
 program_of (Run name) = runs name.now
 program_of (Check name) = checks name.now
 program_of (Play name seed count) = plays name.now seed count
+program_of (Export name) = exports name.now
 
 -- the greatest seed: each number of 64 bits is one
 abbrev pub max_seed : ℕ
@@ -43,6 +45,7 @@ HasNumbersInRange (formats name blocks version) = (min_blocks ≤ blocks) × (bl
 HasNumbersInRange (runs name) = Unit {0}
 HasNumbersInRange (checks name) = Unit {0}
 HasNumbersInRange (plays name seed count) = (seed ≤ max_seed) × (count ≤ max_turns)
+HasNumbersInRange (exports name) = Unit {0}
 
 -- ---- plain words
 
@@ -66,6 +69,7 @@ program_words (runs name) = codes "run" ∷ name ∷ []
 program_words (checks name) = codes "check" ∷ name ∷ []
 program_words (plays name seed count) =
     codes "play" ∷ name ∷ codes "--seed" ∷ decimal seed ∷ codes "--count" ∷ decimal count ∷ []
+program_words (exports name) = codes "export" ∷ name ∷ []
 
 -- the same where a format of the first version names none
 abbrev pub short_words : Program → List (List ℕ)
@@ -77,6 +81,7 @@ IsProper (formats name blocks version) = IsFileName name × (min_blocks ≤ bloc
 IsProper (runs name) = IsFileName name
 IsProper (checks name) = IsFileName name
 IsProper (plays name seed count) = IsFileName name × (seed ≤ max_seed) × (count ≤ max_turns)
+IsProper (exports name) = IsFileName name
 
 -- The words ask for the program in the plain way.
 pub record Asks (words : List (List ℕ)) (program : Program) : Type 0 where
@@ -96,6 +101,7 @@ pub record HasNumber (option : Text) (least most : ℕ) (rows : List Row) : Type
 -- and one of a version, for a play a seed and a count
 pub record HasValues (verb : Text) (rows : List Row) : Type 0 where
   pub program : (verb ≡ codes "format") ⊎ (verb ≡ codes "run") ⊎ (verb ≡ codes "check") ⊎ (verb ≡ codes "play")
+      ⊎ (verb ≡ codes "export")
   pub name : Text
   pub named : first_of (codes "FILE") rows ≡ Some name
   pub some : 0 < length name
@@ -143,6 +149,7 @@ Names verb rows (runs name) = (verb ≡ codes "run") × (first_of (codes "FILE")
 Names verb rows (checks name) = (verb ≡ codes "check") × (first_of (codes "FILE") rows ≡ Some name)
 Names verb rows (plays name seed count) =
     (verb ≡ codes "play") × (first_of (codes "FILE") rows ≡ Some name) × HasSeed rows seed × HasCount rows count
+Names verb rows (exports name) = (verb ≡ codes "export") × (first_of (codes "FILE") rows ≡ Some name)
 
 -- The command takes the words, and the subcommand that they name asks with its values for the program.
 pub record Requests (words : List Text) (program : Program) : Type 0 where

@@ -1,7 +1,7 @@
 //! The command `bpfs` with its subcommands.
 
 ghost use Rattle.std.specs.Prelude.{IfOk};
-ghost use Rattle.bp_command.specs.Commands.{IsArgument, IsCommand, bare_app, blocks_rule, bpfs_app, check_app, count_rule, file_rule, format_app, play_app, run_app, seed_rule, version_rule};
+ghost use Rattle.bp_command.specs.Commands.{IsArgument, IsCommand, bare_app, blocks_rule, bpfs_app, check_app, count_rule, export_app, file_rule, format_app, play_app, run_app, seed_rule, version_rule};
 
 use bp_limits::{MAX_BLOCKS, MAX_TURNS, MIN_BLOCKS};
 use clap::builder::ValueParser;
@@ -95,6 +95,14 @@ fn play_command<'a>(alloc: Global) -> Result<Command<'a>, AllocError>
         .arg(count(alloc))
 }
 
+fn export_command<'a>(alloc: Global) -> Result<Command<'a>, AllocError>
+    ensures { IfOk result (IsCommand export_app) }
+{
+    Command::new(alloc, "export")
+        .about("Writes the script that makes the tree of FILE")
+        .arg(file(alloc))
+}
+
 fn bare<'a>(alloc: Global) -> Command<'a>
     ensures { IsCommand bare_app result }
 {
@@ -109,5 +117,6 @@ pub(crate) fn command<'a>(alloc: Global) -> Result<Command<'a>, AllocError>
         .subcommand(format_command(alloc)?)?
         .subcommand(run_command(alloc)?)?
         .subcommand(check_command(alloc)?)?
-        .subcommand(play_command(alloc)?)
+        .subcommand(play_command(alloc)?)?
+        .subcommand(export_command(alloc)?)
 }

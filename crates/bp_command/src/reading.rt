@@ -43,6 +43,11 @@ pub enum Program<'a> {
         /// The number of turns, at most 1,000,000.
         count: u32,
     },
+    /// Writes the script that makes a file's tree.
+    Export {
+        /// The file's name.
+        name: &'a str,
+    },
 }
 
 /// Why words are not read.
@@ -124,6 +129,7 @@ fn program_named<'a>(verb: &str, values: &ArgMatches<'a>) -> Program<'a>
             seed: number_of(values, "seed"),
             count: number_of(values, "count") as u32,
         },
+        "export" => Program::Export { name },
         _ => unreachable!(),
     }
 }

@@ -1,5 +1,6 @@
-pub mod Exports
-pub mod Rows
 pub mod Depth
-pub mod Named
 pub mod Entries
+pub mod Exports
+pub mod Named
+pub mod Rows
+pub mod Telling

@@ -1,24 +1,115 @@
 //! The lines of a file.
 
-ghost use Rattle.std.specs.Prelude.{All, OnErr, OnOk, ◌++◌, ◌≡◌, length};
-ghost use Rattle.bp_io.specs.Causes.{HasCause};
+ghost use Rattle.std.specs.Prelude.{All, IfOk, None, Some, ◌+◌, ◌*◌, ◌<◌, ◌≡◌, if◌then◌else◌, length, min};
 ghost use Rattle.bp_layout.specs.Lookup.Node.{file};
 ghost use Rattle.bp_layout.specs.Tree.{IsSound, content};
 ghost use Rattle.bp_limits.specs.Limits.{block_size};
-ghost use Rattle.bp_plain.specs.Export.{calls_for};
-ghost use Rattle.bp_replies.specs.Gathering.{PassesOn, waiting};
-ghost use Rattle.bp_replies.specs.Taking.{TakesPart};
-ghost use Rattle.bp_script.specs.Export.{FitsText, call_lines};
+ghost use Rattle.bp_plain.specs.Export.{calls_for, is_zeros, size_of, stretch, write_of, writes_of};
+ghost use Rattle.bp_replies.specs.Gathering.{waiting};
+ghost use Rattle.bp_script.specs.Export.{FitsText};
+ghost use Rattle.bp_export.specs.Telling.{Tells, size_behind};
 ghost use Rattle.pm_region.specs.Memory.{current_words};
 
-use crate::standing::assume_export;
+use crate::telling::tell;
 use bp_io::{Failed, Sink};
+use bp_limits::BLOCK_SIZE;
+use bp_plain::Call;
 use bp_replies::Replies;
-use bp_tree::Tree;
+use bp_tree::{Tree, next_leaf, read};
 use pm_region::Region;
 
+/// Whether all of these bytes are 0.
+fn are_zeros(bytes: &[u8]) -> bool
+    ensures { result ≡ is_zeros bytes.now }
+{
+    bytes.iter().all(|byte| *byte == 0)
+}
+
+/// Tells the stretch of a file that stands in a live leaf, where it isn't zeros alone, and where it ends.
+fn export_stretch<R: Region, K: Sink>(
+    region: &R,
+    tree: Tree,
+    leaf: u64,
+    path: &[u8],
+    block: &mut [u8],
+    replies: &mut Replies,
+    out: &mut K,
+) -> Result<Option<u64>, Failed>
+    requires sound { IsSound (current_words (R.memory region.now)) tree.root tree.size }
+    requires live { block_size * leaf < tree.size }
+    requires room { length block.old ≡ block_size }
+    requires short { let bytes = content (current_words (R.memory region.now)) tree.root tree.size in
+        All FitsText (write_of path.now bytes leaf) }
+    ensures told { let bytes = content (current_words (R.memory region.now)) tree.root tree.size in
+        IfOk result (λ end. end ≡
+            (if is_zeros (stretch bytes leaf) then None else Some (min (block_size * leaf + block_size) tree.size))) }
+    ensures lines { let bytes = content (current_words (R.memory region.now)) tree.root tree.size in
+        Tells (write_of path.now bytes leaf) result (waiting replies.old) (waiting replies.new) (K.taken out.old) (K.taken out.new)
+            (K.faults out.old) (K.faults out.new) }
+    ensures room { length block.new ≡ block_size }
+{
+    let off = BLOCK_SIZE * leaf;
+    let count = read(region, tree, off, block);
+    let bytes = &block[..count];
+    if are_zeros(bytes) {
+        return Ok(None);
+    }
+    tell(Call::Write { path, off, bytes }, replies, out)?;
+    Ok(Some(off + count as u64))
+}
+
+/// Tells the stretches of a file that aren't zeros alone, and where the last of them ends. A leaf that isn't there is passed with
+/// all that are missing round it.
+fn export_leaves<R: Region, K: Sink>(
+    region: &R,
+    tree: Tree,
+    path: &[u8],
+    block: &mut [u8],
+    replies: &mut Replies,
+    out: &mut K,
+) -> Result<u64, Failed>
+    requires sound { IsSound (current_words (R.memory region.now)) tree.root tree.size }
+    requires room { length block.old ≡ block_size }
+    requires short { let bytes = content (current_words (R.memory region.now)) tree.root tree.size in
+        All FitsText (writes_of path.now bytes) }
+    ensures told { let bytes = content (current_words (R.memory region.now)) tree.root tree.size in
+        IfOk result (λ told. size_behind path.now told tree.size ≡ size_of path.now bytes) }
+    ensures lines { let bytes = content (current_words (R.memory region.now)) tree.root tree.size in
+        Tells (writes_of path.now bytes) result (waiting replies.old) (waiting replies.new) (K.taken out.old) (K.taken out.new)
+            (K.faults out.old) (K.faults out.new) }
+    ensures room { length block.new ≡ block_size }
+{
+    let mut told = 0;
+    let mut from = 0;
+    while let Some(leaf) = next_leaf(region, tree, from) {
+        if let Some(end) = export_stretch(region, tree, leaf, path, block, replies, out)? {
+            told = end;
+        }
+        from = leaf + 1;
+    }
+    Ok(told)
+}
+
+/// Tells the size of a file, unless the last stretch that was told ends there.
+fn export_size<K: Sink>(
+    path: &[u8],
+    told: u64,
+    size: u64,
+    replies: &mut Replies,
+    out: &mut K,
+) -> Result<(), Failed>
+    requires { All FitsText (size_behind path.now told size) }
+    ensures { Tells (size_behind path.now told size) result (waiting replies.old) (waiting replies.new)
+        (K.taken out.old) (K.taken out.new) (K.faults out.old) (K.faults out.new) }
+{
+    if told == size {
+        return Ok(());
+    }
+    tell(Call::Truncate { path, size }, replies, out)
+}
+
 /// Tells the lines that make the file with this tree at a path: that it is there, its bytes, and its size where no bytes say it.
-/// No loop goes over a hole. `stretch` is memory for as many bytes as a block has; a walk keeps none on its stack.
+/// `block` is memory for as many bytes as a block has, so that a walk over a tree keeps none on its stack.
 ///
 /// # Errors
 ///
@@ -27,24 +118,20 @@ pub(crate) fn export_file<R: Region, K: Sink>(
     region: &R,
     tree: Tree,
     path: &[u8],
-    stretch: &mut [u8],
+    block: &mut [u8],
     replies: &mut Replies,
     out: &mut K,
 ) -> Result<(), Failed>
     requires sound { IsSound (current_words (R.memory region.now)) tree.root tree.size }
-    requires room { length stretch.old ≡ block_size }
+    requires room { length block.old ≡ block_size }
     requires short { let bytes = content (current_words (R.memory region.now)) tree.root tree.size in
         All FitsText (calls_for path.now (file bytes)) }
-    ensures all { let bytes = content (current_words (R.memory region.now)) tree.root tree.size in
-        OnOk result (PassesOn (call_lines (calls_for path.now (file bytes))) (waiting replies.old) (waiting replies.new)
-            (K.taken out.old) (K.taken out.new)) }
-    ensures some { let bytes = content (current_words (R.memory region.now)) tree.root tree.size in
-        OnErr result (TakesPart (waiting replies.old ++ call_lines (calls_for path.now (file bytes)))
-            (K.taken out.old) (K.taken out.new)) }
-    ensures room { length stretch.new ≡ block_size }
-    ensures cause { HasCause (K.faults out.old) (K.faults out.new) result }
+    ensures lines { let bytes = content (current_words (R.memory region.now)) tree.root tree.size in
+        Tells (calls_for path.now (file bytes)) result (waiting replies.old) (waiting replies.new) (K.taken out.old) (K.taken out.new)
+            (K.faults out.old) (K.faults out.new) }
+    ensures room { length block.new ≡ block_size }
 {
-    let _ = (region, tree, path, stretch, replies, out);
-    unsafe { assume_export(0) };
-    unreachable!()
+    tell(Call::Create(path), replies, out)?;
+    let told = export_leaves(region, tree, path, block, replies, out)?;
+    export_size(path, told, tree.size, replies, out)
 }

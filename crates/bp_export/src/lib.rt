@@ -10,6 +10,7 @@ mod files;
 mod firsts;
 mod rows;
 mod standing;
+mod telling;
 mod trees;
 
 pub use fault::Fault;

@@ -322,7 +322,7 @@ const NOTICES: [(Notice, &[u8]); 8] = [
     (Notice::NoFile, b"err 34 nofile\n"),
     (
         Notice::Usage,
-        b"usage: bpfs format FILE --blocks N [--version V] / run FILE / check FILE / play FILE --seed S --count C\n",
+        b"usage: bpfs format FILE --blocks N [--version V] / run FILE / check FILE / play FILE --seed S --count C / export FILE\n",
     ),
 ];
 

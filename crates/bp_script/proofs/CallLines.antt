@@ -174,7 +174,7 @@ digits_whole (d ∷ ds) all =
     not_it : (x y : ℕ) → (y < x) → not (x == y) ≡ true
     not_it x y low = ap not (ne_eqb x y (λ e. absurd (omega (arith, low, e))))
 
-decimal_whole : (n : ℕ) → n < 2 ^ 64 → is_whole (decimal n) ≡ true
+pub decimal_whole : (n : ℕ) → n < 2 ^ 64 → is_whole (decimal n) ≡ true
 decimal_whole n low = (digits_whole (decimal n) (decimal_is_IsNumeral n low).0.1).1
 
 decimal_spells : (n : ℕ) → n < 2 ^ 64 → number_spelled (decimal n) ≡ Some n
@@ -190,7 +190,7 @@ bytes_at (x ∷ xs) all (suc i) = bytes_at xs (second_so (nat_lt x 256) (are_byt
 hex_inner : (x : ℕ) → is_hex_digit x ≡ true → is_inner x ≡ true
 hex_inner x is = both_true _ _ (ap not (ne_eqb x 10 (λ e. true≢false (sym is ∙ ap is_hex_digit e)))) (ap not (ne_eqb x 32 (λ e. true≢false (sym is ∙ ap is_hex_digit e))))
 
-all_from : (p q : ℕ → Bool) → ((x : ℕ) → p x ≡ true → q x ≡ true) → (xs : List ℕ) → list_all p xs ≡ true → list_all q xs ≡ true
+pub all_from : (p q : ℕ → Bool) → ((x : ℕ) → p x ≡ true → q x ≡ true) → (xs : List ℕ) → list_all p xs ≡ true → list_all q xs ≡ true
 all_from p q more [] all = refl
 all_from p q more (x ∷ xs) all = both_true _ _ (more x (first_so (p x) (list_all p xs) all)) (all_from p q more xs (second_so (p x) (list_all p xs) all))
 
@@ -205,7 +205,7 @@ hex_spells new some bytes =
     rw long (ap result_ok (decode_of-encode_lower new (bytes_at new bytes)))
 
 -- the word of bytes
-dash_whole : (new : List ℕ) → are_bytes new ≡ true → is_whole (digits_or_dash new) ≡ true
+pub dash_whole : (new : List ℕ) → are_bytes new ≡ true → is_whole (digits_or_dash new) ≡ true
 dash_whole [] bytes = refl
 dash_whole (b ∷ new) bytes = hex_whole (b ∷ new) bytes
 

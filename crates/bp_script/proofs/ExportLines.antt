@@ -22,9 +22,10 @@ use Rattle.bp_plain.specs.Calls.Call.{create, link, mkdir, write, truncate}
 use Rattle.bp_plain.specs.Export.{IsExportable, IsOfBytes, are_bytes, calls_at, calls_for, export_calls, first_of, is_zeros, path_text, size_of, stretch, stretches, write_of, writes_of}
 use Rattle.bp_plain.specs.PlainTree.{FileTree, is_one}
 use Rattle.bp_plain.proofs.PathWays.{Entry, entry_there}
-use Rattle.bp_script.specs.Export.{AreRead, FitsLine, FitsText, IsSpelled, IsWord, call_line, path_word}
+use Rattle.bp_script.specs.Export.{AreRead, FitsLine, FitsText, IsOneLine, IsSpelled, IsWord, call_line, path_word}
 use Rattle.bp_script.specs.Texts.{digits_or_dash, is_escaped}
 use Rattle.bp_script.proofs.CallLines.{both_true, call_asks, spelled_byte}
+use Rattle.bp_script.proofs.WholeLines.{one_line}
 
 -- ---- calls that are read
 
@@ -47,6 +48,10 @@ are_read (call ∷ calls) all = ap₂ (λ x xs. x ∷ xs) (call_asks call all.0.
 are_short : (calls : List Call) → AllSaid calls → AllByRecursion FitsText calls
 are_short [] all = tt
 are_short (call ∷ calls) all = (all.0.text, are_short calls all.1)
+
+are_lines : (calls : List Call) → AllSaid calls → AllByRecursion (λ call. IsOneLine (call_line call)) calls
+are_lines [] all = tt
+are_lines (call ∷ calls) all = (one_line call all.0.spelled, are_lines calls all.1)
 
 -- ---- words
 
@@ -261,6 +266,9 @@ module _ (tree : FileTree) (can : IsExportable tree) (of_bytes : IsOfBytes tree)
 
   pub export_read : AreRead (export_calls tree)
   export_read = are_read (export_calls tree) all_said
+
+  pub export_whole : All (λ call. IsOneLine (call_line call)) (export_calls tree)
+  export_whole = All-from_recursion (λ call. IsOneLine (call_line call)) (export_calls tree) (are_lines (export_calls tree) all_said)
 
   pub export_short : All FitsText (export_calls tree)
   export_short = All-from_recursion FitsText (export_calls tree) (are_short (export_calls tree) all_said)

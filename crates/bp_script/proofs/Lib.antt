@@ -12,5 +12,6 @@ pub mod ServedLines
 pub mod Splitting
 pub mod WrittenPieces
 pub mod CallLines
+pub mod WholeLines
 pub mod PathWord
 pub mod ExportLines

@@ -1,5 +1,6 @@
 -- The lines of calls, and the script that makes a plain file tree.
 use Rattle.std.specs.Prelude.{◌≡◌, ◌≤◌, ◌<◌, ◌^◌, ◌==◌, ◌&&◌, ℕ, List, [], ◌∷◌, ◌++◌, length, map, flat_map, not, true, codes, decimal, if◌then◌else◌}
+use Rattle.std.specs.List.{list_all}
 use Rattle.percent_encoding.specs.Percent.{percent_encode_byte}
 use Rattle.bp_limits.specs.Limits.{max_line, max_read, max_text}
 use Rattle.bp_plain.specs.Calls.{Call}
@@ -69,6 +70,10 @@ FitsText (write text off new) = length (call_line (write text off new)) < max_te
 FitsText (truncate text size) = length (call_line (truncate text size)) < max_text
 FitsText (link from to) = length (call_line (link from to)) < max_text
 FitsText call = ⊥
+
+-- no byte of it, 10, would end the line
+abbrev pub IsOneLine : List ℕ → Type 0
+IsOneLine line = list_all (λ b. not (b == 10)) line ≡ true
 
 -- each of these calls is what its line asks for
 abbrev pub AreRead : List Call → Type 0

@@ -55,4 +55,4 @@ notice_text (notice.Clean files dirs bytes live free) = clean_text files dirs by
 notice_text notice.NoFile = codes "err 34 nofile\n"
 notice_text notice.Deep = codes "err 40 deep\n"
 notice_text notice.Usage =
-    codes "usage: bpfs format FILE --blocks N [--version V] / run FILE / check FILE / play FILE --seed S --count C\n"
+    codes "usage: bpfs format FILE --blocks N [--version V] / run FILE / check FILE / play FILE --seed S --count C / export FILE\n"

@@ -5,7 +5,7 @@ ghost use Rattle.bp_plain.specs.Export.{IsExportable, IsOfBytes, are_bytes, expo
 ghost use Rattle.bp_plain.specs.PlainTree.{FileTree};
 ghost use Rattle.bp_script.specs.Commands.Command.{file_call};
 ghost use Rattle.bp_script.specs.Commands.{command_of, path_bytes};
-ghost use Rattle.bp_script.specs.Export.{AreRead, FitsLine, FitsText, IsSpelled, call_line, path_word};
+ghost use Rattle.bp_script.specs.Export.{AreRead, FitsLine, FitsText, IsOneLine, IsSpelled, call_line, path_word};
 ghost use Rattle.std.specs.Prelude.{All, ◌≡◌, List, true, ℕ};
 
 /// The word of a path is decoded to the path.
@@ -18,8 +18,15 @@ pub fn call_lines_ask_for_their_calls()
     ensures { (call : Call) → IsSpelled call → FitsLine call → command_of (call_line call) ≡ file_call call }
 {}
 
-/// Each line of the export of a tree asks for the call that it tells, and has room where a reply has.
+/// The line of a call that can be spelled is one line.
+pub fn call_lines_are_lines()
+    ensures { (call : Call) → IsSpelled call → IsOneLine (call_line call) }
+{}
+
+/// Each line of the export of a tree asks for the call that it tells, is one line, and has room where a reply has.
 pub fn exports_are_read()
     ensures read { (tree : FileTree) → IsExportable tree → IsOfBytes tree → AreRead (export_calls tree) }
+    ensures whole { (tree : FileTree) → IsExportable tree → IsOfBytes tree →
+        All (λ call. IsOneLine (call_line call)) (export_calls tree) }
     ensures short { (tree : FileTree) → IsExportable tree → IsOfBytes tree → All FitsText (export_calls tree) }
 {}

@@ -84,7 +84,7 @@ pub fn announce(notice: &Notice, into: &mut [u8]) -> usize
         Notice::Usage => write_pieces(
             into,
             &[
-                b"usage: bpfs format FILE --blocks N [--version V] / run FILE / check FILE / play FILE --seed S --count C\n",
+                b"usage: bpfs format FILE --blocks N [--version V] / run FILE / check FILE / play FILE --seed S --count C / export FILE\n",
             ],
         ),
     }

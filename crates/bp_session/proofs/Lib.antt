@@ -8,3 +8,4 @@ pub mod OutcomeLaws
 pub mod AheadLaws
 pub mod Runs
 pub mod OthersLaws
+pub mod ExportedLines

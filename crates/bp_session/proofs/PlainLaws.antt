@@ -122,7 +122,7 @@ up_to_mark_whole (Barrier ∷ first) added (suc count) none more = ap (λ es. Ba
 up_to_mark_whole (Mark ∷ first) added zero none more = absurd (omega arith)
 up_to_mark_whole (Mark ∷ first) added (suc count) none more = ap (λ es. Mark ∷ es) (up_to_mark_whole first added count none (omega arith))
 
-latest-append : (certain tree : FileTree) (since : List FileTree) → latest certain (since ++ tree ∷ []) ≡ tree
+pub latest-append : (certain tree : FileTree) (since : List FileTree) → latest certain (since ++ tree ∷ []) ≡ tree
 latest-append certain tree [] = refl
 latest-append certain tree (first ∷ since) = latest-append first tree since
 

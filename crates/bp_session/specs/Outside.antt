@@ -48,7 +48,7 @@ abbrev pub SinkTookAll : ℕ → Type 0
 SinkTookAll status = (status ≡ 0) ⊎ (status ≡ 3) ⊎ (status ≡ 5) ⊎ (status ≡ 6) ⊎ (status ≡ 8)
 
 -- The first fault ends a program, and the status tells it: the source failed at 3 alone, the files at 5 alone, and the
--- sink at 4, or as it was told the line of 1, 2 or 7.
+-- sink at 4, or as it was told the line of 1, 2, 7 or 9.
 pub record IsFirstFault (status : ℕ) (before after : Faults) : Type 0 where
   pub source : status ≡ 3 → Rose before.source after.source
   pub sink : status ≡ 4 → Rose before.sink after.sink

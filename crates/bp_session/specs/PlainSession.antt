@@ -135,6 +135,10 @@ pub record Follows (memory : Memory) (p : PlainState) : Type 0 where
   pub crash : (cut : PowerCut) → IsRight memory.events cut
       → Stands (replay memory.base memory.events cut) (after_crash p (kept_calls memory.events cut))
 
+-- the reply that there is no space
+abbrev pub TellsNoSpace : LineReply → Type 0
+TellsNoSpace reply = (needed : ℕ) × (free : ℕ) × (reply ≡ answered (refused (no_space needed free)))
+
 -- ---- a session
 
 -- These are a plain tree's replies to these commands, and the words then follow it.

@@ -1,16 +1,21 @@
 //! What a session is, in words of a plain file tree.
 
-ghost use Rattle.std.specs.Prelude.{◌≡◌, List, [], ◌++◌};
+ghost use Rattle.std.specs.Prelude.{◌≡◌, All, List, [], ◌++◌, map};
 ghost use Rattle.pm_epochs.specs.Replay.{PowerCut, IsRight, replay, kept_calls};
 ghost use Rattle.bp_layout.specs.Bytes.{image_bytes};
 ghost use Rattle.bp_layout.specs.Words.{Image};
 ghost use Rattle.bp_session.specs.Files.{AreWordsOf64Bits};
-ghost use Rattle.bp_plain.specs.PlainTree.{FileTree};
+ghost use Rattle.bp_plain.specs.Export.{IsExportable, IsOfBytes, export_calls, without_snapshot};
+ghost use Rattle.bp_plain.specs.PlainTree.{FileTree, empty_tree};
 ghost use Rattle.bp_plain.specs.Stands.{Stands};
 ghost use Rattle.bp_script.specs.Commands.{Command};
+ghost use Rattle.bp_script.specs.Commands.Command.{file_call};
+ghost use Rattle.bp_script.specs.Export.{export_text};
 ghost use Rattle.bp_script.specs.Texts.{LineReply};
+ghost use Rattle.bp_session.specs.Lines.{commands_from};
 ghost use Rattle.bp_session.specs.Session.{State, Session};
-ghost use Rattle.bp_session.specs.PlainSession.{PlainState, PlainSession, Follows, fresh, after_crash};
+ghost use Rattle.bp_session.specs.PlainSession.{PlainState, PlainSession, Follows, TellsNoSpace, fresh, after_crash};
+ghost use Rattle.pm_region.specs.Memory.{current_words};
 
 /// A session over an image that stands for a tree is one of that plain tree: the replies are the plain tree's, and at
 /// the session's end every right choice leaves an image that stands for the tree after the calls that it keeps.
@@ -48,4 +53,19 @@ pub fn sessions_split()
 pub fn bytes_have_one_image()
     ensures { (first second : Image) → AreWordsOf64Bits first → AreWordsOf64Bits second →
         image_bytes first ≡ image_bytes second → first ≡ second }
+{}
+
+/// The script of an export asks for the calls of that export.
+pub fn exports_ask_for_their_calls()
+    ensures { (tree : FileTree) → IsExportable tree → IsOfBytes tree →
+        commands_from [] (export_text tree) ≡ map file_call (export_calls tree) }
+{}
+
+/// A session over the script of an export, from an empty file system of the tree's version, ends in that tree without its
+/// snapshot, where no reply is that there is no space.
+pub fn exports_make_their_trees()
+    ensures { (old new : State) (tree : FileTree) (replies : List LineReply) → IsExportable tree → IsOfBytes tree →
+        old.memory.events ≡ [] → Stands old.memory.base (empty_tree tree.version) →
+        Session old (commands_from [] (export_text tree)) replies new → All (λ reply. ¬ TellsNoSpace reply) replies →
+        Stands (current_words new.memory) (without_snapshot tree) }
 {}

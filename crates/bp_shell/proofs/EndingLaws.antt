@@ -18,26 +18,16 @@ use Rattle.bp_shell.proofs.RunningLaws.{read_complete}
 
 -- ---- faults
 
--- a line told before the end
-told_fault : (status : ℕ) (a b : Faults) → (status ≡ 1) ⊎ (status ≡ 7) → b.source ≡ a.source → b.files ≡ a.files → IsFirstFault status a b
-told_fault status a b (inl is) source files =
-    no_device_fault status _ _ (λ e. omega (arith, is, e)) (λ e. omega (arith, is, e)) (λ e. omega (arith, is, e)) loud source files
+-- a line told before the end, at none of the other statuses
+pub told_fault : (status : ℕ) (a b : Faults) → ¬ (status ≡ 0) → ¬ (status ≡ 3) → ¬ (status ≡ 4) → ¬ (status ≡ 5) → ¬ (status ≡ 6) → ¬ (status ≡ 8) → b.source ≡ a.source → b.files ≡ a.files → IsFirstFault status a b
+told_fault status a b zero three four five six eight source files = no_device_fault status a b three four five loud source files
   where
     loud : SinkTookAll status → ⊥
-    loud (inl e) = omega (arith, is, e)
-    loud (inr (inl e)) = omega (arith, is, e)
-    loud (inr (inr (inl e))) = omega (arith, is, e)
-    loud (inr (inr (inr (inl e)))) = omega (arith, is, e)
-    loud (inr (inr (inr (inr e)))) = omega (arith, is, e)
-told_fault status a b (inr is) source files =
-    no_device_fault status _ _ (λ e. omega (arith, is, e)) (λ e. omega (arith, is, e)) (λ e. omega (arith, is, e)) loud source files
-  where
-    loud : SinkTookAll status → ⊥
-    loud (inl e) = omega (arith, is, e)
-    loud (inr (inl e)) = omega (arith, is, e)
-    loud (inr (inr (inl e))) = omega (arith, is, e)
-    loud (inr (inr (inr (inl e)))) = omega (arith, is, e)
-    loud (inr (inr (inr (inr e)))) = omega (arith, is, e)
+    loud (inl e) = zero e
+    loud (inr (inl e)) = three e
+    loud (inr (inr (inl e))) = five e
+    loud (inr (inr (inr (inl e)))) = six e
+    loud (inr (inr (inr (inr e)))) = eight e
 
 -- ---- at a `Stop`
 
@@ -67,7 +57,7 @@ module _ (before after : Outside) (untouched : IsUntouched before after) (source
         missing = λ _. (reason.missing refl, untouched, told.1);
         refused = λ e. absurd (omega (arith, is, e));
         memory = λ e. absurd (omega (arith, is, e));
-        first = told_fault (code_of status) _ _ (inl is) source (same (if_missing _ refl));
+        first = told_fault (code_of status) _ _ (λ e. omega (arith, is, e)) (λ e. omega (arith, is, e)) (λ e. omega (arith, is, e)) (λ e. omega (arith, is, e)) (λ e. omega (arith, is, e)) (λ e. omega (arith, is, e)) source (same (if_missing _ refl));
       }
   stop_outcome s.Outside status reason failed same told =
       let is : code_of status ≡ 5 = ap code_of told.0 in
@@ -83,7 +73,7 @@ module _ (before after : Outside) (untouched : IsUntouched before after) (source
         missing = λ e. absurd (omega (arith, is, e));
         refused = λ _. (notice, reason.refused notice refl, untouched, told.1);
         memory = λ e. absurd (omega (arith, is, e));
-        first = told_fault (code_of status) _ _ (inr is) source (same (if_refused _ notice refl));
+        first = told_fault (code_of status) _ _ (λ e. omega (arith, is, e)) (λ e. omega (arith, is, e)) (λ e. omega (arith, is, e)) (λ e. omega (arith, is, e)) (λ e. omega (arith, is, e)) (λ e. omega (arith, is, e)) source (same (if_refused _ notice refl));
       }
   stop_outcome s.Memory status reason failed same told =
       let is : code_of status ≡ 8 = ap code_of told.0 in

@@ -3,5 +3,6 @@ pub mod FormattingLaws
 pub mod RunningLaws
 mod FilesLaws
 mod EndingLaws
+mod ExportingLaws
 mod ProgramLaws
 mod PlayingLaws

@@ -137,7 +137,7 @@ wanted_whole n least most = omega arith
 
 -- ---- completeness
 
-not_refused : (image : Image) (notice : Notice) → AreWordsOf64Bits image → IsFileSystem image → RefusesFile (Some (Some (image_bytes image))) notice → ⊥
+pub not_refused : (image : Image) (notice : Notice) → AreWordsOf64Bits image → IsFileSystem image → RefusesFile (Some (Some (image_bytes image))) notice → ⊥
 not_refused image line words well (by_length {len = len} has wrong) =
     let size : len ≡ 4096 * (length image / 512) = omega (arith, has, length-image_bytes image, well.first.formatted.sized.whole) in
     wrong (size ∙ sym (wanted_whole (length image / 512) well.first.formatted.sized.at_least well.first.formatted.sized.at_most) ∙ ap wanted_length (sym size))

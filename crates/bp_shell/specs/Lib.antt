@@ -3,6 +3,8 @@ pub mod Statuses
 pub mod Stops
 pub mod Formatting
 pub mod Ending
+pub mod Scanning
 pub mod Checking
+pub mod Exporting
 pub mod Playing
 pub mod Running

@@ -11,7 +11,7 @@ use Rattle.bp_plain.specs.Stands.{Stands}
 use Rattle.bp_layout.specs.Whole.{IsFileSystem}
 use Rattle.bp_limits.specs.declared.version.Version.{Version}
 use Rattle.bp_command.specs.Programs.{Program, Requests}
-use Rattle.bp_command.specs.Programs.Program.{formats, runs, checks, plays}
+use Rattle.bp_command.specs.Programs.Program.{formats, runs, checks, plays, exports}
 use Rattle.bp_script.specs.Commands.{Command}
 use Rattle.bp_script.specs.Commands.Command.{sync}
 use Rattle.bp_script.specs.declared.notices.Notice.TheVariants.{Formatted}
@@ -27,6 +27,7 @@ use Rattle.bp_shell.specs.Formatting.{new_image, HasPartly, OnlyMakes}
 use Rattle.bp_session.specs.Outside.{Outside, SourceFailed, SinkFailed, FilesFailed, IsFirstFault, IsIdle}
 use Rattle.bp_shell.specs.Checking.{CheckOutcome}
 use Rattle.bp_shell.specs.Ending.{StopOutcome}
+use Rattle.bp_shell.specs.Exporting.{ExportOutcome}
 use Rattle.bp_shell.specs.Playing.{PlayOutcome}
 use Rattle.bp_session.specs.Pieces.{piece_size}
 use Rattle.bp_replies.specs.Room.{gathered_size}
@@ -188,6 +189,7 @@ file_name (formats name blocks version) = name
 file_name (runs name) = name
 file_name (checks name) = name
 file_name (plays name seed count) = name
+file_name (exports name) = name
 
 -- What a program answers, and when.
 abbrev pub ProgramOutcome : Program → ℕ → Outside → Outside → Type 0
@@ -195,6 +197,7 @@ ProgramOutcome (formats name blocks version) status before after = FormatOutcome
 ProgramOutcome (runs name) status before after = RunOutcome status before after
 ProgramOutcome (checks name) status before after = CheckOutcome status before after
 ProgramOutcome (plays name seed count) status before after = PlayOutcome status seed count before after
+ProgramOutcome (exports name) status before after = ExportOutcome status before after
 
 -- What a program leaves of the files, FILE and others, by what is told of them before and after.
 abbrev pub LeavesFiles : Program → View → View → Type 0
@@ -202,6 +205,7 @@ LeavesFiles (formats name blocks version) old new = OnlyMakes name old new
 LeavesFiles (runs name) old new = OnlyWrites name old new
 LeavesFiles (checks name) old new = OnlyReads name old new
 LeavesFiles (plays name seed count) old new = OnlyReads name old new
+LeavesFiles (exports name) old new = OnlyReads name old new
 
 -- The words ask for a program, and this is its outcome. What is known of a file is told for each name.
 pub record RunsProgram (words : List (List ℕ)) (status : ℕ) (before after : List ℕ → Outside) : Type 0 where

@@ -2,7 +2,7 @@
 use Rattle.std.specs.Prelude.{ℕ}
 use Rattle.bp_shell.specs.declared.status.Status.{Status}
 use Rattle.bp_shell.specs.declared.status.Status.TheVariants.{Done, Missing, Usage, SourceFailed, SinkFailed}
-use Rattle.bp_shell.specs.declared.status.Status.TheVariants.{FilesFailed, LongInput, Refused, Memory}
+use Rattle.bp_shell.specs.declared.status.Status.TheVariants.{FilesFailed, LongInput, Refused, Memory, Deep}
 
 -- the exit status
 abbrev pub code_of : Status → ℕ
@@ -15,3 +15,4 @@ code_of FilesFailed = 5
 code_of LongInput = 6
 code_of Refused = 7
 code_of Memory = 8
+code_of Deep = 9

@@ -3,8 +3,6 @@
 ghost use Rattle.bp_io.specs.Files.{Known};
 ghost use Rattle.bp_layout.specs.Formatted.{IsSized};
 ghost use Rattle.bp_layout.specs.Whole.{IsFileSystem};
-ghost use Rattle.bp_layout.specs.Words.{block_count};
-ghost use Rattle.bp_limits.specs.Limits.{block_inodes};
 ghost use Rattle.bp_script.specs.declared.notices.Notice.{Notice};
 ghost use Rattle.bp_shell.specs.Checking.{CheckOutcome, Checks, IsClean};
 ghost use Rattle.bp_session.specs.Files.{HasImage};
@@ -13,53 +11,17 @@ ghost use Rattle.bp_session.specs.Outside.{outside};
 ghost use Rattle.bp_shell.specs.Statuses.{code_of};
 ghost use Rattle.bp_shell.specs.Stops.{HasStopCause, IsReason};
 ghost use Rattle.bp_shell.specs.declared.stop.Stop.TheVariants.{Memory, Refused};
-ghost use Rattle.std.specs.Prelude.{◌*◌, ◌≡◌, ◌⊎◌, ℕ, [], IfErr, IfOk, List, OnOk, Option, length};
+ghost use Rattle.std.specs.Prelude.{◌≡◌, ◌⊎◌, ℕ, [], IfErr, IfOk, List, OnOk, Option};
 
-use crate::opening::{load_file, stop_of};
+use crate::opening::load_file;
 use crate::printing::{print, tell_stop};
+use crate::scanning::{Scanned, scan_image};
 use crate::status::Status;
 use crate::stop::Stop;
 use bp_io::{Access, Failed, Files, Sink};
-use bp_limits::BLOCK_WORDS;
-use bp_scan::scan;
 use bp_script::Notice;
-use bp_volume::Sets;
 use pm_raw::RawRegion;
-use pm_region::Region;
 use std::alloc::Global;
-
-/// Scans an image with these sets, and tells what it holds.
-fn survey_with(region: &RawRegion, sets: &mut Sets) -> Result<Notice, Stop>
-    requires fresh { region.now.events ≡ [] }
-    requires sized { IsSized region.now.base }
-    requires blocks { length sets.old.blocks ≡ block_count region.now.base }
-    requires inodes { length sets.old.inodes ≡ block_inodes * block_count region.now.base }
-    requires counts { length sets.old.counts ≡ block_inodes * block_count region.now.base }
-    requires pending { sets.old.pending ≡ block_inodes * block_count region.now.base }
-    ensures well_formed { OnOk result (IsFileSystem region.now.base) }
-    ensures clean { IfOk result (λ notice. IsClean region.now.base notice) }
-    ensures refused { IfErr result (λ stop. (known : Known) (notice : Notice) → HasImage known region.now.base →
-        stop ≡ Refused notice → RefusesFile known notice) }
-    ensures kinds { IfErr result (λ stop. ((notice : Notice) × (stop ≡ Refused notice)) ⊎ (stop ≡ Memory)) }
-{
-    let Sets {
-        blocks,
-        inodes,
-        counts,
-        pending,
-        ..
-    } = sets;
-    match scan(region, blocks, inodes, pending, counts) {
-        Ok(totals) => Ok(Notice::Clean {
-            files: totals.files,
-            dirs: totals.dirs,
-            bytes: totals.bytes,
-            live: totals.live,
-            free: blocks.count(),
-        }),
-        Err(fault) => Err(stop_of(fault)),
-    }
-}
 
 /// Scans an image, and tells what it holds.
 fn survey(alloc: Global, region: &RawRegion) -> Result<Notice, Stop>
@@ -71,10 +33,14 @@ fn survey(alloc: Global, region: &RawRegion) -> Result<Notice, Stop>
         stop ≡ Refused notice → RefusesFile known notice) }
     ensures kinds { IfErr result (λ stop. ((notice : Notice) × (stop ≡ Refused notice)) ⊎ (stop ≡ Memory)) }
 {
-    match Sets::new(alloc, region.words() / BLOCK_WORDS) {
-        Ok(mut sets) => survey_with(region, &mut sets),
-        Err(_) => Err(Stop::Memory),
-    }
+    let Scanned { sets, totals } = scan_image(alloc, region)?;
+    Ok(Notice::Clean {
+        files: totals.files,
+        dirs: totals.dirs,
+        bytes: totals.bytes,
+        live: totals.live,
+        free: sets.blocks.count(),
+    })
 }
 
 /// Reads the file of a name, and tells what it holds.

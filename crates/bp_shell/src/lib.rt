@@ -1,12 +1,14 @@
-//! The programs `format`, `run`, `check` and `play`.
+//! The programs `format`, `run`, `check`, `play` and `export`.
 #![tactic(auto)]
 
 mod checking;
+mod exporting;
 mod formatting;
 pub mod opening;
 mod playing;
 mod printing;
 mod running;
+mod scanning;
 mod status;
 mod stop;
 

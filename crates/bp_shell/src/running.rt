@@ -13,6 +13,7 @@ ghost use Rattle.bp_shell.specs.Statuses.{code_of};
 ghost use Rattle.std.specs.Prelude.{◌≡◌, ◌⊎◌, ℕ, List, map};
 
 use crate::checking::check_file;
+use crate::exporting::export_file;
 use crate::formatting::format_file;
 use crate::opening::open;
 use crate::playing::play_file;
@@ -130,18 +131,20 @@ fn run_program<S: Source, K: Sink, F: Files>(
         Program::Run { name } => run_file(alloc, name, src, out, files),
         Program::Check { name } => check_file(alloc, name, out, files),
         Program::Play { name, seed, count } => play_file(alloc, name, seed, count, out, files),
+        Program::Export { name } => export_file(alloc, name, out, files),
     }
 }
 
 /// Does what the words ask for, the name under which the program was called first, and answers its status:
 ///
 /// - 0 where all was done;
-/// - 1 where `run`, `check` or `play` finds no file of the name;
+/// - 1 where `run`, `check`, `play` or `export` finds no file of the name;
 /// - 2 where the command takes no such words;
 /// - 3, 4, 5 where the source, the sink or the files failed;
 /// - 6 where the source has more than 1,073,741,824 bytes;
-/// - 7 where `run`, `check` or `play` refuses the file;
-/// - 8 for want of memory, before a line is read or told.
+/// - 7 where `run`, `check`, `play` or `export` refuses the file;
+/// - 8 for want of memory, before a line is read or told, but for a front of an export;
+/// - 9 where `export` meets a path that no call can spell, before any other line is told.
 pub fn run<S: Source, K: Sink, F: Files>(
     alloc: Global,
     words: &[&str],

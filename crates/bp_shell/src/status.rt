@@ -23,8 +23,10 @@ pub(crate) enum Status {
     LongInput = 6,
     /// The file is refused.
     Refused = 7,
-    /// Want of memory, before a line is read or told.
+    /// Want of memory, before a line is read or told, but for a front of an export.
     Memory = 8,
+    /// The tree has a path that no call can spell.
+    Deep = 9,
 }
 
 impl Status {

@@ -1,6 +1,6 @@
 //! `bpfs format FILE --blocks N` makes FILE a file system of N blocks, of version 1 or that of `--version V`; `bpfs run FILE`
 //! serves the script of standard input over it, and writes the replies to standard output; `bpfs check FILE` says whether FILE
-//! is a file system, and what it holds.
+//! is a file system, and what it holds; `bpfs export FILE` writes the script that makes its tree.
 #![tactic(auto)]
 
 ghost use Rattle.std.specs.Prelude.{◌≡◌, IfOk, map, string_bytes};
@@ -53,6 +53,7 @@ fn file_name<'a>(alloc: Global, words: &'a [&'a str]) -> &'a str {
                 count: _,
             },
         ) => name,
+        Ok(Program::Export { name }) => name,
         Err(_) => "FILE",
     }
 }

@@ -1,11 +1,12 @@
 use Rattle.std.proofs.Common.{refl, ◌≡◌, inl, inr}
 use Rattle.bp_command.specs.Programs.{Program, program_of}
-use Rattle.bp_command.specs.Programs.Program.{formats, runs, checks, plays}
+use Rattle.bp_command.specs.Programs.Program.{formats, runs, checks, plays, exports}
 use Rattle.bp_session.specs.Outside.{Outside}
 use Rattle.bp_shell.specs.Running.{ProgramOutcome}
 use Rattle.bp_shell.specs.declared.status.Status.TheVariants as status
 use Rattle.bp_shell.specs.declared.stop.Stop.TheVariants as stop
 use Rattle.bp_shell.proofs.EndingLaws.{memory_reason, read_stopped}
+use Rattle.bp_shell.proofs.ExportingLaws.{export_memory}
 use Rattle.bp_shell.proofs.OpeningLaws.{if_memory}
 use Rattle.bp_shell.proofs.ProgramLaws.{format_memory, run_memory}
 use Rattle.bp_shell.proofs.running.run.Goals as goal
@@ -19,6 +20,7 @@ without_memory (checks name) outside =
     read_stopped _ outside outside (record { left = refl; file = refl }) refl refl stop.Memory status.Memory (memory_reason outside.file) (λ e. absurd (if_memory _ refl e)) (λ _. refl) (refl, (refl, refl))
 without_memory (plays name seed count) outside =
     read_stopped _ outside outside (record { left = refl; file = refl }) refl refl stop.Memory status.Memory (memory_reason outside.file) (λ e. absurd (if_memory _ refl e)) (λ _. refl) (refl, (refl, refl))
+without_memory (exports name) outside = export_memory outside
 
 pub returns-clause-plain : goal.returns-clause-plain
 returns-clause-plain g c = λ program asks. rw c.code.ensures (elim c.match-read_words.branch [

@@ -1,5 +1,6 @@
 use Rattle.std.specs.Prelude.{None}
 use Rattle.bp_shell.proofs.ProgramLaws.{format_asked, read_asked}
+use Rattle.bp_shell.proofs.ExportingLaws.{export_asked}
 use Rattle.bp_shell.proofs.running.run_program.Goals as goal
 
 pub returns-in-Format-clause-outcome : goal.returns-in-Format-clause-outcome
@@ -25,3 +26,9 @@ returns-in-Check-clause-asked g c = read_asked _ (c.check_file.ensures.outcome N
 
 pub returns-in-Play-clause-asked : goal.returns-in-Play-clause-asked
 returns-in-Play-clause-asked g c = read_asked _ (c.play_file.ensures.outcome None 0).one_of
+
+pub returns-in-Export-clause-outcome : goal.returns-in-Export-clause-outcome
+returns-in-Export-clause-outcome g c = rw c.in-Export.is (c.export_file.ensures.outcome _ _)
+
+pub returns-in-Export-clause-asked : goal.returns-in-Export-clause-asked
+returns-in-Export-clause-asked g c = export_asked _ (c.export_file.ensures.outcome None 0).one_of

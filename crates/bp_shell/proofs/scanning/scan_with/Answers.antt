@@ -1,10 +1,9 @@
 use Rattle.std.proofs.Common.{refl, ◌≡◌, ◌∙◌, sym}
-use Rattle.bp_layout.specs.Whole.{IsFileSystem}
 use Rattle.bp_scan.specs.Faults.{IsFault}
 use Rattle.bp_shell.specs.Stops.{stop_by}
 use Rattle.bp_shell.specs.declared.stop.Stop.TheVariants.{Refused}
-use Rattle.bp_shell.proofs.OpeningLaws.{counted, stop_kinds, stop_refused}
-use Rattle.bp_shell.proofs.checking.survey_with.Goals as goal
+use Rattle.bp_shell.proofs.OpeningLaws.{stop_kinds, stop_refused}
+use Rattle.bp_shell.proofs.scanning.scan_with.Goals as goal
 
 pub returns-in-Err-clause-refused : goal.returns-in-Err-clause-refused
 returns-in-Err-clause-refused c = λ known notice has e.
@@ -15,14 +14,12 @@ returns-in-Err-clause-refused c = λ known notice has e.
 pub returns-in-Err-clause-kinds : goal.returns-in-Err-clause-kinds
 returns-in-Err-clause-kinds c = rw c.stop_of.ensures (stop_kinds c.in-Err.fault)
 
-pub returns-in-Ok-clause-clean : goal.returns-in-Ok-clause-clean
-returns-in-Ok-clause-clean c =
-    let is : IsFileSystem c.args.region.now.base = rw c.requires.fresh at (c.in-Ok.ensures.well_formed.0 refl) in
-    record {
-      totals = c.in-Ok.totals;
-      free = c.count.result;
-      holds = rw c.requires.fresh at c.in-Ok.ensures.totals;
-      leaves = counted c.args.region.now.base c.scan.new.blocks c.count.result is.no_second (rw c.requires.fresh at c.in-Ok.ensures.blocks)
-          (c.in-Ok.ensures.block_room ∙ c.requires.blocks) c.count.ensures;
-      line = refl;
-    }
+pub returns-in-Ok-clause-found : goal.returns-in-Ok-clause-found
+returns-in-Ok-clause-found c = record {
+  whole = rw c.requires.fresh at (c.in-Ok.ensures.well_formed.0 refl);
+  free = rw c.requires.fresh at c.in-Ok.ensures.blocks;
+  block_room = c.in-Ok.ensures.block_room ∙ c.requires.blocks;
+  named = rw c.requires.fresh at c.in-Ok.ensures.counts;
+  inode_room = c.in-Ok.ensures.count_room ∙ c.requires.counts;
+  held = rw c.requires.fresh at c.in-Ok.ensures.totals;
+}

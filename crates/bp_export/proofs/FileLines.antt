@@ -1,0 +1,114 @@
+-- The calls that make a file, told stretch by stretch.
+use Rattle.std.proofs.Common.{◌≡◌, ◌⊎◌, ℕ, zero, suc, ◌+◌, ◌-◌, ◌*◌, ◌/◌, ◌<◌, ◌≤◌, ◌==◌, ◌&&◌, List, [], ◌∷◌, ◌++◌, length, flat_map, Bool, true, false, nat_lt, min, if◌then◌else◌, refl, sym, ◌∙◌, subst, ap, ap₂, arith, inl, inr, true≢false, eq-eqb, append-nil}
+use Rattle.std.specs.Prelude.{All}
+use Rattle.std.specs.List.{range_with_len}
+use Rattle.std.proofs.lemmas.Bool.{cases_lt, eqb-true, ltb-false, ltb-true}
+use Rattle.std.proofs.lemmas.Grind.{flat_map-append}
+use Rattle.bp_free.proofs.Members.{range_split}
+use Rattle.bp_limits.specs.Limits.{block_size}
+use Rattle.bp_plain.specs.Calls.{Call}
+use Rattle.bp_plain.specs.Calls.Call.{truncate}
+use Rattle.bp_plain.specs.Export.{is_zeros, size_of, stretch, stretches, write_of, writes_of}
+use Rattle.bp_export.specs.Telling.{size_behind}
+use Rattle.bp_export.proofs.Fronts.{all_back, all_front}
+
+-- ---- the writes of the first stretches
+
+module _ (text bytes : List ℕ) where
+  abbrev pub writes_until : ℕ → List Call
+  writes_until k = flat_map (write_of text bytes) (range_with_len 0 k)
+
+  abbrev rest_of : ℕ → ℕ → List Call
+  rest_of k n = flat_map (write_of text bytes) (range_with_len k n)
+
+  split_at : (k n : ℕ) → writes_until (k + n) ≡ writes_until k ++ rest_of k n
+  split_at k n =
+      let from : 0 + k ≡ k = omega arith in
+      ap (flat_map (write_of text bytes)) (range_split 0 k n ∙ ap (λ j. range_with_len 0 k ++ range_with_len j n) from)
+      ∙ flat_map-append (write_of text bytes) (range_with_len 0 k) (range_with_len k n)
+
+  one_more : (k : ℕ) → writes_until (k + 1) ≡ writes_until k ++ write_of text bytes k
+  one_more k = split_at k 1 ∙ ap (λ calls. writes_until k ++ calls) (append-nil (write_of text bytes k))
+
+  -- stretches of zeros have no write
+  no_write : (k : ℕ) → is_zeros (stretch bytes k) ≡ true → write_of text bytes k ≡ []
+  no_write k zeros = rw zeros refl
+
+  passed : (k n : ℕ) → ((j : ℕ) → k ≤ j → j < k + n → is_zeros (stretch bytes j) ≡ true) → writes_until (k + n) ≡ writes_until k
+  passed k zero zeros = let same : k + 0 ≡ k = omega arith in ap writes_until same
+  passed k (suc n) zeros =
+      let same : k + suc n ≡ k + n + 1 = omega arith in
+      ap writes_until same ∙ one_more (k + n)
+      ∙ ap₂ (λ xs ys. xs ++ ys) (passed k n (λ j low high. zeros j low (omega (arith, high)))) (no_write (k + n) (zeros (k + n) (omega arith) (omega arith)))
+      ∙ append-nil (writes_until k)
+
+  pub passed_to : (k m : ℕ) → k ≤ m → ((j : ℕ) → k ≤ j → j < m → is_zeros (stretch bytes j) ≡ true) → writes_until m ≡ writes_until k
+  passed_to k m low zeros =
+      let same : m ≡ k + (m - k) = omega (arith, low) in
+      ap writes_until same ∙ passed k (m - k) (λ j behind before. zeros j behind (omega (arith, before, low)))
+
+  -- up to a stretch behind stretches of zeros
+  pub written_to : (k leaf : ℕ) → k ≤ leaf → ((j : ℕ) → k ≤ j → j < leaf → is_zeros (stretch bytes j) ≡ true) → writes_until (leaf + 1) ≡ writes_until k ++ write_of text bytes leaf
+  written_to k leaf low zeros = one_more leaf ∙ ap (λ calls. calls ++ write_of text bytes leaf) (passed_to k leaf low zeros)
+
+  -- a live stretch has room where all have
+  pub fits_at : (P : Call → Type 0) (k : ℕ) → k < stretches bytes → All P (writes_of text bytes) → All P (write_of text bytes k)
+  fits_at P k low all =
+      let more : stretches bytes ≡ k + 1 + (stretches bytes - (k + 1)) = omega (arith, low) in
+      let whole : writes_of text bytes ≡ (writes_until k ++ write_of text bytes k) ++ rest_of (k + 1) (stretches bytes - (k + 1)) =
+          ap writes_until more ∙ split_at (k + 1) (stretches bytes - (k + 1)) ∙ ap (λ calls. calls ++ rest_of (k + 1) (stretches bytes - (k + 1))) (one_more k) in
+      all_back P (writes_until k) (write_of text bytes k)
+      (all_front P (writes_until k ++ write_of text bytes k) (rest_of (k + 1) (stretches bytes - (k + 1))) (subst (All P) whole all))
+
+-- ---- where the last stretch that was told ends
+
+-- Once the first stretches are told: the told one ends with the file just where the last stretch isn't zeros, if all are told.
+pub record ToldTo (bytes : List ℕ) (k told : ℕ) : Type 0 where
+  pub whole : told ≡ length bytes → 0 < length bytes → is_zeros (stretch bytes (stretches bytes - 1)) ≡ false
+  pub low : told ≤ length bytes
+  pub last : stretches bytes ≤ k → is_zeros (stretch bytes (stretches bytes - 1)) ≡ false → told ≡ length bytes
+
+pub told_none : (bytes : List ℕ) → ToldTo bytes 0 0
+told_none bytes = record {
+  low = omega arith;
+  whole = λ is some. absurd (omega (arith, is, some));
+  last = λ low other. omega (arith, low);
+}
+
+pub told_zeros : (bytes : List ℕ) (k leaf told : ℕ) → block_size * leaf < length bytes → ToldTo bytes k told → is_zeros (stretch bytes leaf) ≡ true → ToldTo bytes (leaf + 1) told
+told_zeros bytes k leaf told live before zeros = record { whole = before.whole; low = before.low; last = last }
+  where
+    last : stretches bytes ≤ leaf + 1 → is_zeros (stretch bytes (stretches bytes - 1)) ≡ false → told ≡ length bytes
+    last low other =
+        let here : (length bytes + 4095) / 4096 - 1 ≡ leaf = omega (arith, live, low) in
+        absurd (true≢false (sym zeros ∙ ap (λ j. is_zeros (stretch bytes j)) (sym here) ∙ other))
+
+pub told_written : (bytes : List ℕ) (leaf : ℕ) → block_size * leaf < length bytes → is_zeros (stretch bytes leaf) ≡ false → ToldTo bytes (leaf + 1) (min (block_size * leaf + block_size) (length bytes))
+told_written bytes leaf live other = record { whole = whole; low = omega arith; last = λ low more. omega (arith, low) }
+  where
+    whole : min (4096 * leaf + 4096) (length bytes) ≡ length bytes → 0 < length bytes → is_zeros (stretch bytes (stretches bytes - 1)) ≡ false
+    whole is some =
+        let here : (length bytes + 4095) / 4096 - 1 ≡ leaf = omega (arith, live, is) in
+        ap (λ j. is_zeros (stretch bytes j)) here ∙ other
+
+-- behind the last leaf that is there
+pub size_told : (text bytes : List ℕ) (k told : ℕ) → ToldTo bytes k told → ((j : ℕ) → k ≤ j → block_size * j < length bytes → is_zeros (stretch bytes j) ≡ true) → size_behind text told (length bytes) ≡ size_of text bytes
+size_told text bytes k told before zeros = go (told == length bytes) refl (nat_lt 0 (length bytes)) refl (is_zeros (stretch bytes (stretches bytes - 1))) refl
+  where
+    behind : 0 < length bytes → is_zeros (stretch bytes (stretches bytes - 1)) ≡ false → told ≡ length bytes
+    behind some other = by (cases_lt k (stretches bytes))
+      where
+        by : (k < stretches bytes) ⊎ (stretches bytes ≤ k) → told ≡ length bytes
+        by (inl early) = absurd (true≢false (sym (zeros (stretches bytes - 1) (omega (arith, early)) (omega (arith, some))) ∙ other))
+        by (inr all) = before.last all other
+
+    go : (d : Bool) → (told == length bytes) ≡ d → (c : Bool) → nat_lt 0 (length bytes) ≡ c → (b : Bool) → is_zeros (stretch bytes (stretches bytes - 1)) ≡ b
+        → (if d then [] else truncate text (length bytes) ∷ []) ≡ (if c && b then truncate text (length bytes) ∷ [] else [])
+    go true is false none b at = refl
+    go true is true some false at = refl
+    go true is true some true at = absurd (true≢false (sym at ∙ before.whole (eqb-true told (length bytes) is) (ltb-true 0 (length bytes) some)))
+    go false is false none b at =
+        let same : told ≡ length bytes = omega (arith, before.low, ltb-false 0 (length bytes) none) in
+        absurd (true≢false (sym (eq-eqb told (length bytes) same) ∙ is))
+    go false is true some true at = refl
+    go false is true some false at = absurd (true≢false (sym (eq-eqb told (length bytes) (behind (ltb-true 0 (length bytes) some) at)) ∙ is))

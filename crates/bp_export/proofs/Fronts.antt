@@ -1,0 +1,20 @@
+-- What holds of each element of two lists in a row holds of each of either.
+use Rattle.std.proofs.Common.{List, [], ◌∷◌, ◌++◌}
+use Rattle.std.specs.Prelude.{All}
+use Rattle.std.specs.List.{AllByRecursion}
+use Rattle.std.proofs.lemmas.List.Elements.{All-from_recursion, recursion_from_All}
+
+module _ {X : Type 0} (P : X → Type 0) where
+  front : (xs ys : List X) → AllByRecursion P (xs ++ ys) → AllByRecursion P xs
+  front [] ys all = tt
+  front (x ∷ xs) ys all = (all.0, front xs ys all.1)
+
+  back : (xs ys : List X) → AllByRecursion P (xs ++ ys) → AllByRecursion P ys
+  back [] ys all = all
+  back (x ∷ xs) ys all = back xs ys all.1
+
+  pub all_front : (xs ys : List X) → All P (xs ++ ys) → All P xs
+  all_front xs ys all = All-from_recursion P xs (front xs ys (recursion_from_All P (xs ++ ys) all))
+
+  pub all_back : (xs ys : List X) → All P (xs ++ ys) → All P ys
+  all_back xs ys all = All-from_recursion P ys (back xs ys (recursion_from_All P (xs ++ ys) all))

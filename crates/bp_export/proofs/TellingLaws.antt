@@ -1,0 +1,62 @@
+-- One list of calls told behind another.
+use Rattle.std.proofs.Common.{◌≡◌, ℕ, ◌≤◌, List, [], ◌∷◌, ◌++◌, refl, sym, ◌∙◌, subst, arith}
+use Rattle.std.specs.Prelude.{Option, Result, Ok, Err, OnErr, OnOk}
+use Rattle.std.proofs.lemmas.Grind.{flat_map-append}
+use Rattle.std.proofs.lemmas.List.{append-nil}
+use Rattle.bp_io.specs.Causes.{HasCause, Rose}
+use Rattle.bp_io.specs.declared.faults.Failed.{Failed}
+use Rattle.bp_plain.specs.Calls.{Call}
+use Rattle.bp_replies.specs.Gathering.{PassesOn}
+use Rattle.bp_replies.specs.Taking.{TakesPart}
+use Rattle.bp_replies.proofs.PassingLaws.{part_of_front, part_then, passes_nothing, passes_then}
+use Rattle.bp_script.specs.Export.{call_line, call_lines}
+use Rattle.bp_export.specs.Telling.{Tells}
+
+pub lines_behind : (xs ys : List Call) → call_lines (xs ++ ys) ≡ call_lines xs ++ call_lines ys
+lines_behind xs ys = flat_map-append _ xs ys
+
+-- a failure of later calls, when the count stood still until then
+later_fault : (f g h : ℕ) → g ≡ f → Rose g h → Rose f h
+later_fault f g h same rose = subst (λ n. Rose n h) same rose
+
+pub tells_nothing : {T : Type 0} (v : T) (a : List ℕ) (t : Option (List ℕ)) (f : ℕ) → Tells [] (Ok v) a a t t f f
+tells_nothing v a t f = record {
+  all = passes_nothing a t;
+  some = tt;
+  cause = record { later = omega arith; same = refl; failed = tt };
+}
+
+-- what is answered besides is of no matter
+pub tells_as : {S T : Type 0} (v : S) (w : T) (xs : List Call) (a b : List ℕ) (t u : Option (List ℕ)) (f g : ℕ) → Tells xs (Ok v) a b t u f g → Tells xs (Ok w) a b t u f g
+tells_as v w xs a b t u f g one = record {
+  all = one.all;
+  some = tt;
+  cause = record { later = one.cause.later; same = one.cause.same; failed = tt };
+}
+
+pub tells_then : {S T : Type 0} (v : S) (r : Result T Failed) (xs ys : List Call) (a b c : List ℕ) (t u w : Option (List ℕ)) (f g h : ℕ) → Tells xs (Ok v) a b t u f g → Tells ys r b c u w g h → Tells (xs ++ ys) r a c t w f h
+tells_then v (Ok x) xs ys a b c t u w f g h one two = record {
+  all = rw (lines_behind xs ys) (passes_then (call_lines xs) (call_lines ys) a b c t u w one.all two.all);
+  some = tt;
+  cause = record { later = omega (arith, one.cause.later, two.cause.later); same = two.cause.same ∙ one.cause.same; failed = tt };
+}
+tells_then v (Err e) xs ys a b c t u w f g h one two = record {
+  all = tt;
+  some = rw (lines_behind xs ys) (part_then (call_lines xs) (call_lines ys) a b t u w one.all two.some);
+  cause = record { later = omega (arith, one.cause.later, two.cause.later); same = tt; failed = later_fault f g h one.cause.same two.cause.failed };
+}
+
+-- where the sink failed, no call behind is told
+pub fails_before : {S T : Type 0} (e : Failed) (xs ys : List Call) (a b c : List ℕ) (t u : Option (List ℕ)) (f g : ℕ) → Tells {T = S} xs (Err e) a b t u f g → Tells {T = T} (xs ++ ys) (Err e) a c t u f g
+fails_before e xs ys a b c t u f g one = record {
+  all = tt;
+  some = rw (lines_behind xs ys, sym (append_assoc a (call_lines xs) (call_lines ys))) (part_of_front (a ++ call_lines xs) (call_lines ys) t u one.some);
+  cause = record { later = one.cause.later; same = tt; failed = one.cause.failed };
+}
+
+-- one call
+pub tells_one : {T : Type 0} (r : Result T Failed) (call : Call) (a b : List ℕ) (t u : Option (List ℕ)) (f g : ℕ) → OnOk r (PassesOn (call_line call ++ 10 ∷ []) a b t u) → OnErr r (TakesPart (a ++ (call_line call ++ 10 ∷ [])) t u) → HasCause f g r →
+    Tells (call ∷ []) r a b t u f g
+tells_one r call a b t u f g all some cause =
+    let only : call_lines (call ∷ []) ≡ call_line call ++ 10 ∷ [] = append-nil (call_line call ++ 10 ∷ []) in
+    record { all = rw only all; some = rw only some; cause = cause }

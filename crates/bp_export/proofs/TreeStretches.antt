@@ -1,0 +1,49 @@
+-- The stretches of the content of a tree.
+use Rattle.std.proofs.Common.{◌≡◌, ◌⊎◌, ℕ, zero, suc, ◌-◌, ◌*◌, ◌/◌, ◌%◌, ◌+◌, ◌<◌, ◌≤◌, List, length, take, drop, replicate, true, min, refl, sym, ◌∙◌, ap, arith, inl, inr, length-drop, take_all}
+use Rattle.std.proofs.lemmas.Bool.{cases_lt}
+use Rattle.std.proofs.lemmas.List.FromFn.{length-map-range_with_len}
+use Rattle.bp_limits.specs.Limits.{block_size}
+use Rattle.bp_layout.specs.Words.{Image, height_of}
+use Rattle.bp_layout.specs.Tree.{byte, content, node}
+use Rattle.bp_plain.specs.Export.{is_zeros, stretch}
+use Rattle.bp_tree.specs.Bytes.{content_part}
+use Rattle.bp_tree.proofs.ContentParts.{content_part-is}
+use Rattle.bp_tree.proofs.StoredBytes.{null_part}
+
+pub length_content : (image : Image) (root size : ℕ) → length (content image root size) ≡ size
+length_content image root size = length-map-range_with_len (byte image root) 0 size
+
+take_least : (n : ℕ) (xs : List ℕ) → take n xs ≡ take (min n (length xs)) xs
+take_least n xs = go (cases_lt n (length xs))
+  where
+    go : (n < length xs) ⊎ (length xs ≤ n) → take n xs ≡ take (min n (length xs)) xs
+    go (inl low) = let same : min n (length xs) ≡ n = omega (arith, low) in ap (λ k. take k xs) (sym same)
+    go (inr high) =
+        let same : min n (length xs) ≡ length xs = omega (arith, high) in
+        take_all n xs high ∙ sym (take_all (length xs) xs (omega arith)) ∙ ap (λ k. take k xs) (sym same)
+
+-- a stretch is that part of the content
+pub stretch_is : (image : Image) (root size k n : ℕ) → block_size * k < size → n ≡ min block_size (size - block_size * k) → content_part image root (block_size * k) n ≡ stretch (content image root size) k
+stretch_is image root size k n live is =
+    let bytes : List ℕ = content image root size in
+    let count : n ≡ min 4096 (length (drop (4096 * k) (content image root size))) =
+        is ∙ ap (λ m. min 4096 m) (sym (length-drop (4096 * k) (content image root size) ∙ ap (λ m. m - 4096 * k) (length_content image root size))) in
+    content_part-is image root size (4096 * k) n (omega (arith, live, is))
+    ∙ ap (λ m. take m (drop (4096 * k) (content image root size))) count
+    ∙ sym (take_least 4096 (drop (4096 * k) (content image root size)))
+
+zeros_alone : (n : ℕ) → is_zeros (replicate n 0) ≡ true
+zeros_alone zero = refl
+zeros_alone (suc n) = zeros_alone n
+
+-- a null leaf is a stretch of zeros
+pub null_zeros : (image : Image) (root size leaf : ℕ) → block_size * leaf < size → node image root (height_of root) leaf ≡ 0 → is_zeros (stretch (content image root size) leaf) ≡ true
+null_zeros image root size leaf live null =
+    let n : ℕ = min 4096 (size - 4096 * leaf) in
+    let here : 4096 * leaf / 4096 ≡ leaf = omega arith in
+    let within : 4096 * leaf % 4096 + min 4096 (size - 4096 * leaf) ≤ 4096 = omega arith in
+    ap is_zeros
+    (sym (stretch_is image root size leaf (min 4096 (size - 4096 * leaf)) live refl)
+    ∙ sym (null_part image root (4096 * leaf) (min 4096 (size - 4096 * leaf)) 0 refl (sym null ∙ ap (node image root (height_of root)) (sym here)) within))
+    ∙ zeros_alone (min 4096 (size - 4096 * leaf))
+

@@ -1,0 +1,23 @@
+use Rattle.std.proofs.Common.{◌≡◌, ℕ, ◌-◌, ◌≤◌, List, length}
+use Rattle.std.specs.Prelude.{Ok}
+use Rattle.bp_layout.specs.Tree.{content}
+use Rattle.bp_plain.specs.Export.{stretches}
+use Rattle.bp_replies.specs.Gathering.{waiting}
+use Rattle.pm_region.specs.Memory.{current_words}
+use Rattle.bp_export.specs.Telling.{Tells}
+use Rattle.bp_export.proofs.FileLines.{ToldTo, writes_until}
+use Rattle.bp_export.proofs.files.export_leaves.Given as goal
+
+-- the stretches before one are told
+abbrev pub invariant-loop-from : goal.invariant-loop-from
+invariant-loop-from g l =
+    let bytes = content (current_words (g.R.Region.memory l.region)) l.tree.root l.tree.size in
+    record {
+      lines : Tells (writes_until l.path bytes l.from) (Ok 0) (waiting l.fn.replies) (waiting l.replies) (g.K.Sink.taken l.fn.out) (g.K.Sink.taken l.out) (g.K.Sink.faults l.fn.out) (g.K.Sink.faults l.out);
+      told : ToldTo bytes l.from l.told;
+      low : l.from ≤ stretches bytes;
+      room : length l.block ≡ 4096;
+    }
+
+abbrev pub decreases-loop-from : goal.decreases-loop-from
+decreases-loop-from g l = stretches (content (current_words (g.R.Region.memory l.region)) l.tree.root l.tree.size) - l.from

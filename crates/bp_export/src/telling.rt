@@ -1,0 +1,29 @@
+//! The lines of calls.
+
+ghost use Rattle.std.specs.Prelude.{[], ◌∷◌};
+ghost use Rattle.bp_plain.specs.Seen.{call_of};
+ghost use Rattle.bp_replies.specs.Gathering.{waiting};
+ghost use Rattle.bp_script.specs.Export.{FitsText};
+ghost use Rattle.bp_export.specs.Telling.{Tells};
+
+use bp_io::{Failed, Sink};
+use bp_plain::Call;
+use bp_replies::Replies;
+use bp_script::Said;
+
+/// Tells the line of a call.
+///
+/// # Errors
+///
+/// Where the sink failed.
+pub(crate) fn tell<K: Sink>(
+    call: Call<'_>,
+    replies: &mut Replies,
+    out: &mut K,
+) -> Result<(), Failed>
+    requires { FitsText (call_of call) }
+    ensures { Tells (call_of call ∷ []) result (waiting replies.old) (waiting replies.new) (K.taken out.old) (K.taken out.new)
+        (K.faults out.old) (K.faults out.new) }
+{
+    replies.tell(&Said::Call(call), out)
+}

@@ -1,0 +1,48 @@
+-- The line of a call is one line.
+use Rattle.std.proofs.Common.{◌≡◌, ◌∙◌, ℕ, ◌==◌, List, [], ◌++◌, not, true, Bool, codes, decimal, refl, arith}
+use Rattle.std.specs.Cmp.{first_so}
+use Rattle.std.specs.List.{list_all}
+use Rattle.std.proofs.lemmas.List.Folds.{list_all-append}
+use Rattle.bp_plain.specs.Calls.{Call}
+use Rattle.bp_plain.specs.Calls.Call.{create, mkdir, unlink, rmdir, list, stat, read, write, truncate, rename, link, links, upgrade, snap, unsnap, snap_list, snap_stat, snap_read, batch}
+use Rattle.bp_script.specs.Export.{IsOneLine, IsSpelled, IsWord, call_line, path_word}
+use Rattle.bp_script.specs.Texts.{digits_or_dash}
+use Rattle.bp_script.proofs.CallLines.{all_from, both_true, dash_whole, decimal_whole, is_inner, is_whole, path_whole}
+
+word_line : (word : List ℕ) → is_whole word ≡ true → IsOneLine word
+word_line word whole = all_from is_inner (λ b. not (b == 10)) (λ b inner. first_so (not (b == 10)) (not (b == 32)) inner) word whole
+
+both : (xs ys : List ℕ) → IsOneLine xs → IsOneLine ys → IsOneLine (xs ++ ys)
+both xs ys one two = list_all-append (λ b. not (b == 10)) xs ys ∙ both_true _ _ one two
+
+path_line : (text : List ℕ) → IsWord text → IsOneLine (path_word text)
+path_line text word = word_line (path_word text) (path_whole text word.bytes)
+
+-- a word behind another
+behind : (xs ys : List ℕ) → IsOneLine xs → IsOneLine ys → IsOneLine (xs ++ codes " " ++ ys)
+behind xs ys one two = both xs (codes " " ++ ys) one (both (codes " ") ys refl two)
+
+pub one_line : (call : Call) → IsSpelled call → IsOneLine (call_line call)
+one_line (create text) is = both (codes "create ") _ refl (path_line text is)
+one_line (mkdir text) is = both (codes "mkdir ") _ refl (path_line text is)
+one_line (unlink text) is = both (codes "unlink ") _ refl (path_line text is)
+one_line (rmdir text) is = both (codes "rmdir ") _ refl (path_line text is)
+one_line (list text) is = both (codes "list ") _ refl (path_line text is)
+one_line (stat text) is = both (codes "stat ") _ refl (path_line text is)
+one_line (links text) is = both (codes "links ") _ refl (path_line text is)
+one_line (read text off len) is =
+    both (codes "read ") _ refl
+    (behind (path_word text) _ (path_line text is.0) (behind (decimal off) (decimal len) (word_line _ (decimal_whole off is.1)) (word_line _ (decimal_whole len (omega (arith, is.2))))))
+one_line (write text off new) is =
+    both (codes "write ") _ refl
+    (behind (path_word text) _ (path_line text is.0) (behind (decimal off) (digits_or_dash new) (word_line _ (decimal_whole off is.1)) (word_line _ (dash_whole new is.2))))
+one_line (truncate text size) is = both (codes "truncate ") _ refl (behind (path_word text) (decimal size) (path_line text is.0) (word_line _ (decimal_whole size is.1)))
+one_line (rename from to) is = both (codes "rename ") _ refl (behind (path_word from) (path_word to) (path_line from is.0) (path_line to is.1))
+one_line (link from to) is = both (codes "link ") _ refl (behind (path_word from) (path_word to) (path_line from is.0) (path_line to is.1))
+one_line upgrade is = refl
+one_line snap is = absurd is
+one_line unsnap is = absurd is
+one_line (snap_list text) is = absurd is
+one_line (snap_stat text) is = absurd is
+one_line (snap_read text off len) is = absurd is
+one_line (batch pieces) is = absurd is

@@ -1,0 +1,14 @@
+use Rattle.std.proofs.Common.{refl}
+use Rattle.bp_shell.proofs.OpeningLaws.{counted}
+use Rattle.bp_shell.proofs.checking.survey.Goals as goal
+
+pub returns-clause-clean : goal.returns-clause-clean
+returns-clause-clean c =
+    let found = c.in_ok-scan_image.ensures.found in
+    record {
+      totals = c.in_ok-scan_image.value.totals;
+      free = c.count.result;
+      holds = found.held;
+      leaves = counted c.args.region.now.base _ c.count.result found.whole.no_second found.free found.block_room c.count.ensures;
+      line = refl;
+    }

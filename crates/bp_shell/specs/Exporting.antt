@@ -1,0 +1,88 @@
+-- What `export FILE` answers, and when.
+use Rattle.std.specs.Prelude.{Some, ◌≡◌, ◌⊎◌, ℕ, List, Option}
+use Rattle.std.specs.Io.KnownBytes.{Appends}
+use Rattle.bp_export.specs.Exports.{TakesFront}
+use Rattle.bp_io.specs.Causes.{Rose}
+use Rattle.bp_io.specs.Files.{Known}
+use Rattle.bp_layout.specs.Bytes.{image_bytes}
+use Rattle.bp_layout.specs.Whole.{IsFileSystem}
+use Rattle.bp_layout.specs.Words.{Image}
+use Rattle.bp_plain.specs.Export.{HasShortPaths}
+use Rattle.bp_plain.specs.PlainTree.{FileTree}
+use Rattle.bp_plain.specs.Stands.{Stands}
+use Rattle.bp_replies.specs.Taking.{TakesPart}
+use Rattle.bp_script.specs.Export.{export_text}
+use Rattle.bp_script.specs.Sayings.{notice_text}
+use Rattle.bp_script.specs.declared.notices.Notice.{Notice}
+use Rattle.bp_script.specs.declared.notices.Notice.TheVariants.{NoFile, Deep}
+use Rattle.bp_session.specs.Files.{AreWordsOf64Bits, IsAbsent}
+use Rattle.bp_session.specs.Outside.{Outside, FilesFailed, SinkFailed}
+use Rattle.bp_session.specs.Outside.{IsFirstFault, IsIdle, IsUntouched, Prints, TellsLine}
+use Rattle.bp_shell.specs.Opening.{HoldsFileSystem, RefusesFile}
+use Rattle.bp_shell.specs.declared.status.Status.{Status}
+use Rattle.bp_shell.specs.declared.status.Status.TheVariants as status
+
+-- ---- a tree
+
+-- What is told of a tree, by how that ends: its script; a front of it for want of memory, or a proper front where the sink
+-- failed; and where some path is longer than a call can spell, nothing but the line that says so.
+abbrev pub TellsTree : FileTree → Status → Option (List ℕ) → Option (List ℕ) → ℕ → ℕ → Type 0
+TellsTree tree status.Done taken taken_now faults faults_now =
+    HasShortPaths tree × Appends taken taken_now (export_text tree) × (faults_now ≡ faults)
+TellsTree tree status.Memory taken taken_now faults faults_now =
+    HasShortPaths tree × TakesFront (export_text tree) taken taken_now × (faults_now ≡ faults)
+TellsTree tree status.SinkFailed taken taken_now faults faults_now =
+    HasShortPaths tree × TakesPart (export_text tree) taken taken_now × Rose faults faults_now
+TellsTree tree status.Deep taken taken_now faults faults_now =
+    (¬ HasShortPaths tree) × Prints (notice_text Deep) taken taken_now faults faults_now
+TellsTree tree _ taken taken_now faults faults_now = ⊥
+
+-- ---- a file
+
+-- FILE holds a file system, which stands for this tree.
+pub record HoldsTree (known : Known) (tree : FileTree) : Type 0 where
+  pub image : Image
+  pub found : HoldsFileSystem known image
+  pub stands : Stands image tree
+
+-- .. each of whose paths a call can spell: this is the script that makes it.
+pub record Exports (known : Known) (text : List ℕ) : Type 0 where
+  pub tree : FileTree
+  pub holds : HoldsTree known tree
+  pub short : HasShortPaths tree
+  pub told : text ≡ export_text tree
+
+-- .. or not.
+pub record HoldsDeep (known : Known) : Type 0 where
+  pub tree : FileTree
+  pub holds : HoldsTree known tree
+  pub deep : ¬ HasShortPaths tree
+
+-- A front of that script was taken, which may be all of it.
+pub record ExportsFront (before after : Outside) : Type 0 where
+  pub text : List ℕ
+  pub exports : Exports before.file text
+  pub takes : TakesFront text before.taken after.taken
+
+-- Where FILE is told to have the bytes of a file system, and nothing fails, the status is 0, or 8 for want of memory, or 9
+-- by its cause.
+abbrev pub IsExportComplete : ℕ → Outside → Outside → Type 0
+IsExportComplete status before after =
+    (image : Image) → before.file ≡ Some (Some (image_bytes image)) → AreWordsOf64Bits image
+    → IsFileSystem image → ¬ SinkFailed before after → ¬ FilesFailed before after
+    → (status ≡ 0) ⊎ (status ≡ 8) ⊎ (status ≡ 9)
+
+-- What `export FILE` answers, and when. It reads no input, and FILE stays as it is.
+pub record ExportOutcome (status : ℕ) (before after : Outside) : Type 0 where
+  pub whole : status ≡ 0 → (text : List ℕ) × Exports before.file text × Appends before.taken after.taken text
+  pub missing : status ≡ 1 → IsAbsent before.file × TellsLine NoFile before after
+  pub sink : status ≡ 4 → (text : List ℕ) × Exports before.file text × TakesPart text before.taken after.taken
+  pub files : status ≡ 5 → IsIdle before after
+  pub refused : status ≡ 7 → (notice : Notice) × RefusesFile before.file notice × TellsLine notice before after
+  pub memory : status ≡ 8 → IsIdle before after ⊎ ExportsFront before after
+  pub deep : status ≡ 9 → HoldsDeep before.file × TellsLine Deep before after
+  pub untouched : IsUntouched before after
+  pub flushed : after.is_flushed ≡ before.is_flushed
+  pub first : IsFirstFault status before.faults after.faults
+  pub complete : IsExportComplete status before after
+  pub one_of : (status ≡ 0) ⊎ (status ≡ 1) ⊎ (status ≡ 4) ⊎ (status ≡ 5) ⊎ (status ≡ 7) ⊎ (status ≡ 8) ⊎ (status ≡ 9)

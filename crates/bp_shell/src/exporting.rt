@@ -1,0 +1,89 @@
+//! The program `export`.
+
+ghost use Rattle.bp_layout.specs.Names.{AreCounts};
+ghost use Rattle.bp_layout.specs.Whole.{IsFileSystem};
+ghost use Rattle.bp_layout.specs.Words.{block_count};
+ghost use Rattle.bp_limits.specs.Limits.{block_inodes};
+ghost use Rattle.bp_plain.specs.PlainTree.{FileTree};
+ghost use Rattle.bp_plain.specs.Stands.{Stands};
+ghost use Rattle.bp_session.specs.Outside.{outside};
+ghost use Rattle.bp_shell.specs.Exporting.{ExportOutcome, TellsTree};
+ghost use Rattle.bp_shell.specs.Opening.{HoldsFileSystem, OnlyReads};
+ghost use Rattle.bp_shell.specs.Scanning.{IsScanned};
+ghost use Rattle.bp_shell.specs.Statuses.{code_of};
+ghost use Rattle.bp_shell.specs.Stops.{HasStopCause, IsReason};
+ghost use Rattle.std.specs.Prelude.{◌*◌, ◌≡◌, ℕ, [], IfErr, IfOk, List, Option, length};
+
+use crate::opening::load_file;
+use crate::printing::{tell_notice, tell_stop};
+use crate::scanning::{Scanned, scan_image};
+use crate::status::Status;
+use crate::stop::Stop;
+use bp_export::{Fault, export};
+use bp_free::Counts;
+use bp_io::{Access, Files, Sink};
+use bp_script::Notice;
+use pm_raw::RawRegion;
+use std::alloc::Global;
+
+/// Tells the script that makes the tree of a file system, where calls can spell its paths. `counts` says how many names each
+/// inode has.
+fn tell_tree<K: Sink>(alloc: Global, region: &RawRegion, counts: &Counts, out: &mut K) -> Status
+    requires fresh { region.now.events ≡ [] }
+    requires whole { IsFileSystem region.now.base }
+    requires counts { AreCounts region.now.base counts.now }
+    requires inodes { length counts.now ≡ block_inodes * block_count region.now.base }
+    ensures { (tree : FileTree) → Stands region.now.base tree →
+        TellsTree tree result (K.taken out.old) (K.taken out.new) (K.faults out.old) (K.faults out.new) }
+{
+    match export(alloc, region, counts, out) {
+        Ok(()) => Status::Done,
+        Err(Fault::Memory) => Status::Memory,
+        Err(Fault::Sink) => Status::SinkFailed,
+        Err(Fault::Deep) => {
+            tell_notice(&Notice::Deep, out);
+            Status::Deep
+        }
+    }
+}
+
+/// Reads the file of a name, and scans its words.
+fn examine<F: Files>(
+    alloc: Global,
+    name: &str,
+    files: &mut F,
+) -> Result<(RawRegion, Scanned), Stop>
+    ensures holds { IfOk result (λ found. HoldsFileSystem ((F.view files.old).contents name.now) found.0.base) }
+    ensures fresh { IfOk result (λ found. found.0.events ≡ []) }
+    ensures scanned { IfOk result
+        (λ found. IsScanned found.0.base found.1.sets.blocks found.1.sets.counts found.1.totals) }
+    ensures reason { IfErr result (IsReason ((F.view files.old).contents name.now)) }
+    ensures cause { HasStopCause (F.view files.old).faults (F.view files.new).faults result }
+    ensures reads { OnlyReads name.now (F.view files.old) (F.view files.new) }
+    ensures flushed { (F.view files.new).is_flushed ≡ (F.view files.old).is_flushed }
+{
+    let region = load_file(alloc, name, Access::Read, files)?;
+    let scanned = scan_image(alloc, &region)?;
+    Ok((region, scanned))
+}
+
+/// Writes the script that makes the tree of the file of a name, which is read alone. It answers how that ended: `Done` where
+/// the whole script was taken, `Missing` where the file is not there, `SinkFailed`, `FilesFailed`, `Refused`, `Memory`, which
+/// may come behind a front of the script, or `Deep`, before any of it, where calls can't spell some path.
+pub(crate) fn export_file<K: Sink, F: Files>(
+    alloc: Global,
+    name: &str,
+    out: &mut K,
+    files: &mut F,
+) -> Status
+    // Whatever a source has left.
+    ensures outcome { (left : Option (List ℕ)) (reads : ℕ) → ExportOutcome (code_of result)
+        (outside left reads (K.taken out.old) (K.faults out.old) (F.view files.old) name.now)
+        (outside left reads (K.taken out.new) (K.faults out.new) (F.view files.new) name.now) }
+    ensures reads { OnlyReads name.now (F.view files.old) (F.view files.new) }
+{
+    match examine(alloc, name, files) {
+        Ok((region, scanned)) => tell_tree(alloc, &region, &scanned.sets.counts, out),
+        Err(stop) => tell_stop(stop, out),
+    }
+}

@@ -1,0 +1,80 @@
+//! The scan of an image.
+
+ghost use Rattle.bp_io.specs.Files.{Known};
+ghost use Rattle.bp_layout.specs.Formatted.{IsSized};
+ghost use Rattle.bp_layout.specs.Words.{block_count};
+ghost use Rattle.bp_limits.specs.Limits.{block_inodes};
+ghost use Rattle.bp_script.specs.declared.notices.Notice.{Notice};
+ghost use Rattle.bp_session.specs.Files.{HasImage};
+ghost use Rattle.bp_shell.specs.Opening.{RefusesFile};
+ghost use Rattle.bp_shell.specs.Scanning.{IsScanned};
+ghost use Rattle.bp_shell.specs.declared.stop.Stop.TheVariants.{Memory, Refused};
+ghost use Rattle.std.specs.Prelude.{◌*◌, ◌≡◌, ◌⊎◌, [], IfErr, IfOk, length};
+
+use crate::opening::stop_of;
+use crate::stop::Stop;
+use bp_limits::BLOCK_WORDS;
+use bp_scan::{Totals, scan};
+use bp_volume::Sets;
+use pm_raw::RawRegion;
+use pm_region::Region;
+use std::alloc::Global;
+
+/// What a scan found of a file system.
+#[derive(Drop)]
+pub(crate) struct Scanned {
+    /// Its free blocks, and how many names each inode has.
+    pub(crate) sets: Sets,
+    /// What it holds in all.
+    pub(crate) totals: Totals,
+}
+
+/// Scans an image with these sets.
+fn scan_with(region: &RawRegion, sets: &mut Sets) -> Result<Totals, Stop>
+    requires fresh { region.now.events ≡ [] }
+    requires sized { IsSized region.now.base }
+    requires blocks { length sets.old.blocks ≡ block_count region.now.base }
+    requires inodes { length sets.old.inodes ≡ block_inodes * block_count region.now.base }
+    requires counts { length sets.old.counts ≡ block_inodes * block_count region.now.base }
+    requires pending { sets.old.pending ≡ block_inodes * block_count region.now.base }
+    ensures found { IfOk result (λ totals. IsScanned region.now.base sets.new.blocks sets.new.counts totals) }
+    ensures refused { IfErr result (λ stop. (known : Known) (notice : Notice) → HasImage known region.now.base →
+        stop ≡ Refused notice → RefusesFile known notice) }
+    ensures kinds { IfErr result (λ stop. ((notice : Notice) × (stop ≡ Refused notice)) ⊎ (stop ≡ Memory)) }
+{
+    let Sets {
+        blocks,
+        inodes,
+        counts,
+        pending,
+        ..
+    } = sets;
+    match scan(region, blocks, inodes, pending, counts) {
+        Ok(totals) => Ok(totals),
+        Err(fault) => Err(stop_of(fault)),
+    }
+}
+
+/// Scans an image.
+///
+/// # Errors
+///
+/// `Refused` where it is no file system, and why; `Memory` where there is no memory for the scan.
+pub(crate) fn scan_image(alloc: Global, region: &RawRegion) -> Result<Scanned, Stop>
+    requires fresh { region.now.events ≡ [] }
+    requires sized { IsSized region.now.base }
+    ensures found { IfOk result
+        (λ found. IsScanned region.now.base found.sets.blocks found.sets.counts found.totals) }
+    ensures refused { IfErr result (λ stop. (known : Known) (notice : Notice) → HasImage known region.now.base →
+        stop ≡ Refused notice → RefusesFile known notice) }
+    ensures kinds { IfErr result (λ stop. ((notice : Notice) × (stop ≡ Refused notice)) ⊎ (stop ≡ Memory)) }
+{
+    let mut sets = match Sets::new(alloc, region.words() / BLOCK_WORDS) {
+        Ok(sets) => sets,
+        Err(_) => return Err(Stop::Memory),
+    };
+    match scan_with(region, &mut sets) {
+        Ok(totals) => Ok(Scanned { sets, totals }),
+        Err(stop) => Err(stop),
+    }
+}

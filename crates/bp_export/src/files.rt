@@ -82,9 +82,8 @@ fn export_leaves<R: Region, K: Sink>(
     let mut told = 0;
     let mut from = 0;
     while let Some(leaf) = next_leaf(region, tree, from) {
-        if let Some(end) = export_stretch(region, tree, leaf, path, block, replies, out)? {
-            told = end;
-        }
+        let end = export_stretch(region, tree, leaf, path, block, replies, out)?;
+        told = end.unwrap_or(told);
         from = leaf + 1;
     }
     Ok(told)

@@ -9,7 +9,6 @@ mod fault;
 mod files;
 mod firsts;
 mod rows;
-mod standing;
 mod telling;
 mod trees;
 mod work;

@@ -8,3 +8,5 @@ pub mod SinglePaths
 pub mod FirstTexts
 pub mod Places
 pub mod GoingLaws
+pub mod TreeLaws
+pub mod EndLaws

@@ -28,7 +28,7 @@ pub stretch_is : (image : Image) (root size k n : ℕ) → block_size * k < size
 stretch_is image root size k n live is =
     let bytes : List ℕ = content image root size in
     let count : n ≡ min 4096 (length (drop (4096 * k) (content image root size))) =
-        is ∙ ap (λ m. min 4096 m) (sym (length-drop (4096 * k) (content image root size) ∙ ap (λ m. m - 4096 * k) (length_content image root size))) in
+    is ∙ ap (λ m. min 4096 m) (sym (length-drop (4096 * k) (content image root size) ∙ ap (λ m. m - 4096 * k) (length_content image root size))) in
     content_part-is image root size (4096 * k) n (omega (arith, live, is))
     ∙ ap (λ m. take m (drop (4096 * k) (content image root size))) count
     ∙ sym (take_least 4096 (drop (4096 * k) (content image root size)))

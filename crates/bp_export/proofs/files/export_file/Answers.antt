@@ -31,8 +31,8 @@ returns-in_err-told-clause-lines g c =
     let bytes = content (current_words (g.R.Region.memory c.args.region.now)) c.args.tree.root c.args.tree.size in
     let p = err_from_is_err_and c.from_residual-in_err-told.result c.from_residual-in_err-told.ensures.1 in
     rw p.1 (
-      fails_before _ _ (create c.args.path.now ∷ writes_of c.args.path.now bytes) (size_of c.args.path.now bytes) _ _ _ _ _ _ _
-      (tells_then _ _ (create c.args.path.now ∷ []) (writes_of c.args.path.now bytes) _ _ _ _ _ _ _ _ _ c.in_ok-tell.ensures c.in_err-told.ensures.lines)
+    fails_before _ _ (create c.args.path.now ∷ writes_of c.args.path.now bytes) (size_of c.args.path.now bytes) _ _ _ _ _ _ _
+    (tells_then _ _ (create c.args.path.now ∷ []) (writes_of c.args.path.now bytes) _ _ _ _ _ _ _ _ _ c.in_ok-tell.ensures c.in_err-told.ensures.lines)
     )
 
 pub export_size-requires : goal.export_size-requires
@@ -40,7 +40,7 @@ export_size-requires g c =
     let bytes = content (current_words (g.R.Region.memory c.args.region.now)) c.args.tree.root c.args.tree.size in
     subst (All FitsText) (sym c.in_ok-told.ensures.told)
     (all_back FitsText (writes_of c.args.path.now bytes) (size_of c.args.path.now bytes)
-        (all_back FitsText (create c.args.path.now ∷ []) (writes_of c.args.path.now bytes ++ size_of c.args.path.now bytes) c.requires.short))
+    (all_back FitsText (create c.args.path.now ∷ []) (writes_of c.args.path.now bytes ++ size_of c.args.path.now bytes) c.requires.short))
 
 pub returns-clause-lines : goal.returns-clause-lines
 returns-clause-lines g c =

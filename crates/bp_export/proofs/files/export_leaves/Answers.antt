@@ -27,11 +27,11 @@ returns-in_err-end-clause-lines g c =
     let p = err_from_is_err_and c.from_residual.result c.from_residual.ensures.1 in
     let next = c.in-Some.ensures.some in
     rw p.1 (
-      tells_same _ _ _ _ _ _ _ _ _
-      (written_whole c.args.path.now bytes c.loop-leaf.from c.in-Some.leaf next.behind (live_stretch image c.args.tree.root c.args.tree.size c.in-Some.leaf next.live)
-          (zeros_before image c.args.tree.root c.args.tree.size c.loop-leaf.from c.in-Some.leaf next))
-      (fails_before _ _ (writes_until c.args.path.now bytes c.loop-leaf.from ++ write_of c.args.path.now bytes c.in-Some.leaf) (behind c.args.path.now bytes c.in-Some.leaf) _ _ _ _ _ _ _
-          (tells_then _ _ (writes_until c.args.path.now bytes c.loop-leaf.from) (write_of c.args.path.now bytes c.in-Some.leaf) _ _ _ _ _ _ _ _ _ c.loop-leaf.invariant.lines c.in_err-end.ensures.lines))
+    tells_same _ _ _ _ _ _ _ _ _
+    (written_whole c.args.path.now bytes c.loop-leaf.from c.in-Some.leaf next.behind (live_stretch image c.args.tree.root c.args.tree.size c.in-Some.leaf next.live)
+    (zeros_before image c.args.tree.root c.args.tree.size c.loop-leaf.from c.in-Some.leaf next))
+    (fails_before _ _ (writes_until c.args.path.now bytes c.loop-leaf.from ++ write_of c.args.path.now bytes c.in-Some.leaf) (behind c.args.path.now bytes c.in-Some.leaf) _ _ _ _ _ _ _
+    (tells_then _ _ (writes_until c.args.path.now bytes c.loop-leaf.from) (write_of c.args.path.now bytes c.in-Some.leaf) _ _ _ _ _ _ _ _ _ c.loop-leaf.invariant.lines c.in_err-end.ensures.lines))
     )
 
 pub loop-leaf-smaller : goal.loop-leaf-smaller
@@ -48,8 +48,8 @@ loop-leaf-preserved g c =
       lines =
           tells_as _ _ _ _ _ _ _ _ _
           (tells_same _ _ _ _ _ _ _ _ _
-              (sym (written_to c.args.path.now bytes c.loop-leaf.from c.in-Some.leaf next.behind (zeros_before image c.args.tree.root c.args.tree.size c.loop-leaf.from c.in-Some.leaf next)))
-              (tells_then _ _ (writes_until c.args.path.now bytes c.loop-leaf.from) (write_of c.args.path.now bytes c.in-Some.leaf) _ _ _ _ _ _ _ _ _ c.loop-leaf.invariant.lines c.in_ok-end.ensures.lines));
+          (sym (written_to c.args.path.now bytes c.loop-leaf.from c.in-Some.leaf next.behind (zeros_before image c.args.tree.root c.args.tree.size c.loop-leaf.from c.in-Some.leaf next)))
+          (tells_then _ _ (writes_until c.args.path.now bytes c.loop-leaf.from) (write_of c.args.path.now bytes c.in-Some.leaf) _ _ _ _ _ _ _ _ _ c.loop-leaf.invariant.lines c.in_ok-end.ensures.lines));
       told =
           subst (ToldTo bytes (c.in-Some.leaf + 1)) (sym c.unwrap_or-told.ensures)
           (told_next bytes c.loop-leaf.from c.in-Some.leaf c.loop-leaf.told c.args.tree.size _ (length_content image c.args.tree.root c.args.tree.size) next.live c.loop-leaf.invariant.told c.in_ok-end.ensures.told);
@@ -70,5 +70,5 @@ returns-clause-lines g c =
     let bytes = content image c.args.tree.root c.args.tree.size in
     tells_as _ _ _ _ _ _ _ _ _
     (tells_same _ _ _ _ _ _ _ _ _
-        (sym (passed_to c.args.path.now bytes c.loop-leaf.from (stretches bytes) c.loop-leaf.invariant.low (zeros_left image c.args.tree.root c.args.tree.size c.loop-leaf.from c.in_default.ensures.none)))
-        c.loop-leaf.invariant.lines)
+    (sym (passed_to c.args.path.now bytes c.loop-leaf.from (stretches bytes) c.loop-leaf.invariant.low (zeros_left image c.args.tree.root c.args.tree.size c.loop-leaf.from c.in_default.ensures.none)))
+    c.loop-leaf.invariant.lines)

@@ -1,5 +1,5 @@
 -- Words ask for at most one program.
-use Rattle.std.proofs.Common.{◌≡◌, ℕ, List, Some, sym, ◌∙◌, ap, ap₂, subst}
+use Rattle.std.proofs.Common.{◌≡◌, ℕ, List, Some, refl, sym, ◌∙◌, ap, ap₂, subst}
 use Rattle.std.specs.Prelude.{codes}
 use Rattle.std.specs.Str.Parse.{digits_value, without_leading_plus}
 use Rattle.clap.specs.Words.{Row, Text}
@@ -7,6 +7,7 @@ use Rattle.bp_limits.specs.Numbers.{version_numbered}
 use Rattle.bp_limits.specs.declared.version.Version.{Version}
 use Rattle.bp_command.specs.Programs.{AsksForVersion, GivesNumber, Names, Program, Requests}
 use Rattle.bp_command.specs.Programs.Program.{formats, runs, checks, plays, exports}
+use Rattle.bp_command.proofs.Apart.{apart}
 
 inside : {A : Type 0} {x y : A} → Some x ≡ Some y → x ≡ y
 inside e = cc
@@ -22,31 +23,31 @@ module _ (rows : List Row) where
   named_once : (verb : Text) (program other : Program) → Names verb rows program → Names verb rows other → other ≡ program
   named_once verb (formats n b v) (formats m c w) first second =
       ap (λ (name : Text). formats name c w) (inside (sym second.1 ∙ first.1)) ∙ ap₂ (formats n) (number_once _ _ _ _ _ first.2 second.2) (version_once _ _ first.3 second.3)
-  named_once verb (formats n b v) (runs m) first second = absurd (let no : codes "format" ≡ codes "run" = sym first.0 ∙ second.0 in cc)
-  named_once verb (formats n b v) (checks m) first second = absurd (let no : codes "format" ≡ codes "check" = sym first.0 ∙ second.0 in cc)
-  named_once verb (formats n b v) (plays m s c) first second = absurd (let no : codes "format" ≡ codes "play" = sym first.0 ∙ second.0 in cc)
-  named_once verb (formats n b v) (exports m) first second = absurd (let no : codes "format" ≡ codes "export" = sym first.0 ∙ second.0 in cc)
+  named_once verb (formats n b v) (runs m) first second = absurd (apart (codes "format") (codes "run") refl (sym first.0 ∙ second.0))
+  named_once verb (formats n b v) (checks m) first second = absurd (apart (codes "format") (codes "check") refl (sym first.0 ∙ second.0))
+  named_once verb (formats n b v) (plays m s c) first second = absurd (apart (codes "format") (codes "play") refl (sym first.0 ∙ second.0))
+  named_once verb (formats n b v) (exports m) first second = absurd (apart (codes "format") (codes "export") refl (sym first.0 ∙ second.0))
   named_once verb (runs n) (runs m) first second = ap runs (inside (sym second.1 ∙ first.1))
-  named_once verb (runs n) (formats m c w) first second = absurd (let no : codes "run" ≡ codes "format" = sym first.0 ∙ second.0 in cc)
-  named_once verb (runs n) (checks m) first second = absurd (let no : codes "run" ≡ codes "check" = sym first.0 ∙ second.0 in cc)
-  named_once verb (runs n) (plays m s c) first second = absurd (let no : codes "run" ≡ codes "play" = sym first.0 ∙ second.0 in cc)
-  named_once verb (runs n) (exports m) first second = absurd (let no : codes "run" ≡ codes "export" = sym first.0 ∙ second.0 in cc)
+  named_once verb (runs n) (formats m c w) first second = absurd (apart (codes "run") (codes "format") refl (sym first.0 ∙ second.0))
+  named_once verb (runs n) (checks m) first second = absurd (apart (codes "run") (codes "check") refl (sym first.0 ∙ second.0))
+  named_once verb (runs n) (plays m s c) first second = absurd (apart (codes "run") (codes "play") refl (sym first.0 ∙ second.0))
+  named_once verb (runs n) (exports m) first second = absurd (apart (codes "run") (codes "export") refl (sym first.0 ∙ second.0))
   named_once verb (checks n) (checks m) first second = ap checks (inside (sym second.1 ∙ first.1))
-  named_once verb (checks n) (formats m c w) first second = absurd (let no : codes "check" ≡ codes "format" = sym first.0 ∙ second.0 in cc)
-  named_once verb (checks n) (runs m) first second = absurd (let no : codes "check" ≡ codes "run" = sym first.0 ∙ second.0 in cc)
-  named_once verb (checks n) (plays m s c) first second = absurd (let no : codes "check" ≡ codes "play" = sym first.0 ∙ second.0 in cc)
-  named_once verb (checks n) (exports m) first second = absurd (let no : codes "check" ≡ codes "export" = sym first.0 ∙ second.0 in cc)
+  named_once verb (checks n) (formats m c w) first second = absurd (apart (codes "check") (codes "format") refl (sym first.0 ∙ second.0))
+  named_once verb (checks n) (runs m) first second = absurd (apart (codes "check") (codes "run") refl (sym first.0 ∙ second.0))
+  named_once verb (checks n) (plays m s c) first second = absurd (apart (codes "check") (codes "play") refl (sym first.0 ∙ second.0))
+  named_once verb (checks n) (exports m) first second = absurd (apart (codes "check") (codes "export") refl (sym first.0 ∙ second.0))
   named_once verb (plays n s c) (plays m t d) first second =
       ap (λ (name : Text). plays name t d) (inside (sym second.1 ∙ first.1)) ∙ ap₂ (plays n) (number_once _ _ _ _ _ first.2 second.2) (number_once _ _ _ _ _ first.3 second.3)
-  named_once verb (plays n s c) (formats m b w) first second = absurd (let no : codes "play" ≡ codes "format" = sym first.0 ∙ second.0 in cc)
-  named_once verb (plays n s c) (runs m) first second = absurd (let no : codes "play" ≡ codes "run" = sym first.0 ∙ second.0 in cc)
-  named_once verb (plays n s c) (checks m) first second = absurd (let no : codes "play" ≡ codes "check" = sym first.0 ∙ second.0 in cc)
-  named_once verb (plays n s c) (exports m) first second = absurd (let no : codes "play" ≡ codes "export" = sym first.0 ∙ second.0 in cc)
+  named_once verb (plays n s c) (formats m b w) first second = absurd (apart (codes "play") (codes "format") refl (sym first.0 ∙ second.0))
+  named_once verb (plays n s c) (runs m) first second = absurd (apart (codes "play") (codes "run") refl (sym first.0 ∙ second.0))
+  named_once verb (plays n s c) (checks m) first second = absurd (apart (codes "play") (codes "check") refl (sym first.0 ∙ second.0))
+  named_once verb (plays n s c) (exports m) first second = absurd (apart (codes "play") (codes "export") refl (sym first.0 ∙ second.0))
   named_once verb (exports n) (exports m) first second = ap exports (inside (sym second.1 ∙ first.1))
-  named_once verb (exports n) (formats m b w) first second = absurd (let no : codes "export" ≡ codes "format" = sym first.0 ∙ second.0 in cc)
-  named_once verb (exports n) (runs m) first second = absurd (let no : codes "export" ≡ codes "run" = sym first.0 ∙ second.0 in cc)
-  named_once verb (exports n) (checks m) first second = absurd (let no : codes "export" ≡ codes "check" = sym first.0 ∙ second.0 in cc)
-  named_once verb (exports n) (plays m s c) first second = absurd (let no : codes "export" ≡ codes "play" = sym first.0 ∙ second.0 in cc)
+  named_once verb (exports n) (formats m b w) first second = absurd (apart (codes "export") (codes "format") refl (sym first.0 ∙ second.0))
+  named_once verb (exports n) (runs m) first second = absurd (apart (codes "export") (codes "run") refl (sym first.0 ∙ second.0))
+  named_once verb (exports n) (checks m) first second = absurd (apart (codes "export") (codes "check") refl (sym first.0 ∙ second.0))
+  named_once verb (exports n) (plays m s c) first second = absurd (apart (codes "export") (codes "play") refl (sym first.0 ∙ second.0))
 
 pub requested_once : (words : List Text) (program other : Program) → Requests words program → Requests words other → other ≡ program
 requested_once words program other first second =

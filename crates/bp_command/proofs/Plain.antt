@@ -17,6 +17,7 @@ use Rattle.bp_limits.specs.Numbers.{version_numbered}
 use Rattle.bp_limits.specs.declared.version.Version.{Version}
 use Rattle.bp_limits.specs.declared.version.Version.TheVariants.{One, Two}
 use Rattle.bp_command.specs.Programs.{Asks, IsProper, Names, Program, Requests, max_seed, program_words, short_words, version_words}
+use Rattle.bp_command.proofs.Apart.{apart}
 use Rattle.bp_command.proofs.Walking.{Numbers, numbers_of, parts, some_name}
 use Rattle.bp_command.proofs.FormatWords.{met_format, met_short, taken_format, taken_short}
 use Rattle.bp_command.proofs.PlayWords.{met_play, taken_play}
@@ -167,30 +168,30 @@ module _ (called : Text) where
   only_run x xs other h asked = let n = named_by _ (codes "run") (x ∷ xs) (None, None, None, None) other asked.verb asked.rows (met_run called x xs h) asked.is asked.names in go other n.0 n.2
     where
       go : (p : Program) → first_of (codes "FILE") asked.rows ≡ Some (x ∷ xs) → Names (codes "run") asked.rows p → p ≡ runs (x ∷ xs)
-      go (formats name blocks version) file n = let no : codes "run" ≡ codes "format" = n.0 in cc
+      go (formats name blocks version) file n = absurd (apart (codes "run") (codes "format") refl n.0)
       go (runs name) file n = ap runs (inside (sym n.1 ∙ file))
-      go (checks name) file n = let no : codes "run" ≡ codes "check" = n.0 in cc
-      go (plays name seed count) file n = let no : codes "run" ≡ codes "play" = n.0 in cc
-      go (exports name) file n = let no : codes "run" ≡ codes "export" = n.0 in cc
+      go (checks name) file n = absurd (apart (codes "run") (codes "check") refl n.0)
+      go (plays name seed count) file n = absurd (apart (codes "run") (codes "play") refl n.0)
+      go (exports name) file n = absurd (apart (codes "run") (codes "export") refl n.0)
 
   only_check : (x : ℕ) (xs : Text) (other : Program) → nat_eq x 45 ≡ false → Requests (called ∷ codes "check" ∷ (x ∷ xs) ∷ []) other → other ≡ checks (x ∷ xs)
   only_check x xs other h asked = let n = named_by _ (codes "check") (x ∷ xs) (None, None, None, None) other asked.verb asked.rows (met_check called x xs h) asked.is asked.names in go other n.0 n.2
     where
       go : (p : Program) → first_of (codes "FILE") asked.rows ≡ Some (x ∷ xs) → Names (codes "check") asked.rows p → p ≡ checks (x ∷ xs)
-      go (formats name blocks version) file n = let no : codes "check" ≡ codes "format" = n.0 in cc
-      go (runs name) file n = let no : codes "check" ≡ codes "run" = n.0 in cc
+      go (formats name blocks version) file n = absurd (apart (codes "check") (codes "format") refl n.0)
+      go (runs name) file n = absurd (apart (codes "check") (codes "run") refl n.0)
       go (checks name) file n = ap checks (inside (sym n.1 ∙ file))
-      go (plays name seed count) file n = let no : codes "check" ≡ codes "play" = n.0 in cc
-      go (exports name) file n = let no : codes "check" ≡ codes "export" = n.0 in cc
+      go (plays name seed count) file n = absurd (apart (codes "check") (codes "play") refl n.0)
+      go (exports name) file n = absurd (apart (codes "check") (codes "export") refl n.0)
 
   only_export : (x : ℕ) (xs : Text) (other : Program) → nat_eq x 45 ≡ false → Requests (called ∷ codes "export" ∷ (x ∷ xs) ∷ []) other → other ≡ exports (x ∷ xs)
   only_export x xs other h asked = let n = named_by _ (codes "export") (x ∷ xs) (None, None, None, None) other asked.verb asked.rows (met_export called x xs h) asked.is asked.names in go other n.0 n.2
     where
       go : (p : Program) → first_of (codes "FILE") asked.rows ≡ Some (x ∷ xs) → Names (codes "export") asked.rows p → p ≡ exports (x ∷ xs)
-      go (formats name blocks version) file n = let no : codes "export" ≡ codes "format" = n.0 in cc
-      go (runs name) file n = let no : codes "export" ≡ codes "run" = n.0 in cc
-      go (checks name) file n = let no : codes "export" ≡ codes "check" = n.0 in cc
-      go (plays name seed count) file n = let no : codes "export" ≡ codes "play" = n.0 in cc
+      go (formats name blocks version) file n = absurd (apart (codes "export") (codes "format") refl n.0)
+      go (runs name) file n = absurd (apart (codes "export") (codes "run") refl n.0)
+      go (checks name) file n = absurd (apart (codes "export") (codes "check") refl n.0)
+      go (plays name seed count) file n = absurd (apart (codes "export") (codes "play") refl n.0)
       go (exports name) file n = ap exports (inside (sym n.1 ∙ file))
 
   -- a format of these values asks for these numbers
@@ -201,10 +202,10 @@ module _ (called : Text) where
       let digits : n.3.gives.digits ≡ digit = inside (sym n.3.gives.given ∙ named) in
       let one : asked ≡ version = n.3.is ∙ ap version_numbered (sym n.3.gives.value ∙ ap (λ (t : Text). digits_value 10 (without_leading_plus t)) digits) ∙ value in
       ap (λ (m : Text). formats m given asked) (inside (sym n.1 ∙ file)) ∙ ap₂ (formats (x ∷ xs)) same one
-  values_of_format x blocks xs version rows (runs name) d ds digit are value file number named n = let no : codes "format" ≡ codes "run" = n.0 in cc
-  values_of_format x blocks xs version rows (checks name) d ds digit are value file number named n = let no : codes "format" ≡ codes "check" = n.0 in cc
-  values_of_format x blocks xs version rows (plays name seed count) d ds digit are value file number named n = let no : codes "format" ≡ codes "play" = n.0 in cc
-  values_of_format x blocks xs version rows (exports name) d ds digit are value file number named n = let no : codes "format" ≡ codes "export" = n.0 in cc
+  values_of_format x blocks xs version rows (runs name) d ds digit are value file number named n = absurd (apart (codes "format") (codes "run") refl n.0)
+  values_of_format x blocks xs version rows (checks name) d ds digit are value file number named n = absurd (apart (codes "format") (codes "check") refl n.0)
+  values_of_format x blocks xs version rows (plays name seed count) d ds digit are value file number named n = absurd (apart (codes "format") (codes "play") refl n.0)
+  values_of_format x blocks xs version rows (exports name) d ds digit are value file number named n = absurd (apart (codes "format") (codes "export") refl n.0)
 
   only_format : (x blocks : ℕ) (xs : Text) (version : Version) (other : Program) → nat_eq x 45 ≡ false → 8 ≤ blocks → blocks ≤ 65536 → Requests (all_words x xs (decimal blocks) (version_words version)) other →
       other ≡ formats (x ∷ xs) blocks version
@@ -240,10 +241,10 @@ module _ (called : Text) where
     where
       go : (rows : List Row) (p : Program) (d e : ℕ) (ds es : Text) → AreDigits 0 max_seed seed d ds → AreDigits 0 1000000 count e es → first_of (codes "FILE") rows ≡ Some (x ∷ xs) → one_of (codes "seed") rows ≡ Some (d ∷ ds) →
           one_of (codes "count") rows ≡ Some (e ∷ es) → Names (codes "play") rows p → p ≡ plays (x ∷ xs) seed count
-      go rows (formats name blocks version) d e ds es are these file first second n = let no : codes "play" ≡ codes "format" = n.0 in cc
-      go rows (runs name) d e ds es are these file first second n = let no : codes "play" ≡ codes "run" = n.0 in cc
-      go rows (checks name) d e ds es are these file first second n = let no : codes "play" ≡ codes "check" = n.0 in cc
-      go rows (exports name) d e ds es are these file first second n = let no : codes "play" ≡ codes "export" = n.0 in cc
+      go rows (formats name blocks version) d e ds es are these file first second n = absurd (apart (codes "play") (codes "format") refl n.0)
+      go rows (runs name) d e ds es are these file first second n = absurd (apart (codes "play") (codes "run") refl n.0)
+      go rows (checks name) d e ds es are these file first second n = absurd (apart (codes "play") (codes "check") refl n.0)
+      go rows (exports name) d e ds es are these file first second n = absurd (apart (codes "play") (codes "export") refl n.0)
       go rows (plays name given turns) d e ds es are these file first second n =
           let seeds : given ≡ seed = same_value 0 max_seed seed given d ds n.2.digits are (inside (sym n.2.given ∙ first)) n.2.value in
           let counts : turns ≡ count = same_value 0 1000000 count turns e es n.3.digits these (inside (sym n.3.given ∙ second)) n.3.value in

@@ -25,6 +25,7 @@ use Rattle.clap.specs.declared.parser.matches.ValueSource.{ValueSource}
 use Rattle.clap.specs.declared.parser.matches.ValueSource.TheVariants.{CommandLine, DefaultValue}
 use Rattle.bp_command.specs.Commands.{IsTaken, blocks_rule, bpfs_app, check_app, count_rule, export_app, file_rule, format_app, subcommand_named, play_app, run_app, seed_rule, version_rule}
 use Rattle.bp_command.specs.Programs.{HasValues, IsNamed}
+use Rattle.bp_command.proofs.Apart.{apart}
 
 -- ---- chains of faults, and tests
 
@@ -519,8 +520,8 @@ format_values rows fit check there =
       some = ltb-true 0 (length name.text) (accepted _ _ name.pass);
       blocks = λ _. record { digits = number.text; given = number.one; passes = accepted _ _ number.pass };
       version = λ _. record { digits = version.text; given = version.one; passes = accepted _ _ version.pass };
-      seed = λ e. absurd (let no : codes "format" ≡ codes "play" = e in cc);
-      count = λ e. absurd (let no : codes "format" ≡ codes "play" = e in cc);
+      seed = λ e. absurd (apart (codes "format") (codes "play") refl e);
+      count = λ e. absurd (apart (codes "format") (codes "play") refl e);
     }
 
 -- a subcommand that takes a file's name alone
@@ -539,17 +540,17 @@ named_alone s verb rows program no_format no_play name = record {
 
 run_values : (rows : List Row) → AllFit (built_of run_app.top) rows → check_fault (built_of run_app.top) rows false ≡ [] → HasValues (codes "run") rows
 run_values rows fit check =
-    named_alone (built_of run_app.top) (codes "run") rows (inr (inl refl)) (λ e. let no : codes "run" ≡ codes "format" = e in cc) (λ e. let no : codes "run" ≡ codes "play" = e in cc)
+    named_alone (built_of run_app.top) (codes "run") rows (inr (inl refl)) (apart (codes "run") (codes "format") refl) (apart (codes "run") (codes "play") refl)
     (has_value (built_of run_app.top) (codes "FILE") file_arg rows refl fit (given_there _ rows (first_given (codes "FILE") rows false (last_checks (built_of run_app.top) rows false check).1).0))
 
 check_values : (rows : List Row) → AllFit (built_of check_app.top) rows → check_fault (built_of check_app.top) rows false ≡ [] → HasValues (codes "check") rows
 check_values rows fit check =
-    named_alone (built_of check_app.top) (codes "check") rows (inr (inr (inl refl))) (λ e. let no : codes "check" ≡ codes "format" = e in cc) (λ e. let no : codes "check" ≡ codes "play" = e in cc)
+    named_alone (built_of check_app.top) (codes "check") rows (inr (inr (inl refl))) (apart (codes "check") (codes "format") refl) (apart (codes "check") (codes "play") refl)
     (has_value (built_of check_app.top) (codes "FILE") file_arg rows refl fit (given_there _ rows (first_given (codes "FILE") rows false (last_checks (built_of check_app.top) rows false check).1).0))
 
 export_values : (rows : List Row) → AllFit (built_of export_app.top) rows → check_fault (built_of export_app.top) rows false ≡ [] → HasValues (codes "export") rows
 export_values rows fit check =
-    named_alone (built_of export_app.top) (codes "export") rows (inr (inr (inr (inr refl)))) (λ e. let no : codes "export" ≡ codes "format" = e in cc) (λ e. let no : codes "export" ≡ codes "play" = e in cc)
+    named_alone (built_of export_app.top) (codes "export") rows (inr (inr (inr (inr refl)))) (apart (codes "export") (codes "format") refl) (apart (codes "export") (codes "play") refl)
     (has_value (built_of export_app.top) (codes "FILE") file_arg rows refl fit (given_there _ rows (first_given (codes "FILE") rows false (last_checks (built_of export_app.top) rows false check).1).0))
 
 play_values : (rows : List Row) → AllFit (built_of play_app.top) rows → check_fault (built_of play_app.top) rows false ≡ [] → HasValues (codes "play") rows
@@ -564,8 +565,8 @@ play_values rows fit check =
       name = name.text;
       named = name.first;
       some = ltb-true 0 (length name.text) (accepted _ _ name.pass);
-      blocks = λ e. absurd (let no : codes "play" ≡ codes "format" = e in cc);
-      version = λ e. absurd (let no : codes "play" ≡ codes "format" = e in cc);
+      blocks = λ e. absurd (apart (codes "play") (codes "format") refl e);
+      version = λ e. absurd (apart (codes "play") (codes "format") refl e);
       seed = λ _. record { digits = seed.text; given = seed.one; passes = accepted _ _ seed.pass };
       count = λ _. record { digits = count.text; given = count.one; passes = accepted _ _ count.pass };
     }

@@ -1,13 +1,14 @@
 -- The calls that make a file, told stretch by stretch.
-use Rattle.std.proofs.Common.{◌≡◌, ◌⊎◌, ℕ, zero, suc, ◌+◌, ◌-◌, ◌*◌, ◌/◌, ◌<◌, ◌≤◌, ◌==◌, ◌&&◌, List, [], ◌∷◌, ◌++◌, length, flat_map, Bool, true, false, nat_lt, min, if◌then◌else◌, refl, sym, ◌∙◌, subst, ap, ap₂, arith, inl, inr, true≢false, eq-eqb, append-nil}
+use Rattle.std.proofs.Common.{◌≡◌, ◌⊎◌, ℕ, zero, suc, ◌+◌, ◌-◌, ◌*◌, ◌/◌, ◌<◌, ◌≤◌, ◌==◌, ◌&&◌, List, [], ◌∷◌, ◌++◌, length, flat_map, Bool, true, false, nat_lt, min, Option, None, Some, if◌then◌else◌, refl, sym, ◌∙◌, subst, ap, ap₂, arith, inl, inr, true≢false, eq-eqb, append-nil}
 use Rattle.std.specs.Prelude.{All}
 use Rattle.std.specs.List.{range_with_len}
+use Rattle.std.specs.Option.{unwrap_or}
 use Rattle.std.proofs.lemmas.Bool.{cases_lt, eqb-true, ltb-false, ltb-true}
 use Rattle.std.proofs.lemmas.Grind.{flat_map-append}
 use Rattle.bp_free.proofs.Members.{range_split}
 use Rattle.bp_limits.specs.Limits.{block_size}
 use Rattle.bp_plain.specs.Calls.{Call}
-use Rattle.bp_plain.specs.Calls.Call.{truncate}
+use Rattle.bp_plain.specs.Calls.Call.{truncate, write}
 use Rattle.bp_plain.specs.Export.{is_zeros, size_of, stretch, stretches, write_of, writes_of}
 use Rattle.bp_export.specs.Telling.{size_behind}
 use Rattle.bp_export.proofs.Fronts.{all_back, all_front}
@@ -30,9 +31,12 @@ module _ (text bytes : List ℕ) where
   one_more : (k : ℕ) → writes_until (k + 1) ≡ writes_until k ++ write_of text bytes k
   one_more k = split_at k 1 ∙ ap (λ calls. writes_until k ++ calls) (append-nil (write_of text bytes k))
 
-  -- stretches of zeros have no write
-  no_write : (k : ℕ) → is_zeros (stretch bytes k) ≡ true → write_of text bytes k ≡ []
+  -- a stretch of zeros has no write, and each other one has its own
+  pub no_write : (k : ℕ) → is_zeros (stretch bytes k) ≡ true → write_of text bytes k ≡ []
   no_write k zeros = rw zeros refl
+
+  pub one_write : (k : ℕ) (part : List ℕ) → part ≡ stretch bytes k → is_zeros (stretch bytes k) ≡ false → write text (block_size * k) part ∷ [] ≡ write_of text bytes k
+  one_write k part is other = rw (is, other) refl
 
   passed : (k n : ℕ) → ((j : ℕ) → k ≤ j → j < k + n → is_zeros (stretch bytes j) ≡ true) → writes_until (k + n) ≡ writes_until k
   passed k zero zeros = let same : k + 0 ≡ k = omega arith in ap writes_until same
@@ -51,14 +55,23 @@ module _ (text bytes : List ℕ) where
   pub written_to : (k leaf : ℕ) → k ≤ leaf → ((j : ℕ) → k ≤ j → j < leaf → is_zeros (stretch bytes j) ≡ true) → writes_until (leaf + 1) ≡ writes_until k ++ write_of text bytes leaf
   written_to k leaf low zeros = one_more leaf ∙ ap (λ calls. calls ++ write_of text bytes leaf) (passed_to k leaf low zeros)
 
+  abbrev pub behind : ℕ → List Call
+  behind leaf = rest_of (leaf + 1) (stretches bytes - (leaf + 1))
+
+  split_behind : (leaf : ℕ) → leaf < stretches bytes → writes_of text bytes ≡ writes_until (leaf + 1) ++ behind leaf
+  split_behind leaf low =
+      let more : stretches bytes ≡ leaf + 1 + (stretches bytes - (leaf + 1)) = omega (arith, low) in
+      ap writes_until more ∙ split_at (leaf + 1) (stretches bytes - (leaf + 1))
+
+  pub written_whole : (k leaf : ℕ) → k ≤ leaf → leaf < stretches bytes → ((j : ℕ) → k ≤ j → j < leaf → is_zeros (stretch bytes j) ≡ true) → (writes_until k ++ write_of text bytes leaf) ++ behind leaf ≡ writes_of text bytes
+  written_whole k leaf low live zeros = sym (split_behind leaf live ∙ ap (λ calls. calls ++ behind leaf) (written_to k leaf low zeros))
+
   -- a live stretch has room where all have
   pub fits_at : (P : Call → Type 0) (k : ℕ) → k < stretches bytes → All P (writes_of text bytes) → All P (write_of text bytes k)
   fits_at P k low all =
-      let more : stretches bytes ≡ k + 1 + (stretches bytes - (k + 1)) = omega (arith, low) in
-      let whole : writes_of text bytes ≡ (writes_until k ++ write_of text bytes k) ++ rest_of (k + 1) (stretches bytes - (k + 1)) =
-          ap writes_until more ∙ split_at (k + 1) (stretches bytes - (k + 1)) ∙ ap (λ calls. calls ++ rest_of (k + 1) (stretches bytes - (k + 1))) (one_more k) in
+      let whole : writes_of text bytes ≡ (writes_until k ++ write_of text bytes k) ++ behind k = split_behind k low ∙ ap (λ calls. calls ++ behind k) (one_more k) in
       all_back P (writes_until k) (write_of text bytes k)
-      (all_front P (writes_until k ++ write_of text bytes k) (rest_of (k + 1) (stretches bytes - (k + 1))) (subst (All P) whole all))
+      (all_front P (writes_until k ++ write_of text bytes k) (behind k) (subst (All P) whole all))
 
 -- ---- where the last stretch that was told ends
 
@@ -90,6 +103,25 @@ told_written bytes leaf live other = record { whole = whole; low = omega arith; 
     whole is some =
         let here : (length bytes + 4095) / 4096 - 1 ≡ leaf = omega (arith, live, is) in
         ap (λ j. is_zeros (stretch bytes j)) here ∙ other
+
+-- what a stretch tells of its end
+abbrev pub end_of : List ℕ → ℕ → ℕ → Option ℕ
+end_of bytes leaf size = if is_zeros (stretch bytes leaf) then None else Some (min (block_size * leaf + block_size) size)
+
+pub end_known : (bytes : List ℕ) (leaf size : ℕ) (b : Bool) → is_zeros (stretch bytes leaf) ≡ b → end_of bytes leaf size ≡ (if b then None else Some (min (block_size * leaf + block_size) size))
+end_known bytes leaf size b is = ap (λ (t : Bool). if t then None else Some (min (4096 * leaf + 4096) size)) is
+
+pub told_next : (bytes : List ℕ) (k leaf told size : ℕ) (end : Option ℕ) → length bytes ≡ size → block_size * leaf < size → ToldTo bytes k told → end ≡ end_of bytes leaf size → ToldTo bytes (leaf + 1) (unwrap_or end told)
+told_next bytes k leaf told size end len live before is = go (is_zeros (stretch bytes leaf)) refl
+  where
+    low : 4096 * leaf < length bytes
+    low = omega (arith, len, live)
+
+    go : (b : Bool) → is_zeros (stretch bytes leaf) ≡ b → ToldTo bytes (leaf + 1) (unwrap_or end told)
+    go true at = subst (λ e. ToldTo bytes (leaf + 1) (unwrap_or e told)) (sym (is ∙ end_known bytes leaf size true at)) (told_zeros bytes k leaf told low before at)
+    go false at =
+        subst (λ e. ToldTo bytes (leaf + 1) (unwrap_or e told)) (sym (is ∙ end_known bytes leaf size false at))
+        (subst (λ n. ToldTo bytes (leaf + 1) (min (4096 * leaf + 4096) n)) len (told_written bytes leaf low at))
 
 -- behind the last leaf that is there
 pub size_told : (text bytes : List ℕ) (k told : ℕ) → ToldTo bytes k told → ((j : ℕ) → k ≤ j → block_size * j < length bytes → is_zeros (stretch bytes j) ≡ true) → size_behind text told (length bytes) ≡ size_of text bytes

@@ -4,3 +4,9 @@ pub mod Fronts
 pub mod NamesInOrder
 pub mod TellingLaws
 pub mod TreeStretches
+pub mod SinglePaths
+pub mod FirstTexts
+pub mod Places
+pub mod GoingLaws
+pub mod TreeLaws
+pub mod EndLaws

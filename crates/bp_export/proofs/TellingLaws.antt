@@ -1,5 +1,5 @@
 -- One list of calls told behind another.
-use Rattle.std.proofs.Common.{◌≡◌, ℕ, ◌≤◌, List, [], ◌∷◌, ◌++◌, refl, sym, ◌∙◌, subst, arith}
+use Rattle.std.proofs.Common.{◌≡◌, ℕ, ◌≤◌, List, [], ◌∷◌, ◌++◌, refl, sym, ◌∙◌, subst, append_assoc, arith}
 use Rattle.std.specs.Prelude.{Option, Result, Ok, Err, OnErr, OnOk}
 use Rattle.std.proofs.lemmas.Grind.{flat_map-append}
 use Rattle.std.proofs.lemmas.List.{append-nil}
@@ -47,12 +47,19 @@ tells_then v (Err e) xs ys a b c t u w f g h one two = record {
 }
 
 -- where the sink failed, no call behind is told
-pub fails_before : {S T : Type 0} (e : Failed) (xs ys : List Call) (a b c : List ℕ) (t u : Option (List ℕ)) (f g : ℕ) → Tells {T = S} xs (Err e) a b t u f g → Tells {T = T} (xs ++ ys) (Err e) a c t u f g
-fails_before e xs ys a b c t u f g one = record {
+pub fails_before : {S T : Type 0} (d e : Failed) (xs ys : List Call) (a b c : List ℕ) (t u : Option (List ℕ)) (f g : ℕ) → Tells {T = S} xs (Err d) a b t u f g → Tells {T = T} (xs ++ ys) (Err e) a c t u f g
+fails_before d e xs ys a b c t u f g one = record {
   all = tt;
   some = rw (lines_behind xs ys, sym (append_assoc a (call_lines xs) (call_lines ys))) (part_of_front (a ++ call_lines xs) (call_lines ys) t u one.some);
   cause = record { later = one.cause.later; same = tt; failed = one.cause.failed };
 }
+
+pub fails_as : {S T : Type 0} (d e : Failed) (xs : List Call) (a b c : List ℕ) (t u : Option (List ℕ)) (f g : ℕ) → Tells {T = S} xs (Err d) a b t u f g → Tells {T = T} xs (Err e) a c t u f g
+fails_as d e xs a b c t u f g one = record { all = tt; some = one.some; cause = record { later = one.cause.later; same = tt; failed = one.cause.failed } }
+
+-- the same calls
+pub tells_same : {T : Type 0} (r : Result T Failed) (xs ys : List Call) (a b : List ℕ) (t u : Option (List ℕ)) (f g : ℕ) → xs ≡ ys → Tells xs r a b t u f g → Tells ys r a b t u f g
+tells_same r xs ys a b t u f g same one = subst (λ calls. Tells calls r a b t u f g) same one
 
 -- one call
 pub tells_one : {T : Type 0} (r : Result T Failed) (call : Call) (a b : List ℕ) (t u : Option (List ℕ)) (f g : ℕ) → OnOk r (PassesOn (call_line call ++ 10 ∷ []) a b t u) → OnErr r (TakesPart (a ++ (call_line call ++ 10 ∷ [])) t u) → HasCause f g r →

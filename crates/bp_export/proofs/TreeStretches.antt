@@ -5,8 +5,9 @@ use Rattle.std.proofs.lemmas.List.FromFn.{length-map-range_with_len}
 use Rattle.bp_limits.specs.Limits.{block_size}
 use Rattle.bp_layout.specs.Words.{Image, height_of}
 use Rattle.bp_layout.specs.Tree.{byte, content, node}
-use Rattle.bp_plain.specs.Export.{is_zeros, stretch}
+use Rattle.bp_plain.specs.Export.{is_zeros, stretch, stretches}
 use Rattle.bp_tree.specs.Bytes.{content_part}
+use Rattle.bp_tree.specs.Leaves.{HasNoLeafFrom, IsNextLeaf}
 use Rattle.bp_tree.proofs.ContentParts.{content_part-is}
 use Rattle.bp_tree.proofs.StoredBytes.{null_part}
 
@@ -27,10 +28,14 @@ pub stretch_is : (image : Image) (root size k n : ℕ) → block_size * k < size
 stretch_is image root size k n live is =
     let bytes : List ℕ = content image root size in
     let count : n ≡ min 4096 (length (drop (4096 * k) (content image root size))) =
-        is ∙ ap (λ m. min 4096 m) (sym (length-drop (4096 * k) (content image root size) ∙ ap (λ m. m - 4096 * k) (length_content image root size))) in
+    is ∙ ap (λ m. min 4096 m) (sym (length-drop (4096 * k) (content image root size) ∙ ap (λ m. m - 4096 * k) (length_content image root size))) in
     content_part-is image root size (4096 * k) n (omega (arith, live, is))
     ∙ ap (λ m. take m (drop (4096 * k) (content image root size))) count
     ∙ sym (take_least 4096 (drop (4096 * k) (content image root size)))
+
+-- the bytes that are read there
+pub stretch_read : (image : Image) (root size k count : ℕ) (old new : List ℕ) → length old ≡ block_size → block_size * k < size → count ≡ min (length old) (size - block_size * k) → take count new ≡ content_part image root (block_size * k) count → take count new ≡ stretch (content image root size) k
+stretch_read image root size k count old new room live least is = is ∙ stretch_is image root size k count live (least ∙ ap (λ n. min n (size - 4096 * k)) room)
 
 zeros_alone : (n : ℕ) → is_zeros (replicate n 0) ≡ true
 zeros_alone zero = refl
@@ -47,3 +52,17 @@ null_zeros image root size leaf live null =
     ∙ sym (null_part image root (4096 * leaf) (min 4096 (size - 4096 * leaf)) 0 refl (sym null ∙ ap (node image root (height_of root)) (sym here)) within))
     ∙ zeros_alone (min 4096 (size - 4096 * leaf))
 
+pub live_stretch : (image : Image) (root size leaf : ℕ) → block_size * leaf < size → leaf < stretches (content image root size)
+live_stretch image root size leaf live = omega (arith, live, length_content image root size)
+
+pub zeros_before : (image : Image) (root size from leaf : ℕ) → IsNextLeaf image root size from leaf → (j : ℕ) → from ≤ j → j < leaf → is_zeros (stretch (content image root size) j) ≡ true
+zeros_before image root size from leaf next j behind low = null_zeros image root size j (omega (arith, low, next.live)) (next.first j behind low)
+
+pub zeros_from : (image : Image) (root size from : ℕ) → HasNoLeafFrom image root size from → (j : ℕ) → from ≤ j → block_size * j < length (content image root size) → is_zeros (stretch (content image root size) j) ≡ true
+zeros_from image root size from none j behind live =
+    let low : 4096 * j < size = omega (arith, live, length_content image root size) in
+    null_zeros image root size j low (none j behind low)
+
+-- the stretches that are left
+pub zeros_left : (image : Image) (root size from : ℕ) → HasNoLeafFrom image root size from → (j : ℕ) → from ≤ j → j < stretches (content image root size) → is_zeros (stretch (content image root size) j) ≡ true
+zeros_left image root size from none j behind low = zeros_from image root size from none j behind (omega (arith, low))

@@ -1,13 +1,37 @@
--- How an export of a tree ends.
-use Rattle.std.specs.Prelude.{◌≡◌, ◌↔◌, ℕ, List, ◌++◌, Option, Result, IsErrOf, OnOk}
+-- How the telling of lines of an export ends, and the export of a tree.
+use Rattle.std.specs.Prelude.{◌≡◌, ◌↔◌, ℕ, List, ◌++◌, Option, Result, Ok, Err, IsErrOf, OnOk}
 use Rattle.std.specs.Io.KnownBytes.{Appends}
 use Rattle.bp_io.specs.Causes.{Rose}
+use Rattle.bp_plain.specs.Calls.{Call}
 use Rattle.bp_plain.specs.Export.{HasShortPaths}
 use Rattle.bp_plain.specs.PlainTree.{FileTree}
-use Rattle.bp_script.specs.Export.{export_text}
+use Rattle.bp_replies.specs.Gathering.{PassesOn}
 use Rattle.bp_replies.specs.Taking.{TakesPart}
+use Rattle.bp_script.specs.Export.{call_lines, export_text}
 use Rattle.bp_export.specs.declared.fault.Fault.{Fault}
 use Rattle.bp_export.specs.declared.fault.Fault.TheVariants.{Deep, Memory, Sink}
+
+-- ---- some calls of an export
+
+-- a front of a text, which may be all of it, was added to what waited
+pub record PassesFront (text before after : List ℕ) (taken now : Option (List ℕ)) : Type 0 where
+  pub front : List ℕ
+  pub rest : List ℕ
+  pub whole : text ≡ front ++ rest
+  pub passes : PassesOn front before after taken now
+
+-- The lines of all these calls were added to what waited; or a front of them, where memory was out; or the sink failed, and
+-- took a proper front of what waited and of them. The sink failed in that case alone.
+abbrev pub Goes : {T : Type 0} → List Call → Result T Fault → List ℕ → List ℕ → Option (List ℕ) → Option (List ℕ) → ℕ → ℕ → Type 0
+Goes calls (Ok done) before after taken now faults later =
+    PassesOn (call_lines calls) before after taken now × (later ≡ faults)
+Goes calls (Err Memory) before after taken now faults later =
+    PassesFront (call_lines calls) before after taken now × (later ≡ faults)
+Goes calls (Err Sink) before after taken now faults later =
+    TakesPart (before ++ call_lines calls) taken now × Rose faults later
+Goes calls (Err Deep) before after taken now faults later = ⊥
+
+-- ---- a whole export
 
 -- a sink took a front of a text, which may be all of it
 pub record TakesFront (text : List ℕ) (taken now : Option (List ℕ)) : Type 0 where

@@ -4,3 +4,5 @@ pub mod Exports
 pub mod Named
 pub mod Rows
 pub mod Telling
+pub mod Firsts
+pub mod Walking

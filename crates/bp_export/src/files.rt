@@ -42,10 +42,10 @@ fn export_stretch<R: Region, K: Sink>(
         All FitsText (write_of path.now bytes leaf) }
     ensures told { let bytes = content (current_words (R.memory region.now)) tree.root tree.size in
         IfOk result (λ end. end ≡
-            (if is_zeros (stretch bytes leaf) then None else Some (min (block_size * leaf + block_size) tree.size))) }
+        (if is_zeros (stretch bytes leaf) then None else Some (min (block_size * leaf + block_size) tree.size))) }
     ensures lines { let bytes = content (current_words (R.memory region.now)) tree.root tree.size in
         Tells (write_of path.now bytes leaf) result (waiting replies.old) (waiting replies.new) (K.taken out.old) (K.taken out.new)
-            (K.faults out.old) (K.faults out.new) }
+        (K.faults out.old) (K.faults out.new) }
     ensures room { length block.new ≡ block_size }
 {
     let off = BLOCK_SIZE * leaf;
@@ -76,15 +76,14 @@ fn export_leaves<R: Region, K: Sink>(
         IfOk result (λ told. size_behind path.now told tree.size ≡ size_of path.now bytes) }
     ensures lines { let bytes = content (current_words (R.memory region.now)) tree.root tree.size in
         Tells (writes_of path.now bytes) result (waiting replies.old) (waiting replies.new) (K.taken out.old) (K.taken out.new)
-            (K.faults out.old) (K.faults out.new) }
+        (K.faults out.old) (K.faults out.new) }
     ensures room { length block.new ≡ block_size }
 {
     let mut told = 0;
     let mut from = 0;
     while let Some(leaf) = next_leaf(region, tree, from) {
-        if let Some(end) = export_stretch(region, tree, leaf, path, block, replies, out)? {
-            told = end;
-        }
+        let end = export_stretch(region, tree, leaf, path, block, replies, out)?;
+        told = end.unwrap_or(told);
         from = leaf + 1;
     }
     Ok(told)
@@ -128,7 +127,7 @@ pub(crate) fn export_file<R: Region, K: Sink>(
         All FitsText (calls_for path.now (file bytes)) }
     ensures lines { let bytes = content (current_words (R.memory region.now)) tree.root tree.size in
         Tells (calls_for path.now (file bytes)) result (waiting replies.old) (waiting replies.new) (K.taken out.old) (K.taken out.new)
-            (K.faults out.old) (K.faults out.new) }
+        (K.faults out.old) (K.faults out.new) }
     ensures room { length block.new ≡ block_size }
 {
     tell(Call::Create(path), replies, out)?;

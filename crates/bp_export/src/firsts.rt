@@ -1,1 +1,49 @@
 //! The first path of each file with several names.
+
+ghost use Rattle.std.specs.Prelude.{◌≡◌, ◌==◌, ℕ, MatchOption, None, OnOk, Some, if◌then◌else◌};
+ghost use Rattle.bp_export.specs.Firsts.{first_text};
+
+use std::alloc::{AllocError, Global};
+use std::collections::BTreeMap;
+
+/// The texts of paths, each under the number of the inode that stands there.
+#[derive(Drop)]
+pub(crate) struct Firsts {
+    texts: BTreeMap<u32, Vec<u8>>,
+}
+
+impl Firsts {
+    /// None yet.
+    pub(crate) fn new(alloc: Global) -> Firsts
+        ensures { (i : ℕ) → first_text result i ≡ None }
+    {
+        Firsts {
+            texts: BTreeMap::new(alloc),
+        }
+    }
+
+    /// The text under the number of an inode.
+    pub(crate) fn get(&self, i: u32) -> Option<&[u8]>
+        ensures { MatchOption result (first_text self.now i ≡ None) (λ text. first_text self.now i ≡ Some text.now) }
+    {
+        match self.texts.get(&i) {
+            Some(text) => Some(text.as_slice()),
+            None => None,
+        }
+    }
+
+    /// Puts a text under the number of an inode.
+    ///
+    /// # Errors
+    ///
+    /// Where there is no memory for it.
+    pub(crate) fn add(&mut self, alloc: Global, i: u32, text: &[u8]) -> Result<(), AllocError>
+        ensures { OnOk result ((j : ℕ) → first_text self.new j ≡ (if j == i then Some text.now else first_text self.old j)) }
+    {
+        let copy = Vec::from_slice(alloc, text)?;
+        match self.texts.insert(i, copy) {
+            Ok(_) => Ok(()),
+            Err(_) => Err(AllocError),
+        }
+    }
+}

@@ -9,9 +9,9 @@ mod fault;
 mod files;
 mod firsts;
 mod rows;
-mod standing;
 mod telling;
 mod trees;
+mod work;
 
 pub use fault::Fault;
 pub use trees::export;

@@ -1,23 +1,161 @@
 //! The lines of a tree.
 
-ghost use Rattle.std.specs.Prelude.{IsErrOf, OnOk, ◌*◌, ◌↔◌, ◌≡◌, List, Option, length, ℕ};
-ghost use Rattle.std.specs.Io.KnownBytes.{Appends};
+ghost use Rattle.std.specs.Prelude.{◌*◌, ◌++◌, ◌≡◌, ◌≤◌, ◌∷◌, IfOk, OnOk, length};
+ghost use Rattle.bp_export.specs.Exports.{EndsExport};
+ghost use Rattle.bp_export.specs.Walking.{Place, StandsAt, Tours, inside, itself};
+ghost use Rattle.bp_layout.specs.Fields.{kind_word};
+ghost use Rattle.bp_layout.specs.Inode.{IsDirectory, IsFile, kind_of, root_of, size_of};
 ghost use Rattle.bp_layout.specs.Names.{AreCounts};
 ghost use Rattle.bp_layout.specs.WellFormed.{IsWellFormed};
+ghost use Rattle.bp_layout.specs.Whole.{IsFileSystem};
 ghost use Rattle.bp_layout.specs.Words.{block_count};
 ghost use Rattle.bp_limits.specs.Limits.{block_inodes};
-ghost use Rattle.bp_plain.specs.Export.{HasShortPaths};
 ghost use Rattle.bp_plain.specs.PlainTree.{FileTree};
 ghost use Rattle.bp_plain.specs.Stands.{Stands};
-ghost use Rattle.bp_export.specs.Exports.{EndsExport};
+ghost use Rattle.bp_replies.specs.Gathering.{waiting};
 ghost use Rattle.pm_region.specs.Memory.{current_words};
 
+use crate::depth::has_long_path;
+use crate::entries::Entries;
 use crate::fault::Fault;
-use crate::standing::assume_export;
+use crate::files::export_file;
+use crate::telling::tell;
+use crate::work::Work;
 use bp_free::Counts;
+use bp_inodes::get;
 use bp_io::Sink;
+use bp_layout::Kind;
+use bp_limits::{MAX_PATH, ROOT_INUMBER};
+use bp_plain::Call;
+use bp_tree::Tree;
 use pm_region::Region;
-use std::alloc::Global;
+use std::alloc::{AllocError, Global};
+
+/// Puts a `/` and a name behind the text of a path.
+fn go_down(path: &mut Vec<u8>, name: &[u8]) -> Result<(), AllocError>
+    ensures { OnOk result (path.new.items ≡ path.old.items ++ 47 ∷ name.now) }
+{
+    path.push(b'/')?;
+    path.extend_from_slice(name)
+}
+
+/// Tells the lines of file `i`, whose tree is this, at the path at hand: those that make it, where that is its first path, and
+/// else that it is linked to that one.
+///
+/// # Errors
+///
+/// `Memory` where there is none in which its first path is remembered; `Sink` where the sink failed.
+fn export_name<R: Region, K: Sink>(
+    alloc: Global,
+    region: &R,
+    i: u32,
+    tree: Tree,
+    counts: &Counts,
+    work: &mut Work,
+    out: &mut K,
+) -> Result<(), Fault>
+    requires well_formed { IsWellFormed (current_words (R.memory region.now)) }
+    requires file { IsFile (current_words (R.memory region.now)) i }
+    requires root { tree.root ≡ root_of (current_words (R.memory region.now)) i }
+    requires size { tree.size ≡ size_of (current_words (R.memory region.now)) i }
+    requires counts { AreCounts (current_words (R.memory region.now)) counts.now }
+    requires inodes { length counts.now ≡ block_inodes * block_count (current_words (R.memory region.now)) }
+    requires below { 1 ≤ length work.old.path.items }
+    requires stands { let words = current_words (R.memory region.now) in
+        (place : Place) × StandsAt words counts.now (itself words i) i work.old.path.items work.old.firsts place }
+    ensures tours { let words = current_words (R.memory region.now) in
+        (place : Place) → StandsAt words counts.now (itself words i) i work.old.path.items work.old.firsts place
+        → Tours words counts.now (itself words i) place result work.new.firsts (waiting work.old.replies)
+            (waiting work.new.replies) (K.taken out.old) (K.taken out.new) (K.faults out.old) (K.faults out.new) }
+    ensures path { work.new.path.items ≡ work.old.path.items }
+{
+    if counts.names(i) > 1 {
+        if let Some(first) = work.firsts.get(i) {
+            let call = Call::Link {
+                from: first,
+                to: &work.path,
+            };
+            tell(call, &mut work.replies, out)?;
+            return Ok(());
+        }
+        work.firsts.add(alloc, i, &work.path)?;
+    }
+    export_file(region, tree, &work.path, &mut work.stretch, &mut work.replies, out)?;
+    Ok(())
+}
+
+/// Tells the lines of what stands at the path at hand, which finds inode `i`, and answers what it is.
+///
+/// # Errors
+///
+/// As of `export_name`.
+fn export_entry<R: Region, K: Sink>(
+    alloc: Global,
+    region: &R,
+    i: u32,
+    counts: &Counts,
+    work: &mut Work,
+    out: &mut K,
+) -> Result<Kind, Fault>
+    requires well_formed { IsWellFormed (current_words (R.memory region.now)) }
+    requires counts { AreCounts (current_words (R.memory region.now)) counts.now }
+    requires inodes { length counts.now ≡ block_inodes * block_count (current_words (R.memory region.now)) }
+    requires below { 1 ≤ length work.old.path.items }
+    requires stands { let words = current_words (R.memory region.now) in
+        (place : Place) × StandsAt words counts.now (itself words i) i work.old.path.items work.old.firsts place }
+    ensures tours { let words = current_words (R.memory region.now) in
+        (place : Place) → StandsAt words counts.now (itself words i) i work.old.path.items work.old.firsts place
+        → Tours words counts.now (itself words i) place result work.new.firsts (waiting work.old.replies)
+            (waiting work.new.replies) (K.taken out.old) (K.taken out.new) (K.faults out.old) (K.faults out.new) }
+    ensures kind { IfOk result (λ kind. kind_word kind ≡ kind_of (current_words (R.memory region.now)) i) }
+    ensures path { work.new.path.items ≡ work.old.path.items }
+{
+    let inode = get(region, i);
+    match inode.kind {
+        Kind::File => export_name(alloc, region, i, Tree::of(&inode), counts, work, out)?,
+        Kind::Dir => tell(Call::Mkdir(&work.path), &mut work.replies, out)?,
+    }
+    Ok(inode.kind)
+}
+
+/// Tells the lines of all that is below directory `i`, whose path is at hand.
+///
+/// # Errors
+///
+/// `Memory` where there is none for the entries of the directories on a path, or as of `export_name`; `Sink` where the sink
+/// failed.
+fn export_below<R: Region, K: Sink>(
+    alloc: Global,
+    region: &R,
+    i: u32,
+    counts: &Counts,
+    work: &mut Work,
+    out: &mut K,
+) -> Result<(), Fault>
+    requires well_formed { IsWellFormed (current_words (R.memory region.now)) }
+    requires directory { IsDirectory (current_words (R.memory region.now)) i }
+    requires counts { AreCounts (current_words (R.memory region.now)) counts.now }
+    requires inodes { length counts.now ≡ block_inodes * block_count (current_words (R.memory region.now)) }
+    requires stands { (place : Place) × StandsAt (current_words (R.memory region.now)) counts.now inside i
+        work.old.path.items work.old.firsts place }
+    ensures { let words = current_words (R.memory region.now) in
+        (place : Place) → StandsAt words counts.now inside i work.old.path.items work.old.firsts place
+        → Tours words counts.now inside place result work.new.firsts (waiting work.old.replies)
+            (waiting work.new.replies) (K.taken out.old) (K.taken out.new) (K.faults out.old) (K.faults out.new) }
+{
+    let entries = Entries::of(alloc, region, i)?;
+    let here = work.path.len();
+    for k in 0..entries.len() {
+        let (inode, name) = entries.at(k);
+        go_down(&mut work.path, name)?;
+        match export_entry(alloc, region, inode, counts, work, out)? {
+            Kind::File => {}
+            Kind::Dir => export_below(alloc, region, inode, counts, work, out)?,
+        }
+        work.path.truncate(here);
+    }
+    Ok(())
+}
 
 /// Writes the script that makes the tree of an image, but for its snapshot. `counts` says how many names each inode has.
 ///
@@ -32,13 +170,17 @@ pub fn export<R: Region, K: Sink>(
     counts: &Counts,
     out: &mut K,
 ) -> Result<(), Fault>
-    requires well_formed { IsWellFormed (current_words (R.memory region.now)) }
+    requires file_system { IsFileSystem (current_words (R.memory region.now)) }
     requires counts { AreCounts (current_words (R.memory region.now)) counts.now }
     requires inodes { length counts.now ≡ block_inodes * block_count (current_words (R.memory region.now)) }
     ensures { (tree : FileTree) → Stands (current_words (R.memory region.now)) tree
         → EndsExport tree result (K.taken out.old) (K.taken out.new) (K.faults out.old) (K.faults out.new) }
 {
-    let _ = (alloc, region, counts, out);
-    unsafe { assume_export(0) };
-    unreachable!()
+    if has_long_path(region, ROOT_INUMBER, MAX_PATH) {
+        return Err(Fault::Deep);
+    }
+    let mut work = Work::new(alloc)?;
+    export_below(alloc, region, ROOT_INUMBER, counts, &mut work, out)?;
+    work.replies.hand_over(out)?;
+    Ok(())
 }

@@ -282,7 +282,7 @@ fn name_texts(rt: HostRuntime) -> Result<(), Fail> {
 }
 
 /// Notices, and their texts.
-const NOTICES: [(Notice, &[u8]); 8] = [
+const NOTICES: [(Notice, &[u8]); 9] = [
     (Notice::Formatted { blocks: 8, free: 6 }, b"formatted 8 6\n"),
     (Notice::NotFormatted, b"err 30 notformatted\n"),
     (
@@ -320,6 +320,7 @@ const NOTICES: [(Notice, &[u8]); 8] = [
         b"clean 18446744073709551615 18446744073709551615 340282366920938463463374607431768211455 4294967295 4294967295\n",
     ),
     (Notice::NoFile, b"err 34 nofile\n"),
+    (Notice::Deep, b"err 40 deep\n"),
     (
         Notice::Usage,
         b"usage: bpfs format FILE --blocks N [--version V] / run FILE / check FILE / play FILE --seed S --count C / export FILE\n",

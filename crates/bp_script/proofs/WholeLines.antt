@@ -20,7 +20,7 @@ path_line text word = word_line (path_word text) (path_whole text word.bytes)
 
 -- a word behind another
 behind : (xs ys : List ℕ) → IsOneLine xs → IsOneLine ys → IsOneLine (xs ++ codes " " ++ ys)
-behind xs ys one two = both xs (codes " " ++ ys) one (both (codes " ") ys refl two)
+behind xs ys one two = both (xs ++ codes " ") ys (both xs (codes " ") one refl) two
 
 pub one_line : (call : Call) → IsSpelled call → IsOneLine (call_line call)
 one_line (create text) is = both (codes "create ") _ refl (path_line text is)
@@ -31,14 +31,16 @@ one_line (list text) is = both (codes "list ") _ refl (path_line text is)
 one_line (stat text) is = both (codes "stat ") _ refl (path_line text is)
 one_line (links text) is = both (codes "links ") _ refl (path_line text is)
 one_line (read text off len) is =
-    both (codes "read ") _ refl
-    (behind (path_word text) _ (path_line text is.0) (behind (decimal off) (decimal len) (word_line _ (decimal_whole off is.1)) (word_line _ (decimal_whole len (omega (arith, is.2))))))
+    behind (codes "read " ++ path_word text ++ codes " " ++ decimal off) (decimal len)
+    (behind (codes "read " ++ path_word text) (decimal off) (both (codes "read ") _ refl (path_line text is.0)) (word_line _ (decimal_whole off is.1)))
+    (word_line _ (decimal_whole len (omega (arith, is.2))))
 one_line (write text off new) is =
-    both (codes "write ") _ refl
-    (behind (path_word text) _ (path_line text is.0) (behind (decimal off) (digits_or_dash new) (word_line _ (decimal_whole off is.1)) (word_line _ (dash_whole new is.2))))
-one_line (truncate text size) is = both (codes "truncate ") _ refl (behind (path_word text) (decimal size) (path_line text is.0) (word_line _ (decimal_whole size is.1)))
-one_line (rename from to) is = both (codes "rename ") _ refl (behind (path_word from) (path_word to) (path_line from is.0) (path_line to is.1))
-one_line (link from to) is = both (codes "link ") _ refl (behind (path_word from) (path_word to) (path_line from is.0) (path_line to is.1))
+    behind (codes "write " ++ path_word text ++ codes " " ++ decimal off) (digits_or_dash new)
+    (behind (codes "write " ++ path_word text) (decimal off) (both (codes "write ") _ refl (path_line text is.0)) (word_line _ (decimal_whole off is.1)))
+    (word_line _ (dash_whole new is.2))
+one_line (truncate text size) is = behind (codes "truncate " ++ path_word text) (decimal size) (both (codes "truncate ") _ refl (path_line text is.0)) (word_line _ (decimal_whole size is.1))
+one_line (rename from to) is = behind (codes "rename " ++ path_word from) (path_word to) (both (codes "rename ") _ refl (path_line from is.0)) (path_line to is.1)
+one_line (link from to) is = behind (codes "link " ++ path_word from) (path_word to) (both (codes "link ") _ refl (path_line from is.0)) (path_line to is.1)
 one_line upgrade is = refl
 one_line snap is = absurd is
 one_line unsnap is = absurd is

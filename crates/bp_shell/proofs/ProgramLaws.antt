@@ -48,6 +48,17 @@ serving_reads number status is one_of unread = clash (serving_numbers number one
     clash (most, not_missing, not_usage) (inr (inl e)) = omega (arith, most, is, e)
     clash (most, not_missing, not_usage) (inr (inr e)) = omega (arith, most, is, e)
 
+-- no run answers that a path is long
+pub run_short : (status : ℕ) → (status ≡ 0) ⊎ (status ≡ 1) ⊎ (status ≡ 3) ⊎ (status ≡ 4) ⊎ (status ≡ 5) ⊎ (status ≡ 6) ⊎ (status ≡ 7) ⊎ (status ≡ 8) → status ≡ 9 → ⊥
+run_short status (inl z) e = omega (arith, z, e)
+run_short status (inr (inl z)) e = omega (arith, z, e)
+run_short status (inr (inr (inl z))) e = omega (arith, z, e)
+run_short status (inr (inr (inr (inl z)))) e = omega (arith, z, e)
+run_short status (inr (inr (inr (inr (inl z))))) e = omega (arith, z, e)
+run_short status (inr (inr (inr (inr (inr (inl z)))))) e = omega (arith, z, e)
+run_short status (inr (inr (inr (inr (inr (inr (inl z))))))) e = omega (arith, z, e)
+run_short status (inr (inr (inr (inr (inr (inr (inr z))))))) e = omega (arith, z, e)
+
 module _ (status : ℕ) (before after : Outside) where
   run_outcome : (status ≡ 0 → Runs before after) → (status ≡ 3 → RunsPart before after) → (status ≡ 4 → RunsBroken before after)
       → (status ≡ 5 → IsIdle before after ⊎ RunsStopped before after ⊎ RunsUnsaved before after) → (status ≡ 6 → RunsLong before after) → StopOutcome status before after

@@ -118,7 +118,8 @@ fn run_program<S: Source, K: Sink, F: Files>(
         ProgramOutcome (program_of program.now) (code_of result)
         (outside (S.left src.old) (S.faults src.old) (K.taken out.old) (K.faults out.old) (F.view files.old) name)
         (outside (S.left src.new) (S.faults src.new) (K.taken out.new) (K.faults out.new) (F.view files.new) name) }
-    ensures unread { (code_of result ≡ 1) ⊎ (code_of result ≡ 7) ⊎ (code_of result ≡ 8) → src.new ≡ src.old }
+    ensures unread { (code_of result ≡ 1) ⊎ (code_of result ≡ 7) ⊎ (code_of result ≡ 8) ⊎ (code_of result ≡ 9)
+        → src.new ≡ src.old }
     ensures asked { ¬ (code_of result ≡ 2) }
     ensures files { LeavesFiles (program_of program.now) (F.view files.old) (F.view files.new) }
 {
@@ -156,7 +157,7 @@ pub fn run<S: Source, K: Sink, F: Files>(
     ensures not_taken { ¬ IsTaken (map (λ word. word.now) words.now) → (result ≡ 2) ⊎ (result ≡ 8) }
     ensures told { result ≡ 2 → Prints (notice_text Usage) (K.taken out.old) (K.taken out.new)
         (K.faults out.old) (K.faults out.new) }
-    ensures unread { (result ≡ 1) ⊎ (result ≡ 2) ⊎ (result ≡ 7) ⊎ (result ≡ 8) → src.new ≡ src.old }
+    ensures unread { (result ≡ 1) ⊎ (result ≡ 2) ⊎ (result ≡ 7) ⊎ (result ≡ 8) ⊎ (result ≡ 9) → src.new ≡ src.old }
     ensures untouched { result ≡ 2 → files.new ≡ files.old }
 
     // Words that ask for a program in the plain way.

@@ -1,4 +1,4 @@
-use Rattle.std.proofs.Common.{◌≡◌, ℕ, ◌-◌, ◌≤◌, List, length}
+use Rattle.std.proofs.Common.{◌≡◌, ℕ, ◌-◌, ◌≤◌, length}
 use Rattle.std.specs.Prelude.{Ok}
 use Rattle.bp_layout.specs.Tree.{content}
 use Rattle.bp_plain.specs.Export.{stretches}
@@ -9,15 +9,14 @@ use Rattle.bp_export.proofs.FileLines.{ToldTo, writes_until}
 use Rattle.bp_export.proofs.files.export_leaves.Given as goal
 
 -- the stretches before one are told
-abbrev pub invariant-loop-from : goal.invariant-loop-from
-invariant-loop-from g l =
-    let bytes = content (current_words (g.R.Region.memory l.region)) l.tree.root l.tree.size in
+abbrev pub invariant-loop-leaf : goal.invariant-loop-leaf
+invariant-loop-leaf g l =
     record {
-      lines : Tells (writes_until l.path bytes l.from) (Ok 0) (waiting l.fn.replies) (waiting l.replies) (g.K.Sink.taken l.fn.out) (g.K.Sink.taken l.out) (g.K.Sink.faults l.fn.out) (g.K.Sink.faults l.out);
-      told : ToldTo bytes l.from l.told;
-      low : l.from ≤ stretches bytes;
+      lines : Tells {T = ℕ} (writes_until l.path (content (current_words (g.R.Region.memory l.region)) l.tree.root l.tree.size) l.from) (Ok 0) (waiting l.fn.replies) (waiting l.replies) (g.K.Sink.taken l.fn.out) (g.K.Sink.taken l.out) (g.K.Sink.faults l.fn.out) (g.K.Sink.faults l.out);
+      told : ToldTo (content (current_words (g.R.Region.memory l.region)) l.tree.root l.tree.size) l.from l.told;
+      low : l.from ≤ stretches (content (current_words (g.R.Region.memory l.region)) l.tree.root l.tree.size);
       room : length l.block ≡ 4096;
     }
 
-abbrev pub decreases-loop-from : goal.decreases-loop-from
-decreases-loop-from g l = stretches (content (current_words (g.R.Region.memory l.region)) l.tree.root l.tree.size) - l.from
+abbrev pub decreases-loop-leaf : goal.decreases-loop-leaf
+decreases-loop-leaf g l = stretches (content (current_words (g.R.Region.memory l.region)) l.tree.root l.tree.size) - l.from

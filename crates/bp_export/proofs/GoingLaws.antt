@@ -1,0 +1,68 @@
+-- One list of calls behind another, where memory may be out.
+use Rattle.std.proofs.Common.{◌≡◌, ℕ, List, [], ◌∷◌, ◌++◌, refl, sym, ◌∙◌, ap, subst, append_assoc, append-nil}
+use Rattle.std.specs.Prelude.{Option, Result, Ok, Err}
+use Rattle.std.proofs.lemmas.Grind.{flat_map-append}
+use Rattle.bp_io.specs.Causes.{Rose}
+use Rattle.bp_io.specs.declared.faults.Failed.{Failed}
+use Rattle.bp_plain.specs.Calls.{Call}
+use Rattle.bp_replies.specs.Gathering.{PassesOn}
+use Rattle.bp_script.specs.Export.{call_lines}
+use Rattle.bp_replies.specs.Taking.{TakesPart}
+use Rattle.bp_export.specs.Telling.{Tells}
+use Rattle.bp_export.specs.Exports.{Goes, PassesFront}
+use Rattle.bp_export.specs.declared.fault.Fault.{Fault}
+use Rattle.bp_export.specs.declared.fault.Fault.TheVariants.{Deep, Memory, Sink}
+use Rattle.bp_replies.proofs.PassingLaws.{part_of_front, part_then, passes_nothing, passes_then}
+
+lines-append : (xs ys : List Call) → call_lines (xs ++ ys) ≡ call_lines xs ++ call_lines ys
+lines-append xs ys = flat_map-append _ xs ys
+
+pub goes_nothing : {T : Type 0} (v : T) (a : List ℕ) (t : Option (List ℕ)) (f : ℕ) → Goes [] (Ok v) a a t t f f
+goes_nothing v a t f = (passes_nothing a t, refl)
+
+-- what is answered besides is of no matter
+pub goes_as : {S T : Type 0} (v : S) (w : T) (xs : List Call) (a b : List ℕ) (t u : Option (List ℕ)) (f g : ℕ) → Goes xs (Ok v) a b t u f g → Goes xs (Ok w) a b t u f g
+goes_as v w xs a b t u f g goes = goes
+
+-- memory was out before a line was told
+pub goes_nowhere : (T : Type 0) (e : Fault) → e ≡ Memory → (xs : List Call) (a : List ℕ) (t : Option (List ℕ)) (f : ℕ) → Goes {T = T} xs (Err e) a a t t f f
+goes_nowhere T e is xs a t f =
+    subst (λ (fault : Fault). Goes {T = T} xs (Err fault) a a t t f f) (sym is) (record { front = []; rest = call_lines xs; whole = refl; passes = passes_nothing a t }, refl)
+
+pub goes_then : {S T : Type 0} (v : S) (r : Result T Fault) (xs ys : List Call) (a b c : List ℕ) (t u w : Option (List ℕ)) (f g h : ℕ) → Goes xs (Ok v) a b t u f g → Goes ys r b c u w g h → Goes (xs ++ ys) r a c t w f h
+goes_then v (Ok x) xs ys a b c t u w f g h one two =
+    (rw (lines-append xs ys) (passes_then (call_lines xs) (call_lines ys) a b c t u w one.0 two.0), two.1 ∙ one.1)
+goes_then v (Err Memory) xs ys a b c t u w f g h one two = (
+  record {
+    front = call_lines xs ++ two.0.front;
+    rest = two.0.rest;
+    whole = lines-append xs ys ∙ ap (λ l. call_lines xs ++ l) two.0.whole ∙ sym (append_assoc (call_lines xs) two.0.front two.0.rest);
+    passes = passes_then (call_lines xs) two.0.front a b c t u w one.0 two.0.passes;
+  },
+  two.1 ∙ one.1,
+)
+goes_then v (Err Sink) xs ys a b c t u w f g h one two =
+    (rw (lines-append xs ys) (part_then (call_lines xs) (call_lines ys) a b t u w one.0 two.0), subst (λ n. Rose n h) one.1 two.1)
+goes_then v (Err Deep) xs ys a b c t u w f g h one two = two
+
+-- no call behind a fault is told
+pub goes_before : (S T : Type 0) (e : Fault) (xs ys : List Call) (a b : List ℕ) (t u : Option (List ℕ)) (f g : ℕ) → Goes {T = S} xs (Err e) a b t u f g → Goes {T = T} (xs ++ ys) (Err e) a b t u f g
+goes_before S T Memory xs ys a b t u f g one = (
+  record {
+    front = one.0.front;
+    rest = one.0.rest ++ call_lines ys;
+    whole = lines-append xs ys ∙ ap (λ l. l ++ call_lines ys) one.0.whole ∙ append_assoc one.0.front one.0.rest (call_lines ys);
+    passes = one.0.passes;
+  },
+  one.1,
+)
+goes_before S T Sink xs ys a b t u f g one =
+    (rw (lines-append xs ys, sym (append_assoc a (call_lines xs) (call_lines ys))) (part_of_front (a ++ call_lines xs) (call_lines ys) t u one.0), one.1)
+goes_before S T Deep xs ys a b t u f g one = one
+
+-- lines that are told, of which only the sink can fail
+pub goes_told : {S T : Type 0} (v : S) (w : T) (xs : List Call) (a b : List ℕ) (t u : Option (List ℕ)) (f g : ℕ) → Tells xs (Ok v) a b t u f g → Goes xs (Ok w) a b t u f g
+goes_told v w xs a b t u f g tells = (tells.all, tells.cause.same)
+
+pub goes_untold : (S T : Type 0) (failed : Failed) (e : Fault) → e ≡ Sink → (xs : List Call) (a b c : List ℕ) (t u : Option (List ℕ)) (f g : ℕ) → Tells {T = S} xs (Err failed) a b t u f g → Goes {T = T} xs (Err e) a c t u f g
+goes_untold S T failed e is xs a b c t u f g tells = subst (λ (fault : Fault). Goes {T = T} xs (Err fault) a c t u f g) (sym is) (tells.some, tells.cause.failed)

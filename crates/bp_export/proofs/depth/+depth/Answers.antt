@@ -1,5 +1,4 @@
 use Rattle.std.proofs.Common.{◌≡◌, ◌≢◌, ℕ, ◌+◌, ◌-◌, ◌*◌, ◌<◌, ◌≤◌, List, min, length, slice_index, refl, sym, ◌∙◌, ap, subst, subst₂, arith}
-use Rattle.bp_dirs.specs.EntryWords.{IsRow}
 use Rattle.bp_dirs.proofs.EntryWords.{entry_of}
 use Rattle.bp_layout.specs.Directory.{entry_count, inumber_at, inumber_in, name_at}
 use Rattle.bp_layout.specs.Fields.{kind_word}
@@ -108,7 +107,7 @@ has_long_path-has_long_entry-requires g t c κs within =
         (
           c.requires.well_formed,
           row_reached image c.requires.well_formed i c.requires.reached c.requires.directory (16 * leaf) (min 16 (entry_count image i - 16 * leaf)) _ (omega (arith, live))
-          (row_at image i _ _ leaf _ c.tree_of-tree.ensures.root c.tree_of-tree.ensures.size c.in-Some.ensures.some),
+              (row_at image i _ _ leaf _ c.tree_of-tree.ensures.root c.tree_of-tree.ensures.size c.in-Some.ensures.some),
         ),
       ),
     )
@@ -122,7 +121,7 @@ has_long_path-returns-then-has_long_entry g t c =
     let row = row_at image i _ _ leaf _ c.tree_of-tree.ensures.root c.tree_of-tree.ensures.size c.in-Some.ensures.some in
     let tells = c.has_long_entry.ensures i (16 * leaf) (min 16 (entry_count image i - 16 * leaf)) row in (
       λ yes. path_from_entry image c.requires.well_formed i c.requires.reached c.requires.directory c.args.left
-      (long_inside image i c.args.left (16 * leaf) (min 16 (entry_count image i - 16 * leaf)) (entry_count image i) (omega (arith, live)) (tells.0 c.if-has_long_entry.true)),
+          (long_inside image i c.args.left (16 * leaf) (min 16 (entry_count image i - 16 * leaf)) (entry_count image i) (omega (arith, live)) (tells.0 c.if-has_long_entry.true)),
       λ has. refl,
     )
 

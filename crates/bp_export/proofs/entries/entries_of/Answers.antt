@@ -1,4 +1,4 @@
-use Rattle.std.proofs.Common.{◌≡◌, ℕ, ◌+◌, ◌*◌, ◌-◌, ◌<◌, ◌≤◌, ◌++◌, min, sym, ◌∙◌, ap, arith}
+use Rattle.std.proofs.Common.{◌≡◌, ℕ, ◌*◌, ◌-◌, ◌<◌, ◌++◌, min, sym, ◌∙◌, ap, arith}
 use Rattle.bp_layout.specs.Directory.{entry_count, inumber_in}
 use Rattle.bp_layout.specs.Words.{Image}
 use Rattle.pm_region.specs.Memory.{current_words}

@@ -10,3 +10,7 @@ pub mod Places
 pub mod GoingLaws
 pub mod TreeLaws
 pub mod EndLaws
+pub mod NameLaws
+pub mod BelowLaws
+pub mod NamedLaws
+pub mod RowLaws

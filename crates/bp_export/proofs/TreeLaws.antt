@@ -5,7 +5,7 @@ use Rattle.std.specs.Io.KnownBytes.{Appends}
 use Rattle.std.specs.FinMap.{entries}
 use Rattle.std.proofs.lemmas.List.Elements.{All-head}
 use Rattle.bp_io.specs.Causes.{HasCause, Rose}
-use Rattle.bp_layout.specs.Inode.{IsFile, inode_count, root_of, size_of}
+use Rattle.bp_layout.specs.Inode.{IsDirectory, IsFile, inode_count, root_of, size_of}
 use Rattle.bp_layout.specs.Lookup.{Node, Path, lookup, node_of}
 use Rattle.bp_layout.specs.Lookup.Node.{dir, file}
 use Rattle.bp_layout.specs.Reached.{IsReached}
@@ -52,6 +52,9 @@ pub has_count : (image : Image) → IsWellFormed image → (i n : ℕ) → i < i
 has_count image wf i n high is =
     let few : size_of image 0 / 64 ≤ 64 * block_count image = few_inodes image (root_of image 0) (size_of image 0) (wf.sound 0 inode_file) wf.full_inode_file (omega (arith, wf.formatted.sized.at_least)) wf.inode_blocks in
     omega (arith, few, high, is)
+
+pub node_of-directory : (image : Image) (i : ℕ) → IsDirectory image i → node_of image i ≡ dir
+node_of-directory image i kind = rw kind refl
 
 pub node_of-file : (image : Image) (i : ℕ) → IsFile image i → node_of image i ≡ file (content image (root_of image i) (size_of image i))
 node_of-file image i kind = rw kind refl

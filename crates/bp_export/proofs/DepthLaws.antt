@@ -1,5 +1,5 @@
 -- A directory has a path that is too long where one begins with one of its entries.
-use Rattle.std.proofs.Common.{◌≡◌, ◌≢◌, ◌↔◌, ℕ, zero, suc, ◌+◌, ◌-◌, ◌<◌, ◌≤◌, [], ◌∷◌, ◌++◌, length, flat_map, nat_lt, Bool, true, false, Option, None, Some, option_and_then, option_map, refl, sym, ◌∙◌, ap, subst, arith, length-append}
+use Rattle.std.proofs.Common.{◌≡◌, ◌≢◌, ◌↔◌, ℕ, ◌+◌, ◌-◌, ◌*◌, ◌<◌, ◌≤◌, min, [], ◌∷◌, length, nat_lt, Bool, true, false, Option, None, Some, option_and_then, option_map, refl, sym, ◌∙◌, ap, subst, arith, length-append}
 use Rattle.std.specs.Prelude.{IsTrue}
 use Rattle.std.specs.FinMap.{get}
 use Rattle.std.proofs.lemmas.Bool.{ltb-false, ltb-true}
@@ -123,13 +123,18 @@ module _ (image : Image) (i left : ℕ) where
           let last : has.slot ≡ first + count = omega (arith, has.high, ltb-false _ _ high) in
           here (subst (λ s. IsLongEntry image i s left) last has.is)
 
-  -- the entries of one row more
-  pub none_further : (first last : ℕ) → (HasLongEntry image i 0 first left → ⊥) → (HasLongEntry image i first (last - first) left → ⊥) → HasLongEntry image i 0 last left → ⊥
-  none_further first last before here has = go (nat_lt has.slot first) refl
+  -- the entries of one leaf more
+  pub leaf_more : (leaf total : ℕ) → 16 * leaf < total → (HasLongEntry image i 0 (min (16 * leaf) total) left → ⊥) → (HasLongEntry image i (16 * leaf) (min 16 (total - 16 * leaf)) left → ⊥) →
+      HasLongEntry image i 0 (min (16 * (leaf + 1)) total) left → ⊥
+  leaf_more leaf total live before here has = go (nat_lt has.slot (16 * leaf)) refl
     where
-      go : (b : Bool) → nat_lt has.slot first ≡ b → ⊥
-      go true low = before (record { slot = has.slot; low = has.low; high = omega (arith, ltb-true _ _ low); is = has.is })
-      go false high = here (record { slot = has.slot; low = omega (arith, ltb-false _ _ high); high = omega (arith, has.high, ltb-false _ _ high); is = has.is })
+      go : (b : Bool) → nat_lt has.slot (16 * leaf) ≡ b → ⊥
+      go true low = before (record { slot = has.slot; low = has.low; high = omega (arith, ltb-true _ _ low, live); is = has.is })
+      go false high = here (record { slot = has.slot; low = omega (arith, ltb-false _ _ high); high = omega (arith, has.high, ltb-false _ _ high, live); is = has.is })
+
+  -- empty entries
+  pub none_empty : (first count : ℕ) → ((slot : ℕ) → first ≤ slot → slot < first + count → inumber_at image i slot ≡ 0) → HasLongEntry image i first count left → ⊥
+  none_empty first count empty has = has.is.some (empty has.slot has.low has.high)
 
   -- a row of the entries
   pub long_inside : (first count total : ℕ) → first + count ≤ total → HasLongEntry image i first count left → HasLongEntry image i 0 total left

@@ -60,6 +60,12 @@ goes_before S T Sink xs ys a b t u f g one =
     (rw (lines-append xs ys, sym (append_assoc a (call_lines xs) (call_lines ys))) (part_of_front (a ++ call_lines xs) (call_lines ys) t u one.0), one.1)
 goes_before S T Deep xs ys a b t u f g one = one
 
+-- what would have been answered is of no matter either
+pub goes_stop : (S T : Type 0) (e : Fault) (xs : List Call) (a b : List ℕ) (t u : Option (List ℕ)) (f g : ℕ) → Goes {T = S} xs (Err e) a b t u f g → Goes {T = T} xs (Err e) a b t u f g
+goes_stop S T Memory xs a b t u f g goes = goes
+goes_stop S T Sink xs a b t u f g goes = goes
+goes_stop S T Deep xs a b t u f g goes = goes
+
 -- lines that are told, of which only the sink can fail
 pub goes_told : {S T : Type 0} (v : S) (w : T) (xs : List Call) (a b : List ℕ) (t u : Option (List ℕ)) (f g : ℕ) → Tells xs (Ok v) a b t u f g → Goes xs (Ok w) a b t u f g
 goes_told v w xs a b t u f g tells = (tells.all, tells.cause.same)

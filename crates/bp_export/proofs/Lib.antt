@@ -8,3 +8,9 @@ pub mod SinglePaths
 pub mod FirstTexts
 pub mod Places
 pub mod GoingLaws
+pub mod TreeLaws
+pub mod EndLaws
+pub mod NameLaws
+pub mod BelowLaws
+pub mod NamedLaws
+pub mod RowLaws

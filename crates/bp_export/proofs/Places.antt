@@ -48,7 +48,7 @@ All_middle P xs ys zs all =
 
 -- ---- parts of a tree
 
-calls-append : (tree : PathMap) (xs ys : List Entry) → flat_map (calls_at tree) (xs ++ ys) ≡ flat_map (calls_at tree) xs ++ flat_map (calls_at tree) ys
+pub calls-append : (tree : PathMap) (xs ys : List Entry) → flat_map (calls_at tree) (xs ++ ys) ≡ flat_map (calls_at tree) xs ++ flat_map (calls_at tree) ys
 calls-append tree xs ys = flat_map-append (calls_at tree) xs ys
 
 pub text_further : (path : Path) (name : Name) → path_text (path ++ name ∷ []) ≡ path_text path ++ 47 ∷ name
@@ -156,7 +156,7 @@ module _ (image : Image) (counts : List ℕ) (i : ℕ) (text : List ℕ) (before
     child_short = rw child_text (stands.can.short child (node_of image j) child_there)
 
     -- what is below the entry
-    abbrev below_node : Node → List Entry
+    abbrev pub below_node : Node → List Entry
     below_node dir = inside tree child
     below_node (file content) = []
 
@@ -167,10 +167,10 @@ module _ (image : Image) (counts : List ℕ) (i : ℕ) (text : List ℕ) (before
         go dir is = rw is (directory_here image tree stands.can child (child_there ∙ ap Some is))
         go (file content) is = rw is ((walked image tree stands.can).at_file child content (child_there ∙ ap Some is))
 
-    abbrev behind : List Entry
+    abbrev pub behind : List Entry
     behind = entries_at tree place.path (drop (k + 1) names)
 
-    whole : inside tree place.path ≡ entries_to k ++ ((itself image j tree child ++ below_node (node_of image j)) ++ behind)
+    pub whole : inside tree place.path ≡ entries_to k ++ ((itself image j tree child ++ below_node (node_of image j)) ++ behind)
     whole =
         ap (entries_at tree place.path) (cut_at names k name at_name) ∙ entries_at-append tree place.path (take k names) (name ∷ drop (k + 1) names)
         ∙ ap (λ es. entries_to k ++ (es ++ behind)) below_child
@@ -198,7 +198,7 @@ module _ (image : Image) (counts : List ℕ) (i : ℕ) (text : List ℕ) (before
     abbrev pub inner_place : Place
     inner_place = record { tree = tree; path = child; told = told_to k ++ itself image j tree child; later = behind ++ place.later }
 
-    is_dir : IsDirectory image j → below_node (node_of image j) ≡ inside tree child
+    pub is_dir : IsDirectory image j → below_node (node_of image j) ≡ inside tree child
     is_dir kind = ap below_node (node-directory image tree stands.can j kind)
 
     pub stands_in_child : IsDirectory image j → (firsts : Firsts) → RemembersFirsts image counts firsts (told_to k ++ itself image j tree child) → StandsAt image counts inside j (text ++ 47 ∷ name) firsts inner_place

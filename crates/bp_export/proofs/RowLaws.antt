@@ -1,11 +1,10 @@
 -- The words of a leaf's entries, and what they name.
-use Rattle.std.proofs.Common.{◌≡◌, ◌≢◌, ℕ, zero, suc, ◌+◌, ◌-◌, ◌*◌, ◌/◌, ◌^◌, ◌<◌, ◌≤◌, min, List, [], ◌∷◌, ◌++◌, take, length, slice_index, slice_range, Bool, true, false, ◌==◌, Option, None, filter_map, refl, sym, ◌∙◌, ap, ap₂, subst, arith}
+use Rattle.std.proofs.Common.{◌≡◌, ◌≢◌, ℕ, zero, suc, ◌+◌, ◌-◌, ◌*◌, ◌/◌, ◌^◌, ◌<◌, ◌≤◌, min, List, [], ◌∷◌, ◌++◌, take, length, slice_index, Bool, true, false, ◌==◌, filter_map, refl, sym, ◌∙◌, ap, ap₂, subst, subst₂, arith}
 use Rattle.std.specs.List.{cons_option, range_with_len}
 use Rattle.std.proofs.lemmas.Bool.{eqb-true}
 use Rattle.std.proofs.lemmas.List.{append-nil, get_or-take, length-take}
 use Rattle.std.proofs.lemmas.List.Elements.{filter_map-append}
 use Rattle.std.proofs.lemmas.List.FromFn.{length-map-range_with_len}
-use Rattle.bp_limits.specs.Limits.{entry_words, max_name}
 use Rattle.bp_layout.specs.Words.{Image, block_count}
 use Rattle.bp_layout.specs.Tree.{IsSound, content_word}
 use Rattle.bp_layout.specs.Inode.{inode_count, kind_of, root_of, size_of}
@@ -133,6 +132,22 @@ named-none image i first (suc count) empty =
     let rest : entries_named image i (first + 1) count ≡ [] = named-none image i (first + 1) count (λ slot low high. empty slot (omega (arith, low)) (omega (arith, high))) in
     rw (empty first (omega arith) (omega arith)) rest
 
+module _ (image : Image) (i leaf total : ℕ) (live : 16 * leaf < total) where
+  -- what is named up to a leaf, and in it
+  pub leaf_more : entries_named image i 0 (min (16 * leaf) total) ++ entries_named image i (16 * leaf) (min 16 (total - 16 * leaf)) ≡ entries_named image i 0 (min (16 * (leaf + 1)) total)
+  leaf_more =
+      let before : min (16 * leaf) total ≡ 16 * leaf = omega (arith, live) in
+      let after : min (16 * (leaf + 1)) total ≡ 16 * leaf + min 16 (total - 16 * leaf) = omega (arith, live) in
+      let from : 0 + 16 * leaf ≡ 16 * leaf = omega arith in
+      rw (before, after) (ap (λ k. entries_named image i 0 (16 * leaf) ++ entries_named image i k (min 16 (total - 16 * leaf))) (sym from) ∙ sym (named-append image i 0 (16 * leaf) (min 16 (total - 16 * leaf))))
+
+  -- where all of it is empty
+  pub null_more : ((slot : ℕ) → 16 * leaf ≤ slot → slot < 16 * (leaf + 1) → inumber_at image i slot ≡ 0) → entries_named image i 0 (min (16 * leaf) total) ≡ entries_named image i 0 (min (16 * (leaf + 1)) total)
+  null_more empty =
+      sym (append-nil (entries_named image i 0 (min (16 * leaf) total)))
+      ∙ ap (λ xs. entries_named image i 0 (min (16 * leaf) total) ++ xs) (sym (named-none image i (16 * leaf) (min 16 (total - 16 * leaf)) (λ slot low high. empty slot low (omega (arith, high)))))
+      ∙ leaf_more
+
 -- those of a leaf that lie below the size
 pub leaf_row : (image : Image) (root leaf count : ℕ) (words : List ℕ) → length words ≡ 512 → ((k : ℕ) → k < 512 → slice_index words k ≡ content_word image root (512 * leaf + k)) →
     count ≤ 16 → IsRow image root (16 * leaf) count (take (32 * count) words)
@@ -144,6 +159,12 @@ leaf_row image root leaf count words long each few = record {
       ∙ each (32 * index + field) (omega (arith, low, within, few))
       ∙ ap (content_word image root) at;
 }
+
+-- the row of a directory's leaf
+pub row_at : (image : Image) (i root size leaf : ℕ) (words : List ℕ) → root ≡ root_of image i → size ≡ size_of image i → IsRow image root (16 * leaf) (row_length size leaf) words →
+    IsRow image (root_of image i) (16 * leaf) (min 16 (entry_count image i - 16 * leaf)) words
+row_at image i root size leaf words root_is size_is row =
+    subst₂ (λ r s. IsRow image r (16 * leaf) (row_length s leaf) words) root_is size_is row
 
 -- a null leaf has only empty entries
 pub null_leaf : (image : Image) (root leaf : ℕ) → ((k : ℕ) → k < 512 → content_word image root (512 * leaf + k) ≡ 0) → (slot : ℕ) → 16 * leaf ≤ slot → slot < 16 * (leaf + 1) → inumber_in image root slot ≡ 0

@@ -1,5 +1,5 @@
 -- A walk over the tree of an image: where it stands, and what it remembers.
-use Rattle.std.specs.Prelude.{◌≡◌, ◌<◌, ◌≤◌, ℕ, List, [], ◌∷◌, ◌++◌, length, map, find, flat_map, slice_index, All, Bool, OnOk, Option, Result, Some, option_map}
+use Rattle.std.specs.Prelude.{◌≡◌, ◌<◌, ◌≤◌, ℕ, List, [], ◌∷◌, ◌++◌, length, map, take, find, flat_map, slice_index, All, Bool, OnOk, Option, Result, Some, option_map}
 use Rattle.std.specs.FinMap.{get, entries}
 use Rattle.bp_limits.specs.Limits.{max_path}
 use Rattle.bp_layout.specs.Directory.{Name}
@@ -28,6 +28,10 @@ entries_at tree path names = flat_map (λ name. entries_below tree (path ++ name
 -- what is below the directory at a path
 abbrev pub inside : PathMap → Path → List (Path × Node)
 inside tree path = entries_at tree path (names_in tree path)
+
+-- what is below it at its first names
+abbrev pub up_to : ℕ → PathMap → Path → List (Path × Node)
+up_to count tree path = entries_at tree path (take count (names_in tree path))
 
 -- what stands at a path itself, where it finds inode i
 abbrev pub itself : Image → ℕ → PathMap → Path → List (Path × Node)

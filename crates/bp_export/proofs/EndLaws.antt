@@ -1,0 +1,85 @@
+-- How an export ends by how its walk does.
+use Rattle.std.proofs.Common.{◌≡◌, ℕ, List, [], ◌++◌, Option, refl, sym, ◌∙◌, ap, subst, append_assoc, append-nil}
+use Rattle.std.specs.Prelude.{Result, Ok, Err, OnErr, OnOk, IsErrOf}
+use Rattle.std.specs.Io.KnownBytes.{Appends}
+use Rattle.std.proofs.KnownBytes.{Appends-trans}
+use Rattle.bp_io.specs.Causes.{HasCause, Rose}
+use Rattle.bp_io.specs.declared.faults.Failed.{Failed}
+use Rattle.bp_plain.specs.Calls.{Call}
+use Rattle.bp_plain.specs.Export.{HasShortPaths, export_calls}
+use Rattle.bp_plain.specs.PlainTree.{FileTree}
+use Rattle.bp_replies.specs.Gathering.{PassesOn}
+use Rattle.bp_replies.specs.Taking.{TakesPart}
+use Rattle.bp_replies.proofs.PassingLaws.{passed_part}
+use Rattle.bp_script.specs.Export.{call_lines, export_text}
+use Rattle.bp_export.specs.Exports.{EndsExport, Goes, PassesFront, TakesFront}
+use Rattle.bp_export.specs.declared.fault.Fault.{Fault}
+use Rattle.bp_export.specs.declared.fault.Fault.TheVariants.{Deep, Memory, Sink}
+
+module _ (T : Type 0) (tree : FileTree) (t : Option (List ℕ)) (f : ℕ) where
+  -- some path can't be spelled
+  pub ends_deep : (HasShortPaths tree → ⊥) → EndsExport {T = T} tree (Err Deep) t t f f
+  ends_deep deep = record {
+    all = tt;
+    deep = (λ is short. deep short, λ other. refl);
+    untold = λ is. refl;
+    some = λ is. absurd (cc);
+    part = λ is. absurd (cc);
+    cause = λ is. absurd (cc);
+    same = λ other. refl;
+  }
+
+  module _ (short : HasShortPaths tree) where
+    pub ends_memory : (a : List ℕ) (u : Option (List ℕ)) (g : ℕ) → PassesFront (export_text tree) [] a t u → g ≡ f → EndsExport {T = T} tree (Err Memory) t u f g
+    ends_memory a u g front same = record {
+      all = tt;
+      deep = (λ is. absurd (cc), λ other. absurd (other short));
+      untold = λ is. absurd (cc);
+      some = λ is. record {
+        front = front.passes.sent;
+        rest = a ++ front.rest;
+        whole = front.whole ∙ ap (λ l. l ++ front.rest) front.passes.whole ∙ append_assoc front.passes.sent a front.rest;
+        took = front.passes.took;
+      };
+      part = λ is. absurd (cc);
+      cause = λ is. absurd (cc);
+      same = λ other. same;
+    }
+
+    pub ends_sink : (u : Option (List ℕ)) (g : ℕ) → TakesPart (export_text tree) t u → Rose f g → EndsExport {T = T} tree (Err Sink) t u f g
+    ends_sink u g part rose = record {
+      all = tt;
+      deep = (λ is. absurd (cc), λ other. absurd (other short));
+      untold = λ is. absurd (cc);
+      some = λ is. absurd (cc);
+      part = λ is. part;
+      cause = λ is. rose;
+      same = λ other. absurd (other refl);
+    }
+
+    pub ends_whole : (done : T) (u : Option (List ℕ)) (g : ℕ) → Appends t u (export_text tree) → g ≡ f → EndsExport tree (Ok done) t u f g
+    ends_whole done u g all same = record {
+      all = all;
+      deep = (λ is. absurd (cc), λ other. absurd (other short));
+      untold = λ is. absurd (cc);
+      some = λ is. absurd (cc);
+      part = λ is. absurd (cc);
+      cause = λ is. absurd (cc);
+      same = λ other. same;
+    }
+
+    -- a walk that ended before its end
+    pub ends_walk : (S : Type 0) (e : Fault) (a : List ℕ) (u : Option (List ℕ)) (g : ℕ) → Goes {T = S} (export_calls tree) (Err e) [] a t u f g → EndsExport {T = T} tree (Err e) t u f g
+    ends_walk S Memory a u g goes = ends_memory a u g goes.0 goes.1
+    ends_walk S Sink a u g goes = ends_sink u g goes.0 goes.1
+    ends_walk S Deep a u g goes = absurd goes
+
+    -- what waited at its end was handed over, or a part of it
+    pub ends_handed : {S : Type 0} (v : S) (done : T) (a : List ℕ) (u w : Option (List ℕ)) (g h : ℕ) → Goes (export_calls tree) (Ok v) [] a t u f g → Appends u w a → h ≡ g → EndsExport tree (Ok done) t w f h
+    ends_handed v done a u w g h goes took same =
+        ends_whole done w h (subst (Appends t w) (sym goes.0.whole) (Appends-trans t u w goes.0.sent a goes.0.took took)) (same ∙ goes.1)
+
+    pub ends_unhanded : {S : Type 0} (v : S) (e : Fault) → e ≡ Sink → (a : List ℕ) (u w : Option (List ℕ)) (g h : ℕ) → Goes (export_calls tree) (Ok v) [] a t u f g → TakesPart a u w → Rose g h → EndsExport {T = T} tree (Err e) t w f h
+    ends_unhanded v e is a u w g h goes part rose =
+        subst (λ (fault : Fault). EndsExport {T = T} tree (Err fault) t w f h) (sym is)
+        (ends_sink w h (passed_part (export_text tree) [] a t u w goes.0 part) (subst (λ n. Rose n h) goes.1 rose))

@@ -1,0 +1,75 @@
+-- The whole of a tree, and the inodes of its paths.
+use Rattle.std.proofs.Common.{◌≡◌, ℕ, zero, suc, ◌*◌, ◌<◌, ◌≤◌, List, [], ◌∷◌, ◌++◌, length, flat_map, Option, None, Some, refl, sym, ◌∙◌, ap, subst, arith, append_assoc, append-nil}
+use Rattle.std.specs.Prelude.{All, Result, Ok, Err, OnErr, OnOk, IsErrOf}
+use Rattle.std.specs.Io.KnownBytes.{Appends}
+use Rattle.std.specs.FinMap.{entries}
+use Rattle.std.proofs.lemmas.List.Elements.{All-head}
+use Rattle.bp_io.specs.Causes.{HasCause, Rose}
+use Rattle.bp_layout.specs.Inode.{IsDirectory, IsFile, inode_count, root_of, size_of}
+use Rattle.bp_layout.specs.Lookup.{Node, Path, lookup, node_of}
+use Rattle.bp_layout.specs.Lookup.Node.{dir, file}
+use Rattle.bp_layout.specs.Reached.{IsReached}
+use Rattle.bp_layout.specs.Reached.IsReached.{inode_file, root_directory}
+use Rattle.bp_layout.specs.Tree.{content}
+use Rattle.bp_layout.specs.WellFormed.{IsWellFormed}
+use Rattle.bp_layout.specs.Words.{Image, block_count}
+use Rattle.bp_layout.proofs.FewLeaves.{few_inodes}
+use Rattle.bp_layout.proofs.Paths.{ByLast, LastStep, by_last, last_step}
+use Rattle.bp_layout.proofs.Paths.ByLast.{none, more}
+use Rattle.bp_layout.proofs.View.{lookup_from-reached}
+use Rattle.bp_plain.specs.Calls.{Call}
+use Rattle.bp_plain.specs.Export.{HasShortPaths, IsExportable, IsOfBytes, calls_at, export_calls}
+use Rattle.bp_plain.specs.PlainTree.{FileTree, PathMap}
+use Rattle.bp_plain.specs.Stands.{Stands}
+use Rattle.bp_plain.proofs.Exportable.{image_exportable}
+use Rattle.bp_script.proofs.ExportLines.{export_short}
+use Rattle.bp_export.specs.Firsts.{first_text}
+use Rattle.bp_export.specs.Walking.{CanTell, Place, StandsAt, inside}
+use Rattle.bp_export.specs.declared.firsts.Firsts.{Firsts}
+use Rattle.bp_export.proofs.Places.{root_place, stands_at_root}
+
+-- ---- the inode that a path finds
+
+module _ (image : Image) (wf : IsWellFormed image) (path : Path) (i : ℕ) (found : lookup image path ≡ Some i) where
+  pub found_reached : IsReached image i
+  found_reached = lookup_from-reached image 1 i path root_directory found
+
+  pub found_low : 1 ≤ i
+  found_low = go (by_last path) found
+    where
+      not_zero : (j : ℕ) → (j ≡ 0 → ⊥) → 1 ≤ j
+      not_zero zero other = absurd (other refl)
+      not_zero (suc j) other = omega arith
+
+      go : {p : Path} → ByLast p → lookup image p ≡ Some i → 1 ≤ i
+      go none at = let root : 1 ≡ i = cc in omega (arith, root)
+      go (more {path = front} before name) at =
+          let step : LastStep image wf front name i = last_step image wf front name i at in
+          not_zero i step.shows.entry.not_empty
+
+-- the counts of names have one for each inode
+pub has_count : (image : Image) → IsWellFormed image → (i n : ℕ) → i < inode_count image → n ≡ 64 * block_count image → i < n
+has_count image wf i n high is =
+    let few : size_of image 0 / 64 ≤ 64 * block_count image = few_inodes image (root_of image 0) (size_of image 0) (wf.sound 0 inode_file) wf.full_inode_file (omega (arith, wf.formatted.sized.at_least)) wf.inode_blocks in
+    omega (arith, few, high, is)
+
+pub node_of-directory : (image : Image) (i : ℕ) → IsDirectory image i → node_of image i ≡ dir
+node_of-directory image i kind = rw kind refl
+
+pub node_of-file : (image : Image) (i : ℕ) → IsFile image i → node_of image i ≡ file (content image (root_of image i) (size_of image i))
+node_of-file image i kind = rw kind refl
+
+-- ---- the whole tree
+
+module _ (image : Image) (tree : FileTree) (stands : Stands image tree) (short : HasShortPaths tree) where
+  can : IsExportable tree × IsOfBytes tree
+  can = image_exportable image tree stands short
+
+  pub can_tell : CanTell image tree.now
+  can_tell = record { shows = stands.now; short = short; fits = export_short tree can.0 can.1 }
+
+  -- all but the root itself, which takes no call
+  pub all_calls : (counts : List ℕ) (firsts : Firsts) → ((i : ℕ) → first_text firsts i ≡ None) → flat_map (calls_at tree.now) (inside tree.now []) ≡ export_calls tree
+  all_calls counts firsts nothing =
+      let stands : StandsAt image counts inside 1 [] firsts (root_place image tree.now can_tell) = stands_at_root image tree.now can_tell counts firsts nothing in
+      ap (flat_map (calls_at tree.now)) (sym (append-nil (inside tree.now []))) ∙ sym (ap (flat_map (calls_at tree.now)) stands.order)

@@ -1,7 +1,6 @@
 -- The names of a directory, once they are sorted, are those that the plain tree lists.
 use Rattle.std.proofs.Common.{◌≡◌, ◌≢◌, ℕ, zero, suc, ◌+◌, ◌<◌, ◌≤◌, List, [], ◌∷◌, ◌++◌, map, length, All, Bool, true, false, cond, ◌&&◌, ◌==◌, T, Option, None, Some, option_map, option_and_then, filter_map, refl, sym, ◌∙◌, ap, ap₂, subst, arith, add-one, true≢false, IsPermutation, IsSortedBy, Contains, get_or}
-use Rattle.std.specs.Prelude.{if◌then◌else◌}
-use Rattle.std.specs.List.{AllByRecursion, IsDistinct, cons_option, range_with_len}
+use Rattle.std.specs.List.{AllByRecursion, IsDistinct}
 use Rattle.std.specs.declared.cmp.Ordering.{Ordering}
 use Rattle.std.specs.declared.cmp.Ordering.TheVariants.{Less, Equal, Greater}
 use Rattle.std.specs.Ordering.{nat_cmp, eq_by_cmp, is_eq, is_lt, ordering_then, ordering_reverse}
@@ -26,7 +25,7 @@ use Rattle.bp_layout.proofs.Below.{rest_below-append, rest_below-is}
 use Rattle.bp_layout.proofs.LookupLaws as lookups
 use Rattle.bp_layout.proofs.Paths.{lookup_from-append}
 use Rattle.bp_plain.specs.Plain.{listed_in, listing, only_name}
-use Rattle.bp_plain.specs.PlainTree.{Nodes, PathMap, path_cmp}
+use Rattle.bp_plain.specs.PlainTree.{PathMap, path_cmp}
 use Rattle.bp_plain.specs.Stands.{Shows}
 use Rattle.bp_plain.proofs.Kept.{left_holds, right_holds}
 use Rattle.bp_plain.proofs.PathOrder.{same_path_from}

@@ -1,4 +1,4 @@
-use Rattle.std.proofs.Common.{◌≡◌, ℕ, ◌+◌, ◌*◌, min}
+use Rattle.std.proofs.Common.{ℕ, ◌+◌, ◌*◌, min}
 use Rattle.bp_dirs.specs.EntryWords.{IsRow}
 use Rattle.bp_layout.specs.Directory.{entry_count}
 use Rattle.bp_layout.specs.Inode.{root_of}

@@ -1,4 +1,4 @@
-use Rattle.std.proofs.Common.{◌≡◌, ℕ, ◌+◌, ◌*◌, ◌-◌, ◌<◌, ◌≤◌, ◌++◌, min, sym, ◌∙◌, ap, arith}
+use Rattle.std.proofs.Common.{◌≡◌, ℕ, ◌*◌, ◌-◌, ◌<◌, ◌++◌, min, sym, ◌∙◌, ap, arith}
 use Rattle.bp_layout.specs.Directory.{entry_count, inumber_in}
 use Rattle.bp_layout.specs.Words.{Image}
 use Rattle.pm_region.specs.Memory.{current_words}
@@ -37,3 +37,6 @@ returns g c =
     let image : Image = current_words (g.R.Region.memory c.args.region.now) in
     let all : min (16 * c.loop-leaf.leaf) (entry_count image c.args.i) ≡ entry_count image c.args.i = omega (arith, c.leaf_count-leaf-end.ensures.all, c.loop-leaf-test.false, c.tree_of-tree.ensures.size) in
     c.loop-leaf.invariant ∙ ap (entries_named image c.args.i 0) all
+
+pub entry_row-requires-clause-live : goal.entry_row-requires-clause-live
+entry_row-requires-clause-live g c = c.leaf_count-leaf-end.ensures.most c.loop-leaf.leaf c.loop-leaf-test.true

@@ -1,4 +1,4 @@
-use Rattle.std.proofs.Common.{◌≢◌, ◌≤◌, slice_index, length, ap, arith}
+use Rattle.std.proofs.Common.{◌≢◌, slice_index, length, ap, arith}
 use Rattle.std.proofs.lemmas.List.FromFn.{length-map-range_with_len}
 use Rattle.bp_layout.specs.Fields.{name_byte}
 use Rattle.bp_export.proofs.RowLaws.{one_named}

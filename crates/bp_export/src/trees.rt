@@ -138,10 +138,11 @@ fn export_below<R: Region, K: Sink>(
     requires inodes { length counts.now ≡ block_inodes * block_count (current_words (R.memory region.now)) }
     requires stands { (place : Place) × StandsAt (current_words (R.memory region.now)) counts.now inside i
         work.old.path.items work.old.firsts place }
-    ensures { let words = current_words (R.memory region.now) in
+    ensures tours { let words = current_words (R.memory region.now) in
         (place : Place) → StandsAt words counts.now inside i work.old.path.items work.old.firsts place
         → Tours words counts.now inside place result work.new.firsts (waiting work.old.replies)
             (waiting work.new.replies) (K.taken out.old) (K.taken out.new) (K.faults out.old) (K.faults out.new) }
+    ensures path { OnOk result (work.new.path.items ≡ work.old.path.items) }
 {
     let entries = Entries::of(alloc, region, i)?;
     let here = work.path.len();

@@ -9,7 +9,6 @@ use bp_io::{
 use std::alloc::{AllocError, Global};
 use std::io::{ErrorKind, Read, Write};
 use std::process::Abort;
-use std::test::Fail;
 use std::{fs, io};
 
 /// The bytes at these places of a file.
@@ -20,20 +19,19 @@ fn has_bytes(rt: &impl Abort, bytes: &[u8], wanted: &[(usize, u8)]) {
 }
 
 #[test]
-fn disk_files_keep_blocks(rt: HostRuntime) -> Result<(), Fail> {
-    let mut files = DiskFiles::new(rt.alloc(), &rt)?;
+fn disk_files_keep_blocks(rt: HostRuntime) {
+    let mut files = DiskFiles::new(rt.alloc(), &rt).expect(&rt, "there is memory");
     assert_eq!(rt; files.attach("disk.img", Access::Write), Ok(None));
     assert_eq!(rt; files.attach("disk.img", Access::Make), Ok(Some(0)));
     assert_eq!(rt; files.set_blocks(8), Ok(()));
     let block = [77u8; 4096];
     assert_eq!(rt; files.write_block(3, &block), Ok(()));
     assert_eq!(rt; files.flush(), Ok(()));
-    let bytes = fs::read(&rt, "disk.img")?;
+    let bytes = fs::read(&rt, "disk.img").expect(&rt, "it is there");
     assert_eq!(rt; bytes.len(), 32_768);
     let wanted = [(12_287, 0), (12_288, 77), (16_383, 77), (16_384, 0)];
     has_bytes(&rt, &bytes, &wanted);
-    fs::remove_file(&rt, "disk.img")?;
-    Ok(())
+    fs::remove_file(&rt, "disk.img").expect(&rt, "it is removed");
 }
 
 /// Writes a block of one byte alone.
@@ -99,63 +97,68 @@ fn is_locked<F: Files>(files: &mut F, name: &str) -> bool {
 }
 
 #[test]
-fn disk_files_are_locked(rt: HostRuntime) -> Result<(), Fail> {
-    let mut files = DiskFiles::new(rt.alloc(), &rt)?;
+fn disk_files_are_locked(rt: HostRuntime) {
+    let mut files = DiskFiles::new(rt.alloc(), &rt).expect(&rt, "there is memory");
     assert_eq!(rt; make_short(&mut files), Ok(true));
-    let mut again = DiskFiles::new(rt.alloc(), &rt)?;
+    let mut again = DiskFiles::new(rt.alloc(), &rt).expect(&rt, "there is memory");
     assert!(rt; is_locked(&mut again, "short.img"));
     drop(files);
     assert_eq!(rt; reads_short(&mut again), Ok(true));
     assert_eq!(rt; cut_short(&mut again), Ok(true));
-    assert_eq!(rt; fs::read(&rt, "short.img")?.len(), 8192);
-    fs::remove_file(&rt, "short.img")?;
-    Ok(())
+    assert_eq!(rt;
+        fs::read(&rt, "short.img").expect(&rt, "it is there").len(),
+        8192
+    );
+    fs::remove_file(&rt, "short.img").expect(&rt, "it is removed");
 }
 
 #[test]
-fn disk_files_are_read(rt: HostRuntime) -> Result<(), Fail> {
-    fs::write(&rt, "read.img", [5u8; 8192].as_slice())?;
-    let mut files = DiskFiles::new(rt.alloc(), &rt)?;
+fn disk_files_are_read(rt: HostRuntime) {
+    fs::write(&rt, "read.img", [5u8; 8192].as_slice()).expect(&rt, "it is written");
+    let mut files = DiskFiles::new(rt.alloc(), &rt).expect(&rt, "there is memory");
     assert_eq!(rt; files.attach("read.img", Access::Write), Ok(Some(8192)));
     assert_eq!(rt; is_filled(&mut files, 1, 5), Ok(true));
-    fs::remove_file(&rt, "read.img")?;
-    Ok(())
+    fs::remove_file(&rt, "read.img").expect(&rt, "it is removed");
 }
 
 #[test]
-fn disk_files_change_at_the_flush(rt: HostRuntime) -> Result<(), Fail> {
-    fs::write(&rt, "whole.img", [5u8; 8192].as_slice())?;
-    let mut files = DiskFiles::new(rt.alloc(), &rt)?;
+fn disk_files_change_at_the_flush(rt: HostRuntime) {
+    fs::write(&rt, "whole.img", [5u8; 8192].as_slice()).expect(&rt, "it is written");
+    let mut files = DiskFiles::new(rt.alloc(), &rt).expect(&rt, "there is memory");
     assert_eq!(rt; files.attach("whole.img", Access::Make), Ok(Some(8192)));
     assert_eq!(rt; files.set_blocks(3), Ok(()));
     let block = [6u8; 4096];
     assert_eq!(rt; files.write_block(1, &block), Ok(()));
-    assert_eq!(rt; fs::read(&rt, "whole.img")?.len(), 8192);
+    assert_eq!(rt;
+        fs::read(&rt, "whole.img").expect(&rt, "it is there").len(),
+        8192
+    );
     // It is flushed before it is left.
     assert_eq!(rt; files.attach("whole.img", Access::Read), Ok(Some(12_288)));
-    let bytes = fs::read(&rt, "whole.img")?;
+    let bytes = fs::read(&rt, "whole.img").expect(&rt, "it is there");
     has_bytes(&rt, &bytes, &[(4095, 5), (4096, 6), (8191, 6), (8192, 0)]);
-    fs::remove_file(&rt, "whole.img")?;
-    Ok(())
+    fs::remove_file(&rt, "whole.img").expect(&rt, "it is removed");
 }
 
 #[test]
-fn disk_files_are_replaced(rt: HostRuntime) -> Result<(), Fail> {
-    fs::write(&rt, "front.img", [5u8; 12_288].as_slice())?;
-    let mut files = DiskFiles::new(rt.alloc(), &rt)?;
+fn disk_files_are_replaced(rt: HostRuntime) {
+    fs::write(&rt, "front.img", [5u8; 12_288].as_slice()).expect(&rt, "it is written");
+    let mut files = DiskFiles::new(rt.alloc(), &rt).expect(&rt, "there is memory");
     assert_eq!(rt; files.attach("front.img", Access::Write), Ok(Some(12_288)));
     let block = [6u8; 4096];
     assert_eq!(rt; files.replace(&block, 8), Ok(()));
     assert_eq!(rt; files.write_block(5, &block), Ok(()));
-    assert_eq!(rt; fs::read(&rt, "front.img")?.len(), 12_288);
+    assert_eq!(rt;
+        fs::read(&rt, "front.img").expect(&rt, "it is there").len(),
+        12_288
+    );
     assert_eq!(rt; files.flush(), Ok(()));
-    let bytes = fs::read(&rt, "front.img")?;
+    let bytes = fs::read(&rt, "front.img").expect(&rt, "it is there");
     assert_eq!(rt; bytes.len(), 32_768);
     let front = [(0, 6), (4095, 6), (4096, 0), (12_287, 0)];
     has_bytes(&rt, &bytes, &front);
     has_bytes(&rt, &bytes, &[(20_480, 6), (24_576, 0)]);
-    fs::remove_file(&rt, "front.img")?;
-    Ok(())
+    fs::remove_file(&rt, "front.img").expect(&rt, "it is removed");
 }
 
 /// What the block `i` of the long file holds in each of its bytes.
@@ -243,42 +246,39 @@ fn keeps_long<F: Files>(alloc: Global, files: &mut F) -> Result<bool, AllocError
 }
 
 #[test]
-fn disk_files_keep_many_blocks(rt: HostRuntime) -> Result<(), Fail> {
-    let mut files = DiskFiles::new(rt.alloc(), &rt)?;
+fn disk_files_keep_many_blocks(rt: HostRuntime) {
+    let mut files = DiskFiles::new(rt.alloc(), &rt).expect(&rt, "there is memory");
     assert_eq!(rt; make_long(&mut files), Ok(true));
-    assert!(rt; is_long(&fs::read(&rt, "long.img")?));
+    assert!(rt; is_long(&fs::read(&rt, "long.img").expect(&rt, "it is there")));
     drop(files);
-    let mut again = DiskFiles::new(rt.alloc(), &rt)?;
-    assert!(rt; keeps_long(rt.alloc(), &mut again)?);
-    fs::remove_file(&rt, "long.img")?;
-    Ok(())
+    let mut again = DiskFiles::new(rt.alloc(), &rt).expect(&rt, "there is memory");
+    assert!(rt; keeps_long(rt.alloc(), &mut again).expect(&rt, "there is memory"));
+    fs::remove_file(&rt, "long.img").expect(&rt, "it is removed");
 }
 
 #[test]
-fn disk_files_report_faults(rt: HostRuntime) -> Result<(), Fail> {
+fn disk_files_report_faults(rt: HostRuntime) {
     for (name, access) in [
         ("no/such/disk.img", Access::Make),
         (".", Access::Read),
         ("/dev/null", Access::Write),
         ("/dev/full", Access::Make),
     ] {
-        let mut files = DiskFiles::new(rt.alloc(), &rt)?;
+        let mut files = DiskFiles::new(rt.alloc(), &rt).expect(&rt, "there is memory");
         assert_eq!(rt; files.attach(name, access), Err(Failed), "at {name}");
     }
-    Ok(())
 }
 
 #[test]
-fn disk_files_miss_a_lost_block(rt: HostRuntime) -> Result<(), Fail> {
-    fs::write(&rt, "lost.img", [5u8; 8192].as_slice())?;
-    let mut files = DiskFiles::new(rt.alloc(), &rt)?;
+fn disk_files_miss_a_lost_block(rt: HostRuntime) {
+    fs::write(&rt, "lost.img", [5u8; 8192].as_slice()).expect(&rt, "it is written");
+    let mut files = DiskFiles::new(rt.alloc(), &rt).expect(&rt, "there is memory");
     let length = files.attach("lost.img", Access::Read);
-    fs::write(&rt, "lost.img", [5u8; 5000].as_slice())?;
-    fs::remove_file(&rt, "lost.img")?;
+    fs::write(&rt, "lost.img", [5u8; 5000].as_slice()).expect(&rt, "it is written");
+    fs::remove_file(&rt, "lost.img").expect(&rt, "it is removed");
     assert_eq!(rt; length, Ok(Some(8192)));
     let mut read = [0u8; 4096];
     assert_eq!(rt; files.read_blocks(1, &mut read), Err(Failed));
-    Ok(())
 }
 
 /// A signal interrupts the first calls; then it gives and takes one byte at a time.
@@ -338,23 +338,21 @@ impl Write for Stuck {
 }
 
 #[test]
-fn std_source_reads_a_file(rt: HostRuntime) -> Result<(), Fail> {
-    fs::write(&rt, "in", "hello")?;
-    let mut source = StdSource::new(fs::open(&rt, "in")?);
+fn std_source_reads_a_file(rt: HostRuntime) {
+    fs::write(&rt, "in", "hello").expect(&rt, "it is written");
+    let mut source = StdSource::new(fs::open(&rt, "in").expect(&rt, "it is there"));
     let mut into = [0u8; 3];
     for (count, bytes) in [(3, *b"hel"), (2, *b"lol"), (0, *b"lol")] {
         assert_eq!(rt; source.read(&mut into), Ok(count));
         assert!(rt; into == bytes);
     }
-    fs::remove_file(&rt, "in")?;
-    Ok(())
+    fs::remove_file(&rt, "in").expect(&rt, "it is removed");
 }
 
 #[test]
-fn std_source_fails_at_a_folder(rt: HostRuntime) -> Result<(), Fail> {
-    let mut folder = StdSource::new(fs::open(&rt, ".")?);
+fn std_source_fails_at_a_folder(rt: HostRuntime) {
+    let mut folder = StdSource::new(fs::open(&rt, ".").expect(&rt, "it is there"));
     assert_eq!(rt; folder.read(&mut [0u8; 3]), Err(Failed));
-    Ok(())
 }
 
 #[test]
@@ -366,19 +364,22 @@ fn std_source_reads_behind_signals(rt: HostRuntime) {
 }
 
 #[test]
-fn std_sink_writes_a_file(rt: HostRuntime) -> Result<(), Fail> {
-    let mut sink = StdSink::new(fs::create(&rt, "replies")?);
+fn std_sink_writes_a_file(rt: HostRuntime) {
+    let mut sink = StdSink::new(fs::create(&rt, "replies").expect(&rt, "it is made"));
     assert_eq!(rt; [sink.write(b"ok\n"), sink.write(b"")], [Ok(3), Ok(0)]);
-    assert_eq!(rt; fs::read(&rt, "replies")?.as_slice(), b"ok\n".as_slice());
-    fs::remove_file(&rt, "replies")?;
-    Ok(())
+    assert_eq!(rt;
+        fs::read(&rt, "replies")
+            .expect(&rt, "it is there")
+            .as_slice(),
+        b"ok\n".as_slice()
+    );
+    fs::remove_file(&rt, "replies").expect(&rt, "it is removed");
 }
 
 #[test]
-fn std_sink_fails_at_a_full_disk(rt: HostRuntime) -> Result<(), Fail> {
-    let mut full = StdSink::new(fs::create(&rt, "/dev/full")?);
+fn std_sink_fails_at_a_full_disk(rt: HostRuntime) {
+    let mut full = StdSink::new(fs::create(&rt, "/dev/full").expect(&rt, "it is made"));
     assert_eq!(rt; full.write(b"ok\n"), Err(Failed));
-    Ok(())
 }
 
 #[test]
@@ -409,8 +410,8 @@ fn memory_sources_give_pieces(rt: HostRuntime) {
 }
 
 #[test]
-fn memory_sinks_take_pieces(rt: HostRuntime) -> Result<(), Fail> {
-    let mut sink = MemSink::new(rt.alloc(), 9, &[1])?;
+fn memory_sinks_take_pieces(rt: HostRuntime) {
+    let mut sink = MemSink::new(rt.alloc(), 9, &[1]).expect(&rt, "there is memory");
     let pieces: [(&[u8], Result<usize, Failed>); 6] = [
         (b"h", Ok(1)),
         (b"lost", Err(Failed)),
@@ -426,7 +427,6 @@ fn memory_sinks_take_pieces(rt: HostRuntime) -> Result<(), Fail> {
     let mut null = NullSink::new();
     assert_eq!(rt; [null.write(b"ok\n"), null.write(b"ok\n")], [Ok(3), Ok(3)]);
     assert_eq!(rt; null.count(), 6);
-    Ok(())
 }
 
 /// Makes two blocks of the bytes of a file. The second one.
@@ -449,18 +449,17 @@ fn write_first(rt: &impl Abort, files: &mut FairFiles, block: &[u8; 4096]) {
 }
 
 #[test]
-fn memory_files_keep_blocks(rt: HostRuntime) -> Result<(), Fail> {
-    let mut fair = FairFiles::new(rt.alloc(), &[5; 5000])?;
+fn memory_files_keep_blocks(rt: HostRuntime) {
+    let mut fair = FairFiles::new(rt.alloc(), &[5; 5000]).expect(&rt, "there is memory");
     let read = grown(&rt, &mut fair);
     assert!(rt; read.starts_with(&[5; 904]));
     assert!(rt; read.ends_with(&[0; 3192]));
     write_first(&rt, &mut fair, &read);
-    Ok(())
 }
 
 #[test]
-fn memory_files_fail_as_planned(rt: HostRuntime) -> Result<(), Fail> {
-    let mut files = MemFiles::new(rt.alloc(), None, &[1, 3])?;
+fn memory_files_fail_as_planned(rt: HostRuntime) {
+    let mut files = MemFiles::new(rt.alloc(), None, &[1, 3]).expect(&rt, "there is memory");
     assert_eq!(rt; files.attach("disk.img", Access::Write), Ok(None));
     assert_eq!(rt; files.attach("disk.img", Access::Make), Err(Failed));
     assert!(rt; files.image().is_none());
@@ -469,13 +468,15 @@ fn memory_files_fail_as_planned(rt: HostRuntime) -> Result<(), Fail> {
     assert_eq!(rt; files.attach("disk.img", Access::Write), Ok(Some(0)));
     assert_eq!(rt; files.set_blocks(1), Ok(()));
     assert_eq!(rt; files.image(), Some([0u8; 4096].as_slice()));
-    Ok(())
 }
 
 #[test]
-fn blocks_fail_as_planned(rt: HostRuntime) -> Result<(), Fail> {
+fn blocks_fail_as_planned(rt: HostRuntime) {
     let block = [77u8; 4096];
-    let mut files = MemFiles::new(rt.alloc(), Some(&[0; 4096]), &[1, 4, 7])?;
+    let mut files = MemFiles::new(rt.alloc(), Some(&[0; 4096]), &[1, 4, 7]).expect(
+        &rt,
+        "there is memory",
+    );
     let failed_once = [Err(Failed), Ok(())];
     assert_eq!(rt; files.attach("disk.img", Access::Write), Ok(Some(4096)));
     let written = [files.write_block(0, &block), files.write_block(0, &block)];
@@ -490,5 +491,4 @@ fn blocks_fail_as_planned(rt: HostRuntime) -> Result<(), Fail> {
     assert!(rt; read == block);
     assert_eq!(rt; files.attach("disk.img", Access::Write), Ok(Some(4096)));
     assert_eq!(rt; [files.flush(), files.flush()], failed_once);
-    Ok(())
 }

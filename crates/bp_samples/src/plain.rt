@@ -7,7 +7,6 @@ use bp_limits::Version;
 use bp_plain::{Answer, Call, FsError, Plain, Reply};
 use std::alloc::{AllocError, Global};
 use std::process::Abort;
-use std::test::Fail;
 
 /// Refusals, their numbers and their words.
 const REFUSALS: [(FsError, u8, &str); 16] = [
@@ -81,13 +80,16 @@ fn answers_others(rt: &impl Abort, reply: &mut Reply, listing: Listing) {
 
 /// One reply is given every answer, in place of the one before.
 #[test]
-fn answers(rt: HostRuntime) -> Result<(), Fail> {
-    let mut reply = Reply::new(rt.alloc())?;
+fn answers(rt: HostRuntime) {
+    let mut reply = Reply::new(rt.alloc()).expect(&rt, "there is memory");
     assert!(rt; is_done(&reply));
     answers_numbers(&rt, &mut reply);
     answers_bytes(&rt, &mut reply);
-    answers_others(&rt, &mut reply, Listing::of(rt.alloc(), &[])?);
-    Ok(())
+    answers_others(
+        &rt,
+        &mut reply,
+        Listing::of(rt.alloc(), &[]).expect(&rt, "there is memory"),
+    );
 }
 
 /// A plain tree, and the answer of its last call.
@@ -140,19 +142,20 @@ impl Asked {
 }
 
 #[test]
-fn a_plain_tree_tells_names(rt: HostRuntime) -> Result<(), Fail> {
-    let mut asked = Asked::new(rt.alloc())?;
-    assert!(rt; asked.does(&Call::Create(b"/a"))?);
-    let answer = asked.ask(&Call::Create(b"/a/x"))?;
+fn a_plain_tree_tells_names(rt: HostRuntime) {
+    let mut asked = Asked::new(rt.alloc()).expect(&rt, "there is memory");
+    assert_eq!(rt; asked.does(&Call::Create(b"/a")), Ok(true));
+    let answer = asked
+        .ask(&Call::Create(b"/a/x"))
+        .expect(&rt, "there is memory");
     assert!(rt; matches!(answer, Answer::Refused(FsError::NotDir)));
-    let answer = asked.ask(&Call::List(b"/"))?;
+    let answer = asked.ask(&Call::List(b"/")).expect(&rt, "there is memory");
     assert!(rt; matches!(answer, Answer::Names(listing) if listing.len() == 1));
-    Ok(())
 }
 
 #[test]
-fn a_plain_tree_keeps_bytes(rt: HostRuntime) -> Result<(), Fail> {
-    let mut asked = Asked::new(rt.alloc())?;
+fn a_plain_tree_keeps_bytes(rt: HostRuntime) {
+    let mut asked = Asked::new(rt.alloc()).expect(&rt, "there is memory");
     let calls = [
         Call::Create(b"/a"),
         Call::Mkdir(b"/d"),
@@ -174,15 +177,14 @@ fn a_plain_tree_keeps_bytes(rt: HostRuntime) -> Result<(), Fail> {
         },
     ];
     for call in calls {
-        assert!(rt; asked.does(&call)?);
+        assert_eq!(rt; asked.does(&call), Ok(true));
     }
-    assert!(rt; asked.has(b"/b", b"\0\0h")?);
-    Ok(())
+    assert_eq!(rt; asked.has(b"/b", b"\0\0h"), Ok(true));
 }
 
 #[test]
-fn a_plain_tree_counts_names(rt: HostRuntime) -> Result<(), Fail> {
-    let mut asked = Asked::new(rt.alloc())?;
+fn a_plain_tree_counts_names(rt: HostRuntime) {
+    let mut asked = Asked::new(rt.alloc()).expect(&rt, "there is memory");
     let calls = [
         Call::Create(b"/a"),
         Call::Link {
@@ -197,11 +199,10 @@ fn a_plain_tree_counts_names(rt: HostRuntime) -> Result<(), Fail> {
         },
     ];
     for call in calls {
-        assert!(rt; asked.does(&call)?);
+        assert_eq!(rt; asked.does(&call), Ok(true));
     }
-    assert!(rt; asked.has(b"/b", b"hi")?);
-    assert!(rt; asked.has_names(b"/b", 2)?);
-    assert!(rt; asked.does(&Call::Unlink(b"/a"))?);
-    assert!(rt; asked.has_names(b"/b", 1)?);
-    Ok(())
+    assert_eq!(rt; asked.has(b"/b", b"hi"), Ok(true));
+    assert_eq!(rt; asked.has_names(b"/b", 2), Ok(true));
+    assert_eq!(rt; asked.does(&Call::Unlink(b"/a")), Ok(true));
+    assert_eq!(rt; asked.has_names(b"/b", 1), Ok(true));
 }

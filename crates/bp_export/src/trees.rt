@@ -66,7 +66,7 @@ fn export_name<R: Region, K: Sink>(
     ensures tours { let words = current_words (R.memory region.now) in
         (place : Place) → StandsAt words counts.now (itself words i) i work.old.path.items work.old.firsts place
         → Tours words counts.now (itself words i) place result work.new.firsts (waiting work.old.replies)
-            (waiting work.new.replies) (K.taken out.old) (K.taken out.new) (K.faults out.old) (K.faults out.new) }
+        (waiting work.new.replies) (K.taken out.old) (K.taken out.new) (K.faults out.old) (K.faults out.new) }
     ensures path { work.new.path.items ≡ work.old.path.items }
 {
     if counts.names(i) > 1 {
@@ -80,7 +80,14 @@ fn export_name<R: Region, K: Sink>(
         }
         work.firsts.add(alloc, i, &work.path)?;
     }
-    export_file(region, tree, &work.path, &mut work.stretch, &mut work.replies, out)?;
+    export_file(
+        region,
+        tree,
+        &work.path,
+        &mut work.stretch,
+        &mut work.replies,
+        out,
+    )?;
     Ok(())
 }
 
@@ -106,7 +113,7 @@ fn export_entry<R: Region, K: Sink>(
     ensures tours { let words = current_words (R.memory region.now) in
         (place : Place) → StandsAt words counts.now (itself words i) i work.old.path.items work.old.firsts place
         → Tours words counts.now (itself words i) place result work.new.firsts (waiting work.old.replies)
-            (waiting work.new.replies) (K.taken out.old) (K.taken out.new) (K.faults out.old) (K.faults out.new) }
+        (waiting work.new.replies) (K.taken out.old) (K.taken out.new) (K.faults out.old) (K.faults out.new) }
     ensures kind { IfOk result (λ kind. kind_word kind ≡ kind_of (current_words (R.memory region.now)) i) }
     ensures path { work.new.path.items ≡ work.old.path.items }
 {
@@ -141,7 +148,7 @@ fn export_below<R: Region, K: Sink>(
     ensures { let words = current_words (R.memory region.now) in
         (place : Place) → StandsAt words counts.now inside i work.old.path.items work.old.firsts place
         → Tours words counts.now inside place result work.new.firsts (waiting work.old.replies)
-            (waiting work.new.replies) (K.taken out.old) (K.taken out.new) (K.faults out.old) (K.faults out.new) }
+        (waiting work.new.replies) (K.taken out.old) (K.taken out.new) (K.faults out.old) (K.faults out.new) }
 {
     let entries = Entries::of(alloc, region, i)?;
     let here = work.path.len();

@@ -149,7 +149,7 @@ module _ (image : Image) (tree : FileTree) (stands : Stands image tree) where
   deep_if_long : HasLongPath image 1 max_path → HasShortPaths tree → ⊥
   deep_if_long has short = omega (arith, has.long, short has.path (node_of image has.found) (shown_at has.path has.found has.finds))
 
-  short_if_none : (HasLongPath image 1 max_path → ⊥) → HasShortPaths tree
+  pub short_if_none : (HasLongPath image 1 max_path → ⊥) → HasShortPaths tree
   short_if_none none path node at = go (lookup image path) refl
     where
       low : (found : ℕ) → lookup image path ≡ Some found → (b : Bool) → nat_lt max_path (length (path_text path)) ≡ b → length (path_text path) ≤ max_path

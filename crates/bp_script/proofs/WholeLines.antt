@@ -1,7 +1,6 @@
 -- The line of a call is one line.
-use Rattle.std.proofs.Common.{◌≡◌, ◌∙◌, ℕ, ◌==◌, List, [], ◌++◌, not, true, Bool, codes, decimal, refl, arith}
+use Rattle.std.proofs.Common.{◌≡◌, ◌∙◌, ℕ, ◌==◌, List, ◌++◌, not, true, codes, decimal, refl, arith}
 use Rattle.std.specs.Cmp.{first_so}
-use Rattle.std.specs.List.{list_all}
 use Rattle.std.proofs.lemmas.List.Folds.{list_all-append}
 use Rattle.bp_plain.specs.Calls.{Call}
 use Rattle.bp_plain.specs.Calls.Call.{create, mkdir, unlink, rmdir, list, stat, read, write, truncate, rename, link, links, upgrade, snap, unsnap, snap_list, snap_stat, snap_read, batch}
@@ -23,24 +22,24 @@ behind : (xs ys : List ℕ) → IsOneLine xs → IsOneLine ys → IsOneLine (xs 
 behind xs ys one two = both (xs ++ codes " ") ys (both xs (codes " ") one refl) two
 
 pub one_line : (call : Call) → IsSpelled call → IsOneLine (call_line call)
-one_line (create text) is = both (codes "create ") _ refl (path_line text is)
-one_line (mkdir text) is = both (codes "mkdir ") _ refl (path_line text is)
-one_line (unlink text) is = both (codes "unlink ") _ refl (path_line text is)
-one_line (rmdir text) is = both (codes "rmdir ") _ refl (path_line text is)
-one_line (list text) is = both (codes "list ") _ refl (path_line text is)
-one_line (stat text) is = both (codes "stat ") _ refl (path_line text is)
-one_line (links text) is = both (codes "links ") _ refl (path_line text is)
+one_line (create text) is = both (codes "create ") (path_word text) refl (path_line text is)
+one_line (mkdir text) is = both (codes "mkdir ") (path_word text) refl (path_line text is)
+one_line (unlink text) is = both (codes "unlink ") (path_word text) refl (path_line text is)
+one_line (rmdir text) is = both (codes "rmdir ") (path_word text) refl (path_line text is)
+one_line (list text) is = both (codes "list ") (path_word text) refl (path_line text is)
+one_line (stat text) is = both (codes "stat ") (path_word text) refl (path_line text is)
+one_line (links text) is = both (codes "links ") (path_word text) refl (path_line text is)
 one_line (read text off len) is =
     behind (codes "read " ++ path_word text ++ codes " " ++ decimal off) (decimal len)
-    (behind (codes "read " ++ path_word text) (decimal off) (both (codes "read ") _ refl (path_line text is.0)) (word_line _ (decimal_whole off is.1)))
-    (word_line _ (decimal_whole len (omega (arith, is.2))))
+    (behind (codes "read " ++ path_word text) (decimal off) (both (codes "read ") (path_word text) refl (path_line text is.0)) (word_line (decimal off) (decimal_whole off is.1)))
+    (word_line (decimal len) (decimal_whole len (omega (arith, is.2))))
 one_line (write text off new) is =
     behind (codes "write " ++ path_word text ++ codes " " ++ decimal off) (digits_or_dash new)
-    (behind (codes "write " ++ path_word text) (decimal off) (both (codes "write ") _ refl (path_line text is.0)) (word_line _ (decimal_whole off is.1)))
-    (word_line _ (dash_whole new is.2))
-one_line (truncate text size) is = behind (codes "truncate " ++ path_word text) (decimal size) (both (codes "truncate ") _ refl (path_line text is.0)) (word_line _ (decimal_whole size is.1))
-one_line (rename from to) is = behind (codes "rename " ++ path_word from) (path_word to) (both (codes "rename ") _ refl (path_line from is.0)) (path_line to is.1)
-one_line (link from to) is = behind (codes "link " ++ path_word from) (path_word to) (both (codes "link ") _ refl (path_line from is.0)) (path_line to is.1)
+    (behind (codes "write " ++ path_word text) (decimal off) (both (codes "write ") (path_word text) refl (path_line text is.0)) (word_line (decimal off) (decimal_whole off is.1)))
+    (word_line (digits_or_dash new) (dash_whole new is.2))
+one_line (truncate text size) is = behind (codes "truncate " ++ path_word text) (decimal size) (both (codes "truncate ") (path_word text) refl (path_line text is.0)) (word_line (decimal size) (decimal_whole size is.1))
+one_line (rename from to) is = behind (codes "rename " ++ path_word from) (path_word to) (both (codes "rename ") (path_word from) refl (path_line from is.0)) (path_line to is.1)
+one_line (link from to) is = behind (codes "link " ++ path_word from) (path_word to) (both (codes "link ") (path_word from) refl (path_line from is.0)) (path_line to is.1)
 one_line upgrade is = refl
 one_line snap is = absurd is
 one_line unsnap is = absurd is

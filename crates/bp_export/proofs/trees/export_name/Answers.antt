@@ -91,6 +91,23 @@ returns-in_err-add-clause-tours g c place stands =
     let p = err_from_is_err_and c.from_residual-in_err-add.result c.from_residual-in_err-add.ensures.1 in
     tours_end image c.requires.well_formed c.args.counts.now c.args.i c.args.work.now.path.items c.args.work.now.firsts place stands _ p.0 p.1 _ _ _ _ _ _ _ (unremembered image c.requires.well_formed c.args.counts.now c.args.i c.args.work.now.path.items c.args.work.now.firsts place stands _ p.0 p.2 _ _ _ _)
 
+pub export_new-requires-2-clause-sound : goal.export_new-requires-2-clause-sound
+export_new-requires-2-clause-sound g c =
+    sound_here (current_words (g.R.Region.memory c.args.region.now)) c.requires.well_formed c.args.counts.now c.args.i c.args.work.now.path.items c.args.work.now.firsts c.requires.stands.0 c.requires.stands.1 _ _ c.requires.root c.requires.size
+
+pub export_new-requires-2-clause-short : goal.export_new-requires-2-clause-short
+export_new-requires-2-clause-short g c =
+    let image : Image = current_words (g.R.Region.memory c.args.region.now) in
+    let counts = c.args.counts.now in
+    let i : ℕ = c.args.i in
+    let text = c.args.work.now.path.items in
+    let firsts = c.args.work.now.firsts in
+    let place = c.requires.stands.0 in
+    let stands = c.requires.stands.1 in
+    let several : 1 < slice_index counts i = omega (arith, c.if-names-le1.false, c.names.ensures) in
+    let new = none_known image c.requires.well_formed counts i text firsts place stands c.requires.below c.requires.file several c.in_default.ensures in
+    fits_from image c.requires.well_formed counts i text firsts place stands c.requires.below c.requires.file new _ _ c.requires.root c.requires.size
+
 pub returns-clause-tours : goal.returns-clause-tours
 returns-clause-tours g c place stands =
     let image : Image = current_words (g.R.Region.memory c.args.region.now) in

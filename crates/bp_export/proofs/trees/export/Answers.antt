@@ -1,4 +1,5 @@
 use Rattle.std.proofs.Common.{[], sym, ◌∙◌, true≢false}
+use Rattle.std.specs.Prelude.{Err, Ok}
 use Rattle.std.proofs.lemmas.Result.{err_from_is_err_and}
 use Rattle.bp_layout.specs.Reached.IsReached.{root_directory}
 use Rattle.bp_plain.specs.Export.{HasShortPaths, export_calls}
@@ -68,7 +69,7 @@ returns-in_err-export_below g c tree stands =
     rw c.in_ok-work.ensures.path (stands_at_root image tree.now can c.args.counts.now c.in_ok-work.work.firsts c.in_ok-work.ensures.firsts) in
     rw (p.1, p.2)
     (ends_walk (Unit {0}) tree (g.K.Sink.taken c.args.out.now) (g.K.Sink.faults c.args.out.now) short (Unit {0}) c.in_err-export_below.field-0.0 (waiting c.export_below.new.work.replies) (g.K.Sink.taken c.export_below.new.out) (g.K.Sink.faults c.export_below.new.out)
-    (from_root _ tree _ (waiting c.in_ok-work.work.replies) (waiting c.export_below.new.work.replies) (g.K.Sink.taken c.args.out.now) (g.K.Sink.taken c.export_below.new.out) (g.K.Sink.faults c.args.out.now) (g.K.Sink.faults c.export_below.new.out)
+    (from_root {T = Unit {0}} (Err c.in_err-export_below.field-0.0) tree _ (waiting c.in_ok-work.work.replies) (waiting c.export_below.new.work.replies) (g.K.Sink.taken c.args.out.now) (g.K.Sink.taken c.export_below.new.out) (g.K.Sink.faults c.args.out.now) (g.K.Sink.faults c.export_below.new.out)
     (all_calls image tree stands short c.args.counts.now c.in_ok-work.work.firsts c.in_ok-work.ensures.firsts) c.in_ok-work.ensures.waits (c.in_err-export_below.ensures.tours (root_place image tree.now can) there).goes))
 
 pub returns-in_err-hand_over : goal.returns-in_err-hand_over
@@ -82,7 +83,7 @@ returns-in_err-hand_over g c tree stands =
     rw p.1
     (ends_unhanded (Unit {0}) tree (g.K.Sink.taken c.args.out.now) (g.K.Sink.faults c.args.out.now) short c.in_ok-export_below.field-0 p.0 p.2 (waiting c.export_below.new.work.replies) (g.K.Sink.taken c.export_below.new.out) (g.K.Sink.taken c.hand_over.new.out)
     (g.K.Sink.faults c.export_below.new.out) (g.K.Sink.faults c.hand_over.new.out)
-    (from_root _ tree _ (waiting c.in_ok-work.work.replies) (waiting c.export_below.new.work.replies) (g.K.Sink.taken c.args.out.now) (g.K.Sink.taken c.export_below.new.out) (g.K.Sink.faults c.args.out.now) (g.K.Sink.faults c.export_below.new.out)
+    (from_root {T = Unit {0}} (Ok c.in_ok-export_below.field-0) tree _ (waiting c.in_ok-work.work.replies) (waiting c.export_below.new.work.replies) (g.K.Sink.taken c.args.out.now) (g.K.Sink.taken c.export_below.new.out) (g.K.Sink.faults c.args.out.now) (g.K.Sink.faults c.export_below.new.out)
     (all_calls image tree stands short c.args.counts.now c.in_ok-work.work.firsts c.in_ok-work.ensures.firsts) c.in_ok-work.ensures.waits (c.in_ok-export_below.ensures.tours (root_place image tree.now can) there).goes)
     c.in_err-hand_over.ensures.some c.in_err-hand_over.ensures.cause.failed)
 
@@ -95,6 +96,6 @@ returns g c tree stands =
     rw c.in_ok-work.ensures.path (stands_at_root image tree.now can c.args.counts.now c.in_ok-work.work.firsts c.in_ok-work.ensures.firsts) in
     ends_handed (Unit {0}) tree (g.K.Sink.taken c.args.out.now) (g.K.Sink.faults c.args.out.now) short c.in_ok-export_below.field-0 (tt {0}) (waiting c.export_below.new.work.replies) (g.K.Sink.taken c.export_below.new.out) (g.K.Sink.taken c.hand_over.new.out)
     (g.K.Sink.faults c.export_below.new.out) (g.K.Sink.faults c.hand_over.new.out)
-    (from_root _ tree _ (waiting c.in_ok-work.work.replies) (waiting c.export_below.new.work.replies) (g.K.Sink.taken c.args.out.now) (g.K.Sink.taken c.export_below.new.out) (g.K.Sink.faults c.args.out.now) (g.K.Sink.faults c.export_below.new.out)
+    (from_root {T = Unit {0}} (Ok c.in_ok-export_below.field-0) tree _ (waiting c.in_ok-work.work.replies) (waiting c.export_below.new.work.replies) (g.K.Sink.taken c.args.out.now) (g.K.Sink.taken c.export_below.new.out) (g.K.Sink.faults c.args.out.now) (g.K.Sink.faults c.export_below.new.out)
     (all_calls image tree stands short c.args.counts.now c.in_ok-work.work.firsts c.in_ok-work.ensures.firsts) c.in_ok-work.ensures.waits (c.in_ok-export_below.ensures.tours (root_place image tree.now can) there).goes)
     c.in_ok-hand_over.ensures.all c.in_ok-hand_over.ensures.cause.same

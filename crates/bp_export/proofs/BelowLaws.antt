@@ -38,7 +38,7 @@ module _ (image : Image) (counts : List ℕ) (i : ℕ) (text : List ℕ) (before
 
   pub none_told : ToldTo 0 before a t f
   none_told = record {
-    goes = goes_nothing tt a t f;
+    goes = goes_nothing (tt {0}) a t f;
     remembers = subst (RemembersFirsts image counts before) (sym (append-nil place.told)) stands.remembers;
   }
 
@@ -47,7 +47,7 @@ module _ (image : Image) (counts : List ℕ) (i : ℕ) (text : List ℕ) (before
       Goes {T = Unit {0}} (calls more) (Err e) b c u w g h → Tours {T = T} image counts inside place (Err e) after a c t w f h
   ends_early T k b c u w g h firsts after more rest e told is goes = record {
     goes = subst (λ (l : List Call). Goes {T = T} l (Err e) a c t w f h) (sym all)
-        (goes_before (Unit {0}) T e (calls (up_to k place.tree place.path) ++ calls more) (calls rest) a c t w f h (goes_then tt (Err e) (calls (up_to k place.tree place.path)) (calls more) a b c t u w f g h told.goes goes));
+        (goes_before (Unit {0}) T e (calls (up_to k place.tree place.path) ++ calls more) (calls rest) a c t w f h (goes_then {T = Unit {0}} (tt {0}) (Err e) (calls (up_to k place.tree place.path)) (calls more) a b c t u w f g h told.goes goes));
     remembers = tt;
   }
     where
@@ -83,10 +83,13 @@ module _ (image : Image) (counts : List ℕ) (i : ℕ) (text : List ℕ) (before
       abbrev behind_it : List Entry
       behind_it = behind image counts i text before place stands rows are k j name at
 
+      abbrev rest : List Entry
+      rest = below_node image counts i text before place stands rows are k j name at (node_of image j)
+
       -- no memory for the text of its path
       pub text_fails : (T : Type 0) (e : Fault) → e ≡ Memory → (after : Firsts) → Tours {T = T} image counts inside place (Err e) after a b t u f g
       text_fails T e is after =
-          ends_early T k b b u u g g firsts after _ behind_it e told (whole image counts i text before place stands rows are k j name at) (goes_nowhere (Unit {0}) e is _ b u g)
+          ends_early T k b b u u g g firsts after (entry ++ rest) behind_it e told (whole image counts i text before place stands rows are k j name at) (goes_nowhere (Unit {0}) e is (calls (entry ++ rest)) b u g)
 
       module _ (c : List ℕ) (w : Option (List ℕ)) (h : ℕ) where
         pub entry_fails : (S T : Type 0) (e d : Fault) → d ≡ e → (after : Firsts) → Tours {T = S} image counts (itself image j) here (Err e) after b c u w g h → Tours {T = T} image counts inside place (Err d) after a c t w f h
@@ -94,13 +97,9 @@ module _ (image : Image) (counts : List ℕ) (i : ℕ) (text : List ℕ) (before
             subst (λ (fault : Fault). Tours {T = T} image counts inside place (Err fault) after a c t w f h) (sym same)
             (ends_early T k b c u w g h firsts after entry (rest ++ behind_it) e told (whole image counts i text before place stands rows are k j name at ∙ ap (λ es. up_to k place.tree place.path ++ es) (append_assoc entry rest behind_it))
             (goes_stop S (Unit {0}) e (calls entry) b c u w g h tours.goes))
-          where
-            rest : List Entry
-            rest = below_node image counts i text before place stands rows are k j name at (node_of image j)
-
         module _ {S : Type 0} (v : S) (middle : Firsts) (tours : Tours image counts (itself image j) here (Ok v) middle b c u w g h) where
           goes_on : Goes {T = Unit {0}} (calls (up_to k place.tree place.path) ++ calls entry) (Ok tt) a c t w f h
-          goes_on = goes_then tt (Ok tt) (calls (up_to k place.tree place.path)) (calls entry) a b c t u w f g h told.goes tours.goes
+          goes_on = goes_then {T = Unit {0}} (tt {0}) (Ok (tt {0})) (calls (up_to k place.tree place.path)) (calls entry) a b c t u w f g h told.goes tours.goes
 
           pub file_told : IsFile image j → ToldTo (k + 1) middle c w h
           file_told kind = record {
@@ -113,7 +112,7 @@ module _ (image : Image) (counts : List ℕ) (i : ℕ) (text : List ℕ) (before
             pub directory_told : {T : Type 0} (z : T) → Tours image counts inside inner (Ok z) after c d w x h m → ToldTo (k + 1) after d x m
             directory_told z below = record {
               goes = subst (λ (l : List Call). Goes {T = Unit {0}} l (Ok tt) a d t x f m) (sym all)
-                  (goes_then tt (Ok tt) (calls (up_to k place.tree place.path) ++ calls entry) (calls (inside place.tree inner.path)) a c d t w x f h m goes_on below.goes);
+                  (goes_then {T = Unit {0}} (tt {0}) (Ok (tt {0})) (calls (up_to k place.tree place.path) ++ calls entry) (calls (inside place.tree inner.path)) a c d t w x f h m goes_on below.goes);
               remembers = subst (RemembersFirsts image counts after) (sym (told_directory image counts i text before place stands rows are k j name at kind)) below.remembers;
             }
               where
@@ -129,7 +128,7 @@ module _ (image : Image) (counts : List ℕ) (i : ℕ) (text : List ℕ) (before
                 subst (λ (fault : Fault). Tours {T = T} image counts inside place (Err fault) after a d t x f m) (sym same)
                 (ends_early T k b d u x g m firsts after (entry ++ inside place.tree inner.path) behind_it e told here_whole
                 (subst (λ (l : List Call). Goes {T = Unit {0}} l (Err e) b d u x g m) (sym (calls-append place.tree entry (inside place.tree inner.path)))
-                (goes_then v (Err e) (calls entry) (calls (inside place.tree inner.path)) b c d u w x g h m tours.goes (goes_stop U (Unit {0}) e (calls (inside place.tree inner.path)) c d w x h m below.goes))))
+                (goes_then {T = Unit {0}} v (Err e) (calls entry) (calls (inside place.tree inner.path)) b c d u w x g h m tours.goes (goes_stop U (Unit {0}) e (calls (inside place.tree inner.path)) c d w x h m below.goes))))
               where
                 here_whole : inside place.tree place.path ≡ up_to k place.tree place.path ++ ((entry ++ inside place.tree inner.path) ++ behind_it)
                 here_whole =

@@ -1,5 +1,5 @@
 -- The lines of a file at one of its paths.
-use Rattle.std.proofs.Common.{◌≡◌, ℕ, ◌*◌, ◌<◌, ◌≤◌, List, [], ◌∷◌, ◌++◌, length, slice_index, flat_map, Option, None, Some, refl, sym, ◌∙◌, ap, subst, arith, append-nil}
+use Rattle.std.proofs.Common.{◌≡◌, ℕ, ◌*◌, ◌<◌, ◌≤◌, List, [], ◌∷◌, ◌++◌, length, slice_index, flat_map, Option, None, Some, refl, sym, ◌∙◌, ap, subst, subst₂, arith, append-nil}
 use Rattle.std.specs.Prelude.{All, Result, Ok, Err, OnOk}
 use Rattle.std.proofs.lemmas.List.Elements.{All-head}
 use Rattle.bp_io.specs.declared.faults.Failed.{Failed}
@@ -123,14 +123,14 @@ module _ (image : Image) (wf : IsWellFormed image) (counts : List ℕ) (i : ℕ)
     -- ---- a file that is made at the path at hand
 
     pub sound_here : (root size : ℕ) → root ≡ root_of image i → size ≡ size_of image i → IsSound image root size
-    sound_here root size root_is size_is = rw (root_is, size_is) (wf.sound i (found_reached image wf place.path i stands.found))
+    sound_here root size root_is size_is = subst₂ (IsSound image) (sym root_is) (sym size_is) (wf.sound i (found_reached image wf place.path i stands.found))
 
     module _ (below : 1 ≤ length text) (kind : IsFile image i) (new : text_of_first image i place.told ≡ None) (root size : ℕ) (root_is : root ≡ root_of image i) (size_is : size ≡ size_of image i) where
       made_from : calls_here place ≡ calls_for text (file (content image root size))
-      made_from = rw (root_is, size_is) (made_here below kind new)
+      made_from = subst₂ (λ r s. calls_here place ≡ calls_for text (file (content image r s))) (sym root_is) (sym size_is) (made_here below kind new)
 
       pub fits_from : All FitsText (calls_for text (file (content image root size)))
-      fits_from = rw (root_is, size_is) (fits_made below kind new)
+      fits_from = subst₂ (λ r s. All FitsText (calls_for text (file (content image r s)))) (sym root_is) (sym size_is) (fits_made below kind new)
 
       pub toured_from : {T : Type 0} (r : Result T Fault) (b c : List ℕ) (t u : Option (List ℕ)) (f g : ℕ) → Goes (calls_for text (file (content image root size))) r b c t u f g → (after : Firsts) → RemembersFirsts image counts after (place.told ++ itself image i place.tree place.path)
           → Tours image counts (itself image i) place r after b c t u f g

@@ -1,5 +1,5 @@
 -- The lines of a file at one of its paths.
-use Rattle.std.proofs.Common.{◌≡◌, ℕ, ◌*◌, ◌<◌, ◌≤◌, List, [], ◌∷◌, ◌++◌, length, slice_index, flat_map, Option, None, Some, refl, sym, ◌∙◌, ap, subst, arith, append-nil}
+use Rattle.std.proofs.Common.{◌≡◌, ℕ, ◌*◌, ◌<◌, ◌≤◌, List, [], ◌∷◌, ◌++◌, length, slice_index, flat_map, Option, None, Some, refl, sym, ◌∙◌, ap, subst, subst₂, arith, append-nil}
 use Rattle.std.specs.Prelude.{All, Result, Ok, Err, OnOk}
 use Rattle.std.proofs.lemmas.List.Elements.{All-head}
 use Rattle.bp_io.specs.declared.faults.Failed.{Failed}
@@ -7,7 +7,7 @@ use Rattle.bp_layout.specs.Inode.{IsDirectory, IsFile, root_of, size_of}
 use Rattle.bp_layout.specs.Lookup.{Node, Path, file_at, node_of}
 use Rattle.bp_layout.specs.Lookup.Node.{dir, file}
 use Rattle.bp_layout.specs.Names.{AreCounts}
-use Rattle.bp_layout.specs.Tree.{content}
+use Rattle.bp_layout.specs.Tree.{IsSound, content}
 use Rattle.bp_layout.specs.WellFormed.{IsWellFormed}
 use Rattle.bp_layout.specs.Words.{Image, block_count}
 use Rattle.bp_plain.specs.Calls.{Call}
@@ -119,3 +119,24 @@ module _ (image : Image) (wf : IsWellFormed image) (counts : List ℕ) (i : ℕ)
 
     pub unremembered : (T : Type 0) (e : Fault) → e ≡ Memory → (after : Firsts) (b : List ℕ) (t : Option (List ℕ)) (f : ℕ) → Tours {T = T} image counts (itself image i) place (Err e) after b b t t f f
     unremembered T e is after b t f = record { goes = goes_nowhere T e is (calls_here place) b t f; remembers = tt }
+
+    -- ---- a file that is made at the path at hand
+
+    pub sound_here : (root size : ℕ) → root ≡ root_of image i → size ≡ size_of image i → IsSound image root size
+    sound_here root size root_is size_is = subst₂ (IsSound image) (sym root_is) (sym size_is) (wf.sound i (found_reached image wf place.path i stands.found))
+
+    module _ (below : 1 ≤ length text) (kind : IsFile image i) (new : text_of_first image i place.told ≡ None) (root size : ℕ) (root_is : root ≡ root_of image i) (size_is : size ≡ size_of image i) where
+      made_from : calls_here place ≡ calls_for text (file (content image root size))
+      made_from = subst₂ (λ r s. calls_here place ≡ calls_for text (file (content image r s))) (sym root_is) (sym size_is) (made_here below kind new)
+
+      pub fits_from : All FitsText (calls_for text (file (content image root size)))
+      fits_from = subst₂ (λ r s. All FitsText (calls_for text (file (content image r s)))) (sym root_is) (sym size_is) (fits_made below kind new)
+
+      pub toured_from : {T : Type 0} (r : Result T Fault) (b c : List ℕ) (t u : Option (List ℕ)) (f g : ℕ) → Goes (calls_for text (file (content image root size))) r b c t u f g → (after : Firsts) → RemembersFirsts image counts after (place.told ++ itself image i place.tree place.path)
+          → Tours image counts (itself image i) place r after b c t u f g
+      toured_from {T} r b c t u f g goes after remembers =
+          record { goes = subst (λ (l : List Call). Goes {T = T} l r b c t u f g) (sym made_from) goes; remembers = where_ok r }
+        where
+          where_ok : (r : Result T Fault) → OnOk r (RemembersFirsts image counts after (place.told ++ itself image i place.tree place.path))
+          where_ok (Ok v) = remembers
+          where_ok (Err e) = tt

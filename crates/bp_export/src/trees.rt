@@ -1,18 +1,22 @@
 //! The lines of a tree.
 
-ghost use Rattle.std.specs.Prelude.{◌*◌, ◌++◌, ◌≡◌, ◌≤◌, ◌∷◌, IfOk, OnOk, length};
-ghost use Rattle.bp_export.specs.Exports.{EndsExport};
+ghost use Rattle.std.specs.Prelude.{◌*◌, ◌++◌, ◌≡◌, ◌≤◌, ◌∷◌, All, IfOk, OnOk, length};
+ghost use Rattle.bp_export.specs.Exports.{EndsExport, Goes};
 ghost use Rattle.bp_export.specs.Walking.{Place, StandsAt, Tours, inside, itself};
 ghost use Rattle.bp_layout.specs.Fields.{kind_word};
 ghost use Rattle.bp_layout.specs.Inode.{IsDirectory, IsFile, kind_of, root_of, size_of};
+ghost use Rattle.bp_layout.specs.Lookup.Node.{file};
 ghost use Rattle.bp_layout.specs.Names.{AreCounts};
+ghost use Rattle.bp_layout.specs.Tree.{IsSound, content};
 ghost use Rattle.bp_layout.specs.WellFormed.{IsWellFormed};
 ghost use Rattle.bp_layout.specs.Whole.{IsFileSystem};
 ghost use Rattle.bp_layout.specs.Words.{block_count};
 ghost use Rattle.bp_limits.specs.Limits.{block_inodes};
+ghost use Rattle.bp_plain.specs.Export.{calls_for};
 ghost use Rattle.bp_plain.specs.PlainTree.{FileTree};
 ghost use Rattle.bp_plain.specs.Stands.{Stands};
 ghost use Rattle.bp_replies.specs.Gathering.{waiting};
+ghost use Rattle.bp_script.specs.Export.{FitsText};
 ghost use Rattle.pm_region.specs.Memory.{current_words};
 
 use crate::depth::has_long_path;
@@ -37,6 +41,30 @@ fn go_down(path: &mut Vec<u8>, name: &[u8]) -> Result<(), AllocError>
 {
     path.push(b'/')?;
     path.extend_from_slice(name)
+}
+
+/// Tells the lines that make the file with this tree at the path at hand.
+///
+/// # Errors
+///
+/// Where the sink failed.
+fn export_new<R: Region, K: Sink>(
+    region: &R,
+    tree: Tree,
+    work: &mut Work,
+    out: &mut K,
+) -> Result<(), Fault>
+    requires sound { IsSound (current_words (R.memory region.now)) tree.root tree.size }
+    requires short { let bytes = content (current_words (R.memory region.now)) tree.root tree.size in
+        All FitsText (calls_for work.old.path.items (file bytes)) }
+    ensures goes { let bytes = content (current_words (R.memory region.now)) tree.root tree.size in
+        Goes (calls_for work.old.path.items (file bytes)) result (waiting work.old.replies) (waiting work.new.replies)
+            (K.taken out.old) (K.taken out.new) (K.faults out.old) (K.faults out.new) }
+    ensures path { work.new.path.items ≡ work.old.path.items }
+    ensures firsts { work.new.firsts ≡ work.old.firsts }
+{
+    export_file(region, tree, &work.path, &mut work.stretch, &mut work.replies, out)?;
+    Ok(())
 }
 
 /// Tells the lines of file `i`, whose tree is this, at the path at hand: those that make it, where that is its first path, and
@@ -69,19 +97,19 @@ fn export_name<R: Region, K: Sink>(
             (waiting work.new.replies) (K.taken out.old) (K.taken out.new) (K.faults out.old) (K.faults out.new) }
     ensures path { work.new.path.items ≡ work.old.path.items }
 {
-    if counts.names(i) > 1 {
-        if let Some(first) = work.firsts.get(i) {
-            let call = Call::Link {
-                from: first,
-                to: &work.path,
-            };
-            tell(call, &mut work.replies, out)?;
-            return Ok(());
-        }
-        work.firsts.add(alloc, i, &work.path)?;
+    if counts.names(i) <= 1 {
+        return export_new(region, tree, work, out);
     }
-    export_file(region, tree, &work.path, &mut work.stretch, &mut work.replies, out)?;
-    Ok(())
+    if let Some(first) = work.firsts.get(i) {
+        let call = Call::Link {
+            from: first,
+            to: &work.path,
+        };
+        tell(call, &mut work.replies, out)?;
+        return Ok(());
+    }
+    work.firsts.add(alloc, i, &work.path)?;
+    export_new(region, tree, work, out)
 }
 
 /// Tells the lines of what stands at the path at hand, which finds inode `i`, and answers what it is.

@@ -179,7 +179,7 @@ module _ (image : Image) (counts : List ℕ) (i : ℕ) (text : List ℕ) (before
     order rest is = rw (← is) (
         stands.order ∙ ap (λ es. place.told ++ (es ++ place.later)) whole
         ∙ ap (λ es. place.told ++ es) (append_assoc (entries_to k) ((itself image j tree child ++ below_node (node_of image j)) ++ behind) place.later
-            ∙ ap (λ es. entries_to k ++ es) (append_assoc (itself image j tree child ++ below_node (node_of image j)) behind place.later))
+        ∙ ap (λ es. entries_to k ++ es) (append_assoc (itself image j tree child ++ below_node (node_of image j)) behind place.later))
         ∙ sym (append_assoc place.told (entries_to k) ((itself image j tree child ++ below_node (node_of image j)) ++ (behind ++ place.later))))
 
     -- the walk stands at the entry, and then in it, where it is a directory

@@ -6,9 +6,10 @@ use Rattle.std.specs.List.{All, AllByRecursion, list_all}
 use Rattle.std.proofs.lemmas.List.{append_assoc, append-nil}
 use Rattle.std.proofs.lemmas.List.Elements.{recursion_from_All}
 use Rattle.bp_plain.specs.Calls.{Answer, Call}
+use Rattle.bp_plain.specs.Calls.Call.{list, snap_list}
 use Rattle.bp_plain.specs.Calls.Answer.{done}
 use Rattle.bp_plain.specs.Export.{AllDone, IsExportable, IsOfBytes, export_calls}
-use Rattle.bp_plain.specs.Plain.{plain, refusal}
+use Rattle.bp_plain.specs.Plain.{answer_or, plain}
 use Rattle.bp_plain.specs.PlainTree.{FileTree}
 use Rattle.bp_script.specs.Commands.{Command, command_of}
 use Rattle.bp_script.specs.Commands.Command.{file_call}
@@ -51,12 +52,18 @@ export_asks tree can of_bytes =
 
 -- ---- calls that are carried out
 
+abbrev is_done : Answer → Bool
+is_done done = true
+is_done other = false
+
 -- one that a plain tree carries out leaves what it leaves there, or there was no space
 call_done : (tree after found : FileTree) (call : Call) (answer : Answer) (reply : LineReply) → plain tree call ≡ (done, after) → PlainCall tree call answer found → reply ≡ answered answer → ¬ TellsNoSpace reply → found ≡ after
 call_done tree after found call answer reply does plainly told never = ap (λ r. r.1) does
 call_done tree after found call answer reply does (no_room {needed = needed} {free = free} changes) told never = absurd (never (needed, free, told))
-call_done tree after found call answer reply does (no_listing none) told never = absurd (let no : (plain tree call).0 ≡ done = ap (λ r. r.0) does in rw none at no)
-call_done tree after found call answer reply does (no_snap_listing none) told never = absurd (let no : (plain tree call).0 ≡ done = ap (λ r. r.0) does in rw none at no)
+call_done tree after found call answer reply does (no_listing {text = text} none) told never =
+    absurd (true≢false (ap is_done (sym (ap (λ r. r.0) does)) ∙ ap (λ why. is_done (answer_or tree (list text) why).0) none))
+call_done tree after found call answer reply does (no_snap_listing {text = text} none) told never =
+    absurd (true≢false (ap is_done (sym (ap (λ r. r.0) does)) ∙ ap (λ why. is_done (answer_or tree (snap_list text) why).0) none))
 
 now_with : (old : PlainState) (tree : FileTree) (new : PlainState) → (new ≡ with_call old tree) ⊎ (new ≡ with_call (fresh (tree_now old)) tree) → tree_now new ≡ tree
 now_with old tree new (inl is) = ap tree_now is ∙ latest-append old.certain tree old.since

@@ -1,4 +1,4 @@
-use Rattle.std.proofs.Common.{◌≡◌, ◌∙◌, ◌*◌, ◌-◌, ◌+◌, Some, None, min, false, true, sym, ap, arith, refl, take, []}
+use Rattle.std.proofs.Common.{◌≡◌, ◌∙◌, ◌*◌, ◌+◌, Some, min, false, true, sym, ap, arith, take, []}
 use Rattle.std.proofs.lemmas.Result.{err_from_is_err_and}
 use Rattle.bp_layout.specs.Tree.{content}
 use Rattle.bp_plain.specs.Calls.Call.{write}

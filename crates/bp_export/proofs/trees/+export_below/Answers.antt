@@ -1,4 +1,4 @@
-use Rattle.std.proofs.Common.{◌≡◌, ℕ, ◌≤◌, List, ◌∷◌, ◌++◌, length, take, refl, sym, ◌∙◌, ap, ap₂, subst, arith, length-append}
+use Rattle.std.proofs.Common.{rules, ◌≡◌, ℕ, ◌≤◌, List, ◌∷◌, ◌++◌, length, take, refl, sym, ◌∙◌, ap, ap₂, subst, arith, length-append}
 use Rattle.std.specs.Prelude.{Result, Err}
 use Rattle.std.proofs.Math.Seq.{take-append_seam}
 use Rattle.std.proofs.lemmas.Result.{err_from_is_err_and}
@@ -153,7 +153,7 @@ loop-k-preserved g t c =
     let path_is : c.export_entry.new.work.path.items ≡ c.args.work.now.path.items ++ 47 ∷ c.at-inode.result.1.now = c.in_ok-export_entry.ensures.path ∙ is in
     elim c.match-branch-4.branch [
       | in-File w ↦ record {
-        path = cut_back _ c.args.work.now.path.items (47 ∷ c.at-inode.result.1.now) _ _ c.truncate.ensures.items c.len-here.ensures (ap (λ (work : Work). work.path.items) w.work-is ∙ path_is);
+        path = cut_back _ c.args.work.now.path.items (47 ∷ c.at-inode.result.1.now) _ _ c.truncate.ensures.items (search (rules, c.len-here.ensures)) (ap (λ (work : Work). work.path.items) w.work-is ∙ path_is);
         tours = λ place stands.
             let told = c.loop-k.invariant.tours place stands in
             let child = child_place _ _ _ _ _ place stands c.in_ok-entries.entries c.in_ok-entries.ensures c.loop-k.k c.at-inode.result.0 c.at-inode.result.1.now c.at-inode.ensures.entry in
@@ -165,7 +165,7 @@ loop-k-preserved g t c =
             (waiting c.export_entry.new.work.replies) (g.K.Sink.taken c.export_entry.new.out) (g.K.Sink.faults c.export_entry.new.out) c.in_ok-export_entry.field-0 c.export_entry.new.work.firsts entry (sym c.in_ok-export_entry.ensures.kind ∙ ap kind_word w.in-File.is));
       }
       | in-Dir+in_ok-export_below-in-Dir w ↦ record {
-        path = cut_back _ c.args.work.now.path.items (47 ∷ c.at-inode.result.1.now) _ _ c.truncate.ensures.items c.len-here.ensures (ap (λ (work : Work). work.path.items) w.work-is ∙ w.in_ok-export_below-in-Dir.ensures.path ∙ path_is);
+        path = cut_back _ c.args.work.now.path.items (47 ∷ c.at-inode.result.1.now) _ _ c.truncate.ensures.items (search (rules, c.len-here.ensures)) (ap (λ (work : Work). work.path.items) w.work-is ∙ w.in_ok-export_below-in-Dir.ensures.path ∙ path_is);
         tours = λ place stands.
             let told = c.loop-k.invariant.tours place stands in
             let child = child_place _ _ _ _ _ place stands c.in_ok-entries.entries c.in_ok-entries.ensures c.loop-k.k c.at-inode.result.0 c.at-inode.result.1.now c.at-inode.ensures.entry in

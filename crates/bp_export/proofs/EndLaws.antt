@@ -83,3 +83,8 @@ module _ (T : Type 0) (tree : FileTree) (t : Option (List ℕ)) (f : ℕ) where
     ends_unhanded v e is a u w g h goes part rose =
         subst (λ (fault : Fault). EndsExport {T = T} tree (Err fault) t w f h) (sym is)
         (ends_sink w h (passed_part (export_text tree) [] a t u w goes.0 part) (subst (λ n. Rose n h) goes.1 rose))
+
+-- the walk from the root, before which nothing waits
+pub from_root : {T : Type 0} (r : Result T Fault) (tree : FileTree) (calls : List Call) (b a : List ℕ) (t u : Option (List ℕ)) (f g : ℕ) → calls ≡ export_calls tree → b ≡ [] → Goes calls r b a t u f g → Goes (export_calls tree) r [] a t u f g
+from_root r tree calls b a t u f g all none goes =
+    subst (λ (l : List Call). Goes l r [] a t u f g) all (subst (λ (l : List ℕ). Goes calls r l a t u f g) none goes)

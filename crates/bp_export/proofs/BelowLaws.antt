@@ -97,6 +97,7 @@ module _ (image : Image) (counts : List ℕ) (i : ℕ) (text : List ℕ) (before
             subst (λ (fault : Fault). Tours {T = T} image counts inside place (Err fault) after a c t w f h) (sym same)
             (ends_early T k b c u w g h firsts after entry (rest ++ behind_it) e told (whole image counts i text before place stands rows are k j name at ∙ ap (λ es. up_to k place.tree place.path ++ es) (append_assoc entry rest behind_it))
             (goes_stop S (Unit {0}) e (calls entry) b c u w g h tours.goes))
+
         module _ {S : Type 0} (v : S) (middle : Firsts) (tours : Tours image counts (itself image j) here (Ok v) middle b c u w g h) where
           goes_on : Goes {T = Unit {0}} (calls (up_to k place.tree place.path) ++ calls entry) (Ok tt) a c t w f h
           goes_on = goes_then {T = Unit {0}} (tt {0}) (Ok (tt {0})) (calls (up_to k place.tree place.path)) (calls entry) a b c t u w f g h told.goes tours.goes

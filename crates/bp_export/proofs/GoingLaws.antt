@@ -72,3 +72,7 @@ goes_told v w xs a b t u f g tells = (tells.all, tells.cause.same)
 
 pub goes_untold : (S T : Type 0) (failed : Failed) (e : Fault) → e ≡ Sink → (xs : List Call) (a b c : List ℕ) (t u : Option (List ℕ)) (f g : ℕ) → Tells {T = S} xs (Err failed) a b t u f g → Goes {T = T} xs (Err e) a c t u f g
 goes_untold S T failed e is xs a b c t u f g tells = subst (λ (fault : Fault). Goes {T = T} xs (Err fault) a c t u f g) (sym is) (tells.some, tells.cause.failed)
+
+-- the same of an answer that is this one
+pub goes_end : {T : Type 0} (r : Result T Fault) (e : Fault) → r ≡ Err e → (xs : List Call) (a b : List ℕ) (t u : Option (List ℕ)) (f g : ℕ) → Goes {T = T} xs (Err e) a b t u f g → Goes xs r a b t u f g
+goes_end {T} r e is xs a b t u f g goes = subst (λ (x : Result T Fault). Goes xs x a b t u f g) (sym is) goes

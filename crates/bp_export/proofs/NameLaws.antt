@@ -120,6 +120,10 @@ module _ (image : Image) (wf : IsWellFormed image) (counts : List ℕ) (i : ℕ)
     pub unremembered : (T : Type 0) (e : Fault) → e ≡ Memory → (after : Firsts) (b : List ℕ) (t : Option (List ℕ)) (f : ℕ) → Tours {T = T} image counts (itself image i) place (Err e) after b b t t f f
     unremembered T e is after b t f = record { goes = goes_nowhere T e is (calls_here place) b t f; remembers = tt }
 
+    -- the same of an answer that is this one
+    pub tours_end : {T : Type 0} (r : Result T Fault) (e : Fault) → r ≡ Err e → (after : Firsts) (b c : List ℕ) (t u : Option (List ℕ)) (f g : ℕ) → Tours {T = T} image counts (itself image i) place (Err e) after b c t u f g → Tours image counts (itself image i) place r after b c t u f g
+    tours_end {T} r e is after b c t u f g tours = subst (λ (x : Result T Fault). Tours image counts (itself image i) place x after b c t u f g) (sym is) tours
+
     -- ---- a file that is made at the path at hand
 
     pub sound_here : (root size : ℕ) → root ≡ root_of image i → size ≡ size_of image i → IsSound image root size

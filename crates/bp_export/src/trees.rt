@@ -59,11 +59,18 @@ fn export_new<R: Region, K: Sink>(
         All FitsText (calls_for work.old.path.items (file bytes)) }
     ensures goes { let bytes = content (current_words (R.memory region.now)) tree.root tree.size in
         Goes (calls_for work.old.path.items (file bytes)) result (waiting work.old.replies) (waiting work.new.replies)
-            (K.taken out.old) (K.taken out.new) (K.faults out.old) (K.faults out.new) }
+        (K.taken out.old) (K.taken out.new) (K.faults out.old) (K.faults out.new) }
     ensures path { work.new.path.items ≡ work.old.path.items }
     ensures firsts { work.new.firsts ≡ work.old.firsts }
 {
-    export_file(region, tree, &work.path, &mut work.stretch, &mut work.replies, out)?;
+    export_file(
+        region,
+        tree,
+        &work.path,
+        &mut work.stretch,
+        &mut work.replies,
+        out,
+    )?;
     Ok(())
 }
 
@@ -94,7 +101,7 @@ fn export_name<R: Region, K: Sink>(
     ensures tours { let words = current_words (R.memory region.now) in
         (place : Place) → StandsAt words counts.now (itself words i) i work.old.path.items work.old.firsts place
         → Tours words counts.now (itself words i) place result work.new.firsts (waiting work.old.replies)
-            (waiting work.new.replies) (K.taken out.old) (K.taken out.new) (K.faults out.old) (K.faults out.new) }
+        (waiting work.new.replies) (K.taken out.old) (K.taken out.new) (K.faults out.old) (K.faults out.new) }
     ensures path { work.new.path.items ≡ work.old.path.items }
 {
     if counts.names(i) <= 1 {
@@ -134,7 +141,7 @@ fn export_entry<R: Region, K: Sink>(
     ensures tours { let words = current_words (R.memory region.now) in
         (place : Place) → StandsAt words counts.now (itself words i) i work.old.path.items work.old.firsts place
         → Tours words counts.now (itself words i) place result work.new.firsts (waiting work.old.replies)
-            (waiting work.new.replies) (K.taken out.old) (K.taken out.new) (K.faults out.old) (K.faults out.new) }
+        (waiting work.new.replies) (K.taken out.old) (K.taken out.new) (K.faults out.old) (K.faults out.new) }
     ensures kind { IfOk result (λ kind. kind_word kind ≡ kind_of (current_words (R.memory region.now)) i) }
     ensures path { work.new.path.items ≡ work.old.path.items }
 {
@@ -169,7 +176,7 @@ fn export_below<R: Region, K: Sink>(
     ensures tours { let words = current_words (R.memory region.now) in
         (place : Place) → StandsAt words counts.now inside i work.old.path.items work.old.firsts place
         → Tours words counts.now inside place result work.new.firsts (waiting work.old.replies)
-            (waiting work.new.replies) (K.taken out.old) (K.taken out.new) (K.faults out.old) (K.faults out.new) }
+        (waiting work.new.replies) (K.taken out.old) (K.taken out.new) (K.faults out.old) (K.faults out.new) }
     ensures path { OnOk result (work.new.path.items ≡ work.old.path.items) }
 {
     let entries = Entries::of(alloc, region, i)?;

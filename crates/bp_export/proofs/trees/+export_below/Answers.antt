@@ -77,8 +77,7 @@ pub export_entry-requires-clause-stands : goal.export_entry-requires-clause-stan
 export_entry-requires-clause-stands g t c =
     let place = c.requires.stands.0 in
     let stands = c.requires.stands.1 in
-    let is : c.go_down.new.path.items ≡ c.args.work.now.path.items ++ 47 ∷ c.at-inode.result.1.now = c.in_ok-go_down.ensures ∙ ap (λ l. l ++ 47 ∷ c.at-inode.result.1.now) c.loop-k.invariant.path in
-    (
+    let is : c.go_down.new.path.items ≡ c.args.work.now.path.items ++ 47 ∷ c.at-inode.result.1.now = c.in_ok-go_down.ensures ∙ ap (λ l. l ++ 47 ∷ c.at-inode.result.1.now) c.loop-k.invariant.path in (
       child_place _ _ _ _ _ place stands c.in_ok-entries.entries c.in_ok-entries.ensures c.loop-k.k c.at-inode.result.0 c.at-inode.result.1.now c.at-inode.ensures.entry,
       rw is (stands_at_child _ _ _ _ _ place stands c.in_ok-entries.entries c.in_ok-entries.ensures c.loop-k.k c.at-inode.result.0 c.at-inode.result.1.now c.at-inode.ensures.entry c.loop-k.work.firsts (c.loop-k.invariant.tours place stands).remembers),
     )
@@ -117,9 +116,10 @@ export_below-requires g t c κs within =
     let inner = inner_place _ _ _ _ _ place stands c.in_ok-entries.entries c.in_ok-entries.ensures c.loop-k.k c.at-inode.result.0 c.at-inode.result.1.now c.at-inode.ensures.entry in
     let below : StandsAt image c.args.counts.now inside c.at-inode.result.0 c.export_entry.new.work.path.items c.export_entry.new.work.firsts inner =
     rw path_is (stands_in_child _ _ _ _ _ place stands c.in_ok-entries.entries c.in_ok-entries.ensures c.loop-k.k c.at-inode.result.0 c.at-inode.result.1.now c.at-inode.ensures.entry kind c.export_entry.new.work.firsts (c.in_ok-export_entry.ensures.tours child there).remembers) in
-    let short : length (c.args.work.now.path.items ++ 47 ∷ c.at-inode.result.1.now) ≤ 4096 = child_short _ _ _ _ _ place stands c.in_ok-entries.entries c.in_ok-entries.ensures c.loop-k.k c.at-inode.result.0 c.at-inode.result.1.now c.at-inode.ensures.entry in
-    (omega (arith, c.decreases, short, ap length path_is, length-append c.args.work.now.path.items (47 ∷ c.at-inode.result.1.now)),
-    (within.0, (within.1, (c.requires.well_formed, (kind, (c.requires.counts, (c.requires.inodes, (inner, below))))))))
+    let short : length (c.args.work.now.path.items ++ 47 ∷ c.at-inode.result.1.now) ≤ 4096 = child_short _ _ _ _ _ place stands c.in_ok-entries.entries c.in_ok-entries.ensures c.loop-k.k c.at-inode.result.0 c.at-inode.result.1.now c.at-inode.ensures.entry in (
+      omega (arith, c.decreases, short, ap length path_is, length-append c.args.work.now.path.items (47 ∷ c.at-inode.result.1.now)),
+      (within.0, (within.1, (c.requires.well_formed, (kind, (c.requires.counts, (c.requires.inodes, (inner, below))))))),
+    )
 
 pub returns-in_err-export_below-in-Dir-clause-tours : goal.returns-in_err-export_below-in-Dir-clause-tours
 returns-in_err-export_below-in-Dir-clause-tours g t c place stands =

@@ -1,18 +1,14 @@
 use Rattle.std.proofs.Common.{◌≡◌, ℕ, List, [], ◌∷◌, sym, ◌∙◌, ap, subst}
-use Rattle.std.specs.Prelude.{Result}
 use Rattle.std.proofs.lemmas.Result.{err_from_is_err_and}
 use Rattle.bp_layout.specs.Fields.{kind_word}
 use Rattle.bp_layout.specs.Inode.{IsDirectory}
 use Rattle.bp_layout.specs.Words.{Image}
-use Rattle.bp_layout.specs.declared.fields.Kind.{Kind}
 use Rattle.bp_plain.specs.Calls.Call.{mkdir}
 use Rattle.bp_script.specs.Export.{FitsText}
 use Rattle.pm_region.specs.Memory.{current_words}
-use Rattle.bp_export.proofs.NameLaws.{directory_here, directory_remembered, fits_mkdir, inode_found, toured, untoured}
+use Rattle.bp_export.proofs.NameLaws.{directory_here, directory_remembered, fits_mkdir, inode_found, toured, tours_end, untoured}
 use Rattle.bp_export.proofs.RowLaws.{inode_file_sound}
 use Rattle.bp_export.proofs.TreeLaws.{found_low}
-use Rattle.bp_export.specs.Walking.{Tours, itself}
-use Rattle.bp_export.specs.declared.fault.Fault.{Fault}
 use Rattle.bp_export.proofs.TellingLaws.{tells_same}
 use Rattle.bp_export.proofs.trees.export_entry.Goals as goal
 
@@ -44,14 +40,14 @@ pub returns-in_err-tell-in-Dir-clause-tours : goal.returns-in_err-tell-in-Dir-cl
 returns-in_err-tell-in-Dir-clause-tours g c place stands =
     let image : Image = current_words (g.R.Region.memory c.args.region.now) in
     let kind : IsDirectory image c.args.i = sym c.get-inode.ensures.kind ∙ ap kind_word c.in-Dir.is in
-    let p = err_from_is_err_and c.from_residual-in_err-tell.result c.from_residual-in_err-tell.ensures.1 in
-    subst (λ (r : Result Kind Fault). Tours image c.args.counts.now (itself image c.args.i) place r _ _ _ _ _ _ _) (sym p.1) (untoured image c.requires.well_formed c.args.counts.now c.args.i c.args.work.now.path.items c.args.work.now.firsts place stands _ _ _ _ _ _ _ _ _ p.0 p.2 _
-    (directory_here image c.requires.well_formed c.args.counts.now c.args.i c.args.work.now.path.items c.args.work.now.firsts place stands c.requires.below kind) (tells_same _ _ _ _ _ _ _ _ _ (ap (λ (text : List ℕ). mkdir text ∷ []) c.deref.ensures.value) c.in_err-tell.ensures) _)
+    let p = err_from_is_err_and c.from_residual-in_err-tell-in-Dir.result c.from_residual-in_err-tell-in-Dir.ensures.1 in
+    tours_end image c.requires.well_formed c.args.counts.now c.args.i c.args.work.now.path.items c.args.work.now.firsts place stands _ p.0 p.1 _ _ _ _ _ _ _ (untoured image c.requires.well_formed c.args.counts.now c.args.i c.args.work.now.path.items c.args.work.now.firsts place stands _ _ _ _ _ _ _ _ _ p.0 p.2 _
+    (directory_here image c.requires.well_formed c.args.counts.now c.args.i c.args.work.now.path.items c.args.work.now.firsts place stands c.requires.below kind) (tells_same _ _ _ _ _ _ _ _ _ (ap (λ (text : List ℕ). mkdir text ∷ []) c.deref.ensures.value) c.in_err-tell-in-Dir.ensures) _)
 
 pub returns-in_ok-tell-in-Dir-clause-tours : goal.returns-in_ok-tell-in-Dir-clause-tours
 returns-in_ok-tell-in-Dir-clause-tours g c place stands =
     let image : Image = current_words (g.R.Region.memory c.args.region.now) in
     let kind : IsDirectory image c.args.i = sym c.get-inode.ensures.kind ∙ ap kind_word c.in-Dir.is in
     toured image c.requires.well_formed c.args.counts.now c.args.i c.args.work.now.path.items c.args.work.now.firsts place stands _ _ _ _ _ _ _ _ _
-    (directory_here image c.requires.well_formed c.args.counts.now c.args.i c.args.work.now.path.items c.args.work.now.firsts place stands c.requires.below kind) (tells_same _ _ _ _ _ _ _ _ _ (ap (λ (text : List ℕ). mkdir text ∷ []) c.deref.ensures.value) c.in_ok-tell.ensures) _
+    (directory_here image c.requires.well_formed c.args.counts.now c.args.i c.args.work.now.path.items c.args.work.now.firsts place stands c.requires.below kind) (tells_same _ _ _ _ _ _ _ _ _ (ap (λ (text : List ℕ). mkdir text ∷ []) c.deref.ensures.value) c.in_ok-tell-in-Dir.ensures) _
     (directory_remembered image c.requires.well_formed c.args.counts.now c.args.i c.args.work.now.path.items c.args.work.now.firsts place stands c.requires.below kind)

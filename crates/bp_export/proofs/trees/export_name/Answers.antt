@@ -1,9 +1,8 @@
 use Rattle.std.proofs.Common.{◌≡◌, ◌==◌, ℕ, ◌<◌, ◌≤◌, ◌++◌, List, [], ◌∷◌, slice_index, None, Some, sym, ◌∙◌, ap, subst, arith}
-use Rattle.std.specs.Prelude.{Result, if◌then◌else◌}
+use Rattle.std.specs.Prelude.{if◌then◌else◌}
 use Rattle.std.proofs.lemmas.Result.{err_from_is_err_and}
 use Rattle.bp_export.specs.Firsts.{first_text}
-use Rattle.bp_export.specs.Walking.{RemembersFirsts, Tours, itself}
-use Rattle.bp_export.specs.declared.fault.Fault.{Fault}
+use Rattle.bp_export.specs.Walking.{RemembersFirsts, itself}
 use Rattle.bp_export.specs.declared.firsts.Firsts.{Firsts}
 use Rattle.bp_layout.specs.Lookup.{node_of}
 use Rattle.bp_layout.specs.Words.{Image}
@@ -11,7 +10,7 @@ use Rattle.bp_plain.specs.Calls.Call.{link}
 use Rattle.bp_script.specs.Export.{FitsText}
 use Rattle.pm_region.specs.Memory.{current_words}
 use Rattle.bp_export.proofs.FirstTexts.{remembers_first, remembers_later, remembers_single}
-use Rattle.bp_export.proofs.NameLaws.{at, counted, fits_from, fits_link, link_here, none_known, none_single, sound_here, toured, toured_from, unremembered, untoured}
+use Rattle.bp_export.proofs.NameLaws.{at, counted, fits_from, fits_link, link_here, none_known, none_single, sound_here, toured, toured_from, tours_end, unremembered, untoured}
 use Rattle.bp_export.proofs.TellingLaws.{tells_same}
 use Rattle.bp_export.proofs.trees.export_name.Goals as goal
 
@@ -66,7 +65,7 @@ returns-in_err-tell-clause-tours g c place stands =
     let image : Image = current_words (g.R.Region.memory c.args.region.now) in
     let several : 1 < slice_index c.args.counts.now c.args.i = omega (arith, c.if-names-le1.false, c.names.ensures) in
     let p = err_from_is_err_and c.from_residual.result c.from_residual.ensures.1 in
-    subst (λ (r : Result (Unit {0}) Fault). Tours image c.args.counts.now (itself image c.args.i) place r _ _ _ _ _ _ _) (sym p.1) (untoured image c.requires.well_formed c.args.counts.now c.args.i c.args.work.now.path.items c.args.work.now.firsts place stands _ _ _ _ _ _ _ _ _ p.0 p.2 _
+    tours_end image c.requires.well_formed c.args.counts.now c.args.i c.args.work.now.path.items c.args.work.now.firsts place stands _ p.0 p.1 _ _ _ _ _ _ _ (untoured image c.requires.well_formed c.args.counts.now c.args.i c.args.work.now.path.items c.args.work.now.firsts place stands _ _ _ _ _ _ _ _ _ p.0 p.2 _
     (link_here image c.requires.well_formed c.args.counts.now c.args.i c.args.work.now.path.items c.args.work.now.firsts place stands c.requires.below c.requires.file several c.in-Some.first.now c.in-Some.ensures)
     (tells_same _ _ _ _ _ _ _ _ _ (ap (λ (text : List ℕ). link c.in-Some.first.now text ∷ []) c.deref.ensures.value) c.in_err-tell.ensures) _)
 
@@ -90,14 +89,14 @@ pub returns-in_err-add-clause-tours : goal.returns-in_err-add-clause-tours
 returns-in_err-add-clause-tours g c place stands =
     let image : Image = current_words (g.R.Region.memory c.args.region.now) in
     let p = err_from_is_err_and c.from_residual-in_err-add.result c.from_residual-in_err-add.ensures.1 in
-    subst (λ (r : Result (Unit {0}) Fault). Tours image c.args.counts.now (itself image c.args.i) place r _ _ _ _ _ _ _) (sym p.1) (unremembered image c.requires.well_formed c.args.counts.now c.args.i c.args.work.now.path.items c.args.work.now.firsts place stands _ p.0 p.2 _ _ _ _)
+    tours_end image c.requires.well_formed c.args.counts.now c.args.i c.args.work.now.path.items c.args.work.now.firsts place stands _ p.0 p.1 _ _ _ _ _ _ _ (unremembered image c.requires.well_formed c.args.counts.now c.args.i c.args.work.now.path.items c.args.work.now.firsts place stands _ p.0 p.2 _ _ _ _)
 
-pub export_new-2-requires-clause-sound : goal.export_new-2-requires-clause-sound
-export_new-2-requires-clause-sound g c =
+pub export_new-requires-2-clause-sound : goal.export_new-requires-2-clause-sound
+export_new-requires-2-clause-sound g c =
     sound_here (current_words (g.R.Region.memory c.args.region.now)) c.requires.well_formed c.args.counts.now c.args.i c.args.work.now.path.items c.args.work.now.firsts c.requires.stands.0 c.requires.stands.1 _ _ c.requires.root c.requires.size
 
-pub export_new-2-requires-clause-short : goal.export_new-2-requires-clause-short
-export_new-2-requires-clause-short g c =
+pub export_new-requires-2-clause-short : goal.export_new-requires-2-clause-short
+export_new-requires-2-clause-short g c =
     let image : Image = current_words (g.R.Region.memory c.args.region.now) in
     let counts = c.args.counts.now in
     let i : ℕ = c.args.i in

@@ -1,14 +1,12 @@
 use Rattle.std.proofs.Common.{ℕ, List, sym, ap, subst}
-use Rattle.std.specs.Prelude.{All, Result}
+use Rattle.std.specs.Prelude.{All}
 use Rattle.std.proofs.lemmas.Result.{err_from_is_err_and}
 use Rattle.bp_layout.specs.Lookup.Node.{file}
 use Rattle.bp_layout.specs.Tree.{content}
 use Rattle.bp_plain.specs.Export.{calls_for}
 use Rattle.bp_script.specs.Export.{FitsText}
 use Rattle.pm_region.specs.Memory.{current_words}
-use Rattle.bp_export.specs.Exports.{Goes}
-use Rattle.bp_export.specs.declared.fault.Fault.{Fault}
-use Rattle.bp_export.proofs.GoingLaws.{goes_told, goes_untold}
+use Rattle.bp_export.proofs.GoingLaws.{goes_end, goes_told, goes_untold}
 use Rattle.bp_export.proofs.TellingLaws.{tells_same}
 use Rattle.bp_export.proofs.trees.export_new.Goals as goal
 
@@ -22,10 +20,10 @@ returns-in_err-export_file-clause-goes g c =
     let bytes = content (current_words (g.R.Region.memory c.args.region.now)) c.args.tree.root c.args.tree.size in
     let text = c.args.work.now.path.items in
     let p = err_from_is_err_and c.from_residual.result c.from_residual.ensures.1 in
-    subst (λ (r : Result (Unit {0}) Fault). Goes (calls_for text (file bytes)) r _ _ _ _ _ _) (sym p.1)
-    (goes_untold _ _ _ p.0 p.2 (calls_for text (file bytes)) _ _ _ _ _ _ _ (tells_same _ _ _ _ _ _ _ _ _ (ap (λ (t : List ℕ). calls_for t (file bytes)) c.deref.ensures.value) c.in_err-export_file.ensures.lines))
+    goes_end _ p.0 p.1 (calls_for text (file bytes)) _ _ _ _ _ _
+    (goes_untold (Unit {0}) (Unit {0}) _ p.0 p.2 (calls_for text (file bytes)) _ _ _ _ _ _ _ (tells_same _ _ _ _ _ _ _ _ _ (ap (λ (t : List ℕ). calls_for t (file bytes)) c.deref.ensures.value) c.in_err-export_file.ensures.lines))
 
 pub returns-clause-goes : goal.returns-clause-goes
 returns-clause-goes g c =
     let bytes = content (current_words (g.R.Region.memory c.args.region.now)) c.args.tree.root c.args.tree.size in
-    goes_told _ _ (calls_for c.args.work.now.path.items (file bytes)) _ _ _ _ _ _ (tells_same _ _ _ _ _ _ _ _ _ (ap (λ (t : List ℕ). calls_for t (file bytes)) c.deref.ensures.value) c.in_ok-export_file.ensures.lines)
+    goes_told {T = Unit {0}} _ tt (calls_for c.args.work.now.path.items (file bytes)) _ _ _ _ _ _ (tells_same _ _ _ _ _ _ _ _ _ (ap (λ (t : List ℕ). calls_for t (file bytes)) c.deref.ensures.value) c.in_ok-export_file.ensures.lines)

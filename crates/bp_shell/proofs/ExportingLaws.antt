@@ -1,16 +1,19 @@
 -- What an export of a file answers.
-use Rattle.std.proofs.Common.{refl, ap, arith, ◌≡◌, ◌+◌, ◌<◌, ℕ, List, length, inl, inr}
+use Rattle.std.proofs.Common.{refl, sym, ap, subst, arith, ◌≡◌, ◌+◌, ◌<◌, ℕ, Bool, true, false, true≢false, List, length, inl, inr}
 use Rattle.std.specs.Prelude.{Option, Result, Ok, Err, ◌⊎◌}
 use Rattle.std.specs.Io.KnownBytes.{Appends}
 use Rattle.std.proofs.Math.Nat.{lt_of_not-le}
 use Rattle.bp_export.specs.Exports.{EndsExport}
+use Rattle.bp_export.specs.declared.fault.Fault.{Fault}
 use Rattle.bp_export.specs.declared.fault.Fault.TheVariants as fault
 use Rattle.bp_io.specs.Causes.{Rose}
 use Rattle.bp_io.specs.Files.{Known}
+use Rattle.bp_layout.specs.Whole.{IsFileSystem}
 use Rattle.bp_layout.specs.Words.{Image}
 use Rattle.bp_limits.specs.Limits.{max_path}
 use Rattle.bp_plain.specs.Export.{HasShortPaths, path_text}
 use Rattle.bp_plain.specs.PlainTree.{FileTree}
+use Rattle.bp_plain.specs.Stands.{Stands}
 use Rattle.bp_plain.proofs.Existence.{stands_for, tree_of}
 use Rattle.bp_replies.specs.Taking.{TakesPart}
 use Rattle.bp_script.specs.Sayings.{notice_text}
@@ -21,7 +24,7 @@ use Rattle.bp_session.specs.Outside.{FilesFailed, IsFirstFault, IsIdle, IsUntouc
 use Rattle.bp_session.proofs.OutcomeLaws.{no_fault, sink_fault}
 use Rattle.bp_shell.specs.Ending.{TellsStop}
 use Rattle.bp_shell.specs.Exporting.{ExportOutcome, Exports, ExportsFront, HoldsDeep, HoldsTree, IsExportComplete, TellsTree}
-use Rattle.bp_shell.specs.Opening.{HoldsFileSystem, RefusesFile}
+use Rattle.bp_shell.specs.Opening.{RefusesFile}
 use Rattle.bp_shell.specs.Statuses.{code_of}
 use Rattle.bp_shell.specs.Stops.{IsReason}
 use Rattle.bp_shell.specs.declared.status.Status.{Status}
@@ -40,29 +43,53 @@ short_of tree never path node there =
     let few : length (path_text path) < max_path + 1 = lt_of_not-le (λ long. never (λ short. omega (arith, long, short path node there))) in
     omega (arith, few)
 
+-- which way an export ended
+abbrev is_done : {T : Type 0} → Result T Fault → Bool
+is_done (Ok done) = true
+is_done (Err why) = false
+
+abbrev is_deep : {T : Type 0} → Result T Fault → Bool
+is_deep (Err fault.Deep) = true
+is_deep other = false
+
+abbrev is_broken : {T : Type 0} → Result T Fault → Bool
+is_broken (Err fault.Sink) = true
+is_broken other = false
+
 module _ (tree : FileTree) (t u : Option (List ℕ)) (m n : ℕ) where
   pub tells_all : {T : Type 0} (done : T) → EndsExport tree (Ok done) t u m n → TellsTree tree status.Done t u m n
-  tells_all done ends = (short_of tree (λ deep. ends.deep.1 deep), ends.all, ends.same (λ never. never))
+  tells_all done ends = (
+    short_of tree (λ deep. true≢false (ap is_done (ends.deep.1 deep))),
+    ends.all,
+    ends.same (λ e. true≢false (ap is_done e)),
+  )
 
   pub tells_front : {T : Type 0} → EndsExport {T = T} tree (Err fault.Memory) t u m n → TellsTree tree status.Memory t u m n
-  tells_front ends = (short_of tree (λ deep. let no : fault.Memory ≡ fault.Deep = ends.deep.1 deep in cc), ends.some refl, ends.same (λ e. cc))
+  tells_front ends = (
+    short_of tree (λ deep. true≢false (sym (ap is_deep (ends.deep.1 deep)))),
+    ends.some refl,
+    ends.same (λ e. true≢false (sym (ap is_broken e))),
+  )
 
   pub tells_part : {T : Type 0} → EndsExport {T = T} tree (Err fault.Sink) t u m n → TellsTree tree status.SinkFailed t u m n
-  tells_part ends = (short_of tree (λ deep. let no : fault.Sink ≡ fault.Deep = ends.deep.1 deep in cc), ends.part refl, ends.cause refl)
+  tells_part ends = (
+    short_of tree (λ deep. true≢false (sym (ap is_deep (ends.deep.1 deep)))),
+    ends.part refl,
+    ends.cause refl,
+  )
 
+  -- nothing was told before the line
   pub tells_deep : {T : Type 0} (v : Option (List ℕ)) (k : ℕ) → EndsExport {T = T} tree (Err fault.Deep) t u m n → Prints (notice_text Deep) u v n k → TellsTree tree status.Deep t v m k
   tells_deep v k ends prints =
       let untold = ends.untold refl in
-      let same = ends.same (λ e. cc) in
-      (ends.deep.0 refl, rw (untold, same) at prints)
+      let same = ends.same (λ e. true≢false (sym (ap is_broken e))) in
+      (ends.deep.0 refl, subst (λ (w : Option (List ℕ)). Prints (notice_text Deep) w v m k) untold (subst (λ (j : ℕ). Prints (notice_text Deep) u v j k) same prints))
 
 -- ---- a file
 
 -- a file system stands for a tree
-pub holds_tree : (known : Known) (image : Image) → HoldsFileSystem known image → (tree : FileTree) × HoldsTree known tree
-holds_tree known image found =
-    let whole = found.well_formed in
-    (tree_of image whole.first whole.second, record { image = image; found = found; stands = stands_for image whole.first whole.second })
+pub stands_for_tree : (image : Image) → IsFileSystem image → (tree : FileTree) × Stands image tree
+stands_for_tree image whole = (tree_of image whole.first whole.second, stands_for image whole.first whole.second)
 
 abbrev Among : ℕ → Type 0
 Among status = (status ≡ 0) ⊎ (status ≡ 1) ⊎ (status ≡ 4) ⊎ (status ≡ 5) ⊎ (status ≡ 7) ⊎ (status ≡ 8) ⊎ (status ≡ 9)

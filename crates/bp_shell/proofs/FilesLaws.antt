@@ -2,9 +2,12 @@
 use Rattle.std.proofs.Common.{sym, ◌∙◌, ◌≡◌, ℕ, List, true, inl, inr}
 use Rattle.bp_io.specs.Files.{KeepsFiles, KeepsOthers, StaysAttached, View}
 use Rattle.bp_io.specs.declared.access.Access.TheVariants.{Write}
-use Rattle.bp_session.proofs.OthersLaws.{stays_stays}
-use Rattle.bp_shell.specs.Opening.{AttachesAs}
-use Rattle.bp_shell.specs.Running.{OnlyWrites}
+use Rattle.bp_command.specs.Programs.{Program}
+use Rattle.bp_command.specs.Programs.Program.{formats, runs, checks, plays, exports}
+use Rattle.bp_session.proofs.OthersLaws.{stays_same, stays_stays}
+use Rattle.bp_session.proofs.SavingLaws.{still_attached}
+use Rattle.bp_shell.specs.Opening.{AttachesAs, OnlyReads}
+use Rattle.bp_shell.specs.Running.{LeavesFiles, OnlyWrites}
 
 -- nothing was done but to open FILE
 pub only_opened : (name : List ℕ) (old new : View) → AttachesAs Write name old new → KeepsFiles old new → OnlyWrites name old new
@@ -19,3 +22,14 @@ module _ (name : List ℕ) (old opened new : View) (kept : KeepsFiles old opened
     may_write = stays.may_write ∙ may_write;
     others = λ other is. stays_stays (old.contents other) (opened.contents other) (new.contents other) (kept other) (others other (sym (stays.attached other) ∙ is));
   })
+
+-- nothing was done
+only_read : (name : List ℕ) (files : View) → OnlyReads name files files
+only_read name files = record { kept = λ other. stays_same (files.contents other); attached = inr (still_attached files) }
+
+pub leaves_as_are : (program : Program) (files : View) → LeavesFiles program files files
+leaves_as_are (formats name blocks version) files = inr (still_attached files, λ other. inl (stays_same (files.contents other)))
+leaves_as_are (runs name) files = inr (still_attached files, λ other. stays_same (files.contents other))
+leaves_as_are (checks name) files = only_read name files
+leaves_as_are (plays name seed count) files = only_read name files
+leaves_as_are (exports name) files = only_read name files

@@ -1,12 +1,14 @@
 use Rattle.std.proofs.Common.{refl}
-use Rattle.bp_shell.proofs.ExportingLaws.{export_stopped, export_told, holds_tree}
+use Rattle.bp_shell.proofs.ExportingLaws.{export_stopped, export_told, stands_for_tree}
 use Rattle.bp_shell.proofs.OpeningLaws.{stays_equal}
 use Rattle.bp_shell.proofs.exporting.export_file.Goals as goal
 
 pub returns-in-Ok-clause-outcome : goal.returns-in-Ok-clause-outcome
 returns-in-Ok-clause-outcome g c = λ left reads.
-    let holds = holds_tree _ _ c.in-Ok.ensures.holds in
-    export_told _ _ (record { left = refl; file = stays_equal _ _ (c.examine.ensures.reads.kept c.args.name.now) }) c.examine.ensures.flushed refl holds.0 _ holds.1 (c.tell_tree.ensures holds.0 holds.1.stands) c.in-Ok.ensures.cause.same
+    let found = c.in-Ok.ensures.holds in
+    let stood = stands_for_tree c.in-Ok.region.base found.well_formed in
+    export_told _ _ (record { left = refl; file = stays_equal _ _ (c.examine.ensures.reads.kept c.args.name.now) }) c.examine.ensures.flushed refl stood.0 _
+    (record { image = c.in-Ok.region.base; found = found; stands = stood.1 }) (c.tell_tree.ensures stood.0 stood.1) c.in-Ok.ensures.cause.same
 
 pub returns-in-Err-clause-outcome : goal.returns-in-Err-clause-outcome
 returns-in-Err-clause-outcome g c = λ left reads.

@@ -7,6 +7,7 @@ use Rattle.bp_shell.specs.declared.status.Status.TheVariants as status
 use Rattle.bp_shell.specs.declared.stop.Stop.TheVariants as stop
 use Rattle.bp_shell.proofs.EndingLaws.{memory_reason, read_stopped}
 use Rattle.bp_shell.proofs.ExportingLaws.{export_memory}
+use Rattle.bp_shell.proofs.FilesLaws.{leaves_as_are}
 use Rattle.bp_shell.proofs.OpeningLaws.{if_memory}
 use Rattle.bp_shell.proofs.ProgramLaws.{format_memory, run_memory}
 use Rattle.bp_shell.proofs.running.run.Goals as goal
@@ -42,4 +43,15 @@ returns-clause-others g c = λ other. elim c.match-read_words.branch [
   })
   | in-Err-Usage w ↦ absurd (other (rw (c.code.ensures, w.status-is) refl))
   | in-Err-Memory w ↦ inr (rw (c.code.ensures, w.status-is) refl, w.src-is, w.out-is, w.files-is)
+]
+
+pub returns-clause-files : goal.returns-clause-files
+returns-clause-files g c = λ program asks. elim c.match-read_words.branch [
+  | in-Ok w ↦
+      let same : program_of w.in-Ok.program ≡ program = c.words_ask_for_one_program.ensures _ program _ asks w.in-Ok.ensures.asks in
+      rw w.files-is (rw same at w.run_program-status.ensures.files)
+  | in-Err-Usage w ↦
+      let right = rw w.in-Err-Usage.field-0-is at w.in-Err-Usage.ensures.usage in
+      absurd (right.0 asks.taken)
+  | in-Err-Memory w ↦ rw w.files-is (leaves_as_are program _)
 ]

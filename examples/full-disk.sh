@@ -18,7 +18,7 @@ echo 'list /' > listing
 # expect NAME STATUS GOT WANTED: the status, and that FILE is byte for byte this file, where one is named.
 expect() {
   if [ "$2" != "$3" ]; then echo "FAILED: $1: status $3, not $2: $(cat err)"; failed=1; fi
-  if [ -e disk/FILE.bpfs-sync ]; then echo "FAILED: $1: a second file is left"; failed=1; fi
+  if [ -e disk/FILE.bpfs-sync ] || [ -e disk/FILE.bpfs-sync-old ]; then echo "FAILED: $1: a second file is left"; failed=1; fi
   if [ -n "$4" ] && ! cmp -s disk/FILE "$4"; then echo "FAILED: $1: FILE is not as it has to be"; failed=1; fi
   echo "done: $1: status $3 $(cat err)"
 }

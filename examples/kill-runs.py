@@ -5,8 +5,8 @@
 
 A run gives many blocks of a file the number of its turn, gives the file one name more, and syncs, turn by turn. It is killed (SIGKILL) at
 a random moment, unless it ended before; then it is looked at too, and does not count. `check` has to call FILE clean, FILE has to be the
-tree after one of the turns, no older than that of the last sync that was answered, and the next run has to serve it and to leave no second
-file. The images have 256 to 8,192 blocks, and either version. A folder in TMPDIR is used. A program that writes each block of FILE in place
+tree after one of the turns, no older than that of the last sync that was answered, and the next run has to serve it, to save it by a new
+file, and to leave no second one. The images have 256 to 8,192 blocks, and either version. A folder in TMPDIR is used. A program that writes each block of FILE in place
 fails here after a few kills.
 """
 import os
@@ -96,7 +96,7 @@ def main():
     held_by_all = [0] * (TURNS + 1)
     with tempfile.TemporaryDirectory() as folder:
         image = os.path.join(folder, "FILE")
-        second = image + ".bpfs-sync"
+        others = (image + ".bpfs-sync", image + ".bpfs-sync-old")
         longest = {}
         for size in SIZES:
             run(program, ["format", image, "--blocks", str(size)])
@@ -109,14 +109,15 @@ def main():
             run(program, ["format", image, "--blocks", str(size), "--version", draw.choice("12")])
             answered, was_killed = killed_run(program, image, size, draw.uniform(0, longest[size]))
             kills += was_killed
-            leftovers += os.path.exists(second)
+            leftovers += any(map(os.path.exists, others))
             held = turns_held(program, image, size)
             if not isinstance(held, int) or held < answered:
                 sys.exit(f"FAILED: run {runs}, {size} blocks: {answered} syncs were answered, FILE holds {held}")
             ahead += held > answered
             held_by_all[held] += 1
+            was = os.stat(image).st_ino
             after = run(program, ["run", image], b"create /after\n")
-            if after.returncode != 0 or after.stdout != b"ok\n" or os.path.exists(second):
+            if after.returncode != 0 or after.stdout != b"ok\n" or os.stat(image).st_ino == was or any(map(os.path.exists, others)):
                 sys.exit(f"FAILED: run {runs}: the next one: {after}")
     print(f"{runs} runs, {kills} of them killed: FILE was always clean, and as one of its syncs made it")
     print(f"turns held by FILE, from 0 on: {held_by_all}; a sync not yet answered was there in {ahead}; a second file was left by {leftovers}")

@@ -1,6 +1,6 @@
 #!/bin/sh
 # Refuses each allocation of the built program in turn: of 'format', 'check', 'play' and of 'run' with every call. Each run has to end as
-# without a refusal, or with status 8 and no reply; or, where the script lists, with 'err 12 memory' in place of a listing. The script also
+# without a refusal, or with status 8 and no reply; or, where the script lists or asks for caches, with 'err 12 memory' in place of that reply. The script also
 # searches directories of 40 and of 70 names often, of which a volume remembers names and an index: to lack memory for these shows nowhere.
 # It needs a C compiler, for a malloc that fails once. It is not part of the gate.
 #
@@ -41,7 +41,7 @@ cc -shared -fPIC -O1 -o "$work/refuse.so" "$work/refuse.c" -ldl
     for i in $(seq 20 49); do printf 'stat /m/%s\nstat /n/%s\n' "$i" "$i"; done
     printf 'unlink /m/40\nunlink /n/40\nrename /m/41 /n/40\nrename /n/41 /n/x\nstat /m/40\nstat /n/40\nstat /n/x\ncreate /n/41\nrmdir /n\n'
 } > "$work/script"
-printf 'create /a\nmkdir /d\nwrite /a 0 6869\ntruncate /a 5000\nrename /a /d/b\nread /d/b 0 8\nlist /d\nstat /d\nspace\nlog\nstorm 7\ncrash all\nsync\nlist /\n' >> "$work/script"
+printf 'create /a\nmkdir /d\nwrite /a 0 6869\ntruncate /a 5000\nrename /a /d/b\nread /d/b 0 8\nlist /d\nstat /d\nspace\nlog\nstorm 7\ncrash all\nsync\ncache 7\nlist /\n' >> "$work/script"
 
 # One run with a call of malloc refused (0: none): its status and its replies.
 run() {
@@ -70,5 +70,5 @@ for words in "format g --blocks 8" "check f" "play f --seed 9 --count 200" "run 
         fi
         call=$((call + 1))
     done
-    echo "bpfs $words: of 250 calls of malloc $none answer 8, $listed a listing with err 12, $same change nothing or never come"
+    echo "bpfs $words: of 250 calls of malloc $none answer 8, $listed a listing or a cache with err 12, $same change nothing or never come"
 done

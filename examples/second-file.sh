@@ -1,7 +1,8 @@
 #!/bin/sh
 # Shows what a sync leaves of FILE besides its bytes: the symbolic link that leads to it, its owner, its group, its permissions and its
-# hard links; where it is written in place; what becomes of a second file that a killed run left, and of other things under its name; and
-# that a sync fails where another file has the name of FILE meanwhile.
+# hard links; where it is written in place; what becomes of what a killed run left, and of other things under its names; that the file
+# that was replaced waits for the next sync, unless something else is done with it; what a run leaves that is killed at a step of a sync
+# (by strace, where it is there); and that a sync fails where another file has the name of FILE meanwhile.
 #
 #   examples/second-file.sh PROGRAM      PROGRAM: crates/bpfs/out/bpfs, as `rt run` leaves it there
 set -u
@@ -12,6 +13,7 @@ trap '[ -z "$first" ] || kill "$first" 2> /dev/null; rm -rf "$work"' EXIT
 cd "$work" || exit 1
 failed=0
 second=FILE.bpfs-sync
+old=$second-old
 
 # expect NAME WANTED GOT: compares two words.
 expect() {
@@ -32,8 +34,39 @@ saved() {
   grep -q "^entry f made$made\$" out || { echo "FAILED: $1: nothing was saved"; failed=1; }
 }
 
+# none_left [WHAT]: no second file is there, nor another one, but for this.
+none_left() {
+  left=$(ls -d FILE.* 2> /dev/null)
+  [ "$left" = "${1:-}" ] || { echo "FAILED: left: $left"; failed=1; }
+}
+
+# began: begins a run that is given its lines one by one.
+began() {
+  : > replies
+  sent=0
+  "$program" run FILE < lines > replies 2> errors &
+  first=$!
+  exec 3> lines
+}
+
+# did LINE..: gives the run these lines, and waits for its replies.
+did() {
+  for line; do echo "$line" >&3; sent=$((sent + 1)); done
+  turns=0
+  while [ "$(wc -l < replies)" -lt $sent ] && [ $turns -lt 500 ]; do sleep 0.02; turns=$((turns + 1)); done
+}
+
+# ended STATUS: the run has to end so.
+ended() {
+  exec 3>&-
+  wait "$first"
+  expect 'its status' "$1" $?
+  first=
+}
+
 as=
 echo 'list /' > listing
+mkfifo lines
 "$program" format FILE --blocks 16 > out || exit 1
 saved 'a plain file' replaced
 
@@ -52,7 +85,18 @@ rm HARD
 
 echo old > $second
 saved 'beside what a killed run left' replaced
-[ -e $second ] && { echo 'FAILED: it is still there'; failed=1; }
+none_left
+cp FILE $second
+ln FILE $old
+saved 'with the second link of a killed run' replaced
+none_left
+cp FILE $old
+saved 'beside the file that a killed run replaced' replaced
+none_left
+mkdir $old
+saved 'beside a folder of the other name' replaced
+none_left $old
+rmdir $old
 mkdir $second
 saved 'beside a folder of that name' 'in place'
 [ -d $second ] || { echo 'FAILED: the folder is gone'; failed=1; }
@@ -80,22 +124,107 @@ if [ "$(id -u)" = 0 ] && command -v setpriv > /dev/null; then
   as=
 fi
 
-mkfifo lines
-: > replies
-"$program" run FILE < lines > replies 2> errors &
-first=$!
-exec 3> lines
-echo 'create /lost' >&3
-turns=0
-while [ ! -s replies ] && [ $turns -lt 500 ]; do sleep 0.02; turns=$((turns + 1)); done
+began
+was=$(stat -c %i FILE)
+did 'create /once' sync
+expect 'the file that was replaced waits' "$was" "$(stat -c %i $second)"
+did 'create /twice' sync
+expect 'it has the name of FILE again' "$was" "$(stat -c %i FILE)"
+none_left $second
+ln $second KEPT
+cp KEPT copy
+did 'create /kept' sync 'create /later' sync
+cmp KEPT copy || { echo 'FAILED: a file with a name of its own was written'; failed=1; }
+rm $second
+did 'create /gone' sync
+ln -sf FILE $second
+did 'create /link' sync
+expect 'a link under the second name' FILE "$(readlink $second)"
+rm $second
+was=$(stat -c %i FILE)
+did 'create /again' sync
+[ "$(stat -c %i FILE)" = "$was" ] && { echo 'FAILED: FILE was written in place'; failed=1; }
+ln FILE HARD
+was=$(stat -c %i FILE)
+did 'create /hard' sync
+expect 'a hard link that was made meanwhile' "$was" "$(stat -c %i FILE)"
+none_left
+rm HARD
+did 'create /alone' sync 'create /end'
+ended 0
+none_left
+"$program" run FILE < listing > out
+expect 'files of that run' 10 "$(grep -c 'entry f [a-z]*$' out)"
+began
+did 'create /mine' sync
+rm $second
+echo mine > $second
+ended 0
+expect 'a file that was put under the second name' mine "$(cat $second)"
+rm $second
+began
+did 'create /linked' sync
+ln $second LINKED
+ended 0
+none_left
+
+if command -v strace > /dev/null; then
+  printf 'create /k\nsync\nunlink /k\nsync\n' > script
+
+  # fails MADE RENAMED CALL:WHICH: a run of two syncs in which these calls of the system fail saves, makes so many second files, and
+  # gives FILE's name to so many.
+  fails() {
+    strace -f -o trace -e trace=openat,link,rename,fsync -e inject="${3%%:*}:${3#*:}" "$program" run FILE < script > out 2> err
+    expect "where $3: run" 0 $?
+    expect "where $3: second files" "$1" "$(grep -c 'bpfs-sync", O_RDWR|O_CREAT' trace)"
+    expect "where $3: renamed" "$2" "$(grep -c '/FILE") = 0$' trace)"
+    expect 'its links' 1 "$(stat -c %h FILE)"
+    none_left
+  }
+  fails 1 2 mkdir:error=EPERM # no call of a run
+  fails 2 2 link:error=EPERM
+  fails 2 2 fsync:error=EINVAL:when=2+2
+  fails 2 2 rename:error=EIO:when=2+2
+  fails 2 0 rename:error=EACCES
+  strace -f -o trace -e trace=link -e inject=link:delay_enter=900000:when=2 "$program" run FILE < script > out 2> err &
+  first=$!
+  turns=0
+  while ! [ "$(grep -c ^ok out)" = 3 ] && [ $turns -lt 500 ]; do sleep 0.01; turns=$((turns + 1)); done
+  sleep 0.3
+  ln FILE HARD
+  wait "$first"
+  expect 'where FILE gets a hard link within a sync: run' 0 $?
+  first=
+  none_left
+  rm HARD
+
+  # The steps of the second sync of a run, each killed before it is done.
+  for step in link:1 rename:1 rename:2 fsync:2 ftruncate:2 pwrite64:2 fsync:3 link:2 rename:3 rename:4 fsync:4 unlink:1; do
+    strace -f -o trace -e trace="${step%:*}" -e inject="${step%:*}:signal=KILL:when=${step#*:}" "$program" run FILE < script > out 2> err
+    [ $? -gt 128 ] || { echo "FAILED: no kill at $step"; failed=1; }
+    "$program" check FILE > out || { echo "FAILED: killed at $step: $(cat out)"; failed=1; }
+    saved "behind a kill at $step" replaced
+    none_left
+    echo 'unlink /k' | "$program" run FILE > out
+  done
+fi
+
+began
+did 'create /lost'
 cp FILE other
 mv other FILE
 cp FILE copy
-exec 3>&-
-wait "$first"
-expect 'a file that was replaced meanwhile: run' 5 $?
-first=
+ended 5
 expect 'its reason' 'bpfs: FILE: another file has its name now' "$(cat errors)"
 cmp FILE copy || failed=1
-[ -e $second ] && { echo 'FAILED: a second file is left'; failed=1; }
+none_left
+began
+did 'create /found' sync
+cp FILE other
+mv other FILE
+cp FILE copy
+did 'create /lost' sync
+ended 5
+cmp FILE copy || failed=1
+none_left
 exit $failed

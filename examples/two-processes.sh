@@ -93,5 +93,5 @@ wait
 expect 'replies to a crowd' 48 "$(cat served? | grep -c '^ok$')"
 "$program" check FILE > out 2> err; expect 'check after the crowd' 0 $?
 expect 'files of the crowd' 48 "$(echo 'list /' | "$program" run FILE | grep -c '^entry f m')"
-[ -e FILE.bpfs-sync ] && { echo 'FAILED: a second file is left'; failed=1; }
+[ "$(echo FILE*)" = FILE ] || { echo 'FAILED: a second file is left'; failed=1; }
 exit $failed

@@ -10,7 +10,7 @@ use Rattle.bp_index.specs.Index.{IsIndexOf}
 use Rattle.bp_tree.specs.declared.tree.Tree.{Tree}
 use Rattle.bp_cache.specs.declared.cache.DirectoryCache.{DirectoryCache}
 use Rattle.bp_cache.specs.declared.held.Held.{Held}
-use Rattle.bp_cache.specs.declared.held.Held.TheVariants.{Searched, Indexed, Unindexed}
+use Rattle.bp_cache.specs.declared.held.Held.TheVariants.{Indexed, Lost, Unindexed}
 use Rattle.bp_cache.specs.Cache.{AreHeldOf, HasTree, IsCacheOf, IsHeldOf}
 use Rattle.bp_cache.specs.Held.{IndexIs}
 use Rattle.bp_cache.proofs.Lists.{held_promoted, held_put}
@@ -28,12 +28,12 @@ nothing_right image cache room most names directories = record {
 
 module _ (image : Image) (i : ℕ) (tree : Tree) (has : HasTree image i tree) where
   pub of_tree : (held : Held) → IsHeldOf image i held → IndexIs (IsIndexOf image tree.root tree.size) held
-  of_tree (Searched times) is = tt
+  of_tree Lost is = tt
   of_tree (Indexed index) is = rw (has.root, has.size) (is has.reached has.directory)
   of_tree Unindexed is = tt
 
   pub from_tree : (held : Held) → IndexIs (IsIndexOf image tree.root tree.size) held → IsHeldOf image i held
-  from_tree (Searched times) is = tt
+  from_tree Lost is = tt
   from_tree (Indexed index) is = λ _ _. rw (has.root, has.size) at is
   from_tree Unindexed is = tt
 

@@ -30,7 +30,7 @@ use Rattle.bp_cache.specs.Cache.{IsCacheOf, IsHeldOf, IsIndexIn}
 use Rattle.bp_cache.specs.Changes.{KeepsAllNames, KeepsNamed, NameEnters, NameLeaves, NameMoves, NameReplaces, StandsAt, WasNamed, name_in}
 use Rattle.bp_cache.specs.declared.cache.DirectoryCache.{DirectoryCache}
 use Rattle.bp_cache.specs.declared.held.Held.{Held}
-use Rattle.bp_cache.specs.declared.held.Held.TheVariants.{Searched, Indexed, Unindexed}
+use Rattle.bp_cache.specs.declared.held.Held.TheVariants.{Indexed, Lost, Unindexed}
 use Rattle.bp_cache.specs.declared.name_at.NameAt.{NameAt}
 
 -- ---- a name and its slot
@@ -242,6 +242,6 @@ cache_kept old new cache keeps right = record {
     }
 
     stays : (i : ℕ) (held : Held) → IsHeldOf old i held → IsHeldOf new i held
-    stays i (Searched times) _ = tt
+    stays i Lost _ = tt
     stays i (Indexed index) before = index_stays i index before
     stays i Unindexed _ = tt

@@ -9,7 +9,7 @@ use Rattle.bp_changes.specs.KeepsEntries.{OneSlot, TwoSlots}
 use Rattle.bp_index.specs.declared.index.Index.{Index}
 use Rattle.bp_index.specs.Index.{EntersSlot, LeavesSlot}
 use Rattle.bp_cache.specs.declared.held.Held.{Held}
-use Rattle.bp_cache.specs.declared.held.Held.TheVariants.{Searched, Indexed, Unindexed}
+use Rattle.bp_cache.specs.declared.held.Held.TheVariants.{Indexed, Lost, Unindexed}
 use Rattle.bp_cache.specs.declared.name_at.NameAt.{NameAt}
 use Rattle.bp_cache.specs.Cache.{AreHeldOf, IsHeldOf, IsIndexIn}
 use Rattle.bp_cache.specs.Changes.{KeepsNamed, NameEnters, NameLeaves, NameMoves, NameReplaces, StandsAt, WasNamed}
@@ -22,30 +22,30 @@ use Rattle.bp_cache.proofs.Lists.{Directories, Was}
 module _ (old new : Image) (i : ℕ) where
   held_kept : (held : Held) → ((slot : ℕ) → IsReached new i → IsDirectory new i → slot < entry_count new i → WasNamed old new i slot) →
       IsHeldOf old i held → IsHeldOf new i held
-  held_kept (Searched times) keeps is = tt
+  held_kept Lost keeps is = tt
   held_kept (Indexed index) keeps is = index_kept old new i index keeps is
   held_kept Unindexed keeps is = tt
 
   held_becomes : (Step : Index → Index → Type 0) → ((before after : Index) → Step before after → IsIndexIn old i before → IsIndexIn new i after) →
       (was held : Held) → Becomes Step was held → IsHeldOf old i was → IsHeldOf new i held
-  held_becomes Step steps was (Searched times) becomes is = tt
+  held_becomes Step steps was Lost becomes is = tt
   held_becomes Step steps was Unindexed becomes is = tt
-  held_becomes Step steps (Searched times) (Indexed after) becomes is = absurd becomes
+  held_becomes Step steps Lost (Indexed after) becomes is = absurd becomes
   held_becomes Step steps (Indexed before) (Indexed after) becomes is = steps before after becomes is
   held_becomes Step steps Unindexed (Indexed after) becomes is = absurd becomes
 
 -- one step behind another
 becomes_twice : (Step Next : Index → Index → Type 0) (first second third : Held) → Becomes Step first second → Becomes Next second third →
     Becomes (λ before after. (between : Index) × Step before between × Next between after) first third
-becomes_twice Step Next (Searched times) (Searched more) third one two = two
-becomes_twice Step Next (Searched times) (Indexed between) third one two = absurd one
-becomes_twice Step Next (Searched times) Unindexed third one two = two
-becomes_twice Step Next Unindexed (Searched more) third one two = two
+becomes_twice Step Next Lost Lost third one two = two
+becomes_twice Step Next Lost (Indexed between) third one two = absurd one
+becomes_twice Step Next Lost Unindexed third one two = two
+becomes_twice Step Next Unindexed Lost third one two = two
 becomes_twice Step Next Unindexed (Indexed between) third one two = absurd one
 becomes_twice Step Next Unindexed Unindexed third one two = two
-becomes_twice Step Next (Indexed before) second (Searched times) one two = tt
+becomes_twice Step Next (Indexed before) second Lost one two = tt
 becomes_twice Step Next (Indexed before) second Unindexed one two = tt
-becomes_twice Step Next (Indexed before) (Searched times) (Indexed after) one two = absurd two
+becomes_twice Step Next (Indexed before) Lost (Indexed after) one two = absurd two
 becomes_twice Step Next (Indexed before) Unindexed (Indexed after) one two = absurd two
 becomes_twice Step Next (Indexed before) (Indexed between) (Indexed after) one two = (between, one, two)
 

@@ -2,7 +2,7 @@
 use Rattle.std.specs.Prelude.{◌≡◌, ℕ, ⊤, List, Contains}
 use Rattle.bp_cache.specs.declared.cache.DirectoryCache.{DirectoryCache}
 use Rattle.bp_cache.specs.declared.held.Held.{Held}
-use Rattle.bp_cache.specs.declared.held.Held.TheVariants.{Searched, Indexed, Unindexed}
+use Rattle.bp_cache.specs.declared.held.Held.TheVariants.{Indexed, Lost, Unindexed}
 use Rattle.bp_index.specs.Index.{IsIndexOf}
 use Rattle.bp_index.specs.declared.index.Index.{Index}
 use Rattle.bp_layout.specs.Hints.{AreRight}
@@ -20,7 +20,7 @@ IsIndexIn image i index = IsReached image i → IsDirectory image i →
 
 -- what is held of directory i is right
 abbrev pub IsHeldOf : Image → ℕ → Held → Type 0
-IsHeldOf image i (Searched times) = ⊤
+IsHeldOf image i Lost = ⊤
 IsHeldOf image i (Indexed index) = IsIndexIn image i index
 IsHeldOf image i Unindexed = ⊤
 

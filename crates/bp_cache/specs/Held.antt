@@ -2,7 +2,7 @@
 use Rattle.std.specs.Prelude.{◌≡◌, ◌≢◌, ℕ, ⊤, List, Contains, None, Some}
 use Rattle.std.specs.FinMap.{get}
 use Rattle.bp_cache.specs.declared.held.Held.{Held}
-use Rattle.bp_cache.specs.declared.held.Held.TheVariants.{Searched, Indexed, Unindexed}
+use Rattle.bp_cache.specs.declared.held.Held.TheVariants.{Indexed, Lost, Unindexed}
 use Rattle.bp_cache.specs.declared.name_at.NameAt.{NameAt}
 use Rattle.bp_index.specs.Index.{EntersSlot, LeavesSlot}
 use Rattle.bp_index.specs.declared.index.Index.{Index}
@@ -10,13 +10,13 @@ use Rattle.bp_layout.specs.Hints.{NameIn, Known}
 
 -- where an index is held, this holds of it
 abbrev pub IndexIs : (Index → Type 0) → Held → Type 0
-IndexIs Is (Searched times) = ⊤
+IndexIs Is Lost = ⊤
 IndexIs Is (Indexed index) = Is index
 IndexIs Is Unindexed = ⊤
 
 -- where an index is held, one was before, and it has changed so
 abbrev pub Becomes : (Index → Index → Type 0) → Held → Held → Type 0
-Becomes Step (Searched times) after = IndexIs (λ _. ⊥) after
+Becomes Step Lost after = IndexIs (λ _. ⊥) after
 Becomes Step (Indexed before) after = IndexIs (Step before) after
 Becomes Step Unindexed after = IndexIs (λ _. ⊥) after
 

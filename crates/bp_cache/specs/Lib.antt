@@ -1,3 +1,4 @@
 pub mod Held
 pub mod Cache
 pub mod Changes
+pub mod Recalled

@@ -4,8 +4,10 @@ ghost use Rattle.std.specs.Prelude.{◌≡◌, ◌≤◌, length, IfOk, IfSome, 
 ghost use Rattle.bp_cache.specs.Cache.{HasTree, IsCacheOf};
 ghost use Rattle.bp_cache.specs.Changes.{NameEnters, NameLeaves, NameMoves, NameReplaces, name_in};
 ghost use Rattle.bp_cache.specs.Held.{ChangesOne, Enters, ForgetsBoth, Leaves};
+ghost use Rattle.bp_cache.specs.Recalled.{IsRecalled};
 ghost use Rattle.bp_dirs.specs.Spots.{FreeIs, found_slot, named_slot};
 ghost use Rattle.bp_layout.specs.Directory.{empty_slot, inumber_at, slot_named};
+ghost use Rattle.bp_layout.specs.Hints.{IsSlotOf};
 ghost use Rattle.bp_layout.specs.Inode.{IsDirectory, root_of, size_of};
 ghost use Rattle.bp_layout.specs.Reached.{IsReached};
 ghost use Rattle.bp_layout.specs.WellFormed.{IsWellFormed};
@@ -14,10 +16,11 @@ ghost use Rattle.bp_limits.specs.Limits.{max_name};
 ghost use Rattle.bp_names.specs.Names.{known_of};
 ghost use Rattle.pm_region.specs.Memory.{current_words};
 
-use crate::held::{Held, SEARCHES};
+use crate::held::Held;
 use crate::name_at::NameAt;
-use crate::searching::search;
-use bp_dirs::{Finder, Found, Spot, find_entry, find_or_free, inumber};
+use crate::recalled::Recalled;
+use crate::searches::Searches;
+use bp_dirs::{Both, Finder, Found, Spot, find_both, find_entry, find_or_free, inumber};
 use bp_layout::Hints;
 use bp_limits::ENTRY_SIZE;
 use bp_names::Names;
@@ -30,7 +33,7 @@ use std::num::NonZeroUsize;
 /// How many names are known at most.
 const KNOWN_NAMES: usize = 256;
 
-/// Of how many large directories something is held at most.
+/// Of how many large directories an index is held at most.
 const HELD_DIRECTORIES: usize = 256;
 
 /// The size in bytes that a directory of 32 entries has. One of no more is searched from its first entry on, which takes no
@@ -55,6 +58,8 @@ pub struct DirectoryCache {
     names: Names,
     // what is held of large ones, by their inodes
     directories: LruCache<u32, Held>,
+    // how often those were searched of which nothing is held
+    searches: Searches,
     alloc: Global,
 }
 
@@ -71,81 +76,107 @@ impl DirectoryCache {
         Ok(DirectoryCache {
             names: Names::new(alloc, KNOWN_NAMES)?,
             directories: LruCache::sparse(alloc, room)?,
+            searches: Searches::new(),
             alloc,
         })
     }
 
-    /// What [`Finder::find`] tells of a small directory. What a search finds is learned.
-    fn find_small<R: Region>(
-        &mut self,
-        region: &R,
-        dir: u32,
-        tree: Tree,
-        name: &[u8],
-    ) -> Option<Found>
+    /// What is remembered of a name in a small directory.
+    fn recall_name<R: Region>(&mut self, region: &R, dir: u32, tree: Tree, name: &[u8]) -> Recalled
         requires tree { HasTree (current_words (R.memory region.now)) dir tree }
         requires short { length name.now ≤ max_name }
         requires right { IsCacheOf (current_words (R.memory region.now)) self.old }
-        ensures slot { found_slot result ≡ slot_named (current_words (R.memory region.now)) dir name.now }
-        ensures inumber { IfSome result
-            (λ found. found.inumber ≡ inumber_at (current_words (R.memory region.now)) dir found.slot) }
+        ensures told { IsRecalled (current_words (R.memory region.now)) tree name.now result }
         ensures right { IsCacheOf (current_words (R.memory region.now)) self.new }
     {
-        if let Some(slot) = self.names.hint(dir, name) {
-            return Some(Found {
+        match self.names.hint(dir, name) {
+            Some(slot) => Recalled::Told(Some(Found {
                 slot,
                 inumber: inumber(region, tree, slot),
-            });
+            })),
+            None => Recalled::Unknown,
         }
-        let found = search(region, tree, name)?;
-        self.names.learn(dir, name, found.slot);
-        Some(found)
     }
 
-    /// What [`Finder::find`] tells of a directory of more than a few entries.
+    /// What is remembered of a name in a directory of more than a few entries.
     #[inline(never)]
-    fn find_by_memory<R: Region>(
+    fn recall_larger<R: Region>(
         &mut self,
         region: &R,
         dir: u32,
         tree: Tree,
         name: &[u8],
-    ) -> Option<Found>
+    ) -> Recalled
         requires tree { HasTree (current_words (R.memory region.now)) dir tree }
         requires short { length name.now ≤ max_name }
         requires right { IsCacheOf (current_words (R.memory region.now)) self.old }
-        ensures slot { found_slot result ≡ slot_named (current_words (R.memory region.now)) dir name.now }
-        ensures inumber { IfSome result
-            (λ found. found.inumber ≡ inumber_at (current_words (R.memory region.now)) dir found.slot) }
+        ensures told { IsRecalled (current_words (R.memory region.now)) tree name.now result }
         ensures right { IsCacheOf (current_words (R.memory region.now)) self.new }
     {
         if tree.size <= SMALL_SIZE {
-            return self.find_small(region, dir, tree, name);
+            return self.recall_name(region, dir, tree, name);
         }
-        self.count_search(region, dir, tree);
+        if !self.count_search(region, dir, tree) {
+            return Recalled::Unknown;
+        }
         match self.directories.peek(&dir) {
-            Some(held) => held.find(region, tree, name),
-            None => search(region, tree, name),
+            Some(held) => held.recall(region, tree, name),
+            None => Recalled::Unknown,
         }
     }
 
-    /// Counts a search of a large directory, and makes an index of it where it was searched often.
-    fn count_search<R: Region>(&mut self, region: &R, dir: u32, tree: Tree)
+    /// What is remembered of a name in a directory.
+    fn recall<R: Region>(&mut self, region: &R, dir: u32, tree: Tree, name: &[u8]) -> Recalled
+        requires tree { HasTree (current_words (R.memory region.now)) dir tree }
+        requires short { length name.now ≤ max_name }
+        requires right { IsCacheOf (current_words (R.memory region.now)) self.old }
+        ensures told { IsRecalled (current_words (R.memory region.now)) tree name.now result }
+        ensures right { IsCacheOf (current_words (R.memory region.now)) self.new }
+    {
+        if tree.size <= FEW_SIZE {
+            return Recalled::Unknown;
+        }
+        self.recall_larger(region, dir, tree, name)
+    }
+
+    /// Learns the slot of a name that was found in a small directory.
+    #[inline(never)]
+    fn learn(&mut self, dir: u32, name: &[u8], slot: u64)
+        requires short { length name.now ≤ max_name }
+        ensures { (image : Image) → IsCacheOf image self.old → IsSlotOf image (dir, name.now) slot → IsCacheOf image self.new }
+    {
+        self.names.learn(dir, name, slot);
+    }
+
+    /// Whether an index of a directory is held, or that none can be made of it. The directory is the most recent then.
+    fn is_held(&mut self, dir: u32) -> bool
+        ensures { (image : Image) → IsCacheOf image self.old → IsCacheOf image self.new }
+    {
+        if self.directories.is_empty() {
+            return false;
+        }
+        match self.directories.get(&dir) {
+            None => false,
+            Some(Held::Lost) => false,
+            Some(_) => true,
+        }
+    }
+
+    /// Counts a search of a large directory, and makes an index of it where it was searched often. Tells whether something is held of it.
+    fn count_search<R: Region>(&mut self, region: &R, dir: u32, tree: Tree) -> bool
         requires tree { HasTree (current_words (R.memory region.now)) dir tree }
         requires right { IsCacheOf (current_words (R.memory region.now)) self.old }
         ensures right { IsCacheOf (current_words (R.memory region.now)) self.new }
     {
-        let times = match self.directories.get(&dir) {
-            None => 0,
-            Some(Held::Searched(times)) => *times,
-            Some(_) => return,
-        };
-        let held = if times < SEARCHES {
-            Held::Searched(times + 1)
-        } else {
-            Held::of(self.alloc, region, tree)
-        };
+        if self.is_held(dir) {
+            return true;
+        }
+        if !self.searches.count(dir) {
+            return false;
+        }
+        let held = Held::of(self.alloc, region, tree);
         let _ = self.directories.put(dir, held);
+        true
     }
 
     /// What [`bp_dirs::find_or_free`] tells of a directory, which is told by its inode and has this tree.
@@ -164,10 +195,46 @@ impl DirectoryCache {
         if tree.size <= SMALL_SIZE {
             return find_or_free(region, tree, name);
         }
-        self.count_search(region, dir, tree);
+        if !self.count_search(region, dir, tree) {
+            return find_or_free(region, tree, name);
+        }
         match self.directories.peek_mut(&dir) {
             Some(held) => held.find_or_free(region, tree, name),
             None => find_or_free(region, tree, name),
+        }
+    }
+
+    /// What [`Finder::find`] tells of one name and [`DirectoryCache::find_or_free`] of another one in the same directory: by one
+    /// scan, where the first is not remembered.
+    pub fn find_both<R: Region>(
+        &mut self,
+        region: &R,
+        dir: u32,
+        tree: Tree,
+        one: &[u8],
+        other: &[u8],
+    ) -> Both
+        requires well { IsWellFormed (current_words (R.memory region.now)) }
+        requires reached { IsReached (current_words (R.memory region.now)) dir }
+        requires directory { IsDirectory (current_words (R.memory region.now)) dir }
+        requires root { tree.root ≡ root_of (current_words (R.memory region.now)) dir }
+        requires size { tree.size ≡ size_of (current_words (R.memory region.now)) dir }
+        requires one { length one.now ≤ max_name }
+        requires other { length other.now ≤ max_name }
+        requires right { IsCacheOf (current_words (R.memory region.now)) self.old }
+        ensures slot { found_slot result.found ≡ slot_named (current_words (R.memory region.now)) dir one.now }
+        ensures inumber { IfSome result.found
+            (λ found. found.inumber ≡ inumber_at (current_words (R.memory region.now)) dir found.slot) }
+        ensures named { named_slot result.spot ≡ slot_named (current_words (R.memory region.now)) dir other.now }
+        ensures free { FreeIs result.spot (empty_slot (current_words (R.memory region.now)) dir) }
+        ensures right { IsCacheOf (current_words (R.memory region.now)) self.new }
+    {
+        match self.recall(region, dir, tree, one) {
+            Recalled::Told(found) => {
+                let spot = self.find_or_free(region, dir, tree, other);
+                Both { found, spot }
+            }
+            Recalled::Unknown => find_both(region, tree, one, other),
         }
     }
 
@@ -249,6 +316,7 @@ impl DirectoryCache {
     {
         self.names.forget_all();
         self.directories.clear();
+        self.searches = Searches::new();
     }
 }
 
@@ -259,10 +327,14 @@ impl Finder for DirectoryCache {
 
     /// Where a name stands in a directory: by what is known, by the directory's index, or by a scan.
     fn find<R: Region>(&mut self, region: &R, dir: u32, tree: Tree, name: &[u8]) -> Option<Found> {
-        if tree.size <= FEW_SIZE {
-            return find_entry(region, tree, name);
+        if let Recalled::Told(told) = self.recall(region, dir, tree, name) {
+            return told;
         }
-        self.find_by_memory(region, dir, tree, name)
+        let found = find_entry(region, tree, name)?;
+        if tree.size > FEW_SIZE && tree.size <= SMALL_SIZE {
+            self.learn(dir, name, found.slot);
+        }
+        Some(found)
     }
 
     ghost same_references_reflexive = { λ _. tt };

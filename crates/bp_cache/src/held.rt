@@ -1,31 +1,29 @@
 //! What is held of a large directory.
 
-ghost use Rattle.std.specs.Prelude.{◌≡◌, ◌≤◌, length, IfSome};
+ghost use Rattle.std.specs.Prelude.{◌≡◌, ◌≤◌, length};
 ghost use Rattle.bp_cache.specs.Held.{Becomes, IndexIs};
-ghost use Rattle.bp_dirs.specs.Spots.{FreeIs, found_slot, named_slot};
+ghost use Rattle.bp_cache.specs.Recalled.{IsRecalled};
+ghost use Rattle.bp_dirs.specs.Spots.{FreeIs, named_slot};
 ghost use Rattle.bp_index.specs.Index.{EntersSlot, IsIndexOf, LeavesSlot};
-ghost use Rattle.bp_layout.specs.Directory.{empty_slot_in, inumber_in, slot_named_in};
+ghost use Rattle.bp_layout.specs.Directory.{empty_slot_in, slot_named_in};
 ghost use Rattle.bp_layout.specs.Tree.{IsSound};
 ghost use Rattle.bp_limits.specs.Limits.{max_name};
 ghost use Rattle.pm_region.specs.Memory.{current_words};
 
-use crate::searching::search;
-use bp_dirs::{Found, Spot, find_or_free};
+use crate::recalled::Recalled;
+use bp_dirs::{Spot, find_or_free};
 use bp_index::Index;
 use bp_tree::Tree;
 use pm_region::Region;
 use std::alloc::Global;
 
-/// How often a large directory is searched before an index is made of it, which takes about as long as so many searches.
-pub(crate) const SEARCHES: u32 = 32;
-
 /// What is held of a large directory.
 #[derive(Drop)]
 pub(crate) enum Held {
-    /// How often it was searched.
-    Searched(u32),
     /// Its index.
     Indexed(Index),
+    /// It had an index, which could not tell a name that came. Another one may be made.
+    Lost,
     /// No index could be made of it.
     Unindexed,
 }
@@ -42,19 +40,16 @@ impl Held {
         }
     }
 
-    /// What [`bp_dirs::find_entry`] tells of the directory that has this tree, by its index if there is one.
-    pub fn find<R: Region>(&self, region: &R, tree: Tree, name: &[u8]) -> Option<Found>
+    /// What the index tells of a name in the directory that has this tree.
+    pub fn recall<R: Region>(&self, region: &R, tree: Tree, name: &[u8]) -> Recalled
         requires sound { IsSound (current_words (R.memory region.now)) tree.root tree.size }
         requires short { length name.now ≤ max_name }
         requires right { IndexIs (IsIndexOf (current_words (R.memory region.now)) tree.root tree.size) self.now }
-        ensures slot { found_slot result ≡
-            slot_named_in (current_words (R.memory region.now)) tree.root tree.size name.now }
-        ensures inumber { IfSome result
-            (λ found. found.inumber ≡ inumber_in (current_words (R.memory region.now)) tree.root found.slot) }
+        ensures { IsRecalled (current_words (R.memory region.now)) tree name.now result }
     {
         match self {
-            Held::Indexed(index) => index.find_entry(region, tree, name),
-            _ => search(region, tree, name),
+            Held::Indexed(index) => Recalled::Told(index.find_entry(region, tree, name)),
+            _ => Recalled::Unknown,
         }
     }
 
@@ -82,7 +77,7 @@ impl Held {
             return;
         };
         if !index.enter(name, slot) {
-            *self = Held::Searched(SEARCHES);
+            *self = Held::Lost;
         }
     }
 

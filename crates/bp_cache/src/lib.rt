@@ -7,7 +7,8 @@
 mod cache;
 mod held;
 mod name_at;
-mod searching;
+mod recalled;
+mod searches;
 
 pub use cache::DirectoryCache;
 pub use name_at::NameAt;

@@ -1,10 +1,12 @@
 -- Scans leaf by leaf: what is found, and how much is counted, in a front of a range and in the rest.
-use Rattle.std.proofs.Common.{◌≡◌, ℕ, zero, suc, ◌+◌, ◌-◌, ◌*◌, ◌/◌, ◌<◌, ◌≤◌, Bool, true, false, Option, Some, None, find, min, length, filter, refl, sym, ◌∙◌, ap, subst, arith, nat_lt}
+use Rattle.std.proofs.Common.{◌≡◌, ℕ, zero, suc, ◌+◌, ◌-◌, ◌*◌, ◌/◌, ◌<◌, ◌≤◌, Bool, true, false, Option, Some, None, find, min, length, filter, refl, sym, ◌∙◌, ap, subst, arith, nat_lt, true≢false}
 use Rattle.std.specs.List.{range_with_len}
 use Rattle.std.proofs.lemmas.Bool.{ltb-true, ltb-false}
-use Rattle.std.specs.Prelude.{IfSome, IfNone}
+use Rattle.std.specs.Prelude.{IfSome, IfNone, is_some}
 use Rattle.bp_tree.specs.declared.tree.Tree.{Tree}
+use Rattle.bp_dirs.specs.Spots.{found_slot}
 use Rattle.bp_dirs.specs.declared.leaf.Leaf.{Leaf}
+use Rattle.bp_dirs.specs.declared.spot.Found.{Found}
 
 module _ (p : ℕ → Bool) where
   -- what is found in a front is found in the whole
@@ -120,3 +122,45 @@ pub known_first : (p : ℕ → Bool) (known total : Option ℕ) (first n : ℕ) 
     IfSome known (λ slot. known ≡ total) → IfNone known (total ≡ find p (range_with_len first n)) → known ≡ total
 known_first p (Some slot) total first n none some rest = some
 known_first p None total first n none some rest = sym (rest ∙ none_left p first n none)
+
+-- ---- the first number that passes, sought leaf by leaf
+
+-- it is this one, or none of the leaves before this one has it
+pub record IsFirstFrom (p : ℕ → Bool) (number n : ℕ) (known : Option ℕ) : Type 0 where
+  pub some : IfSome known (λ slot. known ≡ find p (range_with_len 0 n))
+  pub none : IfNone known (find p (range_with_len 0 n) ≡ find p (range_with_len (16 * number) (n - 16 * number)))
+
+pub first_goes_on : (p : ℕ → Bool) (number n : ℕ) → 16 * number < n → (before now : Option ℕ) → IsFirstFrom p number n before → IfSome before (λ slot. now ≡ before) →
+    IfNone before (now ≡ find p (range_with_len (16 * number) (min 16 (n - 16 * number)))) → IsFirstFrom p (number + 1) n now
+first_goes_on p number n inside before now was same here =
+    let on = first-on p number n inside before now (find p (range_with_len 0 n)) was.some was.none same here in record { some = on.0; none = on.1 }
+
+pub first_of_all : (p : ℕ → Bool) (number n : ℕ) (known : Option ℕ) → n - 16 * number ≡ 0 → IsFirstFrom p number n known → known ≡ find p (range_with_len 0 n)
+first_of_all p number n known left is = known_first p known (find p (range_with_len 0 n)) (16 * number) (n - 16 * number) left is.some is.none
+
+-- ---- entries that were found
+
+slot_kept : (before now : Option Found) → IfSome before (λ found. now ≡ before) → IfSome (found_slot before) (λ slot. found_slot now ≡ found_slot before)
+slot_kept (Some found) now same = ap found_slot same
+slot_kept None now same = tt
+
+slot_sought : (before now : Option Found) (here there : Option ℕ) → here ≡ there → IfNone before (found_slot now ≡ here) → IfNone (found_slot before) (found_slot now ≡ there)
+slot_sought (Some found) now here there same is = tt
+slot_sought None now here there same is = is ∙ same
+
+pub found_goes_on : (p : ℕ → ℕ → Bool) (tree : Tree) (leaf : Leaf) (number : ℕ) → 16 * number < tree.size / 256 → leaf.tree ≡ tree → leaf.first ≡ 16 * number →
+    leaf.count ≡ min 16 (tree.size / 256 - 16 * number) → (before now : Option Found) → IsFirstFrom (p tree.root) number (tree.size / 256) (found_slot before) →
+    IfSome before (λ found. now ≡ before) → IfNone before (found_slot now ≡ find (p leaf.tree.root) (range_with_len leaf.first leaf.count)) →
+    IsFirstFrom (p tree.root) (number + 1) (tree.size / 256) (found_slot now)
+found_goes_on p tree leaf number inside same first count before now was kept here =
+    first_goes_on (p tree.root) number (tree.size / 256) inside (found_slot before) (found_slot now) was (slot_kept before now kept)
+    (slot_sought before now _ _ (in_leaf (λ root from n. find (p root) (range_with_len from n)) tree leaf number same first count) here)
+
+pub found_is_first : (p : ℕ → Bool) (number n : ℕ) (found : Option Found) → is_some found ≡ true → IsFirstFrom p number n (found_slot found) → found_slot found ≡ find p (range_with_len 0 n)
+found_is_first p number n (Some found) some is = is.some
+found_is_first p number n None some is = absurd (true≢false (sym some))
+
+pub inumber_kept : (f : ℕ → ℕ) (before now : Option Found) → IfSome before (λ found. found.inumber ≡ f found.slot) → IfSome before (λ found. now ≡ before) →
+    IfNone before (IfSome now (λ found. found.inumber ≡ f found.slot)) → IfSome now (λ found. found.inumber ≡ f found.slot)
+inumber_kept f (Some found) now was same here = let P : Option Found → Type 0 = λ o. IfSome o (λ it. it.inumber ≡ f it.slot) in subst P (sym same) was
+inumber_kept f None now was same here = here

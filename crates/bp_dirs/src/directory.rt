@@ -13,7 +13,7 @@ ghost use Rattle.bp_dirs.specs.Spots.{FreeIs, found_slot, named_slot};
 use crate::entry_view::EntryView;
 use crate::leaf::{leaf_count, leaf_from};
 use crate::name_words::last_word;
-use crate::spot::{Found, Spot};
+use crate::spot::{Both, Found, Spot};
 use bp_limits::{BLOCK_ENTRIES, ENTRY_WORDS};
 use bp_tree::{Tree, content_place, content_word};
 use pm_region::Region;
@@ -103,6 +103,50 @@ pub fn find_or_free<R: Region>(region: &R, tree: Tree, name: &[u8]) -> Spot
         empty = leaf.first_empty_after(region, empty);
     }
     Spot::Free(empty)
+}
+
+/// Where a name is or may be put, by the entry that was found for it and the least empty slot.
+fn spot_of(found: Option<Found>, empty: Option<u64>) -> Spot
+    ensures named { named_slot result ≡ found_slot found }
+    ensures free { FreeIs result empty }
+{
+    match found {
+        Some(found) => Spot::Named(found.slot),
+        None => Spot::Free(empty),
+    }
+}
+
+/// What [`find_entry`] tells of one name, and [`find_or_free`] of another one, by one scan.
+pub fn find_both<R: Region>(region: &R, tree: Tree, one: &[u8], other: &[u8]) -> Both
+    requires sound { IsSound (current_words (R.memory region.now)) tree.root tree.size }
+    requires one { length one.now ≤ max_name }
+    requires other { length other.now ≤ max_name }
+    ensures slot { found_slot result.found ≡
+        slot_named_in (current_words (R.memory region.now)) tree.root tree.size one.now }
+    ensures inumber { IfSome result.found
+        (λ found. found.inumber ≡ inumber_in (current_words (R.memory region.now)) tree.root found.slot) }
+    ensures named { named_slot result.spot ≡
+        slot_named_in (current_words (R.memory region.now)) tree.root tree.size other.now }
+    ensures free { FreeIs result.spot (empty_slot_in (current_words (R.memory region.now)) tree.root tree.size) }
+{
+    let one_last = last_word(one);
+    let other_last = last_word(other);
+    let mut found = None;
+    let mut named = None;
+    let mut free = None;
+    for number in 0..leaf_count(tree) {
+        let leaf = leaf_from(region, tree, BLOCK_ENTRIES * number);
+        found = leaf.find_after(region, one, one_last, found);
+        named = leaf.find_after(region, other, other_last, named);
+        free = leaf.first_empty_after(region, free);
+        if found.is_some() && named.is_some() {
+            break;
+        }
+    }
+    Both {
+        found,
+        spot: spot_of(named, free),
+    }
 }
 
 /// How many entries name an inode.

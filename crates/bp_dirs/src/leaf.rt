@@ -117,6 +117,30 @@ impl Leaf {
         None
     }
 
+    /// What was found so far, else the first of these entries that names an inode by this name, whose last word is `last`.
+    pub fn find_after<R: Region>(
+        &self,
+        region: &R,
+        name: &[u8],
+        last: u64,
+        before: Option<Found>,
+    ) -> Option<Found>
+        requires leaf { IsLeaf (current_words (R.memory region.now)) self.now }
+        requires short { length name.now ≤ max_name }
+        requires last { last ≡ part_word name.now (last_part name.now) }
+        ensures some { IfSome before (λ found. result ≡ before) }
+        ensures slot { IfNone before (found_slot result ≡ find
+            (is_named_in (current_words (R.memory region.now)) self.now.tree.root name.now)
+            (range_with_len self.now.first self.now.count)) }
+        ensures inumber { IfNone before (IfSome result
+            (λ found. found.inumber ≡ inumber_in (current_words (R.memory region.now)) self.now.tree.root found.slot)) }
+    {
+        match before {
+            Some(_) => before,
+            None => self.find(region, name, last),
+        }
+    }
+
     /// The first of the slots whose entry is empty.
     pub fn first_empty<R: Region>(&self, region: &R) -> Option<u64>
         requires { IsLeaf (current_words (R.memory region.now)) self.now }

@@ -14,9 +14,10 @@ mod spot;
 mod writing;
 
 pub use directory::{
-    count, entry, entry_place, find, find_entry, find_or_free, free_slot, inumber, is_empty,
+    count, entry, entry_place, find, find_both, find_entry, find_or_free, free_slot, inumber,
+    is_empty,
 };
 pub use entry_view::EntryView;
 pub use finder::{Finder, Hinted, Scan};
-pub use spot::{Found, Spot};
+pub use spot::{Both, Found, Spot};
 pub use writing::put_name;

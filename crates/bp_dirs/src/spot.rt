@@ -17,3 +17,12 @@ pub struct Found {
     /// The number of the inode that it names.
     pub inumber: u64,
 }
+
+/// What a scan of a directory for two names tells.
+#[derive(Clone, Copy, Debug, PartialEq, Eq)]
+pub struct Both {
+    /// The entry that has the one name.
+    pub found: Option<Found>,
+    /// Where the other one is, or may be put.
+    pub spot: Spot,
+}

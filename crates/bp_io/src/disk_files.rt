@@ -36,6 +36,13 @@ use std::{io, rt};
 /// behind it, and that name is taken for its alone: a process that is killed leaves the file there,
 /// and the next flush of the first one begins by removing it, as may anyone.
 ///
+/// **The file that was replaced is the next second one**, so that only the first flush has to find room on the
+/// disk. It waits under the second name, and is removed when another file is attached and when the files are
+/// dropped. On its way there it is called as the first one with `.bpfs-sync-old` behind it, of which the
+/// same holds. None waits where a file can't have two names, or a folder can't be made last, and one that has
+/// another name meanwhile is not written. Who opened the file before a flush reads on in the one that was
+/// replaced, and sees what is written for the flush behind the next.
+///
 /// A file is written **in place** where no second one can be had, or none may take its place: where
 /// it has several hard links; where its folder cannot be opened, or no file be made in it; where the
 /// owner, the group or the permissions cannot be given to a new file; where the second name is too
@@ -58,7 +65,6 @@ use std::{io, rt};
 /// Blocks that are written in one call go to the disk at once, behind those that wait.
 /// What was written is flushed before another file is attached; without that and without a flush it
 /// does not come to the file, but in place, where a part may.
-#[derive(Drop)]
 pub struct DiskFiles<R: rt::Files<File = File> + Drop> {
     alloc: Global,
     runtime: R,
@@ -121,6 +127,23 @@ impl<R: rt::Files<File = File> + Drop> DiskFiles<R> {
         if access.makes() {
             self.is_flushed = false;
         }
+    }
+}
+
+impl<R: rt::Files<File = File> + Drop> Drop for DiskFiles<R> {
+    fn drop(self) {
+        let DiskFiles {
+            alloc: _,
+            runtime,
+            file: _file,
+            blocks: _,
+            may_write: _,
+            is_flushed: _,
+            faults: _,
+            mut saver,
+        } = self;
+        // Its lock goes behind that.
+        saver.remove_second(&runtime);
     }
 }
 

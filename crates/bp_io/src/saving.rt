@@ -30,6 +30,9 @@ enum Way {
 pub(crate) struct Saver {
     names: Option<Names>,
     way: Way,
+    /// The file that was attached before the last flush. It waits under the second name to be the next second
+    /// file, which then has its room on the disk already.
+    waiting: Option<File>,
     window: Window,
 }
 
@@ -52,11 +55,12 @@ fn way_to<R: rt::Files<File = File>>(
     names: &Option<Names>,
     file: &File,
     least: u64,
+    waiting: Option<File>,
 ) -> io::Result<Way> {
     let Some(names) = names else {
         return Ok(Way::InPlace);
     };
-    match SecondFile::new(runtime, names, file) {
+    match SecondFile::new(runtime, names, file, waiting) {
         Ok(second) => Ok(Way::Beside(second)),
         // Another process is writing, or no write gets through to the end of the file.
         Err(e) if matches!(e.kind(), ErrorKind::ResourceBusy | ErrorKind::FileTooLarge) => Err(e),
@@ -71,6 +75,7 @@ impl Saver {
         Ok(Saver {
             names: None,
             way: Way::Clean,
+            waiting: None,
             window: Window::new(alloc)?,
         })
     }
@@ -79,15 +84,38 @@ impl Saver {
     pub(crate) fn restart(&mut self, names: Option<Names>) {
         self.names = names;
         self.way = Way::Clean;
+        self.waiting = None;
+    }
+
+    /// Removes the second file, and the one that waits to be it.
+    pub(crate) fn remove_second<R: rt::Files<File = File>>(&mut self, runtime: &R) {
+        let waiting = self.waiting.take();
+        match (&self.names, &self.way, &waiting) {
+            (Some(names), Way::Beside(_), _) => names.remove_second(runtime),
+            (Some(names), _, Some(file)) => names.take_from(runtime, file),
+            _ => {}
+        }
     }
 
     /// Gives up what was written since the last flush, and each later write.
     fn lose<R: rt::Files<File = File>>(&mut self, runtime: &R) {
         self.window.restart(0);
-        if let (Way::Beside(_), Some(names)) = (&self.way, &self.names) {
-            names.remove_second(runtime);
-        }
+        self.remove_second(runtime);
         self.way = Way::Lost;
+    }
+
+    /// A file that waits, or is to wait, where it has the second name and no other one.
+    fn if_second<R: rt::Files<File = File>>(&self, runtime: &R, file: File) -> Option<File> {
+        match &self.names {
+            Some(names) => names.if_second(runtime, file),
+            None => None,
+        }
+    }
+
+    /// The file that waits, unless something else was done with it.
+    fn take_waiting<R: rt::Files<File = File>>(&mut self, runtime: &R) -> Option<File> {
+        let file = self.waiting.take()?;
+        self.if_second(runtime, file)
     }
 
     /// An error loses what was written.
@@ -112,7 +140,8 @@ impl Saver {
     ) -> io::Result<()> {
         match self.way {
             Way::Clean => {
-                self.way = way_to(runtime, &self.names, file, least)?;
+                let waiting = self.take_waiting(runtime);
+                self.way = way_to(runtime, &self.names, file, least, waiting)?;
                 Ok(())
             }
             Way::Beside(_) | Way::InPlace => Ok(()),
@@ -274,24 +303,26 @@ impl Saver {
             return Ok(());
         };
         match second.take_place(runtime, names, file) {
+            Ok(()) => second.settle(runtime, names),
             Err(e) if keeps_its_file(&e) => self.go_in_place(runtime, file),
-            done => done,
+            Err(e) => Err(e),
         }
     }
 
     fn try_flush<R: rt::Files<File = File>>(
         &mut self,
         runtime: &R,
-        file: &File,
-    ) -> io::Result<Option<File>> {
+        file: &mut File,
+    ) -> io::Result<()> {
         self.write_all(runtime, file)?;
         self.take_place(runtime, file)?;
         match mem::replace(&mut self.way, Way::Clean) {
-            Way::Beside(second) => Ok(Some(second.settle()?)),
-            Way::Clean | Way::InPlace => {
-                file.sync_data()?;
-                Ok(None)
+            Way::Beside(second) => {
+                let first = mem::replace(file, second.into_file());
+                self.waiting = self.if_second(runtime, first);
+                Ok(())
             }
+            Way::Clean | Way::InPlace => file.sync_data(),
             Way::Lost => Err(lost()),
         }
     }
@@ -374,10 +405,7 @@ impl Saver {
             return Ok(());
         };
         let done = self.try_flush(runtime, file);
-        if let Some(second) = self.or_lose(runtime, done)? {
-            *file = second;
-        }
-        Ok(())
+        self.or_lose(runtime, done)
     }
 
     /// Flushes what was written, and lets go of the lock of the attached file, which may be the one that is
@@ -392,6 +420,7 @@ impl Saver {
         if matches!(self.way, Way::Beside(_) | Way::InPlace) {
             self.flush(runtime, attached)?;
         }
+        self.remove_second(runtime);
         if let Some(file) = attached {
             let _ = file.unlock();
         }

@@ -14,6 +14,9 @@ use std::{fs, io, rt};
 /// What the name of a second file has behind that of the first.
 const ENDING: &str = "bpfs-sync";
 
+/// What the name has that the first file is given while the second one takes its place.
+const OLD_ENDING: &str = "bpfs-sync-old";
+
 /// The permissions of a second file until it has those of the first: its maker may read and write it.
 const PRIVATE: u32 = 0o600;
 
@@ -23,11 +26,13 @@ const ROOM_UNIT: u64 = 512;
 /// The bytes that are copied at once.
 const PIECE: usize = 65_536;
 
-/// The names of a file and of the second one beside it, behind all symbolic links.
+/// The names of a file and of the second one beside it, and the one that a file has on its way from the first
+/// name to the second, behind all symbolic links.
 #[derive(Drop)]
 pub(crate) struct Names {
     file: PathBuf,
     second: PathBuf,
+    old: PathBuf,
 }
 
 impl Names {
@@ -38,12 +43,65 @@ impl Names {
     ) -> io::Result<Self> {
         let file = runtime.canonicalize(alloc, name)?;
         let second = file.with_added_extension(alloc, ENDING)?;
-        Ok(Names { file, second })
+        let old = file.with_added_extension(alloc, OLD_ENDING)?;
+        Ok(Names { file, second, old })
     }
 
     /// Removes the second file, where that can be done.
     pub(crate) fn remove_second<R: rt::Files<File = File>>(&self, runtime: &R) {
         let _ = fs::remove_file(runtime, &self.second);
+    }
+
+    /// Takes the second name from a file, where it has it.
+    pub(crate) fn take_from<R: rt::Files<File = File>>(&self, runtime: &R, file: &File) {
+        if matches!(is_name_of(runtime, self.second.as_str(), file), Ok(true)) {
+            self.remove_second(runtime);
+        }
+    }
+
+    /// Whether a file has the second name, and no other one.
+    fn is_second<R: rt::Files<File = File>>(&self, runtime: &R, file: &File) -> io::Result<bool> {
+        Ok(file.metadata()?.nlink() == 1 && is_name_of(runtime, self.second.as_str(), file)?)
+    }
+
+    /// The file, where it has the second name and no other one. Else it has that name no more.
+    pub(crate) fn if_second<R: rt::Files<File = File>>(
+        &self,
+        runtime: &R,
+        file: File,
+    ) -> Option<File> {
+        match self.is_second(runtime, &file) {
+            Ok(true) => Some(file),
+            Ok(false) | Err(_) => {
+                self.take_from(runtime, &file);
+                None
+            }
+        }
+    }
+
+    /// Removes the name on the way, where a process left it that was killed. It may be one more of the
+    /// first file, which is locked already.
+    fn remove_old<R: rt::Files<File = File>>(&self, runtime: &R, first: &File) {
+        let old = self.old.as_str();
+        let _ = match is_name_of(runtime, old, first) {
+            Ok(true) => fs::remove_file(runtime, old),
+            Ok(false) | Err(_) => remove_leftover(runtime, old),
+        };
+    }
+
+    /// Gives the second file the name of the first, and the first that of the second, where it can have it:
+    /// a file system may know no two names of one file. The name of the first leads to one of them at any moment.
+    ///
+    /// # Errors
+    ///
+    /// The names lead as before then.
+    fn exchange<R: rt::Files<File = File>>(&self, runtime: &R) -> io::Result<()> {
+        let is_kept = fs::hard_link(runtime, &self.file, &self.old).is_ok();
+        let renamed = fs::rename(runtime, &self.second, &self.file);
+        if is_kept && (renamed.is_err() || fs::rename(runtime, &self.old, &self.second).is_err()) {
+            let _ = fs::remove_file(runtime, &self.old);
+        }
+        renamed
     }
 }
 
@@ -73,6 +131,13 @@ pub(crate) fn lacks_room(error: &io::Error) -> bool {
 pub(crate) fn has_room(file: &File, length: u64) -> io::Result<bool> {
     let metadata = file.metadata()?;
     Ok(length <= metadata.len() && metadata.len() / ROOM_UNIT <= metadata.blocks())
+}
+
+/// Whether this is a name of a file, and no symbolic link to it.
+fn is_name_of<R: rt::Files<File = File>>(runtime: &R, name: &str, file: &File) -> io::Result<bool> {
+    let found = fs::symlink_metadata(runtime, name)?;
+    let own = file.metadata()?;
+    Ok(found.dev() == own.dev() && found.ino() == own.ino())
 }
 
 /// Removes what a process left that was killed. A name that is no regular file, or whose file is
@@ -176,7 +241,8 @@ fn open_folder<R: rt::Files<File = File>>(runtime: &R, file: &PathBuf) -> io::Re
 }
 
 impl SecondFile {
-    /// Makes a second file beside the first, which has no bytes of its own yet.
+    /// Makes a second file beside the first, which has no bytes of its own yet: of the one that waits under
+    /// the second name, whatever it holds, or anew.
     ///
     /// # Errors
     ///
@@ -186,13 +252,32 @@ impl SecondFile {
         runtime: &R,
         names: &Names,
         first: &File,
+        waiting: Option<File>,
     ) -> io::Result<Self> {
+        let waits = waiting.is_some();
+        let made = Self::make(runtime, names, first, waiting);
+        if waits && made.is_err() {
+            names.remove_second(runtime);
+        }
+        made
+    }
+
+    fn make<R: rt::Files<File = File>>(
+        runtime: &R,
+        names: &Names,
+        first: &File,
+        waiting: Option<File>,
+    ) -> io::Result<Self> {
+        names.remove_old(runtime, first);
         let metadata = first.metadata()?;
         if metadata.nlink() > 1 {
             return Err(ErrorKind::TooManyLinks.into());
         }
         let folder = open_folder(runtime, &names.file)?;
-        let file = make_second(runtime, names.second.as_str())?;
+        let file = match waiting {
+            Some(file) => file,
+            None => make_second(runtime, names.second.as_str())?,
+        };
         if let Err(e) = prepare(&file, &metadata) {
             names.remove_second(runtime);
             return Err(e);
@@ -278,7 +363,8 @@ impl SecondFile {
         write_zeros(first, self.kept.max(self.filled), had.min(self.length))
     }
 
-    /// Flushes it, and gives it the name of the first file. It has to be complete.
+    /// Flushes it, and gives it the name of the first file, which then has the second name, where it can have
+    /// it. It has to be complete.
     ///
     /// # Errors
     ///
@@ -294,15 +380,27 @@ impl SecondFile {
             let message = "another file has its name now";
             return Err(io::Error::new(ErrorKind::Other, message));
         }
-        fs::rename(runtime, &names.second, &names.file)
+        names.exchange(runtime)
     }
 
-    /// The file, once its new name is flushed too, as far as the file system does that.
-    pub(crate) fn settle(self) -> io::Result<File> {
+    /// Flushes its new name, as far as the file system does that. Where it doesn't, the name may still lead to
+    /// the first file after the power failed: that one must not be written again, so it is removed.
+    pub(crate) fn settle<R: rt::Files<File = File>>(
+        &self,
+        runtime: &R,
+        names: &Names,
+    ) -> io::Result<()> {
         match self.folder.sync_all() {
-            Err(e) if matches!(e.kind(), ErrorKind::InvalidInput | ErrorKind::Unsupported) => {}
-            done => done?,
+            Err(e) if matches!(e.kind(), ErrorKind::InvalidInput | ErrorKind::Unsupported) => {
+                names.remove_second(runtime);
+                Ok(())
+            }
+            done => done,
         }
-        Ok(self.file)
+    }
+
+    /// The file itself.
+    pub(crate) fn into_file(self) -> File {
+        self.file
     }
 }

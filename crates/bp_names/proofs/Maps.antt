@@ -118,6 +118,10 @@ forgot-known name es distinct = record {
         let same : slot_in other (forgot name es) ≡ slot_in other es = rw at at all in sym same ∙ is
 
 -- a name that is too long was never known
+pub none-known : (name : NameIn) (es : Pairs) → length es ≡ 0 → (known : Known) → known ≡ from_entries es → Forgets known known name
+none-known name [] none known same = record { gone = ap (λ k. get k name) same ∙ known-slot [] name; others = λ other slot is. is }
+none-known name (e ∷ es) none known same = absurd (omega (arith, none))
+
 pub long-known : (name : NameIn) (es : Pairs) → AreShort es → max_name < length name.1 → (known : Known) → known ≡ from_entries es → Forgets known known name
 long-known name es short long known same = record {
   gone = ap (λ k. get k name) same ∙ known-slot es name ∙ long-slot name es short long;

@@ -88,6 +88,9 @@ impl Names {
         ensures known { Forgets (known_of self.old) (known_of self.new) (dir, name.now) }
     {
         let _known = self.cache.len();
+        if self.cache.is_empty() {
+            return;
+        }
         if name.len() > MAX_NAME {
             return;
         }

@@ -1,8 +1,18 @@
 -- The names in the text of a path, behind its first `/`.
-use Rattle.std.specs.Prelude.{ℕ, List, [], ◌∷◌}
+use Rattle.std.specs.Prelude.{◌≡◌, ℕ, List, [], ◌∷◌, ◌++◌}
+use Rattle.bp_layout.specs.Directory.{Name}
+use Rattle.bp_layout.specs.Lookup.{Path}
 use Rattle.bp_layout.specs.PathText.{parts}
 
 -- none in an empty text, and otherwise the parts round each `/`
 abbrev pub path_parts : List ℕ → List (List ℕ)
 path_parts [] = []
 path_parts (b ∷ bytes) = parts (b ∷ bytes)
+
+-- the paths lead to names in one directory
+pub record AreBeside (one other : Path) : Type 0 where
+  pub parent : Path
+  pub one_last : Name
+  pub one_is : one ≡ parent ++ one_last ∷ []
+  pub other_last : Name
+  pub other_is : other ≡ parent ++ other_last ∷ []

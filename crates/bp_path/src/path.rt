@@ -4,7 +4,7 @@ ghost use Rattle.std.specs.Prelude.{◌≡◌, ◌≢◌, ◌&&◌, ◌++◌, �
 ghost use Rattle.std.specs.List.{list_all};
 ghost use Rattle.bp_layout.specs.Below.{rest_below, same_path};
 ghost use Rattle.bp_layout.specs.PathText.{is_name, parse};
-ghost use Rattle.bp_path.specs.Names.{path_parts};
+ghost use Rattle.bp_path.specs.Names.{AreBeside, path_parts};
 
 use crate::names::{are_names, is_below, split_last};
 use bp_limits::MAX_PATH;
@@ -81,6 +81,15 @@ impl<'a> Path<'a> {
         ensures name { IsTrue (is_name result.now) }
     {
         split_last(self.text()).1
+    }
+
+    /// Whether another path has the same names before its last one.
+    pub fn is_beside(&self, other: &Path<'_>) -> bool
+        requires below { self.now ≢ [] }
+        requires other { other.now ≢ [] }
+        ensures { IsTrue result → AreBeside self.now other.now }
+    {
+        split_last(self.text()).0 == split_last(other.text()).0
     }
 
     /// Whether it begins with all names of another path, and goes on behind them.

@@ -72,11 +72,7 @@ impl Replies {
     /// # Errors
     ///
     /// As of `hand_over`.
-    pub fn hand_over_above<K: Sink>(
-        &mut self,
-        most: usize,
-        out: &mut K,
-    ) -> Result<(), Failed>
+    pub fn hand_over_above<K: Sink>(&mut self, most: usize, out: &mut K) -> Result<(), Failed>
         ensures all { OnOk result (PassesOn [] (waiting self.old) (waiting self.new)
             (K.taken out.old) (K.taken out.new)) }
         ensures some { OnErr result (TakesPart (waiting self.old) (K.taken out.old) (K.taken out.new)) }

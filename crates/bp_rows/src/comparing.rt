@@ -127,7 +127,9 @@ impl<'a> Comparison<'a> {
                 put_answer(alloc, &self.reply, told)?;
             }
             Ok(Line::Sync) => put_said(alloc, &Said::Synced, told)?,
-            Ok(Line::Space | Line::Log | Line::Crash(_) | Line::Storm(_)) => return Ok(false),
+            Ok(Line::Space | Line::Log | Line::Crash(_) | Line::Storm(_) | Line::Cache(_)) => {
+                return Ok(false);
+            }
             // A read of more bytes than one call reads is no line of a script either.
             Ok(Line::Call(_)) | Err(Syntax) => put_said(alloc, &Said::Syntax, told)?,
         }

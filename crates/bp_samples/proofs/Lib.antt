@@ -1,3 +1,4 @@
 pub mod LaidLaws
 pub mod EmptyImage
 pub mod TwoLeaves
+pub mod CoresLaws

@@ -1,6 +1,6 @@
 //! The outside: the edge to std, and each call once on its happy path.
 
-ghost use Rattle.std.specs.Prelude.{◌≡◌, List, ℕ, true};
+ghost use Rattle.std.specs.Prelude.{◌<◌, ◌≡◌, List, ℕ, true};
 
 use bp_io::{
     Access, DiskFiles, Failed, FairFiles, FairSource, Files, MemFiles, MemSink, MemSource,
@@ -9,7 +9,6 @@ use bp_io::{
 use std::alloc::{AllocError, Global};
 use std::io::{ErrorKind, Read, Write};
 use std::process::Abort;
-use std::test::Fail;
 use std::{fs, io};
 
 /// The bytes at these places of a file.
@@ -20,54 +19,66 @@ fn has_bytes(rt: &impl Abort, bytes: &[u8], wanted: &[(usize, u8)]) {
 }
 
 #[test]
-fn disk_files_keep_blocks(rt: HostRuntime) -> Result<(), Fail> {
-    let mut files = DiskFiles::new(rt.alloc(), &rt)?;
+fn disk_files_keep_blocks(rt: HostRuntime) {
+    let mut files = DiskFiles::new(rt.alloc(), &rt).expect(&rt, "there is memory");
     assert_eq!(rt; files.attach("disk.img", Access::Write), Ok(None));
     assert_eq!(rt; files.attach("disk.img", Access::Make), Ok(Some(0)));
     assert_eq!(rt; files.set_blocks(8), Ok(()));
     let block = [77u8; 4096];
     assert_eq!(rt; files.write_block(3, &block), Ok(()));
     assert_eq!(rt; files.flush(), Ok(()));
-    let bytes = fs::read(&rt, "disk.img")?;
+    let bytes = fs::read(&rt, "disk.img").expect(&rt, "it is there");
     assert_eq!(rt; bytes.len(), 32_768);
     let wanted = [(12_287, 0), (12_288, 77), (16_383, 77), (16_384, 0)];
     has_bytes(&rt, &bytes, &wanted);
-    fs::remove_file(&rt, "disk.img")?;
-    Ok(())
+    fs::remove_file(&rt, "disk.img").expect(&rt, "it is removed");
 }
 
-#[test]
-fn disk_files_are_locked(rt: HostRuntime) -> Result<(), Fail> {
-    let mut files = DiskFiles::new(rt.alloc(), &rt)?;
-    assert_eq!(rt; files.attach("locked.img", Access::Make), Ok(Some(0)));
-    let mut again = DiskFiles::new(rt.alloc(), &rt)?;
-    for access in [Access::Read, Access::Write, Access::Make] {
-        assert_eq!(rt; again.attach("locked.img", access), Err(Failed));
-    }
-    drop(files);
-    assert_eq!(rt; again.attach("locked.img", Access::Write), Ok(Some(0)));
-    fs::remove_file(&rt, "locked.img")?;
-    Ok(())
+/// Writes a block of one byte alone.
+fn fill_block<F: Files>(files: &mut F, i: u32, byte: u8) -> Result<(), Failed>
+    requires inside { i < (F.view files.old).blocks }
+    requires may_write { (F.view files.old).may_write ≡ true }
+    ensures blocks { (F.view files.new).blocks ≡ (F.view files.old).blocks }
+    ensures may_write { (F.view files.new).may_write ≡ true }
+    ensures attached { (name : List ℕ) → (F.view files.new).is_attached name ≡ (F.view files.old).is_attached name }
+{
+    files.write_block(i, &[byte; 4096])
 }
 
-#[test]
-fn disk_files_are_read(rt: HostRuntime) -> Result<(), Fail> {
-    fs::write(&rt, "read.img", [5u8; 8192].as_slice())?;
-    let mut files = DiskFiles::new(rt.alloc(), &rt)?;
-    assert_eq!(rt; files.attach("read.img", Access::Write), Ok(Some(8192)));
+/// Whether a block is of one byte alone.
+fn is_filled<F: Files>(files: &mut F, i: u32, byte: u8) -> Result<bool, Failed>
+    requires inside { i < (F.view files.old).blocks }
+    ensures blocks { (F.view files.new).blocks ≡ (F.view files.old).blocks }
+    ensures may_write { (F.view files.new).may_write ≡ (F.view files.old).may_write }
+    ensures attached { (name : List ℕ) → (F.view files.new).is_attached name ≡ (F.view files.old).is_attached name }
+{
     let mut read = [1u8; 4096];
-    assert_eq!(rt; files.read_blocks(1, &mut read), Ok(()));
-    assert!(rt; read == [5u8; 4096]);
-    fs::remove_file(&rt, "read.img")?;
-    Ok(())
+    files.read_blocks(i, &mut read)?;
+    Ok(read == [byte; 4096])
 }
 
-/// Attaches a file twice, and cuts it. The answer is whether it had 8 blocks both times.
-fn cut_short<F: Files>(files: &mut F) -> Result<bool, Failed> {
-    if files.attach("cut.img", Access::Write)? != Some(32_768) {
+/// Makes a file of 8 blocks, and writes one of them. The answer is whether it was not there.
+fn make_short<F: Files>(files: &mut F) -> Result<bool, Failed> {
+    if files.attach("short.img", Access::Make)? != Some(0) {
         return Ok(false);
     }
-    if files.attach("cut.img", Access::Write)? != Some(32_768) {
+    files.set_blocks(8)?;
+    fill_block(files, 3, 77)?;
+    files.flush()?;
+    Ok(true)
+}
+
+/// Whether the file of 8 blocks has the block that was written, and zeros in the one behind it.
+fn reads_short<F: Files>(files: &mut F) -> Result<bool, Failed> {
+    if files.attach("short.img", Access::Write)? != Some(32_768) {
+        return Ok(false);
+    }
+    Ok(is_filled(files, 3, 77)? && is_filled(files, 4, 0)?)
+}
+
+/// Cuts the file of 8 blocks. The answer is whether it had them.
+fn cut_short<F: Files>(files: &mut F) -> Result<bool, Failed> {
+    if files.attach("short.img", Access::Write)? != Some(32_768) {
         return Ok(false);
     }
     files.set_blocks(2)?;
@@ -75,50 +86,79 @@ fn cut_short<F: Files>(files: &mut F) -> Result<bool, Failed> {
     Ok(true)
 }
 
-#[test]
-fn disk_files_are_cut(rt: HostRuntime) -> Result<(), Fail> {
-    fs::write(&rt, "cut.img", [5u8; 32_768].as_slice())?;
-    let mut files = DiskFiles::new(rt.alloc(), &rt)?;
-    assert_eq!(rt; cut_short(&mut files), Ok(true));
-    assert_eq!(rt; fs::read(&rt, "cut.img")?.len(), 8192);
-    fs::remove_file(&rt, "cut.img")?;
-    Ok(())
+/// Whether a file is there for nobody else.
+fn is_locked<F: Files>(files: &mut F, name: &str) -> bool {
+    for access in [Access::Read, Access::Write, Access::Make] {
+        if files.attach(name, access) != Err(Failed) {
+            return false;
+        }
+    }
+    true
 }
 
 #[test]
-fn disk_files_change_at_the_flush(rt: HostRuntime) -> Result<(), Fail> {
-    fs::write(&rt, "whole.img", [5u8; 8192].as_slice())?;
-    let mut files = DiskFiles::new(rt.alloc(), &rt)?;
+fn disk_files_are_locked(rt: HostRuntime) {
+    let mut files = DiskFiles::new(rt.alloc(), &rt).expect(&rt, "there is memory");
+    assert_eq!(rt; make_short(&mut files), Ok(true));
+    let mut again = DiskFiles::new(rt.alloc(), &rt).expect(&rt, "there is memory");
+    assert!(rt; is_locked(&mut again, "short.img"));
+    drop(files);
+    assert_eq!(rt; reads_short(&mut again), Ok(true));
+    assert_eq!(rt; cut_short(&mut again), Ok(true));
+    assert_eq!(rt;
+        fs::read(&rt, "short.img").expect(&rt, "it is there").len(),
+        8192
+    );
+    fs::remove_file(&rt, "short.img").expect(&rt, "it is removed");
+}
+
+#[test]
+fn disk_files_are_read(rt: HostRuntime) {
+    fs::write(&rt, "read.img", [5u8; 8192].as_slice()).expect(&rt, "it is written");
+    let mut files = DiskFiles::new(rt.alloc(), &rt).expect(&rt, "there is memory");
+    assert_eq!(rt; files.attach("read.img", Access::Write), Ok(Some(8192)));
+    assert_eq!(rt; is_filled(&mut files, 1, 5), Ok(true));
+    fs::remove_file(&rt, "read.img").expect(&rt, "it is removed");
+}
+
+#[test]
+fn disk_files_change_at_the_flush(rt: HostRuntime) {
+    fs::write(&rt, "whole.img", [5u8; 8192].as_slice()).expect(&rt, "it is written");
+    let mut files = DiskFiles::new(rt.alloc(), &rt).expect(&rt, "there is memory");
     assert_eq!(rt; files.attach("whole.img", Access::Make), Ok(Some(8192)));
     assert_eq!(rt; files.set_blocks(3), Ok(()));
     let block = [6u8; 4096];
     assert_eq!(rt; files.write_block(1, &block), Ok(()));
-    assert_eq!(rt; fs::read(&rt, "whole.img")?.len(), 8192);
+    assert_eq!(rt;
+        fs::read(&rt, "whole.img").expect(&rt, "it is there").len(),
+        8192
+    );
     // It is flushed before it is left.
     assert_eq!(rt; files.attach("whole.img", Access::Read), Ok(Some(12_288)));
-    let bytes = fs::read(&rt, "whole.img")?;
+    let bytes = fs::read(&rt, "whole.img").expect(&rt, "it is there");
     has_bytes(&rt, &bytes, &[(4095, 5), (4096, 6), (8191, 6), (8192, 0)]);
-    fs::remove_file(&rt, "whole.img")?;
-    Ok(())
+    fs::remove_file(&rt, "whole.img").expect(&rt, "it is removed");
 }
 
 #[test]
-fn disk_files_are_replaced(rt: HostRuntime) -> Result<(), Fail> {
-    fs::write(&rt, "front.img", [5u8; 12_288].as_slice())?;
-    let mut files = DiskFiles::new(rt.alloc(), &rt)?;
+fn disk_files_are_replaced(rt: HostRuntime) {
+    fs::write(&rt, "front.img", [5u8; 12_288].as_slice()).expect(&rt, "it is written");
+    let mut files = DiskFiles::new(rt.alloc(), &rt).expect(&rt, "there is memory");
     assert_eq!(rt; files.attach("front.img", Access::Write), Ok(Some(12_288)));
     let block = [6u8; 4096];
     assert_eq!(rt; files.replace(&block, 8), Ok(()));
     assert_eq!(rt; files.write_block(5, &block), Ok(()));
-    assert_eq!(rt; fs::read(&rt, "front.img")?.len(), 12_288);
+    assert_eq!(rt;
+        fs::read(&rt, "front.img").expect(&rt, "it is there").len(),
+        12_288
+    );
     assert_eq!(rt; files.flush(), Ok(()));
-    let bytes = fs::read(&rt, "front.img")?;
+    let bytes = fs::read(&rt, "front.img").expect(&rt, "it is there");
     assert_eq!(rt; bytes.len(), 32_768);
     let front = [(0, 6), (4095, 6), (4096, 0), (12_287, 0)];
     has_bytes(&rt, &bytes, &front);
     has_bytes(&rt, &bytes, &[(20_480, 6), (24_576, 0)]);
-    fs::remove_file(&rt, "front.img")?;
-    Ok(())
+    fs::remove_file(&rt, "front.img").expect(&rt, "it is removed");
 }
 
 /// What the block `i` of the long file holds in each of its bytes.
@@ -141,7 +181,7 @@ fn write_row<F: Files>(files: &mut F) -> Result<(), Failed>
     ensures attached { (name : List ℕ) → (F.view files.new).is_attached name ≡ (F.view files.old).is_attached name }
 {
     for i in 0..131u8 {
-        files.write_block(u32::from(i), &[i; 4096])?;
+        fill_block(files, u32::from(i), i)?;
     }
     Ok(())
 }
@@ -177,13 +217,12 @@ fn write_over<F: Files>(files: &mut F) -> Result<bool, Failed>
     ensures may_write { (F.view files.new).may_write ≡ true }
     ensures attached { (name : List ℕ) → (F.view files.new).is_attached name ≡ (F.view files.old).is_attached name }
 {
-    files.write_block(200, &[200; 4096])?;
-    files.write_block(0, &[77; 4096])?;
-    let mut read = [1u8; 4096];
-    files.read_blocks(0, &mut read)?;
-    files.write_block(2, &[78; 4096])?;
-    files.write_block(4, &[79; 4096])?;
-    Ok(read == [77; 4096])
+    fill_block(files, 200, 200)?;
+    fill_block(files, 0, 77)?;
+    let is_read = is_filled(files, 0, 77)?;
+    fill_block(files, 2, 78)?;
+    fill_block(files, 4, 79)?;
+    Ok(is_read)
 }
 
 /// Makes the long file. The answer is whether it was not there, and whether a block was read as it was written.
@@ -207,42 +246,39 @@ fn keeps_long<F: Files>(alloc: Global, files: &mut F) -> Result<bool, AllocError
 }
 
 #[test]
-fn disk_files_keep_many_blocks(rt: HostRuntime) -> Result<(), Fail> {
-    let mut files = DiskFiles::new(rt.alloc(), &rt)?;
+fn disk_files_keep_many_blocks(rt: HostRuntime) {
+    let mut files = DiskFiles::new(rt.alloc(), &rt).expect(&rt, "there is memory");
     assert_eq!(rt; make_long(&mut files), Ok(true));
+    assert!(rt; is_long(&fs::read(&rt, "long.img").expect(&rt, "it is there")));
     drop(files);
-    assert!(rt; is_long(&fs::read(&rt, "long.img")?));
-    let mut again = DiskFiles::new(rt.alloc(), &rt)?;
-    assert!(rt; keeps_long(rt.alloc(), &mut again)?);
-    fs::remove_file(&rt, "long.img")?;
-    Ok(())
+    let mut again = DiskFiles::new(rt.alloc(), &rt).expect(&rt, "there is memory");
+    assert!(rt; keeps_long(rt.alloc(), &mut again).expect(&rt, "there is memory"));
+    fs::remove_file(&rt, "long.img").expect(&rt, "it is removed");
 }
 
 #[test]
-fn disk_files_report_faults(rt: HostRuntime) -> Result<(), Fail> {
+fn disk_files_report_faults(rt: HostRuntime) {
     for (name, access) in [
         ("no/such/disk.img", Access::Make),
         (".", Access::Read),
         ("/dev/null", Access::Write),
         ("/dev/full", Access::Make),
     ] {
-        let mut files = DiskFiles::new(rt.alloc(), &rt)?;
+        let mut files = DiskFiles::new(rt.alloc(), &rt).expect(&rt, "there is memory");
         assert_eq!(rt; files.attach(name, access), Err(Failed), "at {name}");
     }
-    Ok(())
 }
 
 #[test]
-fn disk_files_miss_a_lost_block(rt: HostRuntime) -> Result<(), Fail> {
-    fs::write(&rt, "short.img", [5u8; 8192].as_slice())?;
-    let mut files = DiskFiles::new(rt.alloc(), &rt)?;
-    let length = files.attach("short.img", Access::Read);
-    fs::write(&rt, "short.img", [5u8; 5000].as_slice())?;
-    fs::remove_file(&rt, "short.img")?;
+fn disk_files_miss_a_lost_block(rt: HostRuntime) {
+    fs::write(&rt, "lost.img", [5u8; 8192].as_slice()).expect(&rt, "it is written");
+    let mut files = DiskFiles::new(rt.alloc(), &rt).expect(&rt, "there is memory");
+    let length = files.attach("lost.img", Access::Read);
+    fs::write(&rt, "lost.img", [5u8; 5000].as_slice()).expect(&rt, "it is written");
+    fs::remove_file(&rt, "lost.img").expect(&rt, "it is removed");
     assert_eq!(rt; length, Ok(Some(8192)));
     let mut read = [0u8; 4096];
     assert_eq!(rt; files.read_blocks(1, &mut read), Err(Failed));
-    Ok(())
 }
 
 /// A signal interrupts the first calls; then it gives and takes one byte at a time.
@@ -302,47 +338,48 @@ impl Write for Stuck {
 }
 
 #[test]
-fn std_source_reads_a_file(rt: HostRuntime) -> Result<(), Fail> {
-    fs::write(&rt, "in", "hello")?;
-    let mut source = StdSource::new(fs::open(&rt, "in")?);
+fn std_source_reads_a_file(rt: HostRuntime) {
+    fs::write(&rt, "in", "hello").expect(&rt, "it is written");
+    let mut source = StdSource::new(fs::open(&rt, "in").expect(&rt, "it is there"));
     let mut into = [0u8; 3];
     for (count, bytes) in [(3, *b"hel"), (2, *b"lol"), (0, *b"lol")] {
         assert_eq!(rt; source.read(&mut into), Ok(count));
         assert!(rt; into == bytes);
     }
-    fs::remove_file(&rt, "in")?;
-    Ok(())
+    fs::remove_file(&rt, "in").expect(&rt, "it is removed");
 }
 
 #[test]
-fn std_source_fails_at_a_folder(rt: HostRuntime) -> Result<(), Fail> {
-    let mut folder = StdSource::new(fs::open(&rt, ".")?);
+fn std_source_fails_at_a_folder(rt: HostRuntime) {
+    let mut folder = StdSource::new(fs::open(&rt, ".").expect(&rt, "it is there"));
     assert_eq!(rt; folder.read(&mut [0u8; 3]), Err(Failed));
-    Ok(())
 }
 
 #[test]
 fn std_source_reads_behind_signals(rt: HostRuntime) {
     let mut interrupted = StdSource::new(Interrupted { signals: 3 });
-    let mut into = [0u8; 3];
+    let mut into = *b"lol";
     assert_eq!(rt; interrupted.read(&mut into), Ok(1));
-    assert!(rt; into == [7, 0, 0]);
+    assert!(rt; into == [7, b'o', b'l']);
 }
 
 #[test]
-fn std_sink_writes_a_file(rt: HostRuntime) -> Result<(), Fail> {
-    let mut sink = StdSink::new(fs::create(&rt, "replies")?);
+fn std_sink_writes_a_file(rt: HostRuntime) {
+    let mut sink = StdSink::new(fs::create(&rt, "replies").expect(&rt, "it is made"));
     assert_eq!(rt; [sink.write(b"ok\n"), sink.write(b"")], [Ok(3), Ok(0)]);
-    assert_eq!(rt; fs::read(&rt, "replies")?.as_slice(), b"ok\n".as_slice());
-    fs::remove_file(&rt, "replies")?;
-    Ok(())
+    assert_eq!(rt;
+        fs::read(&rt, "replies")
+            .expect(&rt, "it is there")
+            .as_slice(),
+        b"ok\n".as_slice()
+    );
+    fs::remove_file(&rt, "replies").expect(&rt, "it is removed");
 }
 
 #[test]
-fn std_sink_fails_at_a_full_disk(rt: HostRuntime) -> Result<(), Fail> {
-    let mut full = StdSink::new(fs::create(&rt, "/dev/full")?);
+fn std_sink_fails_at_a_full_disk(rt: HostRuntime) {
+    let mut full = StdSink::new(fs::create(&rt, "/dev/full").expect(&rt, "it is made"));
     assert_eq!(rt; full.write(b"ok\n"), Err(Failed));
-    Ok(())
 }
 
 #[test]
@@ -373,8 +410,8 @@ fn memory_sources_give_pieces(rt: HostRuntime) {
 }
 
 #[test]
-fn memory_sinks_take_pieces(rt: HostRuntime) -> Result<(), Fail> {
-    let mut sink = MemSink::new(rt.alloc(), 9, &[1])?;
+fn memory_sinks_take_pieces(rt: HostRuntime) {
+    let mut sink = MemSink::new(rt.alloc(), 9, &[1]).expect(&rt, "there is memory");
     let pieces: [(&[u8], Result<usize, Failed>); 6] = [
         (b"h", Ok(1)),
         (b"lost", Err(Failed)),
@@ -390,37 +427,39 @@ fn memory_sinks_take_pieces(rt: HostRuntime) -> Result<(), Fail> {
     let mut null = NullSink::new();
     assert_eq!(rt; [null.write(b"ok\n"), null.write(b"ok\n")], [Ok(3), Ok(3)]);
     assert_eq!(rt; null.count(), 6);
-    Ok(())
+}
+
+/// Makes two blocks of the bytes of a file. The second one.
+fn grown(rt: &impl Abort, files: &mut FairFiles) -> [u8; 4096] {
+    assert_eq!(rt; files.attach("disk.img", Access::Write), Ok(Some(5000)));
+    assert_eq!(rt; files.set_blocks(2), Ok(()));
+    assert_eq!(rt; files.attach("disk.img", Access::Write), Ok(Some(8192)));
+    let mut read = [1u8; 4096];
+    assert_eq!(rt; files.read_blocks(1, &mut read), Ok(()));
+    read
+}
+
+/// Writes over the first block of two.
+fn write_first(rt: &impl Abort, files: &mut FairFiles, block: &[u8; 4096]) {
+    assert_eq!(rt; files.attach("disk.img", Access::Write), Ok(Some(8192)));
+    assert_eq!(rt; files.write_block(0, block), Ok(()));
+    assert_eq!(rt; files.flush(), Ok(()));
+    assert!(rt; files.image().starts_with(block));
+    assert_eq!(rt; files.image().len(), 8192);
 }
 
 #[test]
-fn memory_files_grow(rt: HostRuntime) -> Result<(), Fail> {
-    let mut fair = FairFiles::new(rt.alloc(), &[5; 5000])?;
-    assert_eq!(rt; fair.attach("disk.img", Access::Write), Ok(Some(5000)));
-    assert_eq!(rt; fair.set_blocks(2), Ok(()));
-    assert_eq!(rt; fair.attach("disk.img", Access::Write), Ok(Some(8192)));
-    let mut read = [1u8; 4096];
-    assert_eq!(rt; fair.read_blocks(1, &mut read), Ok(()));
+fn memory_files_keep_blocks(rt: HostRuntime) {
+    let mut fair = FairFiles::new(rt.alloc(), &[5; 5000]).expect(&rt, "there is memory");
+    let read = grown(&rt, &mut fair);
     assert!(rt; read.starts_with(&[5; 904]));
     assert!(rt; read.ends_with(&[0; 3192]));
-    Ok(())
+    write_first(&rt, &mut fair, &read);
 }
 
 #[test]
-fn memory_files_keep_blocks(rt: HostRuntime) -> Result<(), Fail> {
-    let mut fair = FairFiles::new(rt.alloc(), &[5; 8192])?;
-    assert_eq!(rt; fair.attach("disk.img", Access::Write), Ok(Some(8192)));
-    let block = [6u8; 4096];
-    assert_eq!(rt; fair.write_block(0, &block), Ok(()));
-    assert_eq!(rt; fair.flush(), Ok(()));
-    assert!(rt; fair.image().starts_with(&block));
-    assert_eq!(rt; fair.image().len(), 8192);
-    Ok(())
-}
-
-#[test]
-fn memory_files_fail_as_planned(rt: HostRuntime) -> Result<(), Fail> {
-    let mut files = MemFiles::new(rt.alloc(), None, &[1, 3])?;
+fn memory_files_fail_as_planned(rt: HostRuntime) {
+    let mut files = MemFiles::new(rt.alloc(), None, &[1, 3]).expect(&rt, "there is memory");
     assert_eq!(rt; files.attach("disk.img", Access::Write), Ok(None));
     assert_eq!(rt; files.attach("disk.img", Access::Make), Err(Failed));
     assert!(rt; files.image().is_none());
@@ -429,13 +468,15 @@ fn memory_files_fail_as_planned(rt: HostRuntime) -> Result<(), Fail> {
     assert_eq!(rt; files.attach("disk.img", Access::Write), Ok(Some(0)));
     assert_eq!(rt; files.set_blocks(1), Ok(()));
     assert_eq!(rt; files.image(), Some([0u8; 4096].as_slice()));
-    Ok(())
 }
 
 #[test]
-fn blocks_fail_as_planned(rt: HostRuntime) -> Result<(), Fail> {
+fn blocks_fail_as_planned(rt: HostRuntime) {
     let block = [77u8; 4096];
-    let mut files = MemFiles::new(rt.alloc(), Some(&[0; 4096]), &[1, 4, 7])?;
+    let mut files = MemFiles::new(rt.alloc(), Some(&[0; 4096]), &[1, 4, 7]).expect(
+        &rt,
+        "there is memory",
+    );
     let failed_once = [Err(Failed), Ok(())];
     assert_eq!(rt; files.attach("disk.img", Access::Write), Ok(Some(4096)));
     let written = [files.write_block(0, &block), files.write_block(0, &block)];
@@ -450,5 +491,4 @@ fn blocks_fail_as_planned(rt: HostRuntime) -> Result<(), Fail> {
     assert!(rt; read == block);
     assert_eq!(rt; files.attach("disk.img", Access::Write), Ok(Some(4096)));
     assert_eq!(rt; [files.flush(), files.flush()], failed_once);
-    Ok(())
 }

@@ -11,6 +11,8 @@ mod append;
 #[cfg(test)]
 mod command;
 #[cfg(test)]
+mod cores;
+#[cfg(test)]
 mod free;
 #[cfg(test)]
 mod hints;

@@ -2,10 +2,11 @@
 
 ghost use Rattle.bp_plain.specs.Seen.{CanAsk};
 
+use bp_layout::Listing;
 use bp_limits::Version;
 use bp_plain::{Answer, Call, FsError, Plain, Reply};
 use std::alloc::{AllocError, Global};
-use std::test::Fail;
+use std::process::Abort;
 
 /// Refusals, their numbers and their words.
 const REFUSALS: [(FsError, u8, &str); 16] = [
@@ -47,44 +48,48 @@ fn tells(reply: &Reply, bytes: &[u8]) -> bool {
     }
 }
 
-#[test]
-fn numbers_are_answered(rt: HostRuntime) -> Result<(), Fail> {
-    let mut reply = Reply::new(rt.alloc())?;
-    assert!(rt; is_done(&reply));
+fn answers_numbers(rt: &impl Abort, reply: &mut Reply) {
     reply.set_file(7);
     assert!(rt; matches!(reply.answer(), Answer::FileOf(7)));
     reply.set_dir(2);
     assert!(rt; matches!(reply.answer(), Answer::DirOf(2)));
     reply.set_links(3);
     assert!(rt; matches!(reply.answer(), Answer::LinksOf(3)));
-    Ok(())
 }
 
-#[test]
-fn bytes_are_answered(rt: HostRuntime) -> Result<(), Fail> {
-    let mut reply = Reply::new(rt.alloc())?;
+fn answers_bytes(rt: &impl Abort, reply: &mut Reply) {
     reply.buffer()[..3].copy_from_slice(b"abc");
     reply.set_bytes(3);
-    assert!(rt; tells(&reply, b"abc"));
+    assert!(rt; tells(reply, b"abc"));
     reply.buffer()[0] = b'x';
-    assert!(rt; is_done(&reply));
+    assert!(rt; is_done(reply));
     reply.set_bytes(2);
-    assert!(rt; tells(&reply, b"xb"));
+    assert!(rt; tells(reply, b"xb"));
     reply.set_bytes(0);
-    assert!(rt; tells(&reply, b""));
-    Ok(())
+    assert!(rt; tells(reply, b""));
 }
 
-#[test]
-fn other_answers(rt: HostRuntime) -> Result<(), Fail> {
-    let mut reply = Reply::new(rt.alloc())?;
+fn answers_others(rt: &impl Abort, reply: &mut Reply, listing: Listing) {
     reply.set_refused(FsError::Exists);
     assert!(rt; matches!(reply.answer(), Answer::Refused(FsError::Exists)));
-    reply.set_names(bp_layout::Listing::of(rt.alloc(), &[])?);
+    reply.set_names(listing);
     assert!(rt; matches!(reply.answer(), Answer::Names(_)));
     reply.set_done();
+    assert!(rt; is_done(reply));
+}
+
+/// One reply is given every answer, in place of the one before.
+#[test]
+fn answers(rt: HostRuntime) {
+    let mut reply = Reply::new(rt.alloc()).expect(&rt, "there is memory");
     assert!(rt; is_done(&reply));
-    Ok(())
+    answers_numbers(&rt, &mut reply);
+    answers_bytes(&rt, &mut reply);
+    answers_others(
+        &rt,
+        &mut reply,
+        Listing::of(rt.alloc(), &[]).expect(&rt, "there is memory"),
+    );
 }
 
 /// A plain tree, and the answer of its last call.
@@ -137,19 +142,20 @@ impl Asked {
 }
 
 #[test]
-fn a_plain_tree_tells_names(rt: HostRuntime) -> Result<(), Fail> {
-    let mut asked = Asked::new(rt.alloc())?;
-    assert!(rt; asked.does(&Call::Create(b"/a"))?);
-    let answer = asked.ask(&Call::Create(b"/a/x"))?;
+fn a_plain_tree_tells_names(rt: HostRuntime) {
+    let mut asked = Asked::new(rt.alloc()).expect(&rt, "there is memory");
+    assert_eq!(rt; asked.does(&Call::Create(b"/a")), Ok(true));
+    let answer = asked
+        .ask(&Call::Create(b"/a/x"))
+        .expect(&rt, "there is memory");
     assert!(rt; matches!(answer, Answer::Refused(FsError::NotDir)));
-    let answer = asked.ask(&Call::List(b"/"))?;
+    let answer = asked.ask(&Call::List(b"/")).expect(&rt, "there is memory");
     assert!(rt; matches!(answer, Answer::Names(listing) if listing.len() == 1));
-    Ok(())
 }
 
 #[test]
-fn a_plain_tree_keeps_bytes(rt: HostRuntime) -> Result<(), Fail> {
-    let mut asked = Asked::new(rt.alloc())?;
+fn a_plain_tree_keeps_bytes(rt: HostRuntime) {
+    let mut asked = Asked::new(rt.alloc()).expect(&rt, "there is memory");
     let calls = [
         Call::Create(b"/a"),
         Call::Mkdir(b"/d"),
@@ -171,15 +177,14 @@ fn a_plain_tree_keeps_bytes(rt: HostRuntime) -> Result<(), Fail> {
         },
     ];
     for call in calls {
-        assert!(rt; asked.does(&call)?);
+        assert_eq!(rt; asked.does(&call), Ok(true));
     }
-    assert!(rt; asked.has(b"/b", b"\0\0h")?);
-    Ok(())
+    assert_eq!(rt; asked.has(b"/b", b"\0\0h"), Ok(true));
 }
 
 #[test]
-fn a_plain_tree_counts_names(rt: HostRuntime) -> Result<(), Fail> {
-    let mut asked = Asked::new(rt.alloc())?;
+fn a_plain_tree_counts_names(rt: HostRuntime) {
+    let mut asked = Asked::new(rt.alloc()).expect(&rt, "there is memory");
     let calls = [
         Call::Create(b"/a"),
         Call::Link {
@@ -194,11 +199,10 @@ fn a_plain_tree_counts_names(rt: HostRuntime) -> Result<(), Fail> {
         },
     ];
     for call in calls {
-        assert!(rt; asked.does(&call)?);
+        assert_eq!(rt; asked.does(&call), Ok(true));
     }
-    assert!(rt; asked.has(b"/b", b"hi")?);
-    assert!(rt; asked.has_names(b"/b", 2)?);
-    assert!(rt; asked.does(&Call::Unlink(b"/a"))?);
-    assert!(rt; asked.has_names(b"/b", 1)?);
-    Ok(())
+    assert_eq!(rt; asked.has(b"/b", b"hi"), Ok(true));
+    assert_eq!(rt; asked.has_names(b"/b", 2), Ok(true));
+    assert_eq!(rt; asked.does(&Call::Unlink(b"/a")), Ok(true));
+    assert_eq!(rt; asked.has_names(b"/b", 1), Ok(true));
 }

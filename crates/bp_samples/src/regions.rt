@@ -127,9 +127,10 @@ fn stands_at<R: Region>(region: &R, now: &[u64], base: &[u64]) -> bool {
     now.len() == words as usize
 }
 
-/// What is done to a region.
+/// What is done to a region: at first nothing.
 #[derive(Clone, Copy)]
 enum Step {
+    Look,
     Log(Event),
     Drain,
     AdoptWords(u32, [u64; 2]),
@@ -143,7 +144,7 @@ const FIVE: Event = Event::Store { word: 1, value: 5 };
 
 /// A store and a barrier fill the log, and a drain brings the store to the words at the last drain.
 const STEPS: [Stepped; 6] = [
-    (Step::Drain, &[], [0; 4], [0; 4]),
+    (Step::Look, &[], [0; 4], [0; 4]),
     (Step::Log(FIVE), &[FIVE], [0, 5, 0, 0], [0; 4]),
     (
         Step::Log(Event::Barrier),
@@ -156,24 +157,26 @@ const STEPS: [Stepped; 6] = [
     (Step::AdoptWord(3, 7), &[], [0, 5, 8, 7], [0, 5, 8, 7]),
 ];
 
-/// Adopts where the region has these words. A drain of an empty log, as it is there, does nothing.
+/// Adopts where the region has these words, and an empty log.
 fn adopt<R: Region>(region: &mut R, first: u32, values: &[u64]) {
-    region.drain();
     let words = region.words() as usize;
-    if first as usize <= words && values.len() <= words - first as usize {
+    if region.event_count() == 0
+        && first as usize <= words
+        && values.len() <= words - first as usize
+    {
         region.adopt_words(first, values);
     }
 }
 
 fn adopt_one<R: Region>(region: &mut R, word: u32, value: u64) {
-    region.drain();
-    if word < region.words() {
+    if region.event_count() == 0 && word < region.words() {
         region.adopt_word(word, value);
     }
 }
 
 fn take_step<R: Region>(region: &mut R, step: Step) {
     match step {
+        Step::Look => {}
         Step::Log(event) => follow_one(region, event),
         Step::Drain => region.drain(),
         Step::AdoptWords(first, values) => adopt(region, first, &values),

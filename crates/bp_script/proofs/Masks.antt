@@ -8,7 +8,7 @@ use Rattle.hex.specs.Hex.{decode_of}
 use Rattle.hex.specs.declared.error.FromHexError.{FromHexError}
 use Rattle.hex.proofs.HexLemmas.{decode_of-ok}
 use Rattle.bp_limits.specs.Limits.{max_read}
-use Rattle.bp_script.specs.Commands.{Command, asked_by, bare_command, bytes_spelled, command_by_words, decoded, in_grammar, is_empty_word, mask_in, masked_crash, number_spelled, pair_command, path_command, read_command, storm_command, truncate_command, whole_crash, word_command, words_of, write_command}
+use Rattle.bp_script.specs.Commands.{Command, asked_by, bare_command, bytes_spelled, cache_command, command_by_words, decoded, in_grammar, is_empty_word, mask_in, masked_crash, number_spelled, pair_command, path_command, read_command, storm_command, truncate_command, whole_crash, word_command, words_of, write_command}
 use Rattle.bp_replay.specs.Wanted.Wanted.{all, nothing}
 use Rattle.bp_script.specs.Commands.Command.{file_call, sync, space, crash, log, bad_syntax}
 use Rattle.bp_plain.specs.Calls.Call.{create, mkdir, unlink, rmdir, list, stat, read, rename, link, links, upgrade}
@@ -43,10 +43,15 @@ storm_none : (seed : Option ℕ) → mask_in (storm_command seed) ≡ []
 storm_none None = refl
 storm_none (Some seed) = refl
 
+cache_none : (seed : Option ℕ) → mask_in (cache_command seed) ≡ []
+cache_none None = refl
+cache_none (Some seed) = refl
+
 word_none : (verb word : List ℕ) → mask_in (word_command verb word) ≡ []
 word_none verb word =
     none_either (bytes_eq verb (codes "crash")) (whole_crash word) _ (whole_none word)
-    (none_either (bytes_eq verb (codes "storm")) (storm_command (number_spelled word)) _ (storm_none (number_spelled word)) (path_none verb word))
+    (none_either (bytes_eq verb (codes "storm")) (storm_command (number_spelled word)) _ (storm_none (number_spelled word))
+    (none_either (bytes_eq verb (codes "cache")) (cache_command (number_spelled word)) _ (cache_none (number_spelled word)) (path_none verb word)))
 
 truncate_none : (path : List ℕ) (size : Option ℕ) → mask_in (truncate_command path size) ≡ []
 truncate_none path None = refl

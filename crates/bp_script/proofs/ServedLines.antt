@@ -8,7 +8,7 @@ use Rattle.bp_plain.specs.Calls.{Call}
 use Rattle.bp_plain.specs.Calls.Call.{create, mkdir, unlink, rmdir, list, stat, read, rename, link, links, upgrade}
 use Rattle.bp_plain.specs.Served.{IsServed}
 use Rattle.bp_replay.specs.Wanted.Wanted.{all, nothing}
-use Rattle.bp_script.specs.Commands.{Command, IsServedCommand, bare_command, bytes_spelled, command_by_words, decoded, decoded_call, in_grammar, is_empty_word, long_command, masked_crash, number_spelled, pair_command, path_command, read_command, storm_command, truncate_command, whole_crash, word_command, words_of, write_command}
+use Rattle.bp_script.specs.Commands.{Command, IsServedCommand, bare_command, bytes_spelled, cache_command, command_by_words, decoded, decoded_call, in_grammar, is_empty_word, long_command, masked_crash, number_spelled, pair_command, path_command, read_command, storm_command, truncate_command, whole_crash, word_command, words_of, write_command}
 use Rattle.bp_script.specs.Commands.Command.{file_call, sync, space, crash, log, bad_syntax}
 
 served_either : (test : Bool) (first second : Command) → IsServedCommand first → IsServedCommand second → IsServedCommand (if test then first else second)
@@ -52,6 +52,10 @@ served_storm : (seed : Option ℕ) → IsServedCommand (storm_command seed)
 served_storm (Some seed) = tt
 served_storm None = tt
 
+served_cache : (seed : Option ℕ) → IsServedCommand (cache_command seed)
+served_cache (Some seed) = tt
+served_cache None = tt
+
 served_path : (verb path : List ℕ) → IsServedCommand (path_command verb path)
 served_path verb path =
     served_either (bytes_eq verb (codes "create")) (file_call (create path)) _ tt
@@ -64,7 +68,8 @@ served_path verb path =
 served_word : (verb word : List ℕ) → IsServedCommand (word_command verb word)
 served_word verb word =
     served_either (bytes_eq verb (codes "crash")) (whole_crash word) _ (served_whole word)
-    (served_either (bytes_eq verb (codes "storm")) (storm_command (number_spelled word)) _ (served_storm (number_spelled word)) (served_path verb word))
+    (served_either (bytes_eq verb (codes "storm")) (storm_command (number_spelled word)) _ (served_storm (number_spelled word))
+    (served_either (bytes_eq verb (codes "cache")) (cache_command (number_spelled word)) _ (served_cache (number_spelled word)) (served_path verb word)))
 
 served_pair : (verb first second : List ℕ) → IsServedCommand (pair_command verb first second)
 served_pair verb first second =

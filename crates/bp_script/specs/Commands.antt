@@ -22,6 +22,8 @@ pub data Command : Type 0 where
   crash : Wanted → Command
   -- a crash that keeps what is drawn from a seed
   storm : ℕ → Command
+  -- a crash that keeps what caches wrote back, in a run that is drawn from a seed
+  cache : ℕ → Command
   -- asks how many events, barriers and calls the log has
   log : Command
   -- a line outside the table of commands
@@ -92,6 +94,10 @@ abbrev pub storm_command : Option ℕ → Command
 storm_command (Some seed) = storm seed
 storm_command None = bad_syntax
 
+abbrev pub cache_command : Option ℕ → Command
+cache_command (Some seed) = cache seed
+cache_command None = bad_syntax
+
 -- lines of one word, of two, of three and of four
 abbrev pub bare_command : List ℕ → Command
 bare_command verb =
@@ -112,11 +118,12 @@ path_command verb path =
     else if bytes_eq verb (codes "links") then file_call (links path)
     else bad_syntax
 
--- a second word that is a path, but behind `crash` and `storm`
+-- a second word that is a path, but behind `crash`, `storm` and `cache`
 abbrev pub word_command : List ℕ → List ℕ → Command
 word_command verb word =
     if bytes_eq verb (codes "crash") then whole_crash word
     else if bytes_eq verb (codes "storm") then storm_command (number_spelled word)
+    else if bytes_eq verb (codes "cache") then cache_command (number_spelled word)
     else path_command verb word
 
 abbrev pub pair_command : List ℕ → List ℕ → List ℕ → Command
@@ -139,7 +146,7 @@ long_command verb first second third =
 --     create PATH      mkdir PATH      unlink PATH      rmdir PATH      list PATH      stat PATH
 --     read PATH OFF LEN      write PATH OFF HEX      truncate PATH SIZE
 --     rename PATH PATH      link PATH PATH      links PATH      upgrade
---     crash all      crash none      crash MOMENT EPOCH MASK      storm SEED
+--     crash all      crash none      crash MOMENT EPOCH MASK      storm SEED      cache SEED
 abbrev pub command_by_words : List (List ℕ) → Command
 command_by_words (verb ∷ []) = bare_command verb
 command_by_words (verb ∷ word ∷ []) = word_command verb word

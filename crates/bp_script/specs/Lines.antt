@@ -17,8 +17,8 @@ use Rattle.bp_script.specs.declared.lines.Syntax.{Syntax}
 use Rattle.bp_script.specs.declared.lines.WordVerb.{WordVerb}
 use Rattle.bp_script.specs.declared.lines.WordVerb.TheVariants as on
 use Rattle.bp_script.specs.contracts.lines.Decoded.{the_row}
-use Rattle.bp_script.specs.Commands.{Command, number_spelled, storm_command, truncate_command, whole_crash}
-use Rattle.bp_script.specs.Commands.Command.{file_call, sync, space, crash, storm, log, bad_syntax}
+use Rattle.bp_script.specs.Commands.{Command, cache_command, number_spelled, storm_command, truncate_command, whole_crash}
+use Rattle.bp_script.specs.Commands.Command.{file_call, sync, space, crash, storm, cache, log, bad_syntax}
 
 -- the bytes of the longest line that can be decoded
 abbrev pub decoded_room : Decoded → ℕ
@@ -41,6 +41,7 @@ line_asks (Ok asks.Sync) = sync
 line_asks (Ok asks.Space) = space
 line_asks (Ok (asks.Crash cut)) = crash (wanted_by cut)
 line_asks (Ok (asks.Storm seed)) = storm seed
+line_asks (Ok (asks.Cache seed)) = cache seed
 line_asks (Ok asks.Log) = log
 line_asks (Err fault) = bad_syntax
 
@@ -58,6 +59,7 @@ path_row verb.Links path = file_call (links path)
 abbrev pub word_row : Option WordVerb → List ℕ → Command
 word_row (Some on.Crash) word = whole_crash word
 word_row (Some on.Storm) word = storm_command (number_spelled word)
+word_row (Some on.Cache) word = cache_command (number_spelled word)
 word_row (Some (on.Path verb)) word = path_row verb word
 word_row None word = bad_syntax
 

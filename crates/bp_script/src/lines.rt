@@ -3,7 +3,7 @@
 ghost use Rattle.bp_plain.specs.Calls.Call.{link, rename, write};
 ghost use Rattle.bp_replay.specs.Wanted.Wanted.{at};
 ghost use Rattle.bp_script.specs.Commands.Command.{bad_syntax, crash, file_call};
-ghost use Rattle.bp_script.specs.Commands.{IsServedCommand, asked_by, bare_command, bytes_spelled, decoded, in_grammar, long_command, mask_in, masked_crash, number_spelled, pair_command, part_bytes, path_bytes, read_command, storm_command, truncate_command, unslashed, whole_crash, word_command, words_of, write_command};
+ghost use Rattle.bp_script.specs.Commands.{IsServedCommand, asked_by, bare_command, bytes_spelled, cache_command, decoded, in_grammar, long_command, mask_in, masked_crash, number_spelled, pair_command, part_bytes, path_bytes, read_command, storm_command, truncate_command, unslashed, whole_crash, word_command, words_of, write_command};
 ghost use Rattle.bp_script.specs.Lines.{KeepsRoom, decoded_room, first_held, line_asks, pair_row, path_row, second_held, word_row};
 ghost use Rattle.std.specs.Borrow.{sem};
 ghost use Rattle.std.specs.List.{slice_split};
@@ -37,6 +37,8 @@ pub enum Line<'a> {
     Crash(Cut<'a>),
     /// A crash that keeps what is drawn from this seed.
     Storm(u64),
+    /// A crash that keeps what the caches of two cores wrote back, in a run that is drawn from this seed.
+    Cache(u64),
     /// How many events, barriers and calls the log has.
     Log,
 }
@@ -133,6 +135,7 @@ impl Decoded {
         match word_verb(verb) {
             Some(WordVerb::Crash) => whole_crash(word),
             Some(WordVerb::Storm) => storm(number(word)),
+            Some(WordVerb::Cache) => cache(number(word)),
             Some(WordVerb::Path(verb)) => Ok(self.on_path(verb, word)),
             None => Err(Syntax),
         }
@@ -474,11 +477,22 @@ fn storm(seed: Option<u64>) -> Result<Line<'static>, Syntax>
     }
 }
 
+/// The line of a run of caches.
+fn cache(seed: Option<u64>) -> Result<Line<'static>, Syntax>
+    ensures { line_asks result ≡ cache_command seed }
+{
+    match seed {
+        Some(seed) => Ok(Line::Cache(seed)),
+        None => Err(Syntax),
+    }
+}
+
 /// The first word of a line that has one more.
 #[derive(Clone, Copy)]
 enum WordVerb {
     Crash,
     Storm,
+    Cache,
     /// The other word is a path.
     Path(PathVerb),
 }
@@ -502,6 +516,7 @@ fn word_verb(verb: &[u8]) -> Option<WordVerb>
     match verb {
         b"crash" => Some(WordVerb::Crash),
         b"storm" => Some(WordVerb::Storm),
+        b"cache" => Some(WordVerb::Cache),
         b"create" => Some(WordVerb::Path(PathVerb::Create)),
         b"mkdir" => Some(WordVerb::Path(PathVerb::Mkdir)),
         b"unlink" => Some(WordVerb::Path(PathVerb::Unlink)),

@@ -31,14 +31,14 @@ use Rattle.bp_replay.specs.declared.cut.Cut.{Cut as Asked}
 use Rattle.bp_replay.specs.declared.cut.Cut.TheVariants.{All, Nothing, At}
 use Rattle.bp_replay.specs.Storm.{storm_cut}
 use Rattle.bp_script.specs.Commands.{Command, command_of, in_grammar, mask_in}
-use Rattle.bp_script.specs.Commands.Command.{file_call, sync, space, crash, storm, log, too_long}
+use Rattle.bp_script.specs.Commands.Command.{file_call, sync, space, crash, storm, cache, log, too_long}
 use Rattle.bp_script.specs.Texts.LineReply.{synced}
 use Rattle.bp_session.specs.Files.{Holds, HoldsAs, HoldsBytes}
-use Rattle.bp_session.specs.Acting.{CrashesTo, Does, HasCrashed, is_done, is_saved_behind, may_have_changed, reply_of, state, to_save}
+use Rattle.bp_session.specs.Acting.{CrashesByCaches, CrashesTo, Does, HasCrashed, is_done, is_saved_behind, may_have_changed, reply_of, state, to_save}
 use Rattle.bp_session.specs.Serving.{Acts, SyncFails}
-use Rattle.bp_session.specs.Session.{Crashes, SessionLine}
+use Rattle.bp_session.specs.Session.{Crashes, SessionLine, caches_cut}
 use Rattle.bp_session.specs.declared.outcome.Outcome.{Outcome}
-use Rattle.bp_session.specs.declared.outcome.Outcome.TheVariants.{Answered, Synced, Counted, Kept, Logged, BadChoice, BadSyntax, TooLong}
+use Rattle.bp_session.specs.declared.outcome.Outcome.TheVariants.{Answered, Synced, Counted, Kept, Logged, BadChoice, BadSyntax, TooLong, NoMemory}
 use Rattle.bp_session.proofs.BlockLaws.{length-image_bytes}
 
 -- ---- sizes
@@ -198,6 +198,19 @@ pub does_storm : (old new : Memory) (seed : ℕ) (outcome : Outcome) (answer : A
 does_storm old new seed outcome answer does =
     does_crashed old new (storm_cut old.events seed) outcome answer (storm seed) does (λ saved line. line) (λ e. let no : storm seed ≡ sync = e in cc) (λ saved. refl)
 
+pub does_cache : (old new : Memory) (seed : ℕ) (outcome : Outcome) (answer : Answer) → CrashesByCaches old seed outcome new → Does old (cache seed) outcome answer new
+does_cache old new seed outcome answer (inl does) =
+    does_crashed old new (caches_cut old seed) outcome answer (cache seed) does (λ saved line. inl line) (λ e. let no : cache seed ≡ sync = e in cc) (λ saved. refl)
+does_cache old new seed outcome answer (inr lacks) = record {
+  line = λ saved. inr (record { told = ap (λ o. reply_of o answer) lacks.told; same = ap (λ m. state m saved) lacks.same });
+  size = ap (λ (m : Memory). length m.base) lacks.same;
+  capacity = ap (λ (m : Memory). m.capacity) lacks.same;
+  is_sync = λ e. absurd (let no : ◌≡◌ {A = Outcome} NoMemory Synced = sym lacks.told ∙ e in cc);
+  synced = λ e. absurd (let no : cache seed ≡ sync = e in cc);
+  others = λ _ saved. refl;
+  words = λ _. ap current_words lacks.same;
+}
+
 pub does_log : (memory : Memory) (outcome : Outcome) (answer : Answer) → outcome ≡ Logged (length memory.events) (barriers memory.events) (marks memory.events) → Does memory log outcome answer memory
 does_log memory outcome answer is = record {
   line = λ saved. record { told = ap (λ o. reply_of o answer) is; same = refl };
@@ -242,6 +255,7 @@ saved_behind_other (Counted free live) answer is_saved other = refl
 saved_behind_other (Kept c n) answer is_saved other = refl
 saved_behind_other (Logged events barriers calls) answer is_saved other = refl
 saved_behind_other BadChoice answer is_saved other = refl
+saved_behind_other NoMemory answer is_saved other = refl
 saved_behind_other BadSyntax answer is_saved other = refl
 saved_behind_other TooLong answer is_saved other = refl
 
@@ -254,6 +268,9 @@ crash_not_left old new cut outcome (inr does) e = absurd (let no : ◌≡◌ {A 
 
 pub no_sync_storm : (seed : ℕ) → ¬ (storm seed ≡ sync)
 no_sync_storm seed e = cc
+
+pub no_sync_cache : (seed : ℕ) → ¬ (cache seed ≡ sync)
+no_sync_cache seed e = cc
 
 pub no_sync_log : ¬ (log ≡ sync)
 no_sync_log e = cc

@@ -1,6 +1,7 @@
 pub mod PlainLaws
 pub mod ServingLaws
 pub mod ActingLaws
+pub mod CachingLaws
 pub mod SavingLaws
 pub mod BlockLaws
 pub mod TellingLaws

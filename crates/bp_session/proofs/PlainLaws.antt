@@ -26,7 +26,7 @@ use Rattle.bp_volume.specs.Step.StepFor.{no_room, no_listing, no_snap_listing, u
 use Rattle.bp_plain.specs.Plain.{plain, is_changing, refusal, changes}
 use Rattle.bp_session.specs.Session.{State, Crashes, SessionLine, RefusesCut, Session}
 use Rattle.bp_script.specs.Commands.{Command}
-use Rattle.bp_script.specs.Commands.Command.{file_call, sync, space, crash, storm, log, bad_syntax, too_long}
+use Rattle.bp_script.specs.Commands.Command.{file_call, sync, space, crash, storm, cache, log, bad_syntax, too_long}
 use Rattle.bp_script.specs.Texts.{LineReply}
 use Rattle.bp_script.specs.Texts.LineReply.{kept_of, log_of}
 use Rattle.bp_limits.specs.Limits.{call_room}
@@ -290,6 +290,8 @@ plain_line old p (crash nothing) reply new before (inr does) = absurd (does.wron
 plain_line old p (crash (at moment epoch mask)) reply new before (inl does) = crash_follower old p (crash (at moment epoch mask)) _ _ reply new before does refl (λ plain line. inr (record { count = _; crashes = line }))
 plain_line old p (crash (at moment epoch mask)) reply new before (inr does) = refused_follower old p moment epoch mask reply new before does
 plain_line old p (storm seed) reply new before does = crash_follower old p (storm seed) _ _ reply new before does refl (λ plain line. record { count = _; crashes = line })
+plain_line old p (cache seed) reply new before (inl does) = crash_follower old p (cache seed) _ _ reply new before does refl (λ plain line. inr (record { count = _; crashes = line }))
+plain_line old p (cache seed) reply new before (inr tells) = record { plain = p; line = inl (record { told = tells.told; same = refl }); follows = rw tells.same before }
 plain_line old p log reply new before line = record {
   plain = p;
   line = record { events = _; barriers = _; told = line.told ∙ ap (λ n. log_of (length old.memory.events) (barriers old.memory.events) n) before.calls; same = refl };

@@ -1,18 +1,19 @@
 -- What a line came to.
-use Rattle.std.specs.Prelude.{◌≡◌, ◌⊎◌, ◌&&◌, Bool, true, false, length, not}
+use Rattle.std.specs.Prelude.{◌≡◌, ◌⊎◌, ◌&&◌, ℕ, Bool, true, false, length, not}
 use Rattle.pm_epochs.specs.Log.{marks}
 use Rattle.pm_epochs.specs.Replay.{PowerCut, IsRight, kept_calls}
 use Rattle.pm_region.specs.Memory.{Memory, crashed, current_words}
 use Rattle.bp_layout.specs.Words.{Image}
 use Rattle.bp_plain.specs.Calls.{Answer}
-use Rattle.bp_plain.specs.Calls.Answer.{done}
+use Rattle.bp_plain.specs.Calls.Answer.{done, refused}
+use Rattle.bp_plain.specs.Calls.Refusal.{no_memory}
 use Rattle.bp_script.specs.Commands.{Command}
-use Rattle.bp_script.specs.Commands.Command.{file_call, sync, space, crash, storm, log, bad_syntax, too_long}
+use Rattle.bp_script.specs.Commands.Command.{file_call, sync, space, crash, storm, cache, log, bad_syntax, too_long}
 use Rattle.bp_script.specs.Texts.{LineReply}
 use Rattle.bp_script.specs.Texts.LineReply.{answered, synced, space_of, kept_of, log_of, bad_choice, syntax, long}
-use Rattle.bp_session.specs.Session.{SessionLine, State}
+use Rattle.bp_session.specs.Session.{SessionLine, State, caches_cut}
 use Rattle.bp_session.specs.declared.outcome.Outcome.{Outcome}
-use Rattle.bp_session.specs.declared.outcome.Outcome.TheVariants.{Answered, Synced, Counted, Kept, Logged, BadChoice, BadSyntax, TooLong}
+use Rattle.bp_session.specs.declared.outcome.Outcome.TheVariants.{Answered, Synced, Counted, Kept, Logged, BadChoice, NoMemory, BadSyntax, TooLong}
 
 -- as a reply
 abbrev pub reply_of : Outcome → Answer → LineReply
@@ -22,6 +23,7 @@ reply_of (Counted free live) answer = space_of free live
 reply_of (Kept c n) answer = kept_of c n
 reply_of (Logged events barriers calls) answer = log_of events barriers calls
 reply_of BadChoice answer = bad_choice
+reply_of NoMemory answer = answered (refused no_memory)
 reply_of BadSyntax answer = syntax
 reply_of TooLong answer = long
 
@@ -36,6 +38,7 @@ to_save sync memory saved = current_words memory
 to_save space memory saved = saved
 to_save (crash wanted) memory saved = saved
 to_save (storm seed) memory saved = saved
+to_save (cache seed) memory saved = saved
 to_save log memory saved = saved
 to_save bad_syntax memory saved = saved
 to_save too_long memory saved = saved
@@ -53,6 +56,7 @@ may_have_changed (Counted free live) answer = false
 may_have_changed (Kept c n) answer = true
 may_have_changed (Logged events barriers calls) answer = false
 may_have_changed BadChoice answer = false
+may_have_changed NoMemory answer = false
 may_have_changed BadSyntax answer = false
 may_have_changed TooLong answer = false
 
@@ -87,3 +91,12 @@ pub record HasRefused (old : Memory) (cut : PowerCut) (outcome : Outcome) (new :
 -- what a crash to a cut comes to
 abbrev pub CrashesTo : Memory → PowerCut → Outcome → Memory → Type 0
 CrashesTo old cut outcome new = HasCrashed old cut outcome new ⊎ HasRefused old cut outcome new
+
+-- there was no memory for what a command takes, and nothing is done
+pub record LacksMemory (old : Memory) (outcome : Outcome) (new : Memory) : Type 0 where
+  pub told : outcome ≡ NoMemory
+  pub same : new ≡ old
+
+-- what a crash to what caches leave comes to
+abbrev pub CrashesByCaches : Memory → ℕ → Outcome → Memory → Type 0
+CrashesByCaches old seed outcome new = HasCrashed old (caches_cut old seed) outcome new ⊎ LacksMemory old outcome new

@@ -7,4 +7,5 @@ pub mod Serving
 pub mod Gathering
 pub mod Work
 pub mod Acting
+pub mod Caching
 pub mod Outside

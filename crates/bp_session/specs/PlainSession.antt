@@ -14,7 +14,7 @@ use Rattle.bp_replay.specs.Wanted.{Wanted}
 use Rattle.bp_replay.specs.Wanted.Wanted.{all, nothing, at}
 use Rattle.bp_session.specs.Session.{Session, State}
 use Rattle.bp_script.specs.Commands.{Command}
-use Rattle.bp_script.specs.Commands.Command.{file_call, sync, space, crash, storm, log, bad_syntax, too_long}
+use Rattle.bp_script.specs.Commands.Command.{file_call, sync, space, crash, storm, cache, log, bad_syntax, too_long}
 use Rattle.bp_script.specs.Texts.{LineReply}
 use Rattle.bp_script.specs.Texts.LineReply.{answered, synced, space_of, kept_of, log_of, bad_choice, syntax, long}
 
@@ -115,6 +115,8 @@ PlainLine old sync reply new = (reply ≡ synced) × (new ≡ fresh (tree_now ol
 PlainLine old space reply new = PlainSpace old reply new
 PlainLine old (crash wanted) reply new = PlainCrash old wanted reply new
 PlainLine old (storm seed) reply new = PlainCrashesSomewhere old reply new
+PlainLine old (cache seed) reply new =
+    PlainTells old (answered (refused no_memory)) reply new ⊎ PlainCrashesSomewhere old reply new
 PlainLine old log reply new = PlainLog old reply new
 PlainLine old bad_syntax reply new = PlainTells old syntax reply new
 PlainLine old too_long reply new = PlainTells old long reply new

@@ -1,17 +1,22 @@
 -- What a run of a script does, and what it answers.
-use Rattle.std.specs.Prelude.{◌≡◌, ◌⊎◌, ℕ, List, [], ◌∷◌, length}
+use Rattle.std.specs.Prelude.{◌≡◌, ◌⊎◌, ◌*◌, ℕ, List, [], ◌∷◌, length}
 use Rattle.pm_epochs.specs.Log.{barriers, marks}
 use Rattle.pm_epochs.specs.Replay.{PowerCut, IsRight, kept_calls}
 use Rattle.pm_region.specs.Memory.{Memory, crashed, current_words, drained}
 use Rattle.bp_replay.specs.Wanted.{cut_for}
 use Rattle.bp_replay.specs.Storm.{storm_cut}
+use Rattle.bp_replay.specs.Cache.{cache_cut}
+use Rattle.bp_limits.specs.Limits.{log_events}
+use Rattle.pm_cores.specs.Caches.{Caches, caches_over}
 use Rattle.bp_layout.specs.Words.{Image}
 use Rattle.bp_layout.specs.Whole.{HasSpace}
 use Rattle.bp_scan.specs.Totals.{HasLive}
 use Rattle.bp_plain.specs.Calls.{Call, Answer}
+use Rattle.bp_plain.specs.Calls.Answer.{refused}
+use Rattle.bp_plain.specs.Calls.Refusal.{no_memory}
 use Rattle.bp_volume.specs.FileCall.{FileCall}
 use Rattle.bp_script.specs.Commands.{Command}
-use Rattle.bp_script.specs.Commands.Command.{file_call, sync, space, crash, storm, log, bad_syntax, too_long}
+use Rattle.bp_script.specs.Commands.Command.{file_call, sync, space, crash, storm, cache, log, bad_syntax, too_long}
 use Rattle.bp_script.specs.Texts.{LineReply}
 use Rattle.bp_script.specs.Texts.LineReply.{answered, synced, space_of, kept_of, log_of, bad_choice, syntax, long}
 
@@ -66,6 +71,15 @@ pub record RefusesCut (old : State) (cut : PowerCut) (reply : LineReply) (new : 
   pub told : reply ≡ bad_choice
   pub same : new ≡ old
 
+-- the caches of two cores over so many words, before they did anything, with room for each event of a log and a load
+-- behind it
+abbrev pub two_caches : ℕ → Caches
+two_caches words = caches_over 2 words (2 * log_events)
+
+-- what they leave over the log
+abbrev pub caches_cut : Memory → ℕ → PowerCut
+caches_cut memory seed = cache_cut (two_caches (length memory.base)) memory.events seed
+
 -- how many events, barriers and calls the log has
 abbrev pub log_reply : State → LineReply
 log_reply s = log_of (length s.memory.events) (barriers s.memory.events) (marks s.memory.events)
@@ -77,6 +91,8 @@ SessionLine old space reply new = TellsSpace old reply new
 SessionLine old (crash wanted) reply new =
     let cut = cut_for old.memory.events wanted in Crashes old cut reply new ⊎ RefusesCut old cut reply new
 SessionLine old (storm seed) reply new = Crashes old (storm_cut old.memory.events seed) reply new
+SessionLine old (cache seed) reply new =
+    Crashes old (caches_cut old.memory seed) reply new ⊎ TellsReply old (answered (refused no_memory)) reply new
 SessionLine old log reply new = TellsReply old (log_reply old) reply new
 SessionLine old bad_syntax reply new = TellsReply old syntax reply new
 SessionLine old too_long reply new = TellsReply old long reply new

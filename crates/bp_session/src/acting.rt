@@ -14,6 +14,7 @@ ghost use Rattle.bp_session.specs.Serving.{CanServe, DoesLine, moment, saved_if}
 ghost use Rattle.bp_session.specs.declared.outcome.Outcome.TheVariants.{Logged, Synced};
 ghost use Rattle.bp_session.specs.Work.{answer_in, line_in, waiting_in};
 
+use crate::caching::crash_by_caches;
 use crate::outcome::Outcome;
 use crate::saving::save_unless_saved;
 use crate::work::LineBuffers;
@@ -29,7 +30,7 @@ use pm_steps::Backs;
 use std::alloc::Global;
 
 /// Crashes a volume to a choice.
-fn crash_to<R: Region>(volume: &mut Volume<R>, choice: &Choice) -> Outcome
+pub(crate) fn crash_to<R: Region>(volume: &mut Volume<R>, choice: &Choice) -> Outcome
     ensures { CrashesTo volume.old choice.now.cut result volume.new }
 {
     match volume.crash(choice) {
@@ -135,6 +136,13 @@ fn act_but_sync<R: Region>(
         Ok(Line::Storm(seed)) => {
             crash_by_storm(volume, seed, &mut buffers.backs, &mut buffers.choice)
         }
+        Ok(Line::Cache(seed)) => crash_by_caches(
+            alloc,
+            volume,
+            seed,
+            &mut buffers.caches,
+            &mut buffers.choice,
+        ),
         Ok(Line::Log) => count_log(volume.region()),
         Err(Syntax) => Outcome::BadSyntax,
     }

@@ -3,6 +3,7 @@
 
 mod acting;
 pub mod blocks;
+mod caching;
 pub mod laws;
 mod outcome;
 pub mod saving;

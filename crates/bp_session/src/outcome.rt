@@ -32,6 +32,8 @@ pub enum Outcome {
     },
     /// The log does not allow such a crash, and nothing was done.
     BadChoice,
+    /// There is no memory for the caches that the line asks for, and nothing was done.
+    NoMemory,
     /// The line is none of the grammar.
     BadSyntax,
     /// The line is too long.

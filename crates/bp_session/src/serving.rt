@@ -17,11 +17,11 @@ ghost use Rattle.bp_session.specs.Serving.{moment, saved_if, told};
 ghost use Rattle.bp_session.specs.Work.{held_line, held_replies, read_piece};
 
 use crate::acting::act_and_save;
-use bp_replies::GATHERED;
 use crate::telling::tell_by;
 use crate::work::Work;
 use bp_io::{Failed, Files, Sink, Source};
 use bp_limits::MAX_INPUT;
+use bp_replies::GATHERED;
 use bp_volume::Volume;
 use memchr::memchr;
 use pm_region::Region;

@@ -9,10 +9,10 @@ ghost use Rattle.bp_replies.specs.Gathering.{PassesOn, waiting};
 ghost use Rattle.bp_replies.specs.Taking.{TakesPart};
 
 use crate::outcome::Outcome;
-use bp_replies::Replies;
 use bp_io::{Failed, Sink};
 use bp_layout::Listing;
-use bp_plain::{Answer, Reply};
+use bp_plain::{Answer, FsError, Reply};
+use bp_replies::Replies;
 use bp_script::Said;
 
 /// Tells a line for each name, and the line that ends a listing.
@@ -75,6 +75,7 @@ fn tell<K: Sink>(
             replies.tell(&said, out)
         }
         Outcome::BadChoice => replies.tell(&Said::BadChoice, out),
+        Outcome::NoMemory => { replies.tell(&Said::Answer(Answer::Refused(FsError::Memory)), out) }
         Outcome::BadSyntax => replies.tell(&Said::Syntax, out),
         Outcome::TooLong => replies.tell(&Said::LongLine, out),
     }

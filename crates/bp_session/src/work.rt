@@ -5,9 +5,10 @@ ghost use Rattle.std.specs.Prelude.{◌+◌, ◌≡◌, ◌≤◌, IfOk, [], vec
 ghost use Rattle.bp_limits.specs.Limits.{log_events, max_line, max_mask};
 ghost use Rattle.bp_session.specs.Pieces.{piece_size};
 
-use bp_replies::Replies;
+use crate::caching::TwoCaches;
 use bp_limits::{LOG_EVENTS, MAX_LINE, MAX_MASK};
 use bp_plain::Reply;
+use bp_replies::Replies;
 use bp_script::Decoded;
 use pm_epochs::Choice;
 use pm_steps::Backs;
@@ -25,6 +26,8 @@ pub struct LineBuffers {
     pub(crate) replies: Replies,
     pub(crate) choice: Choice,
     pub(crate) backs: Backs,
+    // Made at the first line that asks for them, since they take 8 bytes for each word of the region.
+    pub(crate) caches: Option<TwoCaches>,
     ghost room: { max_line + 1 ≤ vec_capacity line },
     ghost fits: { vec_len line ≤ max_line + 1 },
     ghost decodes: { max_line ≤ decoded_room decoded },
@@ -47,6 +50,7 @@ impl LineBuffers {
             replies: Replies::new(alloc)?,
             choice: Choice::new(alloc, MAX_MASK)?,
             backs: Backs::new(alloc, LOG_EVENTS)?,
+            caches: None,
         })
     }
 
@@ -90,7 +94,7 @@ impl LineBuffers {
 }
 
 /// A line as far as it was read, a piece of the source, and what it takes to answer a line. Serving takes no other
-/// memory, but for listings.
+/// memory, but for listings, and for the caches of the first line that asks for them.
 #[derive(Drop)]
 pub struct Work {
     pub(crate) buffers: LineBuffers,

@@ -15,7 +15,7 @@ ghost use Rattle.std.specs.Prelude.{◌≡◌, ◌⊎◌, ℕ, [], IfErr, IfOk, 
 
 use crate::opening::load_file;
 use crate::printing::{print, tell_stop};
-use crate::scanning::{Scanned, scan_image};
+use crate::scanning::scan_image;
 use crate::status::Status;
 use crate::stop::Stop;
 use bp_io::{Access, Failed, Files, Sink};
@@ -33,13 +33,13 @@ fn survey(alloc: Global, region: &RawRegion) -> Result<Notice, Stop>
         stop ≡ Refused notice → RefusesFile known notice) }
     ensures kinds { IfErr result (λ stop. ((notice : Notice) × (stop ≡ Refused notice)) ⊎ (stop ≡ Memory)) }
 {
-    let Scanned { sets, totals } = scan_image(alloc, region)?;
+    let found = scan_image(alloc, region)?;
     Ok(Notice::Clean {
-        files: totals.files,
-        dirs: totals.dirs,
-        bytes: totals.bytes,
-        live: totals.live,
-        free: sets.blocks.count(),
+        files: found.totals.files,
+        dirs: found.totals.dirs,
+        bytes: found.totals.bytes,
+        live: found.totals.live,
+        free: found.sets.blocks.count(),
     })
 }
 

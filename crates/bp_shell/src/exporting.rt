@@ -48,11 +48,7 @@ fn tell_tree<K: Sink>(alloc: Global, region: &RawRegion, counts: &Counts, out: &
 }
 
 /// Reads the file of a name, and scans its words.
-fn examine<F: Files>(
-    alloc: Global,
-    name: &str,
-    files: &mut F,
-) -> Result<(RawRegion, Scanned), Stop>
+fn examine<F: Files>(alloc: Global, name: &str, files: &mut F) -> Result<(RawRegion, Scanned), Stop>
     ensures holds { IfOk result (λ found. HoldsFileSystem ((F.view files.old).contents name.now) found.0.base) }
     ensures fresh { IfOk result (λ found. found.0.events ≡ []) }
     ensures scanned { IfOk result

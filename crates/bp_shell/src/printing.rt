@@ -11,8 +11,8 @@ ghost use Rattle.std.specs.Prelude.{OnErr, OnOk};
 use crate::status::Status;
 use crate::stop::Stop;
 use bp_io::{Failed, Sink};
-use bp_script::{MAX_NOTICE, Notice, announce};
 use bp_replies::sending::send;
+use bp_script::{MAX_NOTICE, Notice, announce};
 
 /// Prints a line. Where the sink failed, it took a proper front of it.
 pub(crate) fn print<K: Sink>(notice: &Notice, out: &mut K) -> Result<(), Failed>

@@ -3,7 +3,7 @@ use Rattle.std.specs.Prelude.{◌≡◌, ◌≢◌, ◌==◌, ℕ, List, [], Boo
 use Rattle.bp_cache.specs.Changes.{NameMoves, NameReplaces}
 use Rattle.bp_cache.specs.declared.name_at.NameAt.{NameAt}
 use Rattle.bp_changes.specs.Effects.{CanUnlink}
-use Rattle.bp_layout.specs.Directory.{IsName, empty_slot, inumber_at, slot_named}
+use Rattle.bp_layout.specs.Directory.{IsName, Name, empty_slot, inumber_at, slot_named}
 use Rattle.bp_layout.specs.Inode.{IsDirectory}
 use Rattle.bp_layout.specs.Lookup.{Path, lookup}
 use Rattle.bp_layout.specs.PathText.{parse}
@@ -19,6 +19,12 @@ use Rattle.bp_rename.specs.declared.moving.Move.{Move}
 use Rattle.bp_volume.specs.Step.{IsEntryOn, last_of}
 use Rattle.bp_volume.specs.declared.renaming.Ends.{Ends}
 use Rattle.bp_volume.specs.declared.walking.Target.{Target}
+
+-- the path is this name in directory i
+pub record IsNameIn (image : Image) (path : Path) (i : ℕ) (name : Name) : Type 0 where
+  pub below : path ≢ []
+  pub parent : lookup image (parent_of path) ≡ Some i
+  pub last : last_of path ≡ name
 
 -- The path is this name in this directory, and `there` is what has it there. Where nothing has it, `empty` is the
 -- directory's least empty slot.

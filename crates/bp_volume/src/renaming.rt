@@ -7,25 +7,28 @@ ghost use Rattle.bp_layout.specs.Directory.{empty_slot, inumber_at, slot_named};
 ghost use Rattle.bp_layout.specs.Reached.{IsReached};
 ghost use Rattle.bp_layout.specs.WellFormed.{IsWellFormed};
 ghost use Rattle.bp_layout.specs.Words.{Image};
+ghost use Rattle.bp_path.specs.Names.{AreBeside};
 ghost use Rattle.bp_plain.specs.Calls.Call.{rename};
 ghost use Rattle.bp_plain.specs.Seen.{refusal_of};
 ghost use Rattle.bp_shapes.specs.Sets.{IsExact};
 ghost use Rattle.bp_volume.specs.Carried.{CarriesOut};
 ghost use Rattle.bp_volume.specs.Ready.{IsReady};
-ghost use Rattle.bp_volume.specs.Renaming.{Allows, AreEnds, FindsEnds, IsMoveOf, IsNewName, MayMove, MovesName, are_same};
+ghost use Rattle.bp_volume.specs.Renaming.{Allows, AreEnds, FindsEnds, IsMoveOf, IsNewName, IsTarget, MayMove, MovesName, are_same};
 ghost use Rattle.bp_volume.specs.Seen.{unit_answer};
 ghost use Rattle.bp_volume.specs.Step.{IsEntryOn};
 ghost use Rattle.bp_volume.specs.Told.{Refuses, RefusesRename};
 ghost use Rattle.pm_region.specs.Memory.{current_words};
 
 use crate::refusing::no_space;
-use crate::walking::{NamedEntry, Target, bad_path, entry_on, slot_for, target_on};
+use crate::walking::{
+    NamedEntry, Target, bad_path, both_of, entry_on, refused, slot_for, target_in, target_on,
+};
 use bp_cache::{DirectoryCache, NameAt};
 use bp_dirs::is_empty;
 use bp_free::Parts;
 use bp_inodes::get;
 use bp_layout::Kind;
-use bp_path::{FoundEntry, Path, parse};
+use bp_path::{FoundEntry, Path, parse, walk_parent_by};
 use bp_plain::FsError;
 use bp_rename::{Move, rename_in};
 use bp_tree::Tree;
@@ -40,30 +43,74 @@ pub(crate) struct Ends<'a> {
     pub target: Target<'a>,
 }
 
-/// The ends of a rename, where its entry is found. The path of the new name is not to lie below that of the entry.
-fn ends_from<'a, R: Region>(
+/// The ends of a rename of one path to another one, both of names in one directory, which are sought there together.
+fn ends_beside<'a, R: Region>(
     region: &R,
     cache: &mut DirectoryCache,
-    from: &Path<'_>,
-    source: NamedEntry<'a>,
+    from: &Path<'a>,
     to: &Path<'a>,
 ) -> Result<Ends<'a>, FsError>
     requires well_formed { IsWellFormed (current_words (R.memory region.now)) }
+    requires below { from.now ≢ [] }
+    requires below_too { to.now ≢ [] }
+    requires beside { AreBeside from.now to.now }
     requires right { IsCacheOf (current_words (R.memory region.now)) cache.old }
-    requires source { IsEntryOn (current_words (R.memory region.now)) from.now source.dir source.slot source.inumber }
-    requires named { slot_named (current_words (R.memory region.now)) source.dir source.name.now ≡ Some source.slot }
-    requires below { to.now ≢ [] }
-    ensures found { IfOk result (λ ends. AreEnds (current_words (R.memory region.now)) from.now to.now ends) }
+    ensures source { IfOk result
+        (λ ends. IsEntryOn (current_words (R.memory region.now)) from.now ends.source.dir ends.source.slot ends.source.inumber) }
+    ensures named { IfOk result
+        (λ ends. slot_named (current_words (R.memory region.now)) ends.source.dir ends.source.name.now ≡ Some ends.source.slot) }
+    ensures target { IfOk result (λ ends. IsTarget (current_words (R.memory region.now)) to.now ends.target) }
     ensures refused { IfErr result
         (λ e. RefusesRename (current_words (R.memory region.now)) from.now to.now (refusal_of e)) }
     ensures right { IsCacheOf (current_words (R.memory region.now)) cache.new }
 {
-    let target = target_on(region, cache, to)?;
-    if to.is_below(from) {
-        Err(FsError::IntoSelf)
-    } else {
-        Ok(Ends { source, target })
+    let dir = walk_parent_by(region, from, cache).map_err(refused)?;
+    let name = from.last();
+    let new = to.last();
+    let both = both_of(region, cache, dir, name, new);
+    match both.found {
+        None => Err(FsError::NotFound),
+        Some(found) => {
+            let source = NamedEntry {
+                inumber: found.inumber as u32,
+                dir,
+                name,
+                slot: found.slot,
+            };
+            Ok(Ends {
+                source,
+                target: target_in(region, dir, new, both.spot),
+            })
+        }
     }
+}
+
+/// The ends of a rename of one path to another one, as far as they are found.
+fn found_ends<'a, R: Region>(
+    region: &R,
+    cache: &mut DirectoryCache,
+    from: &Path<'a>,
+    to: &Path<'a>,
+) -> Result<Ends<'a>, FsError>
+    requires well_formed { IsWellFormed (current_words (R.memory region.now)) }
+    requires below { from.now ≢ [] }
+    requires below_too { to.now ≢ [] }
+    requires right { IsCacheOf (current_words (R.memory region.now)) cache.old }
+    ensures source { IfOk result
+        (λ ends. IsEntryOn (current_words (R.memory region.now)) from.now ends.source.dir ends.source.slot ends.source.inumber) }
+    ensures named { IfOk result
+        (λ ends. slot_named (current_words (R.memory region.now)) ends.source.dir ends.source.name.now ≡ Some ends.source.slot) }
+    ensures target { IfOk result (λ ends. IsTarget (current_words (R.memory region.now)) to.now ends.target) }
+    ensures refused { IfErr result
+        (λ e. RefusesRename (current_words (R.memory region.now)) from.now to.now (refusal_of e)) }
+    ensures right { IsCacheOf (current_words (R.memory region.now)) cache.new }
+{
+    if from.is_beside(to) {
+        return ends_beside(region, cache, from, to);
+    }
+    let source = entry_on(region, cache, from)?;
+    let target = target_on(region, cache, to)?;
+    Ok(Ends { source, target })
 }
 
 /// The ends of a rename of one path to another one.
@@ -86,8 +133,12 @@ fn ends_on<'a, R: Region>(
     if to.is_root() {
         return Err(FsError::IsRoot);
     }
-    let source = entry_on(region, cache, from)?;
-    ends_from(region, cache, from, source, to)
+    let ends = found_ends(region, cache, from, to)?;
+    if to.is_below(from) {
+        Err(FsError::IntoSelf)
+    } else {
+        Ok(ends)
+    }
 }
 
 /// The ends of a rename of one path text to another one.

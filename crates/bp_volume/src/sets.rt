@@ -1,9 +1,12 @@
 //! The memory of a volume.
 
 ghost use Rattle.std.specs.Prelude.{◌≡◌, ◌*◌, ◌≤◌, IfOk, replicate};
+ghost use Rattle.bp_cache.specs.Cache.{IsCacheOf};
 ghost use Rattle.bp_free.specs.Set.{empty};
+ghost use Rattle.bp_layout.specs.Words.{Image};
 ghost use Rattle.bp_limits.specs.Limits.{block_inodes, max_blocks};
 
+use bp_cache::DirectoryCache;
 use bp_free::{Blocks, Counts, Inodes};
 use bp_limits::BLOCK_INODES;
 use bp_scan::Pending;
@@ -38,13 +41,15 @@ impl Sets {
         ensures frozen { IfOk result (λ sets. sets.frozen ≡ empty blocks) }
         ensures pending { IfOk result (λ sets. sets.pending ≡ block_inodes * blocks) }
     {
-        let (free_blocks, inodes) = empty_sets(alloc, blocks)?;
+        let free = empty_sets(alloc, blocks)?;
+        let kept = counts_and_frozen(alloc, blocks)?;
+        let pending = Pending::new(alloc, BLOCK_INODES * blocks)?;
         Ok(Sets {
-            blocks: free_blocks,
-            inodes,
-            counts: Counts::new(alloc, BLOCK_INODES * blocks)?,
-            frozen: Blocks::new(alloc, blocks)?,
-            pending: Pending::new(alloc, BLOCK_INODES * blocks)?,
+            blocks: free.0,
+            inodes: free.1,
+            counts: kept.0,
+            frozen: kept.1,
+            pending,
         })
     }
 }
@@ -59,4 +64,32 @@ fn empty_sets(alloc: Global, blocks: u32) -> Result<(Blocks, Inodes), AllocError
         Blocks::new(alloc, blocks)?,
         Inodes::new(alloc, BLOCK_INODES * blocks)?,
     ))
+}
+
+/// Counts of no name, and the empty set of the blocks of a snapshot.
+fn counts_and_frozen(alloc: Global, blocks: u32) -> Result<(Counts, Blocks), AllocError>
+    requires { blocks ≤ max_blocks }
+    ensures counts { IfOk result (λ kept. kept.0 ≡ replicate (block_inodes * blocks) 0) }
+    ensures frozen { IfOk result (λ kept. kept.1 ≡ empty blocks) }
+{
+    Ok((
+        Counts::new(alloc, BLOCK_INODES * blocks)?,
+        Blocks::new(alloc, blocks)?,
+    ))
+}
+
+/// The memory of a volume of so many blocks: its sets, and what it is to remember of its directories. It stands in one
+/// function, so that a volume has one way out where there is none.
+pub(crate) fn memory_for(alloc: Global, blocks: u32) -> Result<(Sets, DirectoryCache), AllocError>
+    requires { blocks ≤ max_blocks }
+    ensures blocks { IfOk result (λ memory. memory.0.blocks ≡ empty blocks) }
+    ensures inodes { IfOk result (λ memory. memory.0.inodes ≡ empty (block_inodes * blocks)) }
+    ensures counts { IfOk result (λ memory. memory.0.counts ≡ replicate (block_inodes * blocks) 0) }
+    ensures frozen { IfOk result (λ memory. memory.0.frozen ≡ empty blocks) }
+    ensures pending { IfOk result (λ memory. memory.0.pending ≡ block_inodes * blocks) }
+    ensures right { IfOk result (λ memory. (image : Image) → IsCacheOf image memory.1) }
+{
+    let sets = Sets::new(alloc, blocks)?;
+    let cache = DirectoryCache::new(alloc)?;
+    Ok((sets, cache))
 }

@@ -32,7 +32,7 @@ use crate::renaming::rename_at;
 use crate::replying::{tell_done, tell_links, tell_list, tell_read, tell_stat};
 use crate::rescanning::rescan;
 use crate::resizing::truncate_at;
-use crate::sets::Sets;
+use crate::sets::{Sets, memory_for};
 use crate::space::Space;
 use crate::upgrading::upgrade_region;
 use crate::writing::write_at;
@@ -105,10 +105,7 @@ impl<R: Region> Volume<R> {
         ensures handed_back { IfErr result (λ e. e.0 ≡ region) }
         ensures memory { IfErr result (λ e. e.1 ≡ MountFault.Memory) }
     {
-        let Ok(sets) = Sets::new(alloc, region.words() / BLOCK_WORDS) else {
-            return Err((region, MountFault::Memory));
-        };
-        let Ok(cache) = DirectoryCache::new(alloc) else {
+        let Ok((sets, cache)) = memory_for(alloc, region.words() / BLOCK_WORDS) else {
             return Err((region, MountFault::Memory));
         };
         let mut region = region;
@@ -139,11 +136,8 @@ impl<R: Region> Volume<R> {
         ensures fault { IfErr result (λ e. (e.1 ≡ MountFault.Memory) ⊎ IsFault (R.memory region).base e.1) }
         ensures exact { IsFileSystem (R.memory region).base → IfErr result (λ e. e.1 ≡ MountFault.Memory) }
     {
-        let Ok(sets) = Sets::new(alloc, region.words() / BLOCK_WORDS) else {
-            return Err((region, MountFault::Memory));
-        };
-        match DirectoryCache::new(alloc) {
-            Ok(cache) => Volume::scanned(region, sets, cache),
+        match memory_for(alloc, region.words() / BLOCK_WORDS) {
+            Ok((sets, cache)) => Volume::scanned(region, sets, cache),
             Err(_) => Err((region, MountFault::Memory)),
         }
     }

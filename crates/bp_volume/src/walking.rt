@@ -1,25 +1,26 @@
 //! Where the path of a call leads.
 
-ghost use Rattle.std.specs.Prelude.{◌≡◌, ◌≢◌, ◌≤◌, IfErr, IfOk, Some, [], length, unwrap_or};
+ghost use Rattle.std.specs.Prelude.{◌≡◌, ◌≢◌, ◌≤◌, IfErr, IfOk, IfSome, IsTrue, Some, [], length, unwrap_or};
 ghost use Rattle.bp_cache.specs.Cache.{IsCacheOf};
-ghost use Rattle.bp_dirs.specs.Spots.{FreeIs, named_slot};
-ghost use Rattle.bp_layout.specs.Directory.{empty_slot, entry_count, slot_named};
+ghost use Rattle.bp_dirs.specs.Spots.{FreeIs, found_slot, named_slot};
+ghost use Rattle.bp_layout.specs.Directory.{empty_slot, entry_count, inumber_at, slot_named};
 ghost use Rattle.bp_layout.specs.Inode.{IsDirectory, IsFile, size_of};
-ghost use Rattle.bp_layout.specs.Lookup.{lookup};
+ghost use Rattle.bp_layout.specs.Lookup.{Path as PathNames, lookup};
 ghost use Rattle.bp_limits.specs.Limits.{max_name};
+ghost use Rattle.bp_layout.specs.PathText.{is_name};
 ghost use Rattle.bp_layout.specs.Reached.{IsReached};
 ghost use Rattle.bp_layout.specs.WellFormed.{IsWellFormed};
 ghost use Rattle.bp_path.specs.FoundEntries.{fault_of};
 ghost use Rattle.bp_plain.specs.Calls.{Refusal};
 ghost use Rattle.bp_plain.specs.Seen.{refusal_of};
-ghost use Rattle.bp_volume.specs.Renaming.{IsTarget};
+ghost use Rattle.bp_volume.specs.Renaming.{IsNameIn, IsTarget};
 ghost use Rattle.bp_volume.specs.Step.{FindsEntry, IsEntryOn, IsNewOn, FindsNew, PathFinds};
 ghost use Rattle.bp_volume.specs.Told.{RefusesEntry, RefusesFileAt, RefusesNew, RefusesParent, RefusesWalk, refusal_of_walk};
 ghost use Rattle.bp_volume.specs.Told.{StopsAtEntry, StopsAtFile, StopsAtNew, StopsWalk};
 ghost use Rattle.pm_region.specs.Memory.{current_words};
 
 use bp_cache::{DirectoryCache, NameAt};
-use bp_dirs::{Spot, inumber};
+use bp_dirs::{Both, Spot, inumber};
 use bp_inodes::{get, tree_of};
 use bp_layout::Kind;
 use bp_limits::ENTRY_SIZE;
@@ -119,7 +120,7 @@ pub(crate) struct FoundFile {
 }
 
 /// The refusal of a call whose path leads nowhere.
-fn refused(fault: WalkFault) -> FsError
+pub(crate) fn refused(fault: WalkFault) -> FsError
     ensures { refusal_of_walk (fault_of fault) ≡ Some (refusal_of result) }
 {
     match fault {
@@ -313,6 +314,46 @@ fn last_name<'a, R: Region>(
     }
 }
 
+/// A name in a directory, with what has it there, as a search for it told.
+pub(crate) fn target_in<'a, R: Region>(
+    region: &R,
+    dir: u32,
+    name: &'a [u8],
+    spot: Spot,
+) -> Target<'a>
+    requires well_formed { IsWellFormed (current_words (R.memory region.now)) }
+    requires reached { IsReached (current_words (R.memory region.now)) dir }
+    requires inode { 1 ≤ dir }
+    requires directory { IsDirectory (current_words (R.memory region.now)) dir }
+    requires form { IsTrue (is_name name.now) }
+    requires named { named_slot spot ≡ slot_named (current_words (R.memory region.now)) dir name.now }
+    requires free { FreeIs spot (empty_slot (current_words (R.memory region.now)) dir) }
+    ensures { let words = current_words (R.memory region.now) in
+        (path : PathNames) → IsNameIn words path dir name.now → IsTarget words path result }
+{
+    match spot {
+        Spot::Named(slot) => {
+            let entry = FoundEntry {
+                inumber: inumber(region, tree_of(region, dir), slot) as u32,
+                dir,
+                slot,
+            };
+            Target {
+                dir,
+                name,
+                there: Some(entry),
+                empty: None,
+            }
+        }
+        Spot::Free(empty) => Target {
+            dir,
+            name,
+            there: None,
+            empty,
+        },
+    }
+}
+
 /// The last name of a path below the root directory, with what has it in its directory.
 pub(crate) fn target_on<'a, R: Region>(
     region: &R,
@@ -328,27 +369,33 @@ pub(crate) fn target_on<'a, R: Region>(
 {
     let dir = walk_parent_by(region, path, cache).map_err(refused)?;
     let name = path.last();
-    match spot_of(region, cache, dir, name) {
-        Spot::Named(slot) => {
-            let entry = FoundEntry {
-                inumber: inumber(region, tree_of(region, dir), slot) as u32,
-                dir,
-                slot,
-            };
-            Ok(Target {
-                dir,
-                name,
-                there: Some(entry),
-                empty: None,
-            })
-        }
-        Spot::Free(empty) => Ok(Target {
-            dir,
-            name,
-            there: None,
-            empty,
-        }),
-    }
+    let spot = spot_of(region, cache, dir, name);
+    Ok(target_in(region, dir, name, spot))
+}
+
+/// Where a directory has one name, and where it has another one or room for it.
+pub(crate) fn both_of<R: Region>(
+    region: &R,
+    cache: &mut DirectoryCache,
+    dir: u32,
+    one: &[u8],
+    other: &[u8],
+) -> Both
+    requires well_formed { IsWellFormed (current_words (R.memory region.now)) }
+    requires reached { IsReached (current_words (R.memory region.now)) dir }
+    requires inode { 1 ≤ dir }
+    requires directory { IsDirectory (current_words (R.memory region.now)) dir }
+    requires one { length one.now ≤ max_name }
+    requires other { length other.now ≤ max_name }
+    requires right { IsCacheOf (current_words (R.memory region.now)) cache.old }
+    ensures slot { found_slot result.found ≡ slot_named (current_words (R.memory region.now)) dir one.now }
+    ensures inumber { IfSome result.found
+        (λ found. found.inumber ≡ inumber_at (current_words (R.memory region.now)) dir found.slot) }
+    ensures named { named_slot result.spot ≡ slot_named (current_words (R.memory region.now)) dir other.now }
+    ensures free { FreeIs result.spot (empty_slot (current_words (R.memory region.now)) dir) }
+    ensures right { IsCacheOf (current_words (R.memory region.now)) cache.new }
+{
+    cache.find_both(region, dir, tree_of(region, dir), one, other)
 }
 
 /// The directory that is to have a new name at a path, and its name there.

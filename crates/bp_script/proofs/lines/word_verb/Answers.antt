@@ -11,3 +11,8 @@ pub returns-in-unlink : goal.returns-in-unlink
 returns-in-unlink c =
     let same : c.args.verb.now ≡ codes "unlink" = text_from_reads c.args.verb.now (codes "unlink") (omega arith) (omega arith) in
     λ word. rw same refl
+
+pub returns-in-links : goal.returns-in-links
+returns-in-links c =
+    let same : c.args.verb.now ≡ codes "links" = text_from_reads c.args.verb.now (codes "links") (omega arith) (omega arith) in
+    λ word. rw same refl

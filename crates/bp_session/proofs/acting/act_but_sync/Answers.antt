@@ -1,7 +1,7 @@
 use Rattle.std.proofs.Common.{arith, ap, refl, sym, ◌∙◌, length}
 use Rattle.bp_script.specs.Commands.{in_grammar}
 use Rattle.bp_script.specs.Commands.Command.{log, space, sync}
-use Rattle.bp_session.proofs.ActingLaws.{command_long, command_short, does_call, does_crash, does_log, does_long, does_space, does_storm, mask_fits, crash_not_left, no_sync_log, no_sync_storm, not_left}
+use Rattle.bp_session.proofs.ActingLaws.{command_long, command_short, does_call, does_crash, does_log, does_long, does_space, does_storm, does_cache, mask_fits, crash_not_left, no_sync_log, no_sync_storm, no_sync_cache, not_left}
 use Rattle.bp_session.specs.Work.{answer_in}
 use Rattle.bp_session.proofs.acting.act_but_sync.Goals as goal
 
@@ -36,6 +36,11 @@ returns-in-Ok-Storm-clause-does g c = λ _.
     let asked = command_short c.args.buffers.now.line.items _ (omega arith) (let meant = rw c.in-Ok-Storm.field-0-is at c.in-Ok-Storm.ensures.meaning in meant ∙ ap in_grammar c.deref.ensures.value) in
     rw (← asked) (does_storm c.args.volume.now _ _ _ _ c.crash_by_storm.ensures.crashes)
 
+pub returns-in-Ok-Cache-clause-does : goal.returns-in-Ok-Cache-clause-does
+returns-in-Ok-Cache-clause-does g c = λ _.
+    let asked = command_short c.args.buffers.now.line.items _ (omega arith) (let meant = rw c.in-Ok-Cache.field-0-is at c.in-Ok-Cache.ensures.meaning in meant ∙ ap in_grammar c.deref.ensures.value) in
+    rw (← asked) (does_cache c.args.volume.now _ _ _ _ c.crash_by_caches.ensures.crashes)
+
 pub returns-in-Ok-Log-clause-does : goal.returns-in-Ok-Log-clause-does
 returns-in-Ok-Log-clause-does g c = λ _.
     let asked = command_short c.args.buffers.now.line.items log (omega arith) (let meant = rw c.in-Ok-Log.field-0-is at c.in-Ok-Log.ensures.meaning in meant ∙ ap in_grammar c.deref.ensures.value) in
@@ -46,6 +51,9 @@ returns-in-Ok-Crash-clause-left g c = crash_not_left c.args.volume.now _ _ _ c.c
 
 pub returns-in-Ok-Storm-clause-left : goal.returns-in-Ok-Storm-clause-left
 returns-in-Ok-Storm-clause-left g c = not_left _ _ _ _ (does_storm c.args.volume.now _ _ _ (answer_in c.args.buffers.now) c.crash_by_storm.ensures.crashes) (no_sync_storm _)
+
+pub returns-in-Ok-Cache-clause-left : goal.returns-in-Ok-Cache-clause-left
+returns-in-Ok-Cache-clause-left g c = not_left _ _ _ _ (does_cache c.args.volume.now _ _ _ (answer_in c.args.buffers.now) c.crash_by_caches.ensures.crashes) (no_sync_cache _)
 
 pub returns-in-Ok-Log-clause-left : goal.returns-in-Ok-Log-clause-left
 returns-in-Ok-Log-clause-left g c = not_left _ _ _ _ (does_log c.args.volume.now _ (answer_in c.args.buffers.now) (rw c.region.ensures.memory at c.count_log.ensures)) no_sync_log

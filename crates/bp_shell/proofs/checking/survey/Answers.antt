@@ -4,9 +4,9 @@ use Rattle.bp_shell.proofs.checking.survey.Goals as goal
 
 pub returns-clause-clean : goal.returns-clause-clean
 returns-clause-clean c =
-    let found = c.in_ok-scan_image.ensures.found in
+    let found = c.in_ok-found.ensures.found in
     record {
-      totals = c.in_ok-scan_image.value.totals;
+      totals = c.in_ok-found.found.totals;
       free = c.count.result;
       holds = found.held;
       leaves = counted c.args.region.now.base _ c.count.result found.whole.no_second found.free found.block_room c.count.ensures;

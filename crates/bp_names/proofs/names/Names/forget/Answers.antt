@@ -1,8 +1,12 @@
-use Rattle.std.proofs.Common.{sym, ap}
+use Rattle.std.proofs.Common.{sym, ◌∙◌, ap, eqb-true}
 use Rattle.bp_names.specs.Names.{remembered, known_of}
 use Rattle.bp_names.proofs.Pairs.{long-forgot, short-forgot}
-use Rattle.bp_names.proofs.Maps.{forgot-known, long-known}
+use Rattle.bp_names.proofs.Maps.{forgot-known, long-known, none-known}
 use Rattle.bp_names.proofs.names.Names.forget.Goals as goal
+
+pub returns-then-is_empty-clause-known : goal.returns-then-is_empty-clause-known
+returns-then-is_empty-clause-known c =
+    none-known (c.args.dir, c.args.name.now) c.self.inside.cache.entries (eqb-true _ 0 (sym c.is_empty.ensures ∙ c.if-is_empty.true)) (known_of c.args.self.now) (ap known_of (sym c.self.view_is))
 
 pub returns-then-name-gt-MAX_NAME-clause-forgot : goal.returns-then-name-gt-MAX_NAME-clause-forgot
 returns-then-name-gt-MAX_NAME-clause-forgot c =

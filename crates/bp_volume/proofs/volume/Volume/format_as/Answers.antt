@@ -41,6 +41,9 @@ scanned-requires-clause-pending g c =
     let size = length_laid (g.R.Region.memory c.args.region) (g.R.Region.memory c.lay_out.new.region) _ (g.R.Region.memory c.drain.new.self) c.lay_out.ensures.stores c.drain.ensures in
     omega (arith, size, c.words.ensures, c.in-Ok.ensures.pending)
 
+pub scanned-requires-clause-right : goal.scanned-requires-clause-right
+scanned-requires-clause-right g c = c.in-Ok.ensures.right _
+
 pub unreachable-requires : goal.unreachable-requires
 unreachable-requires g c =
     let old : Memory = g.R.Region.memory c.args.region in

@@ -2,10 +2,10 @@ use Rattle.std.proofs.Common.{sym}
 use Rattle.pm_region.specs.Memory.{current_words}
 use Rattle.bp_cache.proofs.CacheLaws.{of_tree}
 use Rattle.bp_cache.proofs.Lists.{held_found}
-use Rattle.bp_cache.proofs.cache.DirectoryCache.find_by_memory.Goals as goal
+use Rattle.bp_cache.proofs.cache.DirectoryCache.recall_larger.Goals as goal
 
-pub find-requires-clause-right : goal.find-requires-clause-right
-find-requires-clause-right g c =
+pub recall-requires-clause-right : goal.recall-requires-clause-right
+recall-requires-clause-right g c =
     let image = current_words (g.R.Region.memory c.args.region.now) in
     of_tree image c.args.dir c.args.tree
     c.requires.tree

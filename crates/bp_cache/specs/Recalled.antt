@@ -1,0 +1,19 @@
+-- What is remembered of a name.
+use Rattle.std.specs.Prelude.{◌≡◌, ⊤, Option, IfSome}
+use Rattle.bp_cache.specs.declared.recalled.Recalled.{Recalled}
+use Rattle.bp_cache.specs.declared.recalled.Recalled.TheVariants.{Told, Unknown}
+use Rattle.bp_dirs.specs.Spots.{found_slot}
+use Rattle.bp_dirs.specs.declared.spot.Found.{Found}
+use Rattle.bp_layout.specs.Directory.{Name, inumber_in, slot_named_in}
+use Rattle.bp_layout.specs.Words.{Image}
+use Rattle.bp_tree.specs.declared.tree.Tree.{Tree}
+
+-- what a search for the name in the directory that has this tree finds
+pub record IsSearch (image : Image) (tree : Tree) (name : Name) (found : Option Found) : Type 0 where
+  pub slot : found_slot found ≡ slot_named_in image tree.root tree.size name
+  pub inumber : IfSome found (λ it. it.inumber ≡ inumber_in image tree.root it.slot)
+
+-- where something is remembered of the name, it is that
+abbrev pub IsRecalled : Image → Tree → Name → Recalled → Type 0
+IsRecalled image tree name (Told found) = IsSearch image tree name found
+IsRecalled image tree name Unknown = ⊤

@@ -1,0 +1,222 @@
+//! What a few steps of two cores leave in their caches and in the memory.
+
+ghost use Rattle.std.specs.Prelude.{◌≡◌, ◌<◌, IfOk, length, true};
+ghost use Rattle.bp_samples.specs.Cores.{AreTwo};
+
+use pm_cores::{Cores, NotYet};
+use pm_region::{ListRegion, Region};
+use std::alloc::{AllocError, Global};
+use std::test::Fail;
+
+const CORES: u32 = 2;
+
+/// The words of the memory: two lines of a cache.
+const WORDS: u32 = 16;
+
+/// The entries of the caches' log.
+const ROOM: usize = 8;
+
+/// What is done, and what it gives.
+#[derive(Clone, Copy)]
+enum Step {
+    Store { core: u32, word: u32, value: u64 },
+    Barrier { core: u32 },
+    Load { core: u32, word: u32, value: u64 },
+    /// A word goes back, unless another one has to go before it.
+    Back { word: u32, needs: Option<u32> },
+}
+
+/// Steps over a memory of zeros, and what some of its words are behind them.
+type Row = (&'static [Step], &'static [(u32, u64)]);
+
+const ROWS: [Row; 4] = [
+    // An epoch goes back before a later one, and a load by another core settles.
+    (
+        &[
+            Step::Store {
+                core: 0,
+                word: 0,
+                value: 1,
+            },
+            Step::Barrier { core: 0 },
+            Step::Store {
+                core: 0,
+                word: 8,
+                value: 2,
+            },
+            Step::Back {
+                word: 8,
+                needs: Some(0),
+            },
+            Step::Load {
+                core: 1,
+                word: 8,
+                value: 2,
+            },
+        ],
+        &[(0, 1), (8, 2)],
+    ),
+    // A store to a line of an older epoch settles that one, and waits itself.
+    (
+        &[
+            Step::Store {
+                core: 0,
+                word: 0,
+                value: 1,
+            },
+            Step::Barrier { core: 0 },
+            Step::Store {
+                core: 0,
+                word: 1,
+                value: 2,
+            },
+        ],
+        &[(0, 1), (1, 0)],
+    ),
+    // What settles are one core's words.
+    (
+        &[
+            Step::Store {
+                core: 0,
+                word: 0,
+                value: 1,
+            },
+            Step::Store {
+                core: 1,
+                word: 8,
+                value: 5,
+            },
+            Step::Load {
+                core: 1,
+                word: 0,
+                value: 1,
+            },
+        ],
+        &[(0, 1), (8, 0)],
+    ),
+    // A store behind a write back waits.
+    (
+        &[
+            Step::Store {
+                core: 0,
+                word: 0,
+                value: 1,
+            },
+            Step::Back {
+                word: 0,
+                needs: None,
+            },
+            Step::Store {
+                core: 0,
+                word: 0,
+                value: 2,
+            },
+        ],
+        &[(0, 1)],
+    ),
+];
+
+/// Two cores that have done nothing.
+fn two_cores(alloc: Global) -> Result<Cores, AllocError>
+    ensures { IfOk result AreTwo }
+{
+    Cores::new(alloc, CORES, WORDS, ROOM)
+}
+
+/// Whether a core may do a step at a word.
+fn may_step(cores: &Cores, core: u32, word: u32) -> bool
+    ensures core { result ≡ true → core < CORES }
+    ensures word { result ≡ true → word < WORDS }
+    ensures room { result ≡ true → length cores.now.log < cores.now.capacity }
+{
+    core < CORES && word < WORDS && cores.room() > 0
+}
+
+/// Stores a value, where that may be done.
+fn store(cores: &mut Cores, core: u32, word: u32, value: u64) -> bool
+    requires { AreTwo cores.old }
+    ensures { AreTwo cores.new }
+{
+    if !may_step(cores, core, word) {
+        return false;
+    }
+    cores.store(core, word, value);
+    true
+}
+
+/// Ends an epoch, where that may be done.
+fn end_epoch(cores: &mut Cores, core: u32) -> bool
+    requires { AreTwo cores.old }
+    ensures { AreTwo cores.new }
+{
+    if !may_step(cores, core, 0) {
+        return false;
+    }
+    cores.barrier(core);
+    true
+}
+
+/// What a core loads, where that may be done.
+fn load<R: Region>(region: &R, cores: &mut Cores, core: u32, word: u32) -> Option<u64>
+    requires { AreTwo cores.old }
+    ensures { AreTwo cores.new }
+{
+    if region.words() != WORDS || !may_step(cores, core, word) {
+        return None;
+    }
+    Some(cores.load(region, core, word))
+}
+
+/// Writes a dirty word back, and tells what has to go before it.
+fn write_back(cores: &mut Cores, word: u32) -> Option<u32>
+    requires { AreTwo cores.old }
+    ensures { AreTwo cores.new }
+{
+    if word >= WORDS || !cores.is_dirty(word) {
+        return None;
+    }
+    match cores.back(word) {
+        Ok(()) => None,
+        Err(NotYet { needs }) => Some(needs),
+    }
+}
+
+/// Does a step, and tells whether it gave what it should.
+fn gives<R: Region>(step: Step, region: &R, cores: &mut Cores) -> bool
+    requires { AreTwo cores.old }
+    ensures { AreTwo cores.new }
+{
+    match step {
+        Step::Store { core, word, value } => store(cores, core, word, value),
+        Step::Barrier { core } => end_epoch(cores, core),
+        Step::Load { core, word, value } => load(region, cores, core, word) == Some(value),
+        Step::Back { word, needs } => write_back(cores, word) == needs,
+    }
+}
+
+/// A word of the memory.
+fn word_of<R: Region>(region: &R, cores: &Cores, word: u32) -> Option<u64>
+    requires { AreTwo cores.now }
+{
+    if word < WORDS && region.words() == WORDS {
+        Some(cores.memory_word(region, word))
+    } else {
+        None
+    }
+}
+
+#[test]
+fn caches_of_two_cores(rt: HostRuntime) -> Result<(), Fail> {
+    let zeros = vec![in rt.alloc(); 0u64; WORDS as usize]?;
+    let region = ListRegion::new(rt.alloc(), zeros, 1)?;
+    for (steps, left) in &ROWS {
+        let mut cores = two_cores(rt.alloc())?;
+        for step in *steps {
+            assert!(rt; gives(*step, &region, &mut cores));
+        }
+        for (word, value) in *left {
+            assert_eq!(rt; word_of(&region, &cores, *word), Some(*value));
+        }
+    }
+    Ok(())
+}

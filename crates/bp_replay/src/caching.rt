@@ -3,7 +3,6 @@
 ghost use Rattle.std.specs.Prelude.{◌≡◌, ℕ, ◌+◌, ◌*◌, ◌<◌, ◌≤◌, length};
 ghost use Rattle.pm_region.specs.Memory.{Memory};
 ghost use Rattle.pm_epochs.specs.declared.event.Event.TheVariants.{Store};
-ghost use Rattle.pm_epochs.specs.May.{StoresMay};
 ghost use Rattle.pm_epochs.specs.Replay.{IsRight};
 ghost use Rattle.pm_cores.specs.Caches.{Caches, caches_over};
 ghost use Rattle.bp_replay.specs.Generator.{next_state, drawn};
@@ -22,7 +21,6 @@ use pm_region::Region;
 pub fn cache<R: Region>(region: &R, seed: u64, cores: &mut Cores, choice: &mut Choice)
     requires cores { 2 ≤ cores.old.cores }
     requires words { cores.old.words ≡ length (R.memory region.now).base }
-    requires stores { StoresMay (λ word value. word < length (R.memory region.now).base) (R.memory region.now).events }
     requires room { 2 * length (R.memory region.now).events ≤ cores.old.capacity }
     requires choice { 2 * length (R.memory region.now).events ≤ choice.old.room }
     ensures chosen { choice.new.cut ≡

@@ -92,6 +92,20 @@ impl Cores {
         })
     }
 
+    /// How many cores there are.
+    pub fn cores(&self) -> usize
+        ensures { result ≡ self.now.cores }
+    {
+        self.counts.len()
+    }
+
+    /// How many words there are.
+    pub fn words(&self) -> u32
+        ensures { result ≡ self.now.words }
+    {
+        self.words
+    }
+
     /// Begins anew. Takes time for the entries of the log, whatever the number of words.
     pub fn begin(&mut self)
         ensures { self.new ≡ caches_over self.old.cores self.old.words self.old.capacity }

@@ -25,7 +25,7 @@ pub play_event-requires-clause-word : goal.play_event-requires-clause-word
 play_event-requires-clause-word g c = λ word value same.
     let base = (g.R.Region.memory c.args.region.now).base in
     let events = (g.R.Region.memory c.args.region.now).events in
-    let low = stored_below (length base) events c.loop-i.i word value c.requires.stores (c.event-event.ensures.get ∙ ap (λ e. Some e) same) in
+    let low = stored_below (length base) events c.loop-i.i word value c.event_count.ensures.within (c.event-event.ensures.get ∙ ap (λ e. Some e) same) in
     let words = c.loop-i.invariant.like.words in
     let same = c.requires.words in
     omega arith
@@ -65,7 +65,7 @@ play_draw-requires-clause-word g c =
     let events = (g.R.Region.memory c.args.region.now).events in
     let like = event_like _ (2 * c.loop-i.i) c.loop-i.cores c.event-event.result c.loop-i.invariant.like in
     let words : c.play_event.new.cores.words ≡ length base = ap (λ (s : Caches). s.words) c.play_event.ensures ∙ like.words ∙ c.requires.words in
-    let below = last_below (length base) c.loop-i.last c.event-event.result c.loop-i.invariant.last (λ word value same. stored_below (length base) events c.loop-i.i word value c.requires.stores (c.event-event.ensures.get ∙ ap (λ e. Some e) same)) in
+    let below = last_below (length base) c.loop-i.last c.event-event.result c.loop-i.invariant.last (λ word value same. stored_below (length base) events c.loop-i.i word value c.event_count.ensures.within (c.event-event.ensures.get ∙ ap (λ e. Some e) same)) in
     rw (words, c.word_behind-last.ensures) below
 
 pub loop-i-preserved : goal.loop-i-preserved
@@ -82,7 +82,7 @@ loop-i-preserved g c =
     let next = dropped_at events moment c.loop-i.i event c.loop-i-test.true c.event-event.ensures.get in
     record {
       like = rw (cores_are, ← twice) like;
-      last = rw c.word_behind-last.ensures (last_below (length base) c.loop-i.last event c.loop-i.invariant.last (λ word value same. stored_below (length base) events c.loop-i.i word value c.requires.stores (c.event-event.ensures.get ∙ ap (λ e. Some e) same)));
+      last = rw c.word_behind-last.ensures (last_below (length base) c.loop-i.last event c.loop-i.invariant.last (λ word value same. stored_below (length base) events c.loop-i.i word value c.event_count.ensures.within (c.event-event.ensures.get ∙ ap (λ e. Some e) same)));
       run = rw (cores_are, c.word_behind-last.ensures, c.draw.ensures.state) (sym (ap (cache_run c.loop-i.cores c.loop-i.last c.loop-i.generator.state) next) ∙ c.loop-i.invariant.run);
       played = rw (cores_are, taken_more events c.loop-i.i event c.event-event.ensures.get)
           (draw_played (take c.loop-i.i events ++ event ∷ []) (after_event c.loop-i.cores event) (last_word c.loop-i.last event) (drawn c.loop-i.generator.state) (event_played (take c.loop-i.i events) c.loop-i.cores event c.loop-i.invariant.played));

@@ -78,7 +78,7 @@ fn told(alloc: Global, words: &[&str]) -> Option<String> {
 const REFUSED: [(&[&str], &str); 12] = [
     (
         &["bpfs"],
-        "'bpfs' requires a subcommand but one was not provided [subcommands: format, run, check, play, help]",
+        "'bpfs' requires a subcommand but one was not provided [subcommands: format, run, check, play, export, help]",
     ),
     (&["bpfs", "walk", "f"], "unrecognized subcommand 'walk'"),
     (

@@ -24,7 +24,7 @@ use Rattle.bp_plain.specs.Plain as plain
 use Rattle.bp_plain.specs.PlainTree.{PathMap, is_one}
 use Rattle.bp_plain.specs.Stands.{Shows}
 use Rattle.bp_plain.proofs.Kernels.{are_one-self}
-use Rattle.bp_stands.specs.Pieces.{ArePatches, PieceFinds}
+use Rattle.bp_stands.specs.Pieces.{ArePatches, PieceFinds, patch_of}
 use Rattle.bp_stands.specs.Pieces.ArePatches.{none, more}
 use Rattle.bp_stands.proofs.FileStands.{content_elsewhere, content_here, finds}
 use Rattle.bp_stands.proofs.WrittenBytes.{in_bytes, in_front_had, in_rest, written_length}
@@ -132,9 +132,6 @@ module _ (image : Image) (bytes : ℕ → ℕ → ℕ) (patch : Patch) where
             other : (found : Option ℕ) → lookup image q ≡ found → option_map (node_with image bytes) found ≡ option_map (node_with image more_bytes) found
             other None e = refl
             other (Some u) e = ap Some (node_stays u (λ o low. byte_elsewhere patch u o (bytes u o) (λ same. apart (e ∙ ap Some (sym same)))))
-
-abbrev patch_of : Piece → ℕ → Patch
-patch_of piece i = record { inode = i; off = piece.off; bytes = piece.bytes }
 
 piece_shows : (image : Image) (bytes : ℕ → ℕ → ℕ) (piece : Piece) (i : ℕ) (map : PathMap) → PieceFinds image piece i → ShowsWith image bytes map →
     ShowsWith image (λ u o. patched_by (patch_of piece i) u o (bytes u o)) (with_piece map piece)

@@ -7,6 +7,10 @@ use Rattle.bp_layout.specs.Words.{Image}
 use Rattle.bp_changes.specs.Overwrites.{Patch}
 use Rattle.bp_plain.specs.Calls.{Piece}
 
+-- the bytes of a piece as a patch of the file that it is for
+abbrev pub patch_of : Piece → ℕ → Patch
+patch_of piece i = record { inode = i; off = piece.off; bytes = piece.bytes }
+
 -- the piece's path finds this file, and its bytes end at the file's size at most
 pub record PieceFinds (image : Image) (piece : Piece) (i : ℕ) : Type 0 where
   pub path : Path
@@ -20,4 +24,4 @@ pub data ArePatches (image : Image) : List Piece → List Patch → Type 0 where
   none : ArePatches image [] []
   more : {piece : Piece} {pieces : List Piece} {patches : List Patch} {i : ℕ} → PieceFinds image piece i →
       ArePatches image pieces patches →
-      ArePatches image (piece ∷ pieces) (record { inode = i; off = piece.off; bytes = piece.bytes } ∷ patches)
+      ArePatches image (piece ∷ pieces) (patch_of piece i ∷ patches)

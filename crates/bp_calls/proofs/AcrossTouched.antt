@@ -1,5 +1,5 @@
 -- What a write across the size of a file touches and needs, before it prepares anything.
-use Rattle.std.proofs.Common.{◌≡◌, ℕ, suc, ◌+◌, ◌-◌, ◌*◌, ◌/◌, ◌^◌, ◌<◌, ◌≤◌, min, max, List, [], ◌∷◌, ◌++◌, ◌==◌, length, map, fold, flat_map, Bool, true, Some, nat_lt, if◌then◌else◌, refl, sym, ◌∙◌, ap, subst, suc-ne-zero, arith, le_trans}
+use Rattle.std.proofs.Common.{◌≡◌, ℕ, suc, ◌+◌, ◌-◌, ◌*◌, ◌/◌, ◌^◌, ◌<◌, ◌≤◌, min, max, List, [], ◌∷◌, ◌++◌, ◌==◌, length, map, fold, flat_map, Bool, true, nat_lt, if◌then◌else◌, refl, sym, ◌∙◌, ap, subst, suc-ne-zero, arith, le_trans}
 use Rattle.bp_limits.proofs.Versions.{size_most}
 use Rattle.bp_layout.specs.Formatted.{version_of}
 use Rattle.std.specs.List.{range_with_len}
@@ -24,7 +24,7 @@ use Rattle.bp_append.specs.Prepared.{need_for}
 use Rattle.bp_append.proofs.FewNeeded.{few_needed}
 use Rattle.bp_append.proofs.NeedLaws.{tall_fits, tall_low}
 use Rattle.bp_cow.specs.Cover.{LeadsInside, copied_count}
-use Rattle.bp_cow.specs.Touched.{IsTouched, NoneBegins, all_paths, run_end, run_leaves, run_path, run_paths, word_paths}
+use Rattle.bp_cow.specs.Touched.{IsTouched, NoneBegins, all_paths, run_end, paths_of_run, run_leaves, run_path, run_paths, word_paths}
 use Rattle.bp_cow.specs.declared.touched.Run.{Run}
 use Rattle.bp_cow.specs.declared.touched.Touched.{Touched}
 use Rattle.bp_cow.proofs.FewCopies.{run_copies}
@@ -155,7 +155,7 @@ module _ (old : Memory) (blocks inodes : Set) (n off : ℕ) (bytes : List ℕ) (
 
   across_copies_by : (other : Image) → copied_count other touched ≤ run_leaves across.touches.run + 33
   across_copies_by other =
-      let most = run_copies other touched across_shape across_apart across.touches.run across.touches.one (le_trans across_leaves (omega arith)) in
+      let most = run_copies other touched across_shape across_apart across.touches.run across.touches.one in
       omega (arith, most, across_words)
 
   pub across_copies : (other : Image) → copied_count other touched ≤ 290
@@ -175,8 +175,9 @@ module _ (old : Memory) (blocks inodes : Set) (n off : ℕ) (bytes : List ℕ) (
 
   pub across_paths : all_paths touched ≡ layout.touched image write
   across_paths =
-      ap (λ r. run_paths r ++ word_paths touched) across.touches.one
-      ∙ ap (λ (words : List WordPath). run_paths (Some across.touches.run) ++ words) across.touches.sized
+      ap (λ runs. run_paths runs ++ word_paths touched) across.touches.one
+      ∙ ap (λ (words : List WordPath). run_paths (across.touches.run ∷ []) ++ words) across.touches.sized
+      ∙ ap (λ (paths : List WordPath). paths ++ inode_path (height_of (root_of image 0)) (suc n) 2 ∷ []) (append-nil (paths_of_run across.touches.run))
       ∙ ap (λ from. map (run_path across.touches.run) (range_with_len (from / 8) (suc ((run_end across.touches.run - 1) / 8 - from / 8))) ++ inode_path (height_of (root_of image 0)) (suc n) 2 ∷ []) across.touches.is.from
       ∙ ap (λ last. map (run_path across.touches.run) (range_with_len (off / 8) (suc ((last - 1) / 8 - off / 8))) ++ inode_path (height_of (root_of image 0)) (suc n) 2 ∷ []) across_end
       ∙ ap (λ (paths : List WordPath). paths ++ inode_path (height_of (root_of image 0)) (suc n) 2 ∷ [])

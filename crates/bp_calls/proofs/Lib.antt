@@ -57,6 +57,7 @@ pub mod PatchRuns
 pub mod PatchPaths
 pub mod PatchWords
 pub mod PatchCommits
+pub mod CommitResults
 pub mod RunCommits
 pub mod WriteBelow
 pub mod RowLaws

@@ -1,5 +1,6 @@
 -- The runs of patches: they lie in files, and what a commit of them asks.
-use Rattle.std.proofs.Common.{◌≡◌, ◌⊎◌, ℕ, zero, suc, ◌+◌, ◌-◌, ◌*◌, ◌/◌, ◌<◌, ◌≤◌, List, [], ◌∷◌, length, Bool, refl, ap, subst, inl, inr, arith}
+use Rattle.std.proofs.Common.{◌≡◌, ◌⊎◌, ℕ, zero, suc, ◌+◌, ◌-◌, ◌*◌, ◌/◌, ◌<◌, ◌≤◌, List, [], ◌∷◌, ◌++◌, get_or, length, take, Bool, refl, sym, ◌∙◌, ap, subst, inl, inr, arith}
+use Rattle.std.proofs.lemmas.List.{map-append, take_more}
 use Rattle.bp_limits.specs.Limits.{max_batch, max_pieces}
 use Rattle.bp_layout.specs.Free.{AreFreeBlocks}
 use Rattle.bp_layout.specs.Inode.{kind_of, root_of, size_of}
@@ -15,9 +16,10 @@ use Rattle.bp_cow.specs.declared.touched.Touched.{Touched}
 use Rattle.bp_cow.specs.CanCommit.{CanCommit}
 use Rattle.bp_cow.specs.Touched.{IsTouched, leaves_of}
 use Rattle.bp_cow.proofs.CallerLaws.{runs_can}
-use Rattle.bp_calls.specs.Overwritten.{AreRuns, IsPatchIn, byte_count}
+use Rattle.bp_calls.specs.Overwritten.{AreRuns, IsPatchIn, byte_count, patch_seen, patches_seen}
 use Rattle.bp_calls.specs.Overwritten.AreRuns.{none, empty, more}
 use Rattle.bp_calls.specs.TouchedBelow.{IsRunFor}
+use Rattle.bp_calls.specs.declared.batching.Patch.{Patch as GivenPatch}
 use Rattle.bp_calls.proofs.RunCommits.{IsRunOf, run_in, run_is}
 
 -- a run in the tree of a file, below its size
@@ -105,3 +107,37 @@ module _ (image : Image) (wf : IsWellFormed image) (patches : List Patch) (touch
   pub patches_can : (free : ℕ → Bool) → AreFreeBlocks image none_kept free → CanCommit image (size_of image) touched free
   patches_can free exact =
       runs_can image wf touched patches_shape free exact no_words (λ run has. let at = run_at run has in run_in image wf at.inode at.reached run at.of)
+
+-- ---- one patch after the other
+
+-- a patch without a byte has no run
+pub runs_pass : (image : Image) (patches : List Patch) (patch : Patch) (runs : List Run) → AreRuns image patches runs → length patch.bytes ≡ 0 → AreRuns image (patches ++ patch ∷ []) runs
+runs_pass image _ patch _ none no_byte = empty no_byte none
+runs_pass image _ patch _ (empty {patch = before} {patches} {runs} was rest) no_byte = empty was (runs_pass image patches patch runs rest no_byte)
+runs_pass image _ patch _ (more {patch = before} {patches} {run} {runs} some for_it rest) no_byte = more some for_it (runs_pass image patches patch runs rest no_byte)
+
+pub runs_more : (image : Image) (patches : List Patch) (patch : Patch) (runs : List Run) (run : Run) → AreRuns image patches runs → 1 ≤ length patch.bytes → IsRunFor image patch.inode patch.off patch.bytes run →
+    AreRuns image (patches ++ patch ∷ []) (runs ++ run ∷ [])
+runs_more image _ patch _ run none here is = more here is none
+runs_more image _ patch _ run (empty {patch = before} {patches} {runs} was rest) here is = empty was (runs_more image patches patch runs run rest here is)
+runs_more image _ patch _ run (more {patch = before} {patches} {run = first} {runs} some for_it rest) here is = more some for_it (runs_more image patches patch runs run rest here is)
+
+-- each of the patches of code lies in its file
+pub patch_at : (image : Image) (patches : List GivenPatch) → Each (IsPatchIn image) (patches_seen patches) → (i : ℕ) (other : GivenPatch) → i < length patches → IsPatchIn image (patch_seen (get_or patches i other))
+patch_at image [] each i other low = absurd (omega (arith, low))
+patch_at image (patch ∷ patches) each zero other low = each.0
+patch_at image (patch ∷ patches) each (suc i) other low = patch_at image patches each.1 i other (omega (arith, low))
+
+-- the next one comes behind those before it, and so does its run where it has a byte
+module _ (image : Image) (patches : List GivenPatch) (i : ℕ) where
+  next : (other : GivenPatch) → i < length patches → patches_seen (take (i + 1) patches) ≡ patches_seen (take i patches) ++ patch_seen (get_or patches i other) ∷ []
+  next other low = ap patches_seen (take_more patches i other low) ∙ map-append patch_seen (take i patches) (get_or patches i other ∷ [])
+
+  pub next_passes : (other : GivenPatch) (runs : List Run) → i < length patches → AreRuns image (patches_seen (take i patches)) runs → length (get_or patches i other).bytes.now ≡ 0 → AreRuns image (patches_seen (take (i + 1) patches)) runs
+  next_passes other runs low are no_byte = subst (λ ps. AreRuns image ps runs) (sym (next other low)) (runs_pass image (patches_seen (take i patches)) (patch_seen (get_or patches i other)) runs are no_byte)
+
+  pub next_run : (other : GivenPatch) (runs after : List Run) (run : Run) → i < length patches → AreRuns image (patches_seen (take i patches)) runs → after ≡ runs ++ run ∷ [] → 1 ≤ length (get_or patches i other).bytes.now →
+      IsRunFor image (get_or patches i other).inode (get_or patches i other).off (get_or patches i other).bytes.now run → AreRuns image (patches_seen (take (i + 1) patches)) after
+  next_run other runs after run low are pushed some for_it =
+      subst (AreRuns image (patches_seen (take (i + 1) patches))) (sym pushed)
+      (subst (λ ps. AreRuns image ps (runs ++ run ∷ [])) (sym (next other low)) (runs_more image (patches_seen (take i patches)) (patch_seen (get_or patches i other)) runs run are some for_it))

@@ -53,7 +53,7 @@ module _ (image : Image) (wf : IsWellFormed image) where
 -- ---- which runs give a word
 
 -- the run lies in the tree with this root path, and this is one of its words
-record Covers (root : WordPath) (k : ℕ) (run : Run) : Type 0 where
+pub record Covers (root : WordPath) (k : ℕ) (run : Run) : Type 0 where
   pub tree : run.root.items ≡ root
   pub low : run.off / 8 ≤ k
   pub high : k ≤ (run_end run - 1) / 8
@@ -185,13 +185,10 @@ module _ (old new : Image) (wf : IsWellFormed old) (touched : Touched) (free : �
   -- a word of a file has the bytes of all runs in the file
   word_laid : (m k : ℕ) → IsReached old (suc m) → 8 * k < size_of old (suc m) →
       after_commit old (job_of touched) (content_trail old (size_of old) can.forest (suc m) k) ≡ laid_word touched.runs.now (inode_path (height_of (root_of old 0)) (suc m) 1) k (content_word old (root_of old (suc m)) k)
-  word_laid m k also low = go (some_covers root_here k touched.runs.now)
+  word_laid m k also low = go (some_covers (inode_path (height_of (root_of old 0)) (suc m) 1) k touched.runs.now)
     where
-      abbrev root_here : WordPath
-      root_here = inode_path (height_of (root_of old 0)) (suc m) 1
-
-      go : ((run : Run) × Has touched.runs.now run × Covers root_here k run) ⊎ ((run : Run) → Has touched.runs.now run → Covers root_here k run → ⊥) →
-          after_commit old (job_of touched) (content_trail old (size_of old) can.forest (suc m) k) ≡ laid_word touched.runs.now root_here k (content_word old (root_of old (suc m)) k)
+      go : ((run : Run) × Has touched.runs.now run × Covers (inode_path (height_of (root_of old 0)) (suc m) 1) k run) ⊎ ((run : Run) → Has touched.runs.now run → Covers (inode_path (height_of (root_of old 0)) (suc m) 1) k run → ⊥) →
+          after_commit old (job_of touched) (content_trail old (size_of old) can.forest (suc m) k) ≡ laid_word touched.runs.now (inode_path (height_of (root_of old 0)) (suc m) 1) k (content_word old (root_of old (suc m)) k)
       go (inl found) =
           let run = found.0 in
           let has = found.1 in
@@ -201,9 +198,9 @@ module _ (old new : Image) (wf : IsWellFormed old) (touched : Touched) (free : �
           ap (after_commit old (job_of touched)) (sym trail)
           ∙ after-run old (size_of old) touched free wf can run k has found.2.low found.2.high
           ∙ ap (λ (r : WordPath). laid_word touched.runs.now r k (word_on old (trail_of (run_path run k) (length (run_path run k))))) found.2.tree
-          ∙ ap (λ (q : Trail). laid_word touched.runs.now root_here k (word_on old q)) trail
-          ∙ ap (laid_word touched.runs.now root_here k) (word-tree old (suc m) (suc (height_of (root_of old (suc m)))) k)
-      go (inr nowhere) = stays_apart (suc m) k apart ∙ sym (laid_stays root_here k touched.runs.now (content_word old (root_of old (suc m)) k) nowhere)
+          ∙ ap (λ (q : Trail). laid_word touched.runs.now (inode_path (height_of (root_of old 0)) (suc m) 1) k (word_on old q)) trail
+          ∙ ap (laid_word touched.runs.now (inode_path (height_of (root_of old 0)) (suc m) 1) k) (word-tree old (suc m) (suc (height_of (root_of old (suc m)))) k)
+      go (inr nowhere) = stays_apart (suc m) k apart ∙ sym (laid_stays (inode_path (height_of (root_of old 0)) (suc m) 1) k touched.runs.now (content_word old (root_of old (suc m)) k) nowhere)
         where
           apart : (run : Run) (has : Has touched.runs.now run) (l : ℕ) → run.off / 8 ≤ l → l ≤ (run_end run - 1) / 8 →
               content_trail old (size_of old) can.forest (suc m) k ≡ content_trail old (size_of old) can.forest (suc (at run has).inode) l → ⊥

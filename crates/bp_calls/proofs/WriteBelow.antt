@@ -91,7 +91,7 @@ module _ (old : Memory) (blocks inodes : Set) (n : ℕ) (touched : Touched) (run
     can = can;
     need_is = copies_need;
     room = λ enough.
-        let few = few_copies image (size_of image) touched (has blocks) wf can run is.one (le_trans (few_leaves run asks.short) (omega arith)) in
+        let few = few_copies image (size_of image) touched (has blocks) wf can run is.one in
         let room : room_for (need image (writes (suc n) run.off (length run.bytes.now))) ≤ room_in old = room_asked old blocks (writes (suc n) run.off (length run.bytes.now)) asks.room (omega (arith, copies_need, enough)) in
         omega (arith, few, few_leaves run asks.short, none, copies_need, room);
   }

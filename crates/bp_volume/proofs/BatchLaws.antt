@@ -1,5 +1,5 @@
 -- Calls that write bytes into several files at once: why they are refused, and what they make of the plain tree.
-use Rattle.std.proofs.Common.{◌≡◌, ◌≢◌, ◌⊎◌, ℕ, ◌+◌, ◌≤◌, ◌<◌, ◌==◌, List, [], ◌∷◌, ◌++◌, length, map, Bool, true, false, refl, sym, ◌∙◌, ap, ap₂, subst, Option, None, Some, inl, inr, arith}
+use Rattle.std.proofs.Common.{◌≡◌, ◌≢◌, ◌⊎◌, ℕ, ◌+◌, ◌≤◌, ◌<◌, ◌==◌, List, [], ◌∷◌, ◌++◌, length, map, Bool, true, false, refl, sym, ◌∙◌, ap, ap₂, subst, Option, None, Some, inl, inr, arith, true≢false}
 use Rattle.std.specs.Prelude.{nat_lt, is_none, unwrap_or}
 use Rattle.std.specs.List.{fold, list_any, sum_by}
 use Rattle.std.proofs.lemmas.Bool.{cases_lt, lt-ltb, le-ltb}
@@ -13,7 +13,7 @@ use Rattle.bp_layout.specs.WellFormed.{IsWellFormed}
 use Rattle.bp_layout.specs.Words.{Image}
 use Rattle.bp_changes.specs.Overwrites.{OverwritesFiles, Patch}
 use Rattle.bp_stands.specs.Pieces.{ArePatches, PieceFinds}
-use Rattle.bp_stands.specs.Pieces.ArePatches as found
+use Rattle.bp_stands.specs.Pieces.ArePatches.{none as no_patch, more as more_patches}
 use Rattle.bp_stands.proofs.OverwriteStands.{pieces_shows}
 use Rattle.bp_calls.specs.Overwritten.{IsPatchIn, byte_count, stretch_of, stretches_of}
 use Rattle.bp_limits.specs.Limits.{max_batch}
@@ -26,7 +26,7 @@ use Rattle.bp_plain.specs.PlainTree.{FileTree}
 use Rattle.bp_plain.specs.Stands.{Shows, Stands}
 use Rattle.bp_plain.proofs.Carried.{batch_refused}
 use Rattle.bp_volume.specs.Step.{AreStretches, IsChange, PathFinds}
-use Rattle.bp_volume.specs.Step.AreStretches as stretched
+use Rattle.bp_volume.specs.Step.AreStretches.{none as no_stretch, more as more_stretches}
 use Rattle.bp_volume.specs.Step.IsChange.{by_batch}
 use Rattle.bp_volume.specs.Told.{Refuses, RefusesPiece, RefusesPieces, StopsAtFile, Tells, refusal_of_file}
 use Rattle.bp_volume.proofs.AskingLaws.{at_reached}
@@ -50,11 +50,11 @@ sum_is pieces = omega (arith, sum_from pieces 0)
 
 some_byte : (pieces : List Piece) → 0 < piece_bytes pieces → list_any (λ piece. nat_lt 0 (length piece.bytes)) pieces ≡ true
 some_byte [] some = absurd (omega (arith, some))
-some_byte (piece ∷ pieces) some = go (cases_lt 0 (length piece.bytes))
+some_byte (piece ∷ pieces) some = go (cases_lt 0 (length piece.bytes)) (λ later. some_byte pieces later)
   where
-    go : (0 < length piece.bytes) ⊎ (length piece.bytes ≤ 0) → list_any (λ piece. nat_lt 0 (length piece.bytes)) (piece ∷ pieces) ≡ true
-    go (inl here) = rw (lt-ltb 0 (length piece.bytes) here) refl
-    go (inr none) = rw (le-ltb 0 (length piece.bytes) none) (some_byte pieces (omega (arith, some, none)))
+    go : (0 < length piece.bytes) ⊎ (length piece.bytes ≤ 0) → (0 < piece_bytes pieces → list_any (λ piece. nat_lt 0 (length piece.bytes)) pieces ≡ true) → list_any (λ piece. nat_lt 0 (length piece.bytes)) (piece ∷ pieces) ≡ true
+    go (inl here) rest = rw (lt-ltb 0 (length piece.bytes) here) refl
+    go (inr none) rest = rw (le-ltb 0 (length piece.bytes) none) (rest (omega (arith, some, none)))
 
 no_byte : (pieces : List Piece) → piece_bytes pieces ≡ 0 → list_any (λ piece. nat_lt 0 (length piece.bytes)) pieces ≡ false
 no_byte [] none = refl
@@ -64,12 +64,19 @@ no_byte (piece ∷ pieces) none = rw (le-ltb 0 (length piece.bytes) (omega (arit
 
 module _ (image : Image) (piece : Piece) where
   -- its path is one, and no file stands there
-  pub piece_stops : (path : Path) → parse piece.path ≡ Some path → (why : Refusal) → StopsAtFile image piece.path why → RefusesPiece image piece why
+  piece_stops : (path : Path) → parse piece.path ≡ Some path → (why : Refusal) → StopsAtFile image piece.path why → RefusesPiece image piece why
   piece_stops path parsed why stops tree stands =
       let here : path_named piece.path ≡ path = ap (λ (o : Option Path). unwrap_or o []) parsed in
       let file : file_refusal tree.now.nodes path ≡ Some why = ap (λ o. on_parsed o (refusal_of_file tree)) (sym parsed) ∙ stops tree stands in
       ap (λ p. first (file_refusal tree.now.nodes p ∷ when (nat_lt (length (bytes_at tree.now.nodes (path_named piece.path))) (piece.off + length piece.bytes)) past_end ∷ [])) here
       ∙ ap (λ o. first (o ∷ when (nat_lt (length (bytes_at tree.now.nodes (path_named piece.path))) (piece.off + length piece.bytes)) past_end ∷ [])) file
+
+  pub piece_stopped : is_none (parse piece.path) ≡ false → (why : Refusal) → StopsAtFile image piece.path why → RefusesPiece image piece why
+  piece_stopped is why stops = go (parse piece.path) refl
+    where
+      go : (o : Option Path) → parse piece.path ≡ o → RefusesPiece image piece why
+      go None e = absurd (true≢false (sym (ap is_none e) ∙ is))
+      go (Some path) e = piece_stops path e why stops
 
   -- a file does
   module _ (i : ℕ) (at : PathFinds image piece.path i) (kind : kind_of image i ≡ 1) where
@@ -90,50 +97,44 @@ module _ (image : Image) (piece : Piece) where
     piece_goes within tree stands = piece_left tree stands ∙ ap (λ b. first (when b past_end ∷ [])) (le-ltb (size_of image i) (piece.off + length piece.bytes) within)
 
 -- what a piece finds
-found_at : (image : Image) (piece : Piece) (i : ℕ) → PieceFinds image piece i → PathFinds image piece.path i
+pub found_at : (image : Image) (piece : Piece) (i : ℕ) → PieceFinds image piece i → PathFinds image piece.path i
 found_at image piece i finds = record { path = finds.path; parsed = finds.parsed; inode = finds.inode }
 
 -- ---- all pieces, each of which finds its file
 
 module _ (image : Image) where
   are_stretches : (pieces : List Piece) (patches : List Patch) → ArePatches image pieces patches → AreStretches image pieces (stretches_of patches)
-  are_stretches _ _ found.none = stretched.none
-  are_stretches _ _ (found.more {piece} {pieces} {patches} {i} finds rest) = stretched.more (found_at image piece i finds) (are_stretches pieces patches rest)
+  are_stretches _ _ no_patch = no_stretch
+  are_stretches _ _ (more_patches {piece} {pieces} {patches} {i} finds rest) = more_stretches (found_at image piece i finds) (are_stretches pieces patches rest)
 
   same_stretches : (pieces : List Piece) (stretches : List Stretch) (patches : List Patch) → AreStretches image pieces stretches → ArePatches image pieces patches → stretches ≡ stretches_of patches
-  same_stretches _ _ _ stretched.none found.none = refl
-  same_stretches _ _ _ (stretched.more {piece} {pieces} {stretches} {i} at others) (found.more {patches = patches} {i = k} finds rest) =
+  same_stretches _ _ _ no_stretch no_patch = refl
+  same_stretches _ _ _ (more_stretches {piece} {pieces} {stretches} {i} at others) (more_patches {patches = patches} {i = k} finds rest) =
       ap₂ (λ j (ss : List Stretch). record { inode = j; off = piece.off; len = length piece.bytes } ∷ ss)
       (same_file image piece.path k (found_at image piece k finds) finds.is_file i at) (same_stretches pieces stretches patches others rest)
 
   count_is : (pieces : List Piece) (patches : List Patch) → ArePatches image pieces patches → byte_count patches ≡ piece_bytes pieces
-  count_is _ _ found.none = refl
-  count_is _ _ (found.more {piece} {pieces} {patches} {i} finds rest) = ap (λ n. length piece.bytes + n) (count_is pieces patches rest)
+  count_is _ _ no_patch = refl
+  count_is _ _ (more_patches {piece} {pieces} {patches} {i} finds rest) = ap (λ n. length piece.bytes + n) (count_is pieces patches rest)
 
   pub patches_bytes : (pieces : List Piece) (patches : List Patch) → ArePatches image pieces patches → byte_count patches ≡ sum_by (λ piece. length piece.bytes) pieces
   patches_bytes pieces patches are = count_is pieces patches are ∙ sym (sum_is pieces)
 
   pub patches_many : (pieces : List Piece) (patches : List Patch) → ArePatches image pieces patches → length patches ≡ length pieces
-  patches_many _ _ found.none = refl
-  patches_many _ _ (found.more {piece} {pieces} {patches} {i} finds rest) = omega (arith, patches_many pieces patches rest)
+  patches_many _ _ no_patch = refl
+  patches_many _ _ (more_patches {piece} {pieces} {patches} {i} finds rest) = omega (arith, patches_many pieces patches rest)
 
   pub patches_in : IsWellFormed image → (pieces : List Piece) (patches : List Patch) → ArePatches image pieces patches → Each (IsPatchIn image) patches
-  patches_in wf _ _ found.none = tt
-  patches_in wf _ _ (found.more {piece} {pieces} {patches} {i} finds rest) =
+  patches_in wf _ _ no_patch = tt
+  patches_in wf _ _ (more_patches {piece} {pieces} {patches} {i} finds rest) =
       (record { reached = at_reached image wf piece.path i (found_at image piece i finds); is_file = finds.is_file; within = finds.within }, patches_in wf pieces patches rest)
 
   -- none of them is refused, so the first refusal stands behind them
   passes : (pieces : List Piece) (patches : List Patch) → ArePatches image pieces patches → (tree : FileTree) → Stands image tree → first (map (piece_refusal tree.now.nodes) pieces) ≡ None
-  passes _ _ found.none tree stands = refl
-  passes _ _ (found.more {piece} {pieces} {patches} {i} finds rest) tree stands =
+  passes _ _ no_patch tree stands = refl
+  passes _ _ (more_patches {piece} {pieces} {patches} {i} finds rest) tree stands =
       ap (λ o. first (o ∷ map (piece_refusal tree.now.nodes) pieces)) (piece_goes image piece i (found_at image piece i finds) finds.is_file finds.within tree stands)
       ∙ passes pieces patches rest tree stands
-
-  -- one more, behind them
-  pub patches_more : (pieces : List Piece) (patches : List Patch) (piece : Piece) (i : ℕ) (patch : Patch) → ArePatches image pieces patches → PieceFinds image piece i → patch ≡ record { inode = i; off = piece.off; bytes = piece.bytes } →
-      ArePatches image (pieces ++ piece ∷ []) (patches ++ patch ∷ [])
-  patches_more _ _ piece i patch found.none finds is = subst (λ p. ArePatches image (piece ∷ []) (p ∷ [])) (sym is) (found.more finds found.none)
-  patches_more _ _ piece i patch (found.more {piece = before} {pieces} {patches} {i = k} was rest) finds is = found.more was (patches_more pieces patches piece i patch rest finds is)
 
 -- ---- the call
 

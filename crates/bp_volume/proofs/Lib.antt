@@ -10,6 +10,7 @@ pub mod FewBlocks
 pub mod FileLaws
 pub mod FewStretches
 pub mod BatchLaws
+pub mod PieceLaws
 pub mod FullLaws
 pub mod LeavingLaws
 pub mod RenameLaws

@@ -1,10 +1,10 @@
 -- The calls that a volume carries out so far.
-use Rattle.std.specs.Prelude.{◌≤◌}
-use Rattle.bp_limits.specs.Limits.{max_read}
+use Rattle.std.specs.Prelude.{◌≤◌, length}
+use Rattle.bp_limits.specs.Limits.{max_pieces, max_read}
 use Rattle.bp_plain.specs.Calls.{Call}
 use Rattle.bp_plain.specs.Calls.Call.{read, snap, unsnap, snap_list, snap_stat, snap_read, batch}
 
--- no snapshot and no batch, and a read of so many bytes at most
+-- no snapshot, a read of so many bytes at most, and a batch of so many pieces at most, of which there is one
 abbrev pub IsServed : Call → Type 0
 IsServed (read text off len) = len ≤ max_read
 IsServed snap = ⊥
@@ -12,5 +12,5 @@ IsServed unsnap = ⊥
 IsServed (snap_list text) = ⊥
 IsServed (snap_stat text) = ⊥
 IsServed (snap_read text off len) = ⊥
-IsServed (batch pieces) = ⊥
+IsServed (batch pieces) = (1 ≤ length pieces) × (length pieces ≤ max_pieces)
 IsServed call = Unit {0}

@@ -151,8 +151,8 @@ module _ (old middle : Memory) (blocks inodes after : Set) (n off : ℕ) (bytes 
         (ap (trail_of (inode_path (height_of (root_of mid 0)) (suc n) 2)) size_long ∙ size_trail);
     reached = here;
     is_file = prepared.ready.meaning.kind (suc n) across.can.reached ∙ across.can.file;
-    root = across.touches.root ∙ ap (λ r. inode_path (height_of r) (suc n) 1) (sym root_stays);
-    height = across.touches.height ∙ sym prepared.ready.height;
+    root = across.touches.is.root ∙ ap (λ r. inode_path (height_of r) (suc n) 1) (sym root_stays);
+    height = across.touches.is.height ∙ sym prepared.ready.height;
     some = across_some old blocks inodes n off bytes touched across;
     below = omega (arith, across_end old blocks inodes n off bytes touched across, bound_here, across.past);
     small = small;
@@ -174,8 +174,8 @@ module _ (old middle : Memory) (blocks inodes after : Set) (n off : ℕ) (bytes 
     run = subst (HasRunIn mid bound) (sym across.touches.one) (record {
       inode = n;
       reached = here;
-      root = root_path_trail (height_of (root_of mid 0)) n across.touches.run.root.items (across.touches.root ∙ ap (λ r. inode_path (height_of r) (suc n) 1) (sym root_stays));
-      height = across.touches.height ∙ sym prepared.ready.height;
+      root = root_path_trail (height_of (root_of mid 0)) n across.touches.run.root.items (across.touches.is.root ∙ ap (λ r. inode_path (height_of r) (suc n) 1) (sym root_stays));
+      height = across.touches.is.height ∙ sym prepared.ready.height;
       below = omega (arith, across_end old blocks inodes n off bytes touched across, bound_here, across.past);
     });
     apart = λ i k low few same. omega (arith, low, few, across_words old blocks inodes n off bytes touched across);
@@ -188,7 +188,7 @@ module _ (old middle : Memory) (blocks inodes after : Set) (n off : ℕ) (bytes 
       longer r k e same =
           let root_long : length r.root.items ≡ suc (height_of (root_of mid 0)) =
           subst (λ (x : Run). length x.root.items ≡ suc (height_of (root_of mid 0))) (inject across.touches.run r (sym across.touches.one ∙ e))
-          (ap (λ (p : WordPath). length p) (across.touches.root ∙ ap (λ z. inode_path (height_of z) (suc n) 1) (sym root_stays)) ∙ length-digits (suc (height_of (root_of mid 0))) (8 * suc n + 1)) in
+          (ap (λ (p : WordPath). length p) (across.touches.is.root ∙ ap (λ z. inode_path (height_of z) (suc n) 1) (sym root_stays)) ∙ length-digits (suc (height_of (root_of mid 0))) (8 * suc n + 1)) in
           omega (
             arith,
             ap (λ (x : Trail). length x) same,
@@ -205,7 +205,7 @@ module _ (old middle : Memory) (blocks inodes after : Set) (n off : ℕ) (bytes 
   -- ---- the cover is the one that it was, and the copies are as many
 
   pub run_there : IsSizedRun (height_of (root_of mid 0)) (suc n) touched across.touches.run
-  run_there = record { one = across.touches.one; root = across.touches.root ∙ ap (λ r. inode_path (height_of r) (suc n) 1) (sym root_stays); sized = middle_sized }
+  run_there = record { one = across.touches.one; root = across.touches.is.root ∙ ap (λ r. inode_path (height_of r) (suc n) 1) (sym root_stays); sized = middle_sized }
 
   in_image : suc n < inode_count image
   in_image = reached-in_file image wf (suc n) across.can.reached

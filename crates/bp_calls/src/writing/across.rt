@@ -4,7 +4,7 @@
 ghost use Rattle.std.specs.Prelude.{◌≡◌, ◌+◌, ◌<◌, ◌≤◌, length, IfErr, OnErr, OnOk};
 ghost use Rattle.bp_calls.specs.CanWrite.{CanWrite};
 ghost use Rattle.bp_calls.specs.Space.{LacksSpace};
-ghost use Rattle.bp_calls.specs.TouchedAcross.{IsSizeWord, TouchesAcross};
+ghost use Rattle.bp_calls.specs.TouchedAcross.{IsRunAcross};
 ghost use Rattle.bp_calls.specs.WritesFile.{WritesFile};
 ghost use Rattle.bp_layout.specs.Inode.{root_of, size_of};
 ghost use Rattle.bp_layout.specs.Need.Change.{writes};
@@ -19,33 +19,34 @@ use bp_inodes::{root_path, size_path, tree_of};
 use bp_tree::{Slots, Tree};
 use pm_region::Region;
 
-/// What is touched by bytes that end past the size of a file: those below its size, in its tree once it is high enough
-/// for all of them, and its size, which will be the end.
-fn touched_across<'a, R: Region>(
+/// The run of bytes that lie below the size of a file, in its tree once it is high enough for an end.
+fn run_across<'a, R: Region>(
     region: &R,
     i: u32,
     tree: Tree,
     off: u64,
     below: &'a [u8],
-    sized: &'a [(Slots, u64); 1],
     end: u64,
-) -> Touched<'a>
+) -> Run<'a>
     requires some { 4 ≤ length (current_words (R.memory region.now)) }
     requires root { tree.root ≡ root_of (current_words (R.memory region.now)) i }
     requires size { tree.size ≡ size_of (current_words (R.memory region.now)) i }
-    requires sized { IsSizeWord (current_words (R.memory region.now)) i end sized.now }
-    ensures { TouchesAcross (current_words (R.memory region.now)) i off end below.now result }
+    ensures { IsRunAcross (current_words (R.memory region.now)) i off end below.now result }
 {
-    let run = Run {
+    Run {
         root: root_path(region, i),
         height: height_with(tree, end),
         off,
         bytes: below,
-    };
-    Touched {
-        words: sized,
-        run: Some(run),
     }
+}
+
+/// What is touched by bytes that end past the size of a file: those below its size, and its size.
+fn touched_across<'a>(runs: &'a [Run<'a>; 1], sized: &'a [(Slots, u64); 1]) -> Touched<'a>
+    ensures runs { result.runs.now ≡ runs.now }
+    ensures words { result.words.now ≡ sized.now }
+{
+    Touched { words: sized, runs }
 }
 
 /// Writes bytes that begin below the size of a file and end past it. Its tree is prepared for those behind the size, and
@@ -76,7 +77,8 @@ pub(crate) fn write_across<R: Region>(
     let (below, beyond) = bytes.split_at((tree.size - off) as usize);
     let root = root_path(&parts.region, i);
     let sized = [(size_path(&parts.region, i), end)];
-    let touched = touched_across(&parts.region, i, tree, off, below, &sized, end);
+    let runs = [run_across(&parts.region, i, tree, off, below, end)];
+    let touched = touched_across(&runs, &sized);
     let behind = need_prep(&parts.region, tree, tree.size, end);
     let need = behind + need_cover(&parts.region, &touched);
     let free = parts.blocks.count();

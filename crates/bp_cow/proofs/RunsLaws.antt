@@ -32,6 +32,17 @@ has-item [] k run low is = absurd (omega (arith, low))
 has-item (first ∷ runs) zero run low is = inl (sym is)
 has-item (first ∷ runs) (suc k) run low is = inr (has-item runs k run (omega (arith, low)) is)
 
+-- what holds of one run alone holds of each
+pub one_run : {runs : List Run} → (P : Run → Type 0) (run : Run) → P run → runs ≡ run ∷ [] → (r : Run) → Has runs r → P r
+one_run P run is one r has = go (subst (λ (rs : List Run). Has rs r) one has)
+  where
+    go : (run ≡ r) ⊎ ⊥ → P r
+    go (inl e) = subst P e is
+    go (inr none) = absurd none
+
+pub has-one : {runs : List Run} → (run : Run) → runs ≡ run ∷ [] → Has runs run
+has-one run one = subst (λ (rs : List Run). Has rs run) (sym one) (inl refl)
+
 pub has-first : (runs : List Run) (run : Run) → Some run ≡ slice_get runs 0 → Has runs run
 has-first [] run is = absurd (cc)
 has-first (first ∷ runs) run is = inl (cc)

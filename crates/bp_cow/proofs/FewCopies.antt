@@ -152,9 +152,10 @@ module _ (touched : Touched) (shape : IsTouched touched) (from : ℕ) where
       behind i low =
           let way = ways_are (run_leaves run + i) (omega (arith, low)) in
           let sum : start + (run_leaves run + i) ≡ start + run_leaves run + i = omega arith in
-          let back : run_leaves run + i - run_leaves run ≡ i = omega arith in
-          (subst (λ n. n < ways (job_of touched)) sum way.0,
-          ap (job_of touched).way (sym sum) ∙ way.1 ∙ way-behind run runs (word_paths touched) (run_leaves run + i) (omega arith) ∙ ap (way_of runs (word_paths touched)) back)
+          let back : run_leaves run + i - run_leaves run ≡ i = omega arith in (
+            subst (λ n. n < ways (job_of touched)) sum way.0,
+            ap (job_of touched).way (sym sum) ∙ way.1 ∙ way-behind run runs (word_paths touched) (run_leaves run + i) (omega arith) ∙ ap (way_of runs (word_paths touched)) back,
+          )
 
   words-upto : (m : ℕ) → m ≤ length touched.words.now → turned_upto (job_of touched) from (leaves_of touched.runs.now + m) ≤ turned_upto (job_of touched) from (leaves_of touched.runs.now) + 11 * m
   words-upto zero low = let e : leaves_of touched.runs.now + 0 ≡ leaves_of touched.runs.now = omega arith in rw e (omega arith)

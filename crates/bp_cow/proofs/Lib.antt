@@ -31,7 +31,6 @@ pub mod CommitTaking
 pub mod RunTouched
 pub mod FewCopies
 pub mod RunThere
-pub mod TreeTrails
 pub mod RunWrites
 pub mod LeafCover
 pub mod Thawing

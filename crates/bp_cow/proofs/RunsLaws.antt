@@ -1,5 +1,6 @@
 -- Lists of runs: their leaves and the ways to these, the paths that tell, and the words over which they are laid.
-use Rattle.std.proofs.Common.{◌≡◌, ◌≢◌, ◌⊎◌, ℕ, zero, suc, ◌+◌, ◌-◌, ◌*◌, ◌/◌, ◌%◌, ◌<◌, ◌≤◌, List, [], ◌∷◌, length, drop, Bool, true, false, refl, sym, ◌∙◌, ap, subst, arith, inl, inr}
+use Rattle.std.proofs.Common.{◌≡◌, ◌⊎◌, ℕ, zero, suc, ◌+◌, ◌-◌, ◌*◌, ◌/◌, ◌%◌, ◌<◌, ◌≤◌, List, [], ◌∷◌, length, drop, Bool, true, false, Some, refl, sym, ◌∙◌, ap, subst, arith, inl, inr}
+use Rattle.std.specs.List.{slice_get}
 use Rattle.std.specs.Prelude.{nat_lt, bytes_eq, slice_index, slice_index_or, ◌==◌, if◌then◌else◌}
 use Rattle.std.proofs.lemmas.Bool.{cases_lt, lt-ltb, ltb-true}
 use Rattle.std.proofs.lemmas.List.{get_or-take, length-take}
@@ -12,7 +13,7 @@ use Rattle.bp_cow.specs.declared.touched.Touched.{Touched}
 use Rattle.bp_cow.specs.Cover.{end_path_of, ends_of}
 use Rattle.bp_cow.specs.Job.{ways}
 use Rattle.bp_cow.specs.Leaves.{IsLeaf}
-use Rattle.bp_cow.specs.Touched.{IsRun, IsTouched, above, job_of, laid_word, leaves_of, patch_of, path_of, run_end, run_leaves, run_path, run_way, run_word, way_of, word_paths}
+use Rattle.bp_cow.specs.Touched.{IsRun, IsTouched, above, job_of, laid_word, leaves_of, path_of, run_end, run_leaves, run_path, run_way, run_word, way_of, word_paths}
 use Rattle.bp_cow.proofs.RunLaws.{length-run_way}
 
 pub leaves-few : (runs : List Run) → ((run : Run) → Has runs run → IsRun run) → leaves_of runs ≤ 257 * length runs
@@ -30,6 +31,27 @@ pub has-item : (runs : List Run) (k : ℕ) (run : Run) → k < length runs → r
 has-item [] k run low is = absurd (omega (arith, low))
 has-item (first ∷ runs) zero run low is = inl (sym is)
 has-item (first ∷ runs) (suc k) run low is = inr (has-item runs k run (omega (arith, low)) is)
+
+-- what holds of one run alone holds of each
+pub one_run : {runs : List Run} → (P : Run → Type 0) (run : Run) → P run → runs ≡ run ∷ [] → (r : Run) → Has runs r → P r
+one_run P run is one r has = go (subst (λ (rs : List Run). Has rs r) one has)
+  where
+    go : (run ≡ r) ⊎ ⊥ → P r
+    go (inl e) = subst P e is
+    go (inr none) = absurd none
+
+pub has-one : {runs : List Run} → (run : Run) → runs ≡ run ∷ [] → Has runs run
+has-one run one = subst (λ (rs : List Run). Has rs run) (sym one) (inl refl)
+
+pub has-first : (runs : List Run) (run : Run) → Some run ≡ slice_get runs 0 → Has runs run
+has-first [] run is = absurd (cc)
+has-first (first ∷ runs) run is = inl (cc)
+
+pub one-run : (runs : List Run) (run : Run) → length runs ≡ 1 → Has runs run → runs ≡ run ∷ []
+one-run [] run one has = absurd has
+one-run (first ∷ []) run one (inl e) = ap (λ (r : Run). r ∷ []) e
+one-run (first ∷ []) run one (inr none) = absurd none
+one-run (first ∷ second ∷ runs) run one has = absurd (omega (arith, one))
 
 -- ---- the ways
 
@@ -186,19 +208,15 @@ ends-by (run ∷ runs) paths count P of_first of_last of_word (suc (suc i)) here
 -- ---- the words
 
 -- a run of the tree, and one of another tree
-pub laid-under : (run : Run) (runs : List Run) (root : WordPath) (k old : ℕ) → run.root.items ≡ root → laid_word (run ∷ runs) root k old ≡ laid_word runs root k (run_word run k old)
-laid-under run runs root k old e = let test : bytes_eq run.root.items root ≡ true = (bytes_eq-Decides run.root.items root).1 e in rw test refl
+pub laid-under : (run : Run) (runs : List Run) (root : WordPath) (k old : ℕ) → bytes_eq run.root.items root ≡ true → laid_word (run ∷ runs) root k old ≡ laid_word runs root k (run_word run k old)
+laid-under run runs root k old test = rw test refl
 
-pub laid-beside : (run : Run) (runs : List Run) (root : WordPath) (k old : ℕ) → run.root.items ≢ root → laid_word (run ∷ runs) root k old ≡ laid_word runs root k old
-laid-beside run runs root k old other = go (bytes_eq run.root.items root) refl
-  where
-    go : (x : Bool) → bytes_eq run.root.items root ≡ x → laid_word (run ∷ runs) root k old ≡ laid_word runs root k old
-    go false e = rw e refl
-    go true e = absurd (other ((bytes_eq-Decides run.root.items root).0 e))
+pub laid-beside : (run : Run) (runs : List Run) (root : WordPath) (k old : ℕ) → bytes_eq run.root.items root ≡ false → laid_word (run ∷ runs) root k old ≡ laid_word runs root k old
+laid-beside run runs root k old test = rw test refl
 
 -- one run alone
 pub laid-one : (run : Run) (k old : ℕ) → laid_word (run ∷ []) run.root.items k old ≡ run_word run k old
-laid-one run k old = laid-under run [] run.root.items k old refl
+laid-one run k old = laid-under run [] run.root.items k old ((bytes_eq-Decides run.root.items run.root.items).1 refl)
 
 -- a word to which no run of the tree gives another value
 pub laid-kept : (runs : List Run) (root : WordPath) (k old : ℕ) → ((run : Run) → Has runs run → run.root.items ≡ root → run_word run k old ≡ old) → laid_word runs root k old ≡ old

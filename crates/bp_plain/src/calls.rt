@@ -1,7 +1,7 @@
 //! The calls on the files of a volume.
 
 /// A part of a text: so many bytes from a place on.
-#[derive(Clone, Copy, Debug, PartialEq, Eq)]
+#[derive(Clone, Copy, Debug, Default, PartialEq, Eq)]
 pub struct Span {
     /// The place of its first byte.
     pub at: u32,
@@ -10,7 +10,7 @@ pub struct Span {
 }
 
 /// Bytes for the file at a path, from an offset on. Path and bytes are parts of one text.
-#[derive(Clone, Copy, Debug, PartialEq, Eq)]
+#[derive(Clone, Copy, Debug, Default, PartialEq, Eq)]
 pub struct Piece {
     /// The path.
     pub path: Span,

@@ -3,7 +3,8 @@ use Rattle.std.proofs.Common.{zero, suc, refl, sym, ◌∙◌, ap, arith, ◌≡
 use Rattle.std.specs.Prelude.{Bool, None, Some, ◌&&◌, nat_lt, not, slice_get, if◌then◌else◌}
 use Rattle.pm_epochs.proofs.CrashLaws.{barriers-append, length-words_after, marks-append}
 use Rattle.pm_epochs.specs.declared.event.Event.{Event}
-use Rattle.pm_epochs.specs.Log.{barriers, marks}
+use Rattle.pm_epochs.specs.declared.event.Event.TheVariants.{Barrier, Mark, Store}
+use Rattle.pm_epochs.specs.Log.{barriers, marks, words_after}
 use Rattle.pm_epochs.specs.Replay.{PowerCut, kept_calls, kept_stores}
 use Rattle.pm_region.specs.Memory.{Memory, crashed, current_words, drained, with_room, room_in}
 use Rattle.bp_layout.specs.Words.{Image}
@@ -23,7 +24,7 @@ use Rattle.bp_script.specs.Commands.{Command, command_of, in_grammar, mask_in}
 use Rattle.bp_script.specs.Commands.Command.{file_call, sync, space, crash, storm, cache, log, too_long}
 use Rattle.bp_script.specs.Texts.LineReply.{synced}
 use Rattle.bp_session.specs.Files.{Holds, HoldsAs, HoldsBytes}
-use Rattle.bp_session.specs.Acting.{CrashesByCaches, CrashesTo, Does, HasCrashed, is_base_saved_behind, lacks_call_room, may_change_base, reply_of, state, to_save}
+use Rattle.bp_session.specs.Acting.{CrashesByCaches, CrashesTo, Does, HasCrashed, is_base_saved_behind, drains_stores, has_store, may_change_base, reply_of, state, to_save}
 use Rattle.bp_session.specs.Serving.{Acts, SyncFails}
 use Rattle.bp_session.specs.Session.{Crashes, SessionLine, caches_cut}
 use Rattle.bp_session.specs.declared.outcome.Outcome.{Outcome}
@@ -55,12 +56,49 @@ size-file_call old call answer new done = ap (λ (m : Memory). length m.base) do
 
 -- ---- what leaves the words of the last drain as they are
 
-base-with_room : (memory : Memory) → lacks_call_room memory ≡ false → (with_room call_room memory).base ≡ memory.base
-base-with_room memory roomy = ap (λ (full : Bool). (if full then drained memory else memory).base) roomy
+pub one_more_event : (events : List Event) (i : ℕ) (event : Event) → slice_get events i ≡ Some event → take (i + 1) events ≡ take i events ++ event ∷ []
+one_more_event [] i event at = absurd (let no : None ≡ Some event = at in cc)
+one_more_event (first ∷ events) zero event at = let same : first ≡ event = cc in rw same refl
+one_more_event (first ∷ events) (suc i) event at = let next : suc i + 1 ≡ suc (i + 1) = omega arith in rw next (ap (λ l. first ∷ l) (one_more_event events i event at))
 
--- a call that didn't drain first
-base-file_call : (old : Memory) (call : Call) (answer : Answer) (new : Memory) → FileCall old call answer new → lacks_call_room old ≡ false → new.base ≡ old.base
-base-file_call old call answer new done roomy = ap (λ (m : Memory). m.base) done.adds ∙ base-with_room old roomy
+words_unstored : (words : Image) (events : List Event) → has_store events ≡ false → words_after words events ≡ words
+words_unstored words [] none = refl
+words_unstored words (Store word value ∷ events) none = absurd (let no : true ≡ false = none in cc)
+words_unstored words (Barrier ∷ events) none = words_unstored words events none
+words_unstored words (Mark ∷ events) none = words_unstored words events none
+
+base-with_room : (memory : Memory) → drains_stores memory ≡ false → (with_room call_room memory).base ≡ memory.base
+base-with_room memory none = go (nat_lt (room_in memory) call_room) none
+  where
+    go : (full : Bool) → (full && has_store memory.events) ≡ false → (if full then drained memory else memory).base ≡ memory.base
+    go true none = words_unstored memory.base memory.events none
+    go false none = refl
+
+-- a call that didn't drain a store first
+base-file_call : (old : Memory) (call : Call) (answer : Answer) (new : Memory) → FileCall old call answer new → drains_stores old ≡ false → new.base ≡ old.base
+base-file_call old call answer new done none = ap (λ (m : Memory). m.base) done.adds ∙ base-with_room old none
+
+pub store_at : (events : List Event) (i : ℕ) (event : Event) → slice_get events i ≡ Some event → has_store (event ∷ []) ≡ true → has_store events ≡ true
+store_at [] i event at is = absurd (let no : None ≡ Some event = at in cc)
+store_at (Store word value ∷ events) i event at is = refl
+store_at (Barrier ∷ events) zero event at is = let same : Barrier ≡ event = cc in absurd (let no : false ≡ true = rw (← same) at is in cc)
+store_at (Barrier ∷ events) (suc i) event at is = store_at events i event at is
+store_at (Mark ∷ events) zero event at is = let same : Mark ≡ event = cc in absurd (let no : false ≡ true = rw (← same) at is in cc)
+store_at (Mark ∷ events) (suc i) event at is = store_at events i event at is
+
+pub no_store_in : (event : Event) → ((word value : ℕ) → event ≡ Store word value → ⊥) → has_store (event ∷ []) ≡ false
+no_store_in (Store word value) other = absurd (other word value refl)
+no_store_in Barrier other = refl
+no_store_in Mark other = refl
+
+pub no_store_next : (events : List Event) (i : ℕ) (event : Event) → slice_get events i ≡ Some event → has_store (event ∷ []) ≡ false → has_store (take i events) ≡ false → has_store (take (i + 1) events) ≡ false
+no_store_next events i event at other none = rw (one_more_event events i event at) (go (take i events) none)
+  where
+    go : (first : List Event) → has_store first ≡ false → has_store (first ++ event ∷ []) ≡ false
+    go [] none = other
+    go (Store word value ∷ first) none = none
+    go (Barrier ∷ first) none = go first none
+    go (Mark ∷ first) none = go first none
 
 -- ---- what a line did
 
@@ -72,7 +110,7 @@ does_call old new call answer done = record {
   is_sync = λ e. absurd (let no : ◌≡◌ {A = Outcome} Answered Synced = e in cc);
   synced = λ e. absurd (let no : file_call call ≡ sync = e in cc);
   others = λ _ saved. refl;
-  base = λ roomy. base-file_call old call answer new done roomy;
+  base = λ none. base-file_call old call answer new done none;
 }
 
 pub does_sync : (old new : Memory) (answer : Answer) → new ≡ drained old → Does old sync Synced answer new
@@ -164,11 +202,6 @@ does_log memory outcome answer is = record {
 
 -- ---- the counts of a log
 
-pub one_more_event : (events : List Event) (i : ℕ) (event : Event) → slice_get events i ≡ Some event → take (i + 1) events ≡ take i events ++ event ∷ []
-one_more_event [] i event at = absurd (let no : None ≡ Some event = at in cc)
-one_more_event (first ∷ events) zero event at = let same : first ≡ event = cc in rw same refl
-one_more_event (first ∷ events) (suc i) event at = let next : suc i + 1 ≡ suc (i + 1) = omega arith in rw next (ap (λ l. first ∷ l) (one_more_event events i event at))
-
 pub one_more_barrier : (events : List Event) (i : ℕ) (event : Event) → slice_get events i ≡ Some event → barriers (take (i + 1) events) ≡ barriers (take i events) + barriers (event ∷ [])
 one_more_barrier events i event at = ap barriers (one_more_event events i event at) ∙ barriers-append (take i events) (event ∷ [])
 
@@ -188,16 +221,16 @@ does_long memory answer = record {
   base = λ _. refl;
 }
 
-pub saved_behind_other : (outcome : Outcome) (lacks_room is_base_saved : Bool) → ¬ (outcome ≡ Synced) → (is_base_saved && not (may_change_base outcome lacks_room)) ≡ is_base_saved_behind outcome lacks_room is_base_saved
-saved_behind_other Synced lacks_room is_base_saved other = absurd (other refl)
-saved_behind_other Answered lacks_room is_base_saved other = refl
-saved_behind_other (Counted free live) lacks_room is_base_saved other = refl
-saved_behind_other (Kept c n) lacks_room is_base_saved other = refl
-saved_behind_other (Logged events barriers calls) lacks_room is_base_saved other = refl
-saved_behind_other BadChoice lacks_room is_base_saved other = refl
-saved_behind_other NoMemory lacks_room is_base_saved other = refl
-saved_behind_other BadSyntax lacks_room is_base_saved other = refl
-saved_behind_other TooLong lacks_room is_base_saved other = refl
+pub saved_behind_other : (outcome : Outcome) (drained_stores is_base_saved : Bool) → ¬ (outcome ≡ Synced) → (is_base_saved && not (may_change_base outcome drained_stores)) ≡ is_base_saved_behind outcome drained_stores is_base_saved
+saved_behind_other Synced drained_stores is_base_saved other = absurd (other refl)
+saved_behind_other Answered drained_stores is_base_saved other = refl
+saved_behind_other (Counted free live) drained_stores is_base_saved other = refl
+saved_behind_other (Kept c n) drained_stores is_base_saved other = refl
+saved_behind_other (Logged events barriers calls) drained_stores is_base_saved other = refl
+saved_behind_other BadChoice drained_stores is_base_saved other = refl
+saved_behind_other NoMemory drained_stores is_base_saved other = refl
+saved_behind_other BadSyntax drained_stores is_base_saved other = refl
+saved_behind_other TooLong drained_stores is_base_saved other = refl
 
 -- ---- what is no sync
 
@@ -218,10 +251,10 @@ no_sync_log e = cc
 module _ (old new : Memory) (command : Command) (answer : Answer) where
   -- a line that is no sync, over a file that stays
   pub acts_done : (outcome : Outcome) (is_base_saved : Bool) (files : View) (name : List ℕ) (saved : Image) → Does old command outcome answer new → ¬ (outcome ≡ Synced) → HoldsAs is_base_saved files old.base name saved
-      → HoldsAs (is_base_saved && not (may_change_base outcome (lacks_call_room old))) files new.base name (to_save command old saved)
-  acts_done outcome is_base_saved files name saved does other held = rw (does.others other saved) (record { file = held.file; drained = go is_base_saved (may_change_base outcome (lacks_call_room old)) refl refl })
+      → HoldsAs (is_base_saved && not (may_change_base outcome (drains_stores old))) files new.base name (to_save command old saved)
+  acts_done outcome is_base_saved files name saved does other held = rw (does.others other saved) (record { file = held.file; drained = go is_base_saved (may_change_base outcome (drains_stores old)) refl refl })
     where
-      go : (flag moved : Bool) → is_base_saved ≡ flag → may_change_base outcome (lacks_call_room old) ≡ moved → (flag && not moved) ≡ true → Holds files name new.base
+      go : (flag moved : Bool) → is_base_saved ≡ flag → may_change_base outcome (drains_stores old) ≡ moved → (flag && not moved) ≡ true → Holds files name new.base
       go true true is may e = absurd (let no : false ≡ true = e in cc)
       go true false is may e = rw (does.base may) (held.drained is)
       go false moved is may e = absurd (let no : false ≡ true = e in cc)

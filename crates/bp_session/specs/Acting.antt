@@ -1,6 +1,8 @@
 -- What a line came to.
-use Rattle.std.specs.Prelude.{◌≡◌, ◌⊎◌, ◌&&◌, ℕ, Bool, true, false, length, nat_lt, not}
+use Rattle.std.specs.Prelude.{[], ◌∷◌, ◌≡◌, ◌⊎◌, ◌&&◌, ℕ, Bool, List, true, false, length, nat_lt, not}
 use Rattle.bp_limits.specs.Limits.{call_room}
+use Rattle.pm_epochs.specs.declared.event.Event.{Event}
+use Rattle.pm_epochs.specs.declared.event.Event.TheVariants.{Barrier, Mark, Store}
 use Rattle.pm_epochs.specs.Log.{marks}
 use Rattle.pm_epochs.specs.Replay.{PowerCut, IsRight, kept_calls}
 use Rattle.pm_region.specs.Memory.{Memory, crashed, current_words, room_in}
@@ -44,28 +46,34 @@ to_save log memory saved = saved
 to_save bad_syntax memory saved = saved
 to_save too_long memory saved = saved
 
--- a line that may have changed the words of the last drain: a call, where the log lacked room for one and was drained
--- first, a crash, or a sync
-abbrev pub may_change_base : Outcome → Bool → Bool
-may_change_base Answered lacks_room = lacks_room
-may_change_base Synced lacks_room = true
-may_change_base (Counted free live) lacks_room = false
-may_change_base (Kept c n) lacks_room = true
-may_change_base (Logged events barriers calls) lacks_room = false
-may_change_base BadChoice lacks_room = false
-may_change_base NoMemory lacks_room = false
-may_change_base BadSyntax lacks_room = false
-may_change_base TooLong lacks_room = false
+-- the log has a store
+abbrev pub has_store : List Event → Bool
+has_store [] = false
+has_store (Store word value ∷ events) = true
+has_store (Barrier ∷ events) = has_store events
+has_store (Mark ∷ events) = has_store events
 
--- the log lacks room for a call
-abbrev pub lacks_call_room : Memory → Bool
-lacks_call_room memory = nat_lt (room_in memory) call_room
+-- a call first drains a log that lacks room for one, and so may change the words of the last drain where that has a store
+abbrev pub drains_stores : Memory → Bool
+drains_stores memory = nat_lt (room_in memory) call_room && has_store memory.events
+
+-- a line that may have changed the words of the last drain: a call that first drained stores, a crash, or a sync
+abbrev pub may_change_base : Outcome → Bool → Bool
+may_change_base Answered drained_stores = drained_stores
+may_change_base Synced drained_stores = true
+may_change_base (Counted free live) drained_stores = false
+may_change_base (Kept c n) drained_stores = true
+may_change_base (Logged events barriers calls) drained_stores = false
+may_change_base BadChoice drained_stores = false
+may_change_base NoMemory drained_stores = false
+may_change_base BadSyntax drained_stores = false
+may_change_base TooLong drained_stores = false
 
 -- whether a file that is taken to hold the words of the last drain holds them behind a line that came to this: a sync
 -- saves them
 abbrev pub is_base_saved_behind : Outcome → Bool → Bool → Bool
-is_base_saved_behind Synced lacks_room is_base_saved = true
-is_base_saved_behind outcome lacks_room is_base_saved = is_base_saved && not (may_change_base outcome lacks_room)
+is_base_saved_behind Synced drained_stores is_base_saved = true
+is_base_saved_behind outcome drained_stores is_base_saved = is_base_saved && not (may_change_base outcome drained_stores)
 
 -- A command was done and replied to, but for the file, which is to be saved where the outcome is a sync.
 pub record Does (old : Memory) (command : Command) (outcome : Outcome) (answer : Answer) (new : Memory) : Type 0 where
@@ -76,7 +84,7 @@ pub record Does (old : Memory) (command : Command) (outcome : Outcome) (answer :
   pub is_sync : outcome ≡ Synced → command ≡ sync
   pub synced : command ≡ sync → outcome ≡ Synced
   pub others : ¬ (outcome ≡ Synced) → (saved : Image) → to_save command old saved ≡ saved
-  pub base : may_change_base outcome (lacks_call_room old) ≡ false → new.base ≡ old.base
+  pub base : may_change_base outcome (drains_stores old) ≡ false → new.base ≡ old.base
 
 -- A crash to this cut: the calls that are kept are counted, and the memory is what it leaves.
 pub record HasCrashed (old : Memory) (cut : PowerCut) (outcome : Outcome) (new : Memory) : Type 0 where

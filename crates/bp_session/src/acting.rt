@@ -8,7 +8,7 @@ ghost use Rattle.bp_replay.specs.Storm.{storm_cut};
 ghost use Rattle.bp_replay.specs.Wanted.{cut_for, mask_places, wanted_by};
 ghost use Rattle.bp_script.specs.Commands.Command.{sync};
 ghost use Rattle.bp_script.specs.Commands.{command_of};
-ghost use Rattle.bp_session.specs.Acting.{CrashesTo, Does, HasCrashed, is_base_saved_behind, lacks_call_room, may_change_base, reply_of};
+ghost use Rattle.bp_session.specs.Acting.{CrashesTo, Does, HasCrashed, drains_stores, has_store, is_base_saved_behind, may_change_base, reply_of};
 ghost use Rattle.bp_session.specs.Gathering.{Clears, LineGathers};
 ghost use Rattle.bp_session.specs.Serving.{CanServe, DoesLine, moment, saved_if};
 ghost use Rattle.bp_session.specs.declared.outcome.Outcome.TheVariants.{Logged, Synced};
@@ -163,29 +163,41 @@ pub fn act<R: Region>(alloc: Global, volume: &mut Volume<R>, buffers: &mut LineB
     }
 }
 
-/// Whether a line may have changed the words of the last drain, where the log lacked room for a call before it or not.
-fn may_change_base(outcome: Outcome, lacks_room: bool) -> bool
-    ensures { result ≡ may_change_base outcome lacks_room }
+/// Whether the log of a region has a store.
+fn has_store<R: Region>(region: &R) -> bool
+    ensures { result ≡ has_store (R.memory region.now).events }
+{
+    for i in 0..region.event_count() {
+        if let Event::Store { .. } = region.event(i) {
+            return true;
+        }
+    }
+    false
+}
+
+/// Whether the next call over a region first drains stores: it drains a log that lacks room for a call.
+fn drains_stores<R: Region>(region: &R) -> bool
+    ensures { result ≡ drains_stores (R.memory region.now) }
+{
+    region.room() < CALL_ROOM && has_store(region)
+}
+
+/// Whether a line may have changed the words of the last drain, where a call first drained stores or not.
+fn may_change_base(outcome: Outcome, drained_stores: bool) -> bool
+    ensures { result ≡ may_change_base outcome drained_stores }
 {
     match outcome {
-        Outcome::Answered => lacks_room,
+        Outcome::Answered => drained_stores,
         Outcome::Synced | Outcome::Kept { .. } => true,
         _ => false,
     }
 }
 
 /// Whether a file that held the words of the last drain before a line that is no sync holds them behind it.
-fn stays_saved(is_base_saved: bool, outcome: Outcome, lacks_room: bool) -> bool
-    ensures { result ≡ (is_base_saved && not (may_change_base outcome lacks_room)) }
+fn stays_saved(is_base_saved: bool, outcome: Outcome, drained_stores: bool) -> bool
+    ensures { result ≡ (is_base_saved && not (may_change_base outcome drained_stores)) }
 {
-    is_base_saved && !may_change_base(outcome, lacks_room)
-}
-
-/// Whether the log of a region lacks room for a call, so that the next one drains it first.
-fn lacks_call_room<R: Region>(region: &R) -> bool
-    ensures { result ≡ lacks_call_room (R.memory region.now) }
-{
-    region.room() < CALL_ROOM
+    is_base_saved && !may_change_base(outcome, drained_stores)
 }
 
 /// Does what the line asks for. A sync is done behind the replies that wait, and saves the words to the attached file:
@@ -205,7 +217,7 @@ pub(crate) fn act_and_save<R: Region, K: Sink, F: Files>(
         (command_of (line_in buffers.old)) (reply_of outcome (answer_in buffers.new))
         (saved_if is_base_saved.new (moment volume.new (F.view files.new) (K.taken out.new) (K.faults out.new)))) }
     ensures flag { IfOk result (λ outcome.
-        is_base_saved.new ≡ is_base_saved_behind outcome (lacks_call_room volume.old) is_base_saved.old) }
+        is_base_saved.new ≡ is_base_saved_behind outcome (drains_stores volume.old) is_base_saved.old) }
     ensures kept { is_base_saved.old ≡ true → stores volume.old.events ≡ [] →
         KeepsFiles (F.view files.old) (F.view files.new) }
     ensures clears { OnOk result (Clears (command_of (line_in buffers.old)) (waiting_in buffers.old)
@@ -226,7 +238,7 @@ pub(crate) fn act_and_save<R: Region, K: Sink, F: Files>(
     ensures attached { StaysAttached (F.view files.old) (F.view files.new) }
     ensures line { line_in buffers.new ≡ line_in buffers.old }
 {
-    let lacks_room = lacks_call_room(volume.region());
+    let drained_stores = drains_stores(volume.region());
     match act_but_sync(alloc, volume, buffers) {
         Outcome::Synced => match buffers.replies.hand_over(out) {
             Ok(()) => match sync_and_save(volume, *is_base_saved, files) {
@@ -242,7 +254,7 @@ pub(crate) fn act_and_save<R: Region, K: Sink, F: Files>(
             Err(Failed) => Err(4),
         },
         outcome => {
-            *is_base_saved = stays_saved(*is_base_saved, outcome, lacks_room);
+            *is_base_saved = stays_saved(*is_base_saved, outcome, drained_stores);
             Ok(outcome)
         }
     }

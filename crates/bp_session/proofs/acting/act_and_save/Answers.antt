@@ -47,8 +47,8 @@ pub returns-in_default : goal.returns-in_default
 returns-in_default g c =
     let does = c.act_but_sync.ensures.does c.in_default.not-Synced in
     record {
-      does = λ saved. record { after = _; line = does.line saved; file = λ name held. rw c.stays_saved.ensures (rw c.lacks_call_room-lacks_room.ensures (rw c.region.ensures.memory (acts_done _ _ _ _ c.act_but_sync.result _ _ name saved does c.in_default.not-Synced held))) };
-      flag = rw (c.stays_saved.ensures, c.lacks_call_room-lacks_room.ensures, c.region.ensures.memory) (saved_behind_other c.act_but_sync.result _ _ c.in_default.not-Synced);
+      does = λ saved. record { after = _; line = does.line saved; file = λ name held. rw c.stays_saved.ensures (rw c.drains_stores-drained_stores.ensures (rw c.region.ensures.memory (acts_done _ _ _ _ c.act_but_sync.result _ _ name saved does c.in_default.not-Synced held))) };
+      flag = rw (c.stays_saved.ensures, c.drains_stores-drained_stores.ensures, c.region.ensures.memory) (saved_behind_other c.act_but_sync.result _ _ c.in_default.not-Synced);
       kept = λ _ _ name. stays_same ((g.F.Files.view c.args.files.now).contents name);
       clears = inl (λ e. c.in_default.not-Synced (does.synced e), c.act_but_sync.ensures.waiting, refl, refl);
       stops = tt;

@@ -1,30 +1,20 @@
 -- One line, by its case.
 use Rattle.std.proofs.Common.{zero, suc, refl, sym, ◌∙◌, ap, arith, ◌≡◌, ◌≤◌, ◌<◌, ◌+◌, ◌*◌, ℕ, List, [], ◌∷◌, ◌++◌, length, take, true, false, inl, inr}
-use Rattle.std.specs.Prelude.{Bool, None, Option, Some, ◌&&◌, is_none, nat_lt, not, slice_get, if◌then◌else◌}
-use Rattle.pm_epochs.proofs.CrashLaws.{barriers-append, length-words_after, marks-append, words_after-append}
+use Rattle.std.specs.Prelude.{Bool, None, Some, ◌&&◌, nat_lt, not, slice_get, if◌then◌else◌}
+use Rattle.pm_epochs.proofs.CrashLaws.{barriers-append, length-words_after, marks-append}
 use Rattle.pm_epochs.specs.declared.event.Event.{Event}
-use Rattle.pm_epochs.specs.declared.event.Event.TheVariants.{Mark}
-use Rattle.pm_epochs.specs.Log.{barriers, marks}
+use Rattle.pm_epochs.specs.declared.event.Event.TheVariants.{Barrier, Mark, Store}
+use Rattle.pm_epochs.specs.Log.{barriers, marks, words_after}
 use Rattle.pm_epochs.specs.Replay.{PowerCut, kept_calls, kept_stores}
 use Rattle.pm_region.specs.Memory.{Memory, crashed, current_words, drained, with_room, room_in}
 use Rattle.bp_layout.specs.Words.{Image}
 use Rattle.bp_layout.specs.Bytes.{image_bytes}
 use Rattle.bp_scan.specs.Totals.{HasLive}
 use Rattle.bp_io.specs.Files.{View}
-use Rattle.bp_plain.specs.Calls.{Call, Answer, Refusal}
-use Rattle.bp_plain.specs.Calls.Call.{create, mkdir, unlink, rmdir, list, stat, read, write, truncate, rename, link, links, upgrade, snap, unsnap, snap_list, snap_stat, snap_read, batch}
-use Rattle.bp_plain.specs.Calls.Answer.{done as carried_out}
-use Rattle.bp_plain.specs.Plain.{answer as plain_answer, changes, is_changing, plain, refusal}
-use Rattle.bp_plain.specs.PlainTree.{FileTree}
-use Rattle.bp_plain.proofs.Existence.{stands_for, tree_of}
-use Rattle.bp_layout.specs.Trees.{has_snapshot, snapshot_of}
-use Rattle.bp_layout.specs.WellFormed.{IsWellFormed}
-use Rattle.bp_layout.specs.Whole.{HasSpace, SameFiles}
-use Rattle.pm_region.specs.Safe.{IsSafe}
-use Rattle.bp_volume.specs.Step.{StepFor}
-use Rattle.bp_volume.specs.Step.StepFor.{no_room, no_listing, no_snap_listing, unchanged, changed}
+use Rattle.bp_plain.specs.Calls.{Call, Answer}
+use Rattle.bp_layout.specs.Whole.{HasSpace}
 use Rattle.bp_limits.specs.Limits.{call_room, max_line, max_mask}
-use Rattle.bp_volume.specs.FileCall.{FileCall, has_changed}
+use Rattle.bp_volume.specs.FileCall.{FileCall}
 use Rattle.std.proofs.lemmas.Bool.{le-ltb, lt-ltb}
 use Rattle.bp_replay.specs.Wanted.{Wanted, cut_for, mask_places, wanted_by}
 use Rattle.bp_replay.specs.declared.cut.Cut.{Cut as Asked}
@@ -34,7 +24,7 @@ use Rattle.bp_script.specs.Commands.{Command, command_of, in_grammar, mask_in}
 use Rattle.bp_script.specs.Commands.Command.{file_call, sync, space, crash, storm, cache, log, too_long}
 use Rattle.bp_script.specs.Texts.LineReply.{synced}
 use Rattle.bp_session.specs.Files.{Holds, HoldsAs, HoldsBytes}
-use Rattle.bp_session.specs.Acting.{CrashesByCaches, CrashesTo, Does, HasCrashed, is_done, is_saved_behind, may_have_changed, reply_of, state, to_save}
+use Rattle.bp_session.specs.Acting.{CrashesByCaches, CrashesTo, Does, HasCrashed, is_base_saved_behind, drains_stores, has_store, may_change_base, reply_of, state, to_save}
 use Rattle.bp_session.specs.Serving.{Acts, SyncFails}
 use Rattle.bp_session.specs.Session.{Crashes, SessionLine, caches_cut}
 use Rattle.bp_session.specs.declared.outcome.Outcome.{Outcome}
@@ -64,75 +54,63 @@ capacity-file_call old call answer new done = ap (λ (m : Memory). m.capacity) d
 pub size-file_call : (old : Memory) (call : Call) (answer : Answer) (new : Memory) → FileCall old call answer new → length new.base ≡ length old.base
 size-file_call old call answer new done = ap (λ (m : Memory). length m.base) done.adds ∙ size-with_room call_room old
 
--- ---- what leaves the words as they are
+-- ---- what leaves the words of the last drain as they are
 
--- a change of the tree is answered by no more than that it was carried out
-done_changes : (tree : FileTree) (call : Call) → changes tree call ≡ true → plain_answer tree call ≡ carried_out
-done_changes tree (create text) e = refl
-done_changes tree (mkdir text) e = refl
-done_changes tree (unlink text) e = refl
-done_changes tree (rmdir text) e = refl
-done_changes tree (list text) e = absurd (let no : false ≡ true = e in cc)
-done_changes tree (stat text) e = absurd (let no : false ≡ true = e in cc)
-done_changes tree (read text off len) e = absurd (let no : false ≡ true = e in cc)
-done_changes tree (write text off new) e = refl
-done_changes tree (truncate text size) e = refl
-done_changes tree (rename from to) e = refl
-done_changes tree (link from to) e = refl
-done_changes tree (links text) e = absurd (let no : false ≡ true = e in cc)
-done_changes tree upgrade e = refl
-done_changes tree snap e = refl
-done_changes tree unsnap e = refl
-done_changes tree (snap_list text) e = absurd (let no : false ≡ true = e in cc)
-done_changes tree (snap_stat text) e = absurd (let no : false ≡ true = e in cc)
-done_changes tree (snap_read text off len) e = absurd (let no : false ≡ true = e in cc)
-done_changes tree (batch pieces) e = refl
+pub one_more_event : (events : List Event) (i : ℕ) (event : Event) → slice_get events i ≡ Some event → take (i + 1) events ≡ take i events ++ event ∷ []
+one_more_event [] i event at = absurd (let no : None ≡ Some event = at in cc)
+one_more_event (first ∷ events) zero event at = let same : first ≡ event = cc in rw same refl
+one_more_event (first ∷ events) (suc i) event at = let next : suc i + 1 ≡ suc (i + 1) = omega arith in rw next (ap (λ l. first ∷ l) (one_more_event events i event at))
 
-done_changing : (tree : FileTree) (call : Call) → is_changing tree call ≡ true → (plain tree call).0 ≡ carried_out
-done_changing tree call e = go (refusal tree call) refl
+words_unstored : (words : Image) (events : List Event) → has_store events ≡ false → words_after words events ≡ words
+words_unstored words [] none = refl
+words_unstored words (Store word value ∷ events) none = absurd (let no : true ≡ false = none in cc)
+words_unstored words (Barrier ∷ events) none = words_unstored words events none
+words_unstored words (Mark ∷ events) none = words_unstored words events none
+
+base-with_room : (memory : Memory) → drains_stores memory ≡ false → (with_room call_room memory).base ≡ memory.base
+base-with_room memory none = go (nat_lt (room_in memory) call_room) none
   where
-    go : (why : Option Refusal) → refusal tree call ≡ why → (plain tree call).0 ≡ carried_out
-    go None is = rw is (done_changes tree call (let both : (is_none (refusal tree call) && changes tree call) ≡ true = e in rw is at both))
-    go (Some why) is = absurd (let both : (is_none (refusal tree call) && changes tree call) ≡ true = e in let no : false ≡ true = rw is at both in cc)
+    go : (full : Bool) → (full && has_store memory.events) ≡ false → (if full then drained memory else memory).base ≡ memory.base
+    go true none = words_unstored memory.base memory.events none
+    go false none = refl
 
-and_false : (b : Bool) → (b && false) ≡ false
-and_false true = refl
-and_false false = refl
+-- a call that didn't drain a store first
+base-file_call : (old : Memory) (call : Call) (answer : Answer) (new : Memory) → FileCall old call answer new → drains_stores old ≡ false → new.base ≡ old.base
+base-file_call old call answer new done none = ap (λ (m : Memory). m.base) done.adds ∙ base-with_room old none
 
-not_changed : (image new : Image) (tree : FileTree) (call : Call) (told : Answer) → is_done told ≡ false → StepFor image tree call told new → has_changed tree call told ≡ false
-not_changed image new tree call told other (no_room changing needs less) = rw changing refl
-not_changed image new tree call told other (no_listing allowed) = and_false _
-not_changed image new tree call told other (no_snap_listing allowed) = and_false _
-not_changed image new tree call told other (unchanged still) = rw still refl
-not_changed image new tree call told other (changed changing fits stands) = absurd (let no : true ≡ false = rw (done_changing tree call changing) at other in cc)
+pub store_at : (events : List Event) (i : ℕ) (event : Event) → slice_get events i ≡ Some event → has_store (event ∷ []) ≡ true → has_store events ≡ true
+store_at [] i event at is = absurd (let no : None ≡ Some event = at in cc)
+store_at (Store word value ∷ events) i event at is = refl
+store_at (Barrier ∷ events) zero event at is = let same : Barrier ≡ event = cc in absurd (let no : false ≡ true = rw (← same) at is in cc)
+store_at (Barrier ∷ events) (suc i) event at is = store_at events i event at is
+store_at (Mark ∷ events) zero event at is = let same : Mark ≡ event = cc in absurd (let no : false ≡ true = rw (← same) at is in cc)
+store_at (Mark ∷ events) (suc i) event at is = store_at events i event at is
 
-words-marked : (memory : Memory) → current_words (record memory { events = memory.events ++ Mark ∷ [] }) ≡ current_words memory
-words-marked memory = words_after-append memory.base memory.events (Mark ∷ [])
+pub no_store_in : (event : Event) → ((word value : ℕ) → event ≡ Store word value → ⊥) → has_store (event ∷ []) ≡ false
+no_store_in (Store word value) other = absurd (other word value refl)
+no_store_in Barrier other = refl
+no_store_in Mark other = refl
 
-words-with_room : (wanted : ℕ) (memory : Memory) → current_words (with_room wanted memory) ≡ current_words memory
-words-with_room wanted memory = elim (nat_lt (room_in memory) wanted) as (λ full. current_words (if full then drained memory else memory) ≡ current_words memory) [ true ↦ refl | false ↦ refl ]
-
-pub words-call : (old new : Memory) (call : Call) (told : Answer) → IsSafe SameFiles old → FileCall old call told new → is_done told ≡ false → current_words new ≡ current_words old
-words-call old new call told safe does other =
-    let first = safe.well.first.new_well_formed in
-    let second : has_snapshot (current_words old) ≡ true → IsWellFormed (snapshot_of (current_words old)) = λ there. (safe.well.second.same there).new_well_formed in
-    let tree = tree_of (current_words old) first second in
-    let stands = stands_for (current_words old) first second in
-    let none = does.silent tree stands (not_changed _ _ tree call told other (does.step tree stands)) in
-    let adds : new ≡ record (with_room call_room old) { events = (with_room call_room old).events ++ Mark ∷ [] } = rw none at does.adds in
-    ap current_words adds ∙ words-marked (with_room call_room old) ∙ words-with_room call_room old
+pub no_store_next : (events : List Event) (i : ℕ) (event : Event) → slice_get events i ≡ Some event → has_store (event ∷ []) ≡ false → has_store (take i events) ≡ false → has_store (take (i + 1) events) ≡ false
+no_store_next events i event at other none = rw (one_more_event events i event at) (go (take i events) none)
+  where
+    go : (first : List Event) → has_store first ≡ false → has_store (first ++ event ∷ []) ≡ false
+    go [] none = other
+    go (Store word value ∷ first) none = none
+    go (Barrier ∷ first) none = go first none
+    go (Mark ∷ first) none = go first none
 
 -- ---- what a line did
 
-pub does_call : (old new : Memory) (call : Call) (answer : Answer) → IsSafe SameFiles old → FileCall old call answer new → Does old (file_call call) Answered answer new
-does_call old new call answer safe done = record {
+pub does_call : (old new : Memory) (call : Call) (answer : Answer) → FileCall old call answer new → Does old (file_call call) Answered answer new
+does_call old new call answer done = record {
   line = λ saved. record { answer = answer; told = refl; does = done; saved = refl };
   size = size-file_call old call answer new done;
   capacity = capacity-file_call old call answer new done;
   is_sync = λ e. absurd (let no : ◌≡◌ {A = Outcome} Answered Synced = e in cc);
   synced = λ e. absurd (let no : file_call call ≡ sync = e in cc);
   others = λ _ saved. refl;
-  words = λ other. words-call old new call answer safe done other;
+  base = λ none. base-file_call old call answer new done none;
 }
 
 pub does_sync : (old new : Memory) (answer : Answer) → new ≡ drained old → Does old sync Synced answer new
@@ -143,7 +121,7 @@ does_sync old new answer done = record {
   is_sync = λ _. refl;
   synced = λ _. refl;
   others = λ other. absurd (other refl);
-  words = λ _. ap current_words done;
+  base = λ e. absurd (let no : true ≡ false = e in cc);
 }
 
 pub does_space : (memory : Memory) (free live : ℕ) (answer : Answer) → HasSpace (current_words memory) free → HasLive (current_words memory) live → Does memory space (Counted free live) answer memory
@@ -154,7 +132,7 @@ does_space memory free live answer has_free has_live = record {
   is_sync = λ e. absurd (let no : ◌≡◌ {A = Outcome} (Counted free live) Synced = e in cc);
   synced = λ e. absurd (let no : space ≡ sync = e in cc);
   others = λ _ saved. refl;
-  words = λ _. refl;
+  base = λ _. refl;
 }
 
 -- a crash to a cut, by whatever command
@@ -172,7 +150,7 @@ module _ (old new : Memory) (cut : PowerCut) (outcome : Outcome) (answer : Answe
     is_sync = λ e. absurd (let no : ◌≡◌ {A = Outcome} (Kept (kept_calls old.events cut) (marks old.events)) Synced = sym does.told ∙ e in cc);
     synced = λ e. absurd (other e);
     others = λ _ saved. same saved;
-    words = λ e. absurd (let no : true ≡ false = rw does.told at e in cc);
+    base = λ e. absurd (let no : true ≡ false = rw does.told at e in cc);
   }
 
 pub does_crash : (old new : Memory) (wanted : Wanted) (outcome : Outcome) (answer : Answer) → CrashesTo old (cut_for old.events wanted) outcome new → Does old (crash wanted) outcome answer new
@@ -185,7 +163,7 @@ does_crash old new wanted outcome answer (inr does) = record {
   is_sync = λ e. absurd (let no : ◌≡◌ {A = Outcome} BadChoice Synced = sym does.told ∙ e in cc);
   synced = λ e. absurd (let no : crash wanted ≡ sync = e in cc);
   others = λ _ saved. refl;
-  words = λ _. ap current_words does.same;
+  base = λ _. ap (λ (m : Memory). m.base) does.same;
 }
 
 -- a mask has a place for each bit of its bytes, of two digits each
@@ -208,7 +186,7 @@ does_cache old new seed outcome answer (inr lacks) = record {
   is_sync = λ e. absurd (let no : ◌≡◌ {A = Outcome} NoMemory Synced = sym lacks.told ∙ e in cc);
   synced = λ e. absurd (let no : cache seed ≡ sync = e in cc);
   others = λ _ saved. refl;
-  words = λ _. ap current_words lacks.same;
+  base = λ _. ap (λ (m : Memory). m.base) lacks.same;
 }
 
 pub does_log : (memory : Memory) (outcome : Outcome) (answer : Answer) → outcome ≡ Logged (length memory.events) (barriers memory.events) (marks memory.events) → Does memory log outcome answer memory
@@ -219,15 +197,10 @@ does_log memory outcome answer is = record {
   is_sync = λ e. absurd (let no : ◌≡◌ {A = Outcome} (Logged (length memory.events) (barriers memory.events) (marks memory.events)) Synced = sym is ∙ e in cc);
   synced = λ e. absurd (let no : log ≡ sync = e in cc);
   others = λ _ saved. refl;
-  words = λ _. refl;
+  base = λ _. refl;
 }
 
 -- ---- the counts of a log
-
-pub one_more_event : (events : List Event) (i : ℕ) (event : Event) → slice_get events i ≡ Some event → take (i + 1) events ≡ take i events ++ event ∷ []
-one_more_event [] i event at = absurd (let no : None ≡ Some event = at in cc)
-one_more_event (first ∷ events) zero event at = let same : first ≡ event = cc in rw same refl
-one_more_event (first ∷ events) (suc i) event at = let next : suc i + 1 ≡ suc (i + 1) = omega arith in rw next (ap (λ l. first ∷ l) (one_more_event events i event at))
 
 pub one_more_barrier : (events : List Event) (i : ℕ) (event : Event) → slice_get events i ≡ Some event → barriers (take (i + 1) events) ≡ barriers (take i events) + barriers (event ∷ [])
 one_more_barrier events i event at = ap barriers (one_more_event events i event at) ∙ barriers-append (take i events) (event ∷ [])
@@ -245,19 +218,19 @@ does_long memory answer = record {
   is_sync = λ e. absurd (let no : ◌≡◌ {A = Outcome} TooLong Synced = e in cc);
   synced = λ e. absurd (let no : too_long ≡ sync = e in cc);
   others = λ _ saved. refl;
-  words = λ _. refl;
+  base = λ _. refl;
 }
 
-pub saved_behind_other : (outcome : Outcome) (answer : Answer) (is_saved : Bool) → ¬ (outcome ≡ Synced) → (is_saved && not (may_have_changed outcome answer)) ≡ is_saved_behind outcome answer is_saved
-saved_behind_other Synced answer is_saved other = absurd (other refl)
-saved_behind_other Answered answer is_saved other = refl
-saved_behind_other (Counted free live) answer is_saved other = refl
-saved_behind_other (Kept c n) answer is_saved other = refl
-saved_behind_other (Logged events barriers calls) answer is_saved other = refl
-saved_behind_other BadChoice answer is_saved other = refl
-saved_behind_other NoMemory answer is_saved other = refl
-saved_behind_other BadSyntax answer is_saved other = refl
-saved_behind_other TooLong answer is_saved other = refl
+pub saved_behind_other : (outcome : Outcome) (drained_stores is_base_saved : Bool) → ¬ (outcome ≡ Synced) → (is_base_saved && not (may_change_base outcome drained_stores)) ≡ is_base_saved_behind outcome drained_stores is_base_saved
+saved_behind_other Synced drained_stores is_base_saved other = absurd (other refl)
+saved_behind_other Answered drained_stores is_base_saved other = refl
+saved_behind_other (Counted free live) drained_stores is_base_saved other = refl
+saved_behind_other (Kept c n) drained_stores is_base_saved other = refl
+saved_behind_other (Logged events barriers calls) drained_stores is_base_saved other = refl
+saved_behind_other BadChoice drained_stores is_base_saved other = refl
+saved_behind_other NoMemory drained_stores is_base_saved other = refl
+saved_behind_other BadSyntax drained_stores is_base_saved other = refl
+saved_behind_other TooLong drained_stores is_base_saved other = refl
 
 -- ---- what is no sync
 
@@ -277,14 +250,14 @@ no_sync_log e = cc
 
 module _ (old new : Memory) (command : Command) (answer : Answer) where
   -- a line that is no sync, over a file that stays
-  pub acts_done : (outcome : Outcome) (is_saved : Bool) (files : View) (name : List ℕ) (saved : Image) → Does old command outcome answer new → ¬ (outcome ≡ Synced) → HoldsAs is_saved files (current_words old) name saved
-      → HoldsAs (is_saved && not (may_have_changed outcome answer)) files (current_words new) name (to_save command old saved)
-  acts_done outcome is_saved files name saved does other held = rw (does.others other saved) (record { file = held.file; current = go is_saved (may_have_changed outcome answer) refl refl })
+  pub acts_done : (outcome : Outcome) (is_base_saved : Bool) (files : View) (name : List ℕ) (saved : Image) → Does old command outcome answer new → ¬ (outcome ≡ Synced) → HoldsAs is_base_saved files old.base name saved
+      → HoldsAs (is_base_saved && not (may_change_base outcome (drains_stores old))) files new.base name (to_save command old saved)
+  acts_done outcome is_base_saved files name saved does other held = rw (does.others other saved) (record { file = held.file; drained = go is_base_saved (may_change_base outcome (drains_stores old)) refl refl })
     where
-      go : (flag touched : Bool) → is_saved ≡ flag → may_have_changed outcome answer ≡ touched → (flag && not touched) ≡ true → Holds files name (current_words new)
+      go : (flag moved : Bool) → is_base_saved ≡ flag → may_change_base outcome (drains_stores old) ≡ moved → (flag && not moved) ≡ true → Holds files name new.base
       go true true is may e = absurd (let no : false ≡ true = e in cc)
-      go true false is may e = rw (does.words may) (held.current is)
-      go false touched is may e = absurd (let no : false ≡ true = e in cc)
+      go true false is may e = rw (does.base may) (held.drained is)
+      go false moved is may e = absurd (let no : false ≡ true = e in cc)
 
   -- only a sync comes to one
   pub not_left : {outcome : Outcome} {P : Type 0} → Does old command outcome answer new → ¬ (command ≡ sync) → outcome ≡ Synced → P
@@ -293,21 +266,15 @@ module _ (old new : Memory) (command : Command) (answer : Answer) where
   -- ---- a sync
 
   module _ (is : command ≡ sync) (done : new ≡ drained old) where
-    words_drained : current_words new ≡ current_words old
-    words_drained = ap current_words done
-
     pub acts_synced : (saved : Image) (holds : Image → Type 0) → holds (current_words old) → Acts (state old saved) new holds command synced
     acts_synced saved holds file = rw is (record { after = current_words old; line = record { told = refl; done = ap (λ m. state m (current_words old)) done }; file = file })
 
     -- the file behind a save
-    pub holds_synced : (is_saved : Bool) (files now : View) (name : List ℕ) (saved : Image) → (HoldsAs is_saved files (current_words new) name saved → Holds now name (current_words new)) → HoldsAs is_saved files (current_words old) name saved
-        → HoldsAs true now (current_words new) name (current_words old)
-    holds_synced is_saved files now name saved saves held =
-        let file = saves (rw words_drained held) in
-        record { file = rw words_drained at file; current = λ _. file }
+    pub holds_synced : (now : View) (name : List ℕ) → Holds now name (current_words old) → HoldsAs true now new.base name (current_words old)
+    holds_synced now name file = record { file = file; drained = λ _. rw done file }
 
-    pub fails_synced : (saved : Image) (partly : Image → Image → Type 0) → partly saved (current_words new) → SyncFails (state old saved) new partly command
-    fails_synced saved partly file = record { is = is; drained = done; file = rw words_drained at file }
+    pub fails_synced : (saved : Image) (partly : Image → Image → Type 0) → partly saved (current_words old) → SyncFails (state old saved) new partly command
+    fails_synced saved partly file = record { is = is; drained = done; file = file }
 
 -- ---- an image as bytes
 

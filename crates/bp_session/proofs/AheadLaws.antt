@@ -396,13 +396,13 @@ module _ (command : Command) (old new : Moment) where
 -- ---- what is taken of a file
 
 -- a moment at which the file need not be taken to hold the words
-forgets : (old new : Moment) (saved image : Image) → Carries old new saved image → Carries old (record new { is_saved = false }) saved image
-forgets old new saved image carried name held = record { file = (carried name held).file; current = λ e. absurd (never e) }
+forgets : (old new : Moment) (saved image : Image) → Carries old new saved image → Carries old (record new { is_base_saved = false }) saved image
+forgets old new saved image carried name held = record { file = (carried name held).file; drained = λ e. absurd (never e) }
   where
     never : false ≡ true → ⊥
     never e = cc
 
-pub line_forgets : (status : ℕ) (commands : List Command) (old new : Moment) → LineOutcome status commands old new → LineOutcome status commands old (record new { is_saved = false })
+pub line_forgets : (status : ℕ) (commands : List Command) (old new : Moment) → LineOutcome status commands old new → LineOutcome status commands old (record new { is_base_saved = false })
 line_forgets status commands old new line = record {
   whole = λ e saved. all_as _ _ _ _ _ _ (forgets old new saved) _ (line.whole e saved);
   broken = λ e saved. breaks_as _ _ _ _ _ _ (forgets old new saved) 0 0 _ (λ z. z) (line.broken e saved);
@@ -412,7 +412,7 @@ line_forgets status commands old new line = record {
   one_of = line.one_of;
 }
 
-pub serve_forgets : (status most : ℕ) (before after : Input) (old new : Moment) → ServeOutcome status most before after old new → ServeOutcome status most before after old (record new { is_saved = false })
+pub serve_forgets : (status most : ℕ) (before after : Input) (old new : Moment) → ServeOutcome status most before after old new → ServeOutcome status most before after old (record new { is_base_saved = false })
 serve_forgets status most before after old new served = record {
   whole = λ e. let all = served.whole e in (all.0, all.1, all.2, all.3, λ saved. all_as _ _ _ _ _ _ (forgets old new saved) _ (all.4 saved));
   part = λ e. let part = served.part e in (part.0, part.1, part.2, λ saved. serves_as _ _ _ _ _ _ (forgets old new saved) _ _ _ (part.3 saved));

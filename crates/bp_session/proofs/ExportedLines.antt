@@ -1,8 +1,8 @@
 -- A session over the script of an export.
-use Rattle.std.proofs.Common.{refl, sym, ◌∙◌, ap, ap₂, subst, ◌≡◌, ◌==◌, List, [], ◌∷◌, ◌++◌, map, flat_map, not, true, false, Bool, true≢false, codes, ℕ, inl, inr}
+use Rattle.std.proofs.Common.{refl, sym, ◌∙◌, ap, ◌≡◌, ◌==◌, List, [], ◌∷◌, ◌++◌, map, not, true, false, Bool, true≢false, codes, ℕ, inl, inr}
 use Rattle.std.specs.Prelude.{◌⊎◌}
 use Rattle.std.specs.Cmp.{first_so, second_so}
-use Rattle.std.specs.List.{All, AllByRecursion, list_all}
+use Rattle.std.specs.List.{AllByRecursion, list_all}
 use Rattle.std.proofs.lemmas.List.{append_assoc, append-nil}
 use Rattle.std.proofs.lemmas.List.Elements.{recursion_from_All}
 use Rattle.bp_plain.specs.Calls.{Answer, Call}
@@ -11,7 +11,7 @@ use Rattle.bp_plain.specs.Calls.Answer.{done}
 use Rattle.bp_plain.specs.Export.{AllDone, IsExportable, IsOfBytes, export_calls}
 use Rattle.bp_plain.specs.Plain.{answer_or, plain}
 use Rattle.bp_plain.specs.PlainTree.{FileTree}
-use Rattle.bp_script.specs.Commands.{Command, command_of}
+use Rattle.bp_script.specs.Commands.{command_of}
 use Rattle.bp_script.specs.Commands.Command.{file_call}
 use Rattle.bp_script.specs.Export.{IsOneLine, call_line, call_lines, export_text}
 use Rattle.bp_script.specs.Texts.{LineReply}

@@ -3,6 +3,8 @@ pub mod ServingLaws
 pub mod ActingLaws
 pub mod CachingLaws
 pub mod SavingLaws
+pub mod MarkLaws
+pub mod ChangedLaws
 pub mod BlockLaws
 pub mod TellingLaws
 pub mod OutcomeLaws

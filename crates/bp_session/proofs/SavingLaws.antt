@@ -1,8 +1,8 @@
 -- A file between two images, while it is saved block by block.
-use Rattle.std.proofs.Common.{zero, suc, refl, sym, ◌∙◌, ap, arith, ◌≡◌, ℕ, ◌+◌, ◌*◌, ◌-◌, ◌≤◌, List, [], ◌∷◌, ◌++◌, length, take, drop, Bool, true, false, inl, inr}
+use Rattle.std.proofs.Common.{zero, suc, refl, sym, ◌∙◌, ap, arith, ◌≡◌, ℕ, ◌+◌, ◌*◌, ◌-◌, ◌<◌, ◌≤◌, List, [], ◌∷◌, ◌++◌, length, take, drop, Bool, true, false, inl, inr}
 use Rattle.std.specs.Prelude.{◌⊎◌, nat_lt, Some, None, is_some}
 use Rattle.std.proofs.lemmas.Bool.{ltb-true, ltb-false}
-use Rattle.std.proofs.lemmas.List.{length-drop, length-take-le}
+use Rattle.std.proofs.lemmas.List.{append-nil, append_assoc, drop-drop, length-append, length-drop, length-take-le, take-append-le}
 use Rattle.std.specs.Prelude.{Result, Ok, Err, OnOk, OnErr}
 use Rattle.bp_layout.specs.Bytes.{image_bytes}
 use Rattle.pm_region.specs.Memory.{Memory, current_words}
@@ -10,15 +10,10 @@ use Rattle.pm_epochs.proofs.CrashLaws.{length-words_after}
 use Rattle.bp_io.specs.Files.{block_bytes, blocks_of, with_blocks, IsMixed, Known, Becomes, BecomesMixed, Stays, StaysAttached, View}
 use Rattle.bp_session.proofs.BlockLaws.{length-image_bytes}
 use Rattle.bp_layout.specs.Words.{Image}
-use Rattle.bp_session.specs.Files.{HasBytes, HasBlocksOf, IsReady, partly_saved}
+use Rattle.bp_session.specs.Changed.{HasChanged, IsChanged, is_marked}
+use Rattle.bp_session.specs.Files.{HasBytes, HasBlocksOf, IsReady}
 
--- the bytes on one side of a place, and from one list to the other
-next : (first second : List ℕ) (n m : ℕ) → n ≤ length second → length first ≡ length second →
-    (take n (take n second ++ drop n first) ++ take m (drop n second)) ++ drop (n + m) (take n second ++ drop n first) ≡ take (n + m) second ++ drop (n + m) first
-next first second zero m low same = let e : 0 + m ≡ m = omega arith in rw e refl
-next first [] (suc n) m low same = absurd (omega arith)
-next [] (y ∷ second) (suc n) m low same = absurd (omega arith)
-next (x ∷ first) (y ∷ second) (suc n) m low same = let e : suc n + m ≡ suc (n + m) = omega arith in rw e (ap (λ l. y ∷ l) (next first second n m (omega arith) (omega arith)))
+-- ---- bytes before, within and behind those that are written
 
 before_front : (second rest : List ℕ) (n w : ℕ) → w ≤ n → n ≤ length second → take w (take n second ++ rest) ≡ take w second
 before_front second rest n zero low few = refl
@@ -32,48 +27,142 @@ before second rest zero (suc a) w low few = absurd (omega arith)
 before [] rest (suc n) (suc a) w low few = absurd (omega arith)
 before (y ∷ second) rest (suc n) (suc a) w low few = before second rest n a w (omega arith) (omega arith)
 
-behind : (first second : List ℕ) (n a : ℕ) → n ≤ a → n ≤ length second → length first ≡ length second → drop a (take n second ++ drop n first) ≡ drop a first
-behind first second zero a low few same = refl
-behind first second (suc n) zero low few same = absurd (omega arith)
-behind first [] (suc n) (suc a) low few same = absurd (omega arith)
-behind [] (y ∷ second) (suc n) (suc a) low few same = absurd (omega arith)
-behind (x ∷ first) (y ∷ second) (suc n) (suc a) low few same = behind first second n a (omega arith) (omega arith) (omega arith)
+behind_run : (run xs : List ℕ) (a : ℕ) → length run ≤ a → length run ≤ length xs → drop a (run ++ drop (length run) xs) ≡ drop a xs
+behind_run [] xs a low few = refl
+behind_run (r ∷ run) [] a low few = absurd (omega arith)
+behind_run (r ∷ run) (x ∷ xs) zero low few = absurd (omega arith)
+behind_run (r ∷ run) (x ∷ xs) (suc a) low few = behind_run run xs a (omega arith) (omega arith)
 
-length-joined : (first second : List ℕ) (n : ℕ) → n ≤ length second → length first ≡ length second → length (take n second ++ drop n first) ≡ length first
-length-joined first second zero low same = refl
-length-joined first [] (suc n) low same = absurd (omega arith)
-length-joined [] (y ∷ second) (suc n) low same = absurd (omega arith)
-length-joined (x ∷ first) (y ∷ second) (suc n) low same = ap suc (length-joined first second n (omega arith) (omega arith))
+behind : (run xs : List ℕ) (n a : ℕ) → n + length run ≤ a → n + length run ≤ length xs → drop a (take n xs ++ (run ++ drop (n + length run) xs)) ≡ drop a xs
+behind run xs zero a low few = let e : 0 + length run ≡ length run = omega arith in rw e (behind_run run xs a (omega (arith, low)) (omega (arith, few)))
+behind run [] (suc n) a low few = absurd (omega arith)
+behind run (x ∷ xs) (suc n) zero low few = absurd (omega arith)
+behind run (x ∷ xs) (suc n) (suc a) low few = let e : suc n + length run ≡ suc (n + length run) = omega arith in rw e (behind run xs n a (omega (arith, low)) (omega (arith, few)))
 
-all_joined : (first second : List ℕ) (n : ℕ) → n ≡ length second → length first ≡ length second → take n second ++ drop n first ≡ second
-all_joined [] [] zero all same = refl
-all_joined (x ∷ first) second zero all same = absurd (omega arith)
-all_joined first (y ∷ second) zero all same = absurd (omega arith)
-all_joined first [] (suc n) all same = absurd (omega arith)
-all_joined [] (y ∷ second) (suc n) all same = absurd (omega arith)
-all_joined (x ∷ first) (y ∷ second) (suc n) all same = ap (λ l. y ∷ l) (all_joined first second n (omega arith) (omega arith))
+within_run : (run rest : List ℕ) (a w : ℕ) → a + w ≤ length run → take w (drop a (run ++ rest)) ≡ take w (drop a run)
+within_run run rest zero w low = take-append-le w run rest (omega (arith, low))
+within_run [] rest (suc a) w low = absurd (omega (arith, low))
+within_run (r ∷ run) rest (suc a) w low = within_run run rest a w (omega (arith, low))
+
+within : (run xs rest : List ℕ) (n a w : ℕ) → a + w ≤ length run → n ≤ length xs → take w (drop (n + a) (take n xs ++ (run ++ rest))) ≡ take w (drop a run)
+within run xs rest zero a w low few = let e : 0 + a ≡ a = omega arith in rw e (within_run run rest a w low)
+within run [] rest (suc n) a w low few = absurd (omega arith)
+within run (x ∷ xs) rest (suc n) a w low few = let e : suc n + a ≡ suc (n + a) = omega arith in rw e (within run xs rest n a w low (omega (arith, few)))
 
 -- ---- blocks
 
-pub saved_next : (first second : List ℕ) (i n : ℕ) → 4096 * (i + n) ≤ length second → length first ≡ length second → with_blocks i (blocks_of second i n) (partly_saved first second i) ≡ partly_saved first second (i + n)
-saved_next first second i n low same =
-    let width : (4096 * i + 4096 * n) - 4096 * i ≡ 4096 * n = omega arith in
-    let end : 4096 * (i + n) ≡ 4096 * i + 4096 * n = omega arith in
-    let long : length (take (4096 * n) (drop (4096 * i) second)) ≡ 4096 * n = length-take-le (4096 * n) (drop (4096 * i) second) (omega (arith, length-drop (4096 * i) second, low)) in
-    rw (width, end, long) (next first second (4096 * i) (4096 * n) (omega (arith, low)) same)
+block_width : (i : ℕ) → (4096 * i + 4096 * 1) - 4096 * i ≡ 4096
+block_width i = omega arith
 
-pub saved_all : (first second : List ℕ) (n : ℕ) → length second ≡ 4096 * n → length first ≡ length second → partly_saved first second n ≡ second
-saved_all first second n all same = all_joined first second (4096 * n) (sym all) same
+pub block_is : (bytes : List ℕ) (i : ℕ) → block_bytes bytes i ≡ take 4096 (drop (4096 * i) bytes)
+block_is bytes i = rw (block_width i) refl
 
-pub saved_mixed : (first second : List ℕ) (i : ℕ) → 4096 * i ≤ length second → length first ≡ length second → IsMixed (partly_saved first second i) first second
-saved_mixed first second i low same = record {
-  size = length-joined first second (4096 * i) low same;
-  blocks = λ k inside. go k (nat_lt k i) refl;
-}
-  where
-    go : (k : ℕ) (b : Bool) → nat_lt k i ≡ b → (block_bytes (partly_saved first second i) k ≡ block_bytes first k) ⊎ (block_bytes (partly_saved first second i) k ≡ block_bytes second k)
-    go k true e = inr (before second (drop (4096 * i) first) (4096 * i) (4096 * k) ((4096 * k + 4096) - 4096 * k) (omega (arith, ltb-true k i e)) low)
-    go k false e = inl (ap (λ l. take ((4096 * k + 4096) - 4096 * k) l) (behind first second (4096 * i) (4096 * k) (omega (arith, ltb-false k i e)) low same))
+-- a run of the blocks of one list over another's
+module _ (found run second : List ℕ) (i n : ℕ) (low : 4096 * (i + n) ≤ length found) (same : length found ≡ length second) (is : run ≡ blocks_of second i n) where
+  run_is : run ≡ take (4096 * n) (drop (4096 * i) second)
+  run_is = let width : (4096 * i + 4096 * n) - 4096 * i ≡ 4096 * n = omega arith in rw (← width) is
+
+  pub length_run : length run ≡ 4096 * n
+  length_run = ap length run_is ∙ length-take-le (4096 * n) (drop (4096 * i) second) (omega (arith, length-drop (4096 * i) second, low, same))
+
+  fits_run : 4096 * i + length run ≤ length found
+  fits_run = omega (arith, length_run, low)
+
+  with_is : with_blocks i run found ≡ take (4096 * i) found ++ (run ++ drop (4096 * i + length run) found)
+  with_is = append_assoc (take (4096 * i) found) run (drop (4096 * i + length run) found)
+
+  block_before : (k : ℕ) → k < i → block_bytes (with_blocks i run found) k ≡ block_bytes found k
+  block_before k less = block_is _ k ∙ ap (λ l. take 4096 (drop (4096 * k) l)) with_is ∙ before found (run ++ drop (4096 * i + length run) found) (4096 * i) (4096 * k) 4096 (omega (arith, less)) (omega (arith, fits_run)) ∙ sym (block_is found k)
+
+  block_behind : (k : ℕ) → i + n ≤ k → block_bytes (with_blocks i run found) k ≡ block_bytes found k
+  block_behind k high = block_is _ k ∙ ap (λ l. take 4096 (drop (4096 * k) l)) with_is ∙ ap (λ l. take 4096 l) (behind run found (4096 * i) (4096 * k) (omega (arith, length_run, high)) fits_run) ∙ sym (block_is found k)
+
+  block_within : (k : ℕ) → k < n → block_bytes (with_blocks i run found) (i + k) ≡ block_bytes second (i + k)
+  block_within k less =
+      let place : 4096 * (i + k) ≡ 4096 * i + 4096 * k = omega arith in
+      block_is (with_blocks i run found) (i + k)
+      ∙ ap (λ l. take 4096 (drop (4096 * (i + k)) l)) with_is
+      ∙ ap (λ a. take 4096 (drop a (take (4096 * i) found ++ (run ++ drop (4096 * i + length run) found)))) place
+      ∙ within run found (drop (4096 * i + length run) found) (4096 * i) (4096 * k) 4096 (omega (arith, length_run, less)) (omega (arith, fits_run))
+      ∙ ap (λ l. take 4096 (drop (4096 * k) l)) (run_is ∙ sym (append-nil (take (4096 * n) (drop (4096 * i) second))))
+      ∙ before (drop (4096 * i) second) [] (4096 * n) (4096 * k) 4096 (omega (arith, less)) (omega (arith, length-drop (4096 * i) second, low, same))
+      ∙ ap (λ l. take 4096 l) (drop-drop (4096 * k) (4096 * i) second)
+      ∙ ap (λ a. take 4096 (drop a second)) (sym place)
+      ∙ sym (block_is second (i + k))
+
+  length_with : length (with_blocks i run found) ≡ length found
+  length_with =
+      ap length with_is ∙ length-append (take (4096 * i) found) (run ++ drop (4096 * i + length run) found)
+      ∙ omega (arith, length_run, length-append run (drop (4096 * i + length run) found), length-take-le (4096 * i) found (omega (arith, fits_run)), length-drop (4096 * i + length run) found, fits_run)
+
+-- ---- a file whose marked blocks are written
+
+module _ (marks : List Bool) (first second : List ℕ) where
+  pub none_changed : IsChanged marks 0 first second first
+  none_changed = record { size = refl; marked = λ i less. absurd (omega (arith, less)); others = λ i inside other. refl }
+
+  -- a block that isn't marked is left
+  pub one_left : (found : List ℕ) (i : ℕ) → is_marked marks i ≡ false → IsChanged marks i first second found → IsChanged marks (i + 1) first second found
+  one_left found i off is = record {
+    size = is.size;
+    marked = λ k less inside on. go k (nat_lt k i) refl less inside on;
+    others = λ k inside other. is.others k inside (elim other [ inl high ↦ inl (omega (arith, high)) | inr e ↦ inr e ]);
+  }
+    where
+      go : (k : ℕ) (b : Bool) → nat_lt k i ≡ b → k < i + 1 → 4096 * k < length found → is_marked marks k ≡ true → block_bytes found k ≡ block_bytes second k
+      go k true e less inside on = is.marked k (ltb-true k i e) inside on
+      go k false e less inside on =
+          let here : k ≡ i = omega (arith, less, ltb-false k i e) in
+          absurd (let no : true ≡ false = sym (rw here at on) ∙ off in cc)
+
+  pub changed_mixed : (found : List ℕ) (n : ℕ) → IsChanged marks n first second found → IsMixed found first second
+  changed_mixed found n is = record { size = is.size; blocks = λ k inside. go k inside (nat_lt k n) refl (is_marked marks k) refl }
+    where
+      go : (k : ℕ) → 4096 * k < length found → (b : Bool) → nat_lt k n ≡ b → (m : Bool) → is_marked marks k ≡ m → (block_bytes found k ≡ block_bytes first k) ⊎ (block_bytes found k ≡ block_bytes second k)
+      go k inside false e m f = inl (is.others k inside (inl (ltb-false k n e)))
+      go k inside true e false f = inl (is.others k inside (inr f))
+      go k inside true e true f = inr (is.marked k (ltb-true k n e) inside f)
+
+  -- a run of marked blocks is written
+  module _ (found run : List ℕ) (i n : ℕ) (low : 4096 * (i + n) ≤ length second) (same : length first ≡ length second) (are : run ≡ blocks_of second i n)
+      (on : (k : ℕ) → k < n → is_marked marks (i + k) ≡ true) (is : IsChanged marks i first second found) where
+    sized : length found ≡ length second
+    sized = is.size ∙ same
+
+    inside_found : 4096 * (i + n) ≤ length found
+    inside_found = omega (arith, sized, low)
+
+    size_with : length (with_blocks i run found) ≡ length found
+    size_with = length_with found run second i n inside_found sized are
+
+    run_written : IsChanged marks (i + n) first second (with_blocks i run found)
+    run_written = record {
+      size = size_with ∙ is.size;
+      marked = λ k less inside e. at_marked k (nat_lt k i) refl less (rw size_with at inside) e;
+      others = λ k inside other. at_other k (nat_lt k i) refl (nat_lt k (i + n)) refl (rw size_with at inside) other;
+    }
+      where
+        at_marked : (k : ℕ) (b : Bool) → nat_lt k i ≡ b → k < i + n → 4096 * k < length found → is_marked marks k ≡ true → block_bytes (with_blocks i run found) k ≡ block_bytes second k
+        at_marked k true b less inside e = block_before found run second i n inside_found sized are k (ltb-true k i b) ∙ is.marked k (ltb-true k i b) inside e
+        at_marked k false b less inside e =
+            let high = ltb-false k i b in
+            let place : i + (k - i) ≡ k = omega (arith, high) in
+            ap (λ a. block_bytes (with_blocks i run found) a) (sym place) ∙ block_within found run second i n inside_found sized are (k - i) (omega (arith, high, less)) ∙ ap (λ a. block_bytes second a) place
+
+        at_other : (k : ℕ) (b : Bool) → nat_lt k i ≡ b → (d : Bool) → nat_lt k (i + n) ≡ d → 4096 * k < length found → ((i + n ≤ k) ⊎ (is_marked marks k ≡ false)) → block_bytes (with_blocks i run found) k ≡ block_bytes first k
+        at_other k true b d f inside other =
+            block_before found run second i n inside_found sized are k (ltb-true k i b) ∙ is.others k inside (elim other [ inl high ↦ inl (omega (arith, high)) | inr e ↦ inr e ])
+        at_other k false b false f inside other =
+            block_behind found run second i n inside_found sized are k (ltb-false k (i + n) f) ∙ is.others k inside (inl (ltb-false k i b))
+        at_other k false b true f inside other =
+            let high = ltb-false k i b in
+            let less = ltb-true k (i + n) f in
+            let place : i + (k - i) ≡ k = omega (arith, high) in
+            let marked : is_marked marks k ≡ true = rw place at (on (k - i) (omega (arith, high, less))) in
+            elim other [
+              | inl far ↦ absurd (omega (arith, far, less))
+              | inr off ↦ absurd (let no : true ≡ false = sym marked ∙ off in cc)
+            ]
 
 -- each block is that of one of two lists, of which each block is that of the first or of the second
 mixed_then : (found a b first second : List ℕ) → IsMixed found a b → IsMixed a first second → IsMixed b first second → IsMixed found first second
@@ -92,58 +181,62 @@ mixed_then found a b first second mixed one other = record {
 
 -- ---- what is known of a file
 
--- a run of the second list's blocks is written, over those of the first
-module _ (first second run : List ℕ) (i n : ℕ) (low : 4096 * (i + n) ≤ length second) (same : length first ≡ length second) (is : run ≡ blocks_of second i n) where
-  saved_run : with_blocks i run (partly_saved first second i) ≡ partly_saved first second (i + n)
-  saved_run = ap (λ l. with_blocks i l (partly_saved first second i)) is ∙ saved_next first second i n low same
+module _ (marks : List Bool) (first second : List ℕ) where
+  pub known_unchanged : (known : Known) → HasBytes known first → HasChanged known marks 0 first second
+  known_unchanged None has = tt
+  known_unchanged (Some None) has = absurd has
+  known_unchanged (Some (Some found)) has = rw has (none_changed marks first second)
 
-  pub becomes_next : (known new : Known) → HasBytes known (partly_saved first second i) → Becomes (with_blocks i run) known new → HasBytes new (partly_saved first second (i + n))
-  becomes_next None new has becomes = rw becomes tt
-  becomes_next (Some None) new has becomes = absurd has
-  becomes_next (Some (Some found)) new has becomes = rw becomes (ap (with_blocks i run) has ∙ saved_run)
+  pub known_left : (known : Known) (i : ℕ) → is_marked marks i ≡ false → HasChanged known marks i first second → HasChanged known marks (i + 1) first second
+  known_left None i off has = tt
+  known_left (Some None) i off has = absurd has
+  known_left (Some (Some found)) i off has = one_left marks first second found i off has
 
-  -- it is written partly
-  pub mixed_next : (known new : Known) → HasBytes known (partly_saved first second i) → BecomesMixed (with_blocks i run) known new → HasBlocksOf new first second
-  mixed_next None new has becomes = rw becomes tt
-  mixed_next (Some None) new has becomes = absurd has
-  mixed_next (Some (Some found)) None has becomes = absurd becomes
-  mixed_next (Some (Some found)) (Some None) has becomes = absurd becomes
-  mixed_next (Some (Some found)) (Some (Some now)) has becomes =
-      let next : with_blocks i run found ≡ partly_saved first second (i + n) = ap (with_blocks i run) has ∙ saved_run in
-      let before : IsMixed found first second = rw has (saved_mixed first second i (omega (arith, low)) same) in
-      let after : IsMixed (with_blocks i run found) first second = rw next (saved_mixed first second (i + n) low same) in
-      mixed_then now found (with_blocks i run found) first second becomes before after
+  pub known_stays : (known new : Known) (i : ℕ) → HasChanged known marks i first second → Stays known new → HasChanged new marks i first second
+  known_stays None new i has stays = rw stays tt
+  known_stays (Some known) new i has stays = rw stays has
+
+  pub known_mixed : (known : Known) (i : ℕ) → HasChanged known marks i first second → HasBlocksOf known first second
+  known_mixed None i has = tt
+  known_mixed (Some None) i has = absurd has
+  known_mixed (Some (Some found)) i has = changed_mixed marks first second found i has
+
+  module _ (run : List ℕ) (i n : ℕ) (low : 4096 * (i + n) ≤ length second) (same : length first ≡ length second) (are : run ≡ blocks_of second i n) (on : (k : ℕ) → k < n → is_marked marks (i + k) ≡ true) where
+    pub known_written : (known new : Known) → HasChanged known marks i first second → Becomes (with_blocks i run) known new → HasChanged new marks (i + n) first second
+    known_written None new has becomes = rw becomes tt
+    known_written (Some None) new has becomes = absurd has
+    known_written (Some (Some found)) new has becomes = rw becomes (run_written marks first second found run i n low same are on has)
+
+    -- it is written partly
+    pub known_partly : (known new : Known) → HasChanged known marks i first second → BecomesMixed (with_blocks i run) known new → HasBlocksOf new first second
+    known_partly None new has becomes = rw becomes tt
+    known_partly (Some None) new has becomes = absurd has
+    known_partly (Some (Some found)) None has becomes = absurd becomes
+    known_partly (Some (Some found)) (Some None) has becomes = absurd becomes
+    known_partly (Some (Some found)) (Some (Some now)) has becomes =
+        mixed_then now found (with_blocks i run found) first second becomes (changed_mixed marks first second found i has)
+        (changed_mixed marks first second (with_blocks i run found) (i + n) (run_written marks first second found run i n low same are on has))
 
 pub stays_known : (known new : Known) (bytes : List ℕ) → HasBytes known bytes → Stays known new → HasBytes new bytes
 stays_known None new bytes has stays = rw stays tt
 stays_known (Some known) new bytes has stays = rw stays has
-
-pub mixed_known : (known : Known) (first second : List ℕ) (i : ℕ) → 4096 * i ≤ length second → length first ≡ length second → HasBytes known (partly_saved first second i) → HasBlocksOf known first second
-mixed_known None first second i low same has = tt
-mixed_known (Some None) first second i low same has = absurd has
-mixed_known (Some (Some found)) first second i low same has = rw has (saved_mixed first second i low same)
 
 -- what is told stays told
 pub stays_told : (known new : Known) → Stays known new → is_some new ≡ is_some known
 stays_told None new stays = rw stays refl
 stays_told (Some known) new stays = rw stays refl
 
-pub becomes_told : (known new : Known) (f : List ℕ → List ℕ) (bytes : List ℕ) → HasBytes known bytes → Becomes f known new → is_some new ≡ is_some known
-becomes_told None new f bytes has becomes = rw becomes refl
-becomes_told (Some None) new f bytes has becomes = absurd has
-becomes_told (Some (Some found)) new f bytes has becomes = rw becomes refl
+pub becomes_told : (known new : Known) (f : List ℕ → List ℕ) (marks : List Bool) (i : ℕ) (first second : List ℕ) → HasChanged known marks i first second → Becomes f known new → is_some new ≡ is_some known
+becomes_told None new f marks i first second has becomes = rw becomes refl
+becomes_told (Some None) new f marks i first second has becomes = absurd has
+becomes_told (Some (Some found)) new f marks i first second has becomes = rw becomes refl
 
-pub mixed_told : (known new : Known) (f : List ℕ → List ℕ) (bytes : List ℕ) → HasBytes known bytes → BecomesMixed f known new → is_some new ≡ is_some known
-mixed_told None new f bytes has becomes = rw becomes refl
-mixed_told (Some None) new f bytes has becomes = absurd has
-mixed_told (Some (Some found)) None f bytes has becomes = absurd becomes
-mixed_told (Some (Some found)) (Some now) f bytes has becomes = refl
-
--- all blocks are of the second list
-pub all_mixed : (known : Known) (first second : List ℕ) → length first ≡ length second → HasBytes known second → HasBlocksOf known first second
-all_mixed None first second same has = tt
-all_mixed (Some None) first second same has = absurd has
-all_mixed (Some (Some found)) first second same has = record { size = ap length has ∙ sym same; blocks = λ i low. inr (ap (λ l. block_bytes l i) has) }
+pub mixed_told : (known new : Known) (f : List ℕ → List ℕ) (marks : List Bool) (i : ℕ) (first second : List ℕ) → HasChanged known marks i first second → BecomesMixed f known new → is_some new ≡ is_some known
+mixed_told None new f marks i first second has becomes = rw becomes refl
+mixed_told (Some None) new f marks i first second has becomes = absurd has
+mixed_told (Some (Some found)) None f marks i first second has becomes = absurd becomes
+mixed_told (Some (Some found)) (Some None) f marks i first second has becomes = absurd becomes
+mixed_told (Some (Some found)) (Some (Some now)) f marks i first second has becomes = refl
 
 -- ---- the attached file
 
@@ -197,3 +290,8 @@ ok_then (Err e) f p = tt
 pub err_then : {T E P Q : Type 0} (r : Result T E) → (P → Q) → OnErr r P → OnErr r Q
 err_then (Ok done) f p = tt
 err_then (Err e) f p = f p
+
+-- ---- a run of marked blocks is none where no block is marked
+pub unmarked_run : (marks : List Bool) (first run : ℕ) → ((i : ℕ) → is_marked marks i ≡ false) → (run ≡ 0 → ⊥) → ((k : ℕ) → k < run → is_marked marks (first + k) ≡ true) → ⊥
+unmarked_run marks first zero none some on = some refl
+unmarked_run marks first (suc run) none some on = let no : true ≡ false = sym (on 0 (omega arith)) ∙ none (first + 0) in cc

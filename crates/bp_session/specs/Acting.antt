@@ -1,11 +1,14 @@
 -- What a line came to.
-use Rattle.std.specs.Prelude.{◌≡◌, ◌⊎◌, ◌&&◌, ℕ, Bool, true, false, length, not}
+use Rattle.std.specs.Prelude.{[], ◌∷◌, ◌≡◌, ◌⊎◌, ◌&&◌, ℕ, Bool, List, true, false, length, nat_lt, not}
+use Rattle.bp_limits.specs.Limits.{call_room}
+use Rattle.pm_epochs.specs.declared.event.Event.{Event}
+use Rattle.pm_epochs.specs.declared.event.Event.TheVariants.{Barrier, Mark, Store}
 use Rattle.pm_epochs.specs.Log.{marks}
 use Rattle.pm_epochs.specs.Replay.{PowerCut, IsRight, kept_calls}
-use Rattle.pm_region.specs.Memory.{Memory, crashed, current_words}
+use Rattle.pm_region.specs.Memory.{Memory, crashed, current_words, room_in}
 use Rattle.bp_layout.specs.Words.{Image}
 use Rattle.bp_plain.specs.Calls.{Answer}
-use Rattle.bp_plain.specs.Calls.Answer.{done, refused}
+use Rattle.bp_plain.specs.Calls.Answer.{refused}
 use Rattle.bp_plain.specs.Calls.Refusal.{no_memory}
 use Rattle.bp_script.specs.Commands.{Command}
 use Rattle.bp_script.specs.Commands.Command.{file_call, sync, space, crash, storm, cache, log, bad_syntax, too_long}
@@ -43,27 +46,34 @@ to_save log memory saved = saved
 to_save bad_syntax memory saved = saved
 to_save too_long memory saved = saved
 
--- the call tells nothing but that it was carried out, as each call does that changes the tree
-abbrev pub is_done : Answer → Bool
-is_done done = true
-is_done _ = false
+-- the log has a store
+abbrev pub has_store : List Event → Bool
+has_store [] = false
+has_store (Store word value ∷ events) = true
+has_store (Barrier ∷ events) = has_store events
+has_store (Mark ∷ events) = has_store events
 
--- a line that may have changed the words: such a call, or a crash
-abbrev pub may_have_changed : Outcome → Answer → Bool
-may_have_changed Answered answer = is_done answer
-may_have_changed Synced answer = false
-may_have_changed (Counted free live) answer = false
-may_have_changed (Kept c n) answer = true
-may_have_changed (Logged events barriers calls) answer = false
-may_have_changed BadChoice answer = false
-may_have_changed NoMemory answer = false
-may_have_changed BadSyntax answer = false
-may_have_changed TooLong answer = false
+-- a call first drains a log that lacks room for one, and so may change the words of the last drain where that has a store
+abbrev pub drains_stores : Memory → Bool
+drains_stores memory = nat_lt (room_in memory) call_room && has_store memory.events
 
--- whether a file that is taken to hold the words as they are is so behind a line that came to this: a sync saves them
-abbrev pub is_saved_behind : Outcome → Answer → Bool → Bool
-is_saved_behind Synced answer is_saved = true
-is_saved_behind outcome answer is_saved = is_saved && not (may_have_changed outcome answer)
+-- a line that may have changed the words of the last drain: a call that first drained stores, a crash, or a sync
+abbrev pub may_change_base : Outcome → Bool → Bool
+may_change_base Answered drained_stores = drained_stores
+may_change_base Synced drained_stores = true
+may_change_base (Counted free live) drained_stores = false
+may_change_base (Kept c n) drained_stores = true
+may_change_base (Logged events barriers calls) drained_stores = false
+may_change_base BadChoice drained_stores = false
+may_change_base NoMemory drained_stores = false
+may_change_base BadSyntax drained_stores = false
+may_change_base TooLong drained_stores = false
+
+-- whether a file that is taken to hold the words of the last drain holds them behind a line that came to this: a sync
+-- saves them
+abbrev pub is_base_saved_behind : Outcome → Bool → Bool → Bool
+is_base_saved_behind Synced drained_stores is_base_saved = true
+is_base_saved_behind outcome drained_stores is_base_saved = is_base_saved && not (may_change_base outcome drained_stores)
 
 -- A command was done and replied to, but for the file, which is to be saved where the outcome is a sync.
 pub record Does (old : Memory) (command : Command) (outcome : Outcome) (answer : Answer) (new : Memory) : Type 0 where
@@ -74,7 +84,7 @@ pub record Does (old : Memory) (command : Command) (outcome : Outcome) (answer :
   pub is_sync : outcome ≡ Synced → command ≡ sync
   pub synced : command ≡ sync → outcome ≡ Synced
   pub others : ¬ (outcome ≡ Synced) → (saved : Image) → to_save command old saved ≡ saved
-  pub words : may_have_changed outcome answer ≡ false → current_words new ≡ current_words old
+  pub base : may_change_base outcome (drains_stores old) ≡ false → new.base ≡ old.base
 
 -- A crash to this cut: the calls that are kept are counted, and the memory is what it leaves.
 pub record HasCrashed (old : Memory) (cut : PowerCut) (outcome : Outcome) (new : Memory) : Type 0 where

@@ -1,5 +1,5 @@
 -- Which words a file holds.
-use Rattle.std.specs.Prelude.{◌≡◌, ℕ, List, None, Some, ⊤, Bool, true, is_some, length, take, drop, ◌++◌, ◌*◌, ◌<◌, ◌^◌}
+use Rattle.std.specs.Prelude.{◌≡◌, ℕ, List, None, Some, ⊤, Bool, true, is_some, length, take, ◌*◌, ◌<◌, ◌^◌}
 use Rattle.bp_limits.specs.Limits.{block_size, block_words}
 use Rattle.bp_io.specs.Files.{IsMixed, Known, TellsFile, View}
 use Rattle.bp_layout.specs.Words.{Image, word}
@@ -55,11 +55,11 @@ pub record Holds (files : View) (name : List ℕ) (image : Image) : Type 0 where
   pub size : length image ≡ block_words * files.blocks
   pub bytes : HasBytes (files.contents name) (image_bytes image)
 
--- It holds the first words, and where it is taken to hold the others, it does. Where its bytes are told, both are the
--- same then.
-pub record HoldsAs (is_saved : Bool) (files : View) (words : Image) (name : List ℕ) (image : Image) : Type 0 where
+-- It holds the first words, and where it is taken to hold those of the last drain, it does. Where its bytes are told,
+-- both are the same then.
+pub record HoldsAs (is_base_saved : Bool) (files : View) (base : Image) (name : List ℕ) (image : Image) : Type 0 where
   pub file : Holds files name image
-  pub current : is_saved ≡ true → Holds files name words
+  pub drained : is_base_saved ≡ true → Holds files name base
 
 -- It is attached, and each of its blocks is that of the first words or of the second.
 pub record HoldsPartly (files : View) (name : List ℕ) (first second : Image) : Type 0 where
@@ -76,8 +76,3 @@ pub record IsReady (base : Image) (files : View) : Type 0 where
   pub size : length base ≡ block_words * files.blocks
   pub attached : (name : List ℕ) × (files.is_attached name ≡ true)
   pub may_write : files.may_write ≡ true
-
--- the first blocks of a file that is being saved are those of the second list of bytes, the others still those of the
--- first
-abbrev pub partly_saved : List ℕ → List ℕ → ℕ → List ℕ
-partly_saved first second i = take (block_size * i) second ++ drop (block_size * i) first

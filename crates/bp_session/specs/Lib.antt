@@ -3,6 +3,7 @@ pub mod Lines
 pub mod Session
 pub mod PlainSession
 pub mod Files
+pub mod Changed
 pub mod Serving
 pub mod Gathering
 pub mod Work

@@ -92,25 +92,25 @@ pub record StopsAtSave (old : State) (memory : Memory) (holds_partly : Image →
 -- ---- what is told from one moment to another
 
 -- The region, the files and the sink, as they are told at a moment, and whether the attached file is taken to hold the
--- words as they are.
+-- words of the last drain.
 pub record Moment : Type 0 where
   pub memory : Memory
   pub files : View
   pub taken : Option (List ℕ)
   pub faults : ℕ
-  pub is_saved : Bool
+  pub is_base_saved : Bool
 
 abbrev pub moment : Memory → View → Option (List ℕ) → ℕ → Moment
 moment memory files taken faults =
-    record { memory = memory; files = files; taken = taken; faults = faults; is_saved = false }
+    record { memory = memory; files = files; taken = taken; faults = faults; is_base_saved = false }
 
--- the same moment, where the attached file is taken to hold the words as they are if so
+-- the same moment, where the attached file is taken to hold the words of the last drain if so
 abbrev pub saved_if : Bool → Moment → Moment
-saved_if is_saved now = record now { is_saved = is_saved }
+saved_if is_base_saved now = record now { is_base_saved = is_base_saved }
 
--- the file of this name holds these words, and where it is taken to hold the words as they are, it does
+-- the file of this name holds these words, and where it is taken to hold those of the last drain, it does
 abbrev pub HoldsAt : Moment → List ℕ → Image → Type 0
-HoldsAt now name image = HoldsAs now.is_saved now.files (current_words now.memory) name image
+HoldsAt now name image = HoldsAs now.is_base_saved now.files now.memory.base name image
 
 -- whatever name's file holds the first words at one moment holds the second at the other
 abbrev pub Carries : Moment → Moment → Image → Image → Type 0
@@ -139,7 +139,7 @@ DoesLine old command reply new =
 -- A sync couldn't save, and the file is not taken to hold the words.
 pub record FailsLine (old : Moment) (command : Command) (new : Moment) : Type 0 where
   pub fails : (saved : Image) → SyncFails (state old.memory saved) new.memory (CarriesPartly old new saved) command
-  pub cleared : new.is_saved ≡ false
+  pub cleared : new.is_base_saved ≡ false
 
 -- The lines that this input ends were answered.
 abbrev pub DoesPart : List ℕ → List ℕ → List ℕ → Moment → Moment → Type 0
@@ -160,7 +160,7 @@ DoesBreakOff most old new commands = (saved : Image) →
 pub record DoesStop (old new : Moment) (commands : List Command) : Type 0 where
   pub stops : (saved : Image) →
       StopsAtSave (state old.memory saved) new.memory (CarriesPartly old new saved) commands old.taken new.taken
-  pub cleared : new.is_saved ≡ false
+  pub cleared : new.is_base_saved ≡ false
 
 -- The region keeps its size and the room of its log, the same file is attached, no other one changes, and what was
 -- flushed before is flushed where no sync failed.

@@ -1,14 +1,14 @@
 //! What one line does.
 
 ghost use Rattle.std.specs.Prelude.{◌&&◌, ◌≡◌, ◌≤◌, [], IfErr, IfOk, OnOk, length, not, true};
-ghost use Rattle.pm_epochs.specs.Log.{barriers, marks};
+ghost use Rattle.pm_epochs.specs.Log.{barriers, marks, stores};
 ghost use Rattle.bp_io.specs.Files.{KeepsFiles, KeepsOthers, StaysAttached};
 ghost use Rattle.bp_limits.specs.Limits.{log_events, max_mask};
 ghost use Rattle.bp_replay.specs.Storm.{storm_cut};
 ghost use Rattle.bp_replay.specs.Wanted.{cut_for, mask_places, wanted_by};
 ghost use Rattle.bp_script.specs.Commands.Command.{sync};
 ghost use Rattle.bp_script.specs.Commands.{command_of};
-ghost use Rattle.bp_session.specs.Acting.{CrashesTo, Does, HasCrashed, is_saved_behind, may_have_changed, reply_of};
+ghost use Rattle.bp_session.specs.Acting.{CrashesTo, Does, HasCrashed, drains_stores, has_store, is_base_saved_behind, may_change_base, reply_of};
 ghost use Rattle.bp_session.specs.Gathering.{Clears, LineGathers};
 ghost use Rattle.bp_session.specs.Serving.{CanServe, DoesLine, moment, saved_if};
 ghost use Rattle.bp_session.specs.declared.outcome.Outcome.TheVariants.{Logged, Synced};
@@ -16,11 +16,10 @@ ghost use Rattle.bp_session.specs.Work.{answer_in, line_in, waiting_in};
 
 use crate::caching::crash_by_caches;
 use crate::outcome::Outcome;
-use crate::saving::save_unless_saved;
+use crate::saving::sync_and_save;
 use crate::work::LineBuffers;
 use bp_io::{Failed, Files, Sink};
-use bp_limits::MAX_LINE;
-use bp_plain::{Answer, Reply};
+use bp_limits::{CALL_ROOM, MAX_LINE};
 use bp_replay::{Cut, choice_of, storm};
 use bp_script::{Line, Syntax};
 use bp_volume::Volume;
@@ -119,8 +118,6 @@ fn act_but_sync<R: Region>(
     }
     match buffers.decoded.line(&buffers.line) {
         Ok(Line::Call(call)) => {
-            // Its words are a file system.
-            let _region = volume.region();
             volume.apply(alloc, &call, &mut buffers.reply);
             Outcome::Answered
         }
@@ -166,49 +163,69 @@ pub fn act<R: Region>(alloc: Global, volume: &mut Volume<R>, buffers: &mut LineB
     }
 }
 
-/// Whether a line may have changed the words.
-fn may_change(outcome: Outcome, reply: &Reply) -> bool
-    ensures { result ≡ may_have_changed outcome reply.now.answer }
+/// Whether the log of a region has a store.
+fn has_store<R: Region>(region: &R) -> bool
+    ensures { result ≡ has_store (R.memory region.now).events }
+{
+    for i in 0..region.event_count() {
+        if let Event::Store { .. } = region.event(i) {
+            return true;
+        }
+    }
+    false
+}
+
+/// Whether the next call over a region first drains stores: it drains a log that lacks room for a call.
+fn drains_stores<R: Region>(region: &R) -> bool
+    ensures { result ≡ drains_stores (R.memory region.now) }
+{
+    region.room() < CALL_ROOM && has_store(region)
+}
+
+/// Whether a line may have changed the words of the last drain, where a call first drained stores or not.
+fn may_change_base(outcome: Outcome, drained_stores: bool) -> bool
+    ensures { result ≡ may_change_base outcome drained_stores }
 {
     match outcome {
-        Outcome::Answered => matches!(reply.answer(), Answer::Done),
-        Outcome::Kept { .. } => true,
+        Outcome::Answered => drained_stores,
+        Outcome::Synced | Outcome::Kept { .. } => true,
         _ => false,
     }
 }
 
-/// Whether a file that held the words as they were before a line that is no sync holds them as they are behind it.
-fn stays_saved(is_saved: bool, outcome: Outcome, reply: &Reply) -> bool
-    ensures { result ≡ (is_saved && not (may_have_changed outcome reply.now.answer)) }
+/// Whether a file that held the words of the last drain before a line that is no sync holds them behind it.
+fn stays_saved(is_base_saved: bool, outcome: Outcome, drained_stores: bool) -> bool
+    ensures { result ≡ (is_base_saved && not (may_change_base outcome drained_stores)) }
 {
-    is_saved && !may_change(outcome, reply)
+    is_base_saved && !may_change_base(outcome, drained_stores)
 }
 
-/// Does what the line asks for. A sync is done behind the replies that wait, and saves the words to the attached file,
-/// unless it is taken to hold them. An error is the status: 4 where the sink failed before a sync was done, and 5 where
-/// the files did as it saved.
+/// Does what the line asks for. A sync is done behind the replies that wait, and saves the words to the attached file:
+/// where that is taken to hold those of the last drain, only the blocks to which a store went since. An error is the
+/// status: 4 where the sink failed before a sync was done, and 5 where the files did as it saved.
 pub(crate) fn act_and_save<R: Region, K: Sink, F: Files>(
     alloc: Global,
     volume: &mut Volume<R>,
     buffers: &mut LineBuffers,
-    is_saved: &mut bool,
+    is_base_saved: &mut bool,
     out: &mut K,
     files: &mut F,
 ) -> Result<Outcome, u8>
     requires { CanServe volume.old (F.view files.old) }
     ensures does { IfOk result (λ outcome. DoesLine
-        (saved_if is_saved.old (moment volume.old (F.view files.old) (K.taken out.old) (K.faults out.old)))
+        (saved_if is_base_saved.old (moment volume.old (F.view files.old) (K.taken out.old) (K.faults out.old)))
         (command_of (line_in buffers.old)) (reply_of outcome (answer_in buffers.new))
-        (saved_if is_saved.new (moment volume.new (F.view files.new) (K.taken out.new) (K.faults out.new)))) }
+        (saved_if is_base_saved.new (moment volume.new (F.view files.new) (K.taken out.new) (K.faults out.new)))) }
     ensures flag { IfOk result (λ outcome.
-        is_saved.new ≡ is_saved_behind outcome (answer_in buffers.new) is_saved.old) }
-    ensures kept { is_saved.old ≡ true → KeepsFiles (F.view files.old) (F.view files.new) }
+        is_base_saved.new ≡ is_base_saved_behind outcome (drains_stores volume.old) is_base_saved.old) }
+    ensures kept { is_base_saved.old ≡ true → stores volume.old.events ≡ [] →
+        KeepsFiles (F.view files.old) (F.view files.new) }
     ensures clears { OnOk result (Clears (command_of (line_in buffers.old)) (waiting_in buffers.old)
         (waiting_in buffers.new) (K.taken out.old) (K.taken out.new) (F.view files.old) (F.view files.new)) }
     ensures stops { IfErr result (λ status. LineGathers status (command_of (line_in buffers.old))
         (waiting_in buffers.old) (waiting_in buffers.new)
-        (saved_if is_saved.old (moment volume.old (F.view files.old) (K.taken out.old) (K.faults out.old)))
-        (saved_if is_saved.new (moment volume.new (F.view files.new) (K.taken out.new) (K.faults out.new)))) }
+        (saved_if is_base_saved.old (moment volume.old (F.view files.old) (K.taken out.old) (K.faults out.old)))
+        (saved_if is_base_saved.new (moment volume.new (F.view files.new) (K.taken out.new) (K.faults out.new)))) }
     ensures some { IfErr result (λ status. ¬ (status ≡ 0)) }
     ensures heard { IfErr result (λ status. waiting_in buffers.old ≡ [] → status ≡ 5) }
     ensures synced { OnOk result (command_of (line_in buffers.old) ≡ sync → (F.view files.new).is_flushed ≡ true) }
@@ -221,25 +238,23 @@ pub(crate) fn act_and_save<R: Region, K: Sink, F: Files>(
     ensures attached { StaysAttached (F.view files.old) (F.view files.new) }
     ensures line { line_in buffers.new ≡ line_in buffers.old }
 {
+    let drained_stores = drains_stores(volume.region());
     match act_but_sync(alloc, volume, buffers) {
         Outcome::Synced => match buffers.replies.hand_over(out) {
-            Ok(()) => {
-                volume.sync();
-                match save_unless_saved(volume.region(), *is_saved, files) {
-                    Ok(()) => {
-                        *is_saved = true;
-                        Ok(Outcome::Synced)
-                    }
-                    Err(Failed) => {
-                        *is_saved = false;
-                        Err(5)
-                    }
+            Ok(()) => match sync_and_save(volume, *is_base_saved, files) {
+                Ok(()) => {
+                    *is_base_saved = true;
+                    Ok(Outcome::Synced)
                 }
-            }
+                Err(Failed) => {
+                    *is_base_saved = false;
+                    Err(5)
+                }
+            },
             Err(Failed) => Err(4),
         },
         outcome => {
-            *is_saved = stays_saved(*is_saved, outcome, &buffers.reply);
+            *is_base_saved = stays_saved(*is_base_saved, outcome, drained_stores);
             Ok(outcome)
         }
     }

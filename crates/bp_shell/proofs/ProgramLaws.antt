@@ -7,7 +7,7 @@ use Rattle.bp_io.specs.Causes.{Rose}
 use Rattle.bp_io.specs.Files.{View}
 use Rattle.bp_layout.specs.Words.{Image}
 use Rattle.bp_layout.specs.Bytes.{image_bytes}
-use Rattle.bp_session.specs.Files.{HasBlocksOf, HasBytes, Holds, HoldsAs}
+use Rattle.bp_session.specs.Files.{HasBlocksOf, HasBytes, Holds}
 use Rattle.bp_shell.specs.Formatting.{HasPartly, new_image}
 use Rattle.bp_shell.specs.Opening.{HoldsFileSystem, start}
 use Rattle.bp_session.specs.Outside.{IsIdle, IsUntouched, Outside, counts, outside}
@@ -98,17 +98,9 @@ module _ (before after : Outside) (untouched : IsUntouched before after) (flushe
   pub run_memory : after.taken ≡ before.taken → after.faults.sink ≡ before.faults.sink → after.faults.files ≡ before.faults.files → RunOutcome 8 before after
   run_memory taken sink files = run_stopped s.Memory status.Memory (memory_reason before.file) (λ e. absurd (if_memory _ refl e)) (λ _. files) (refl, (taken, sink))
 
--- a file that was just read holds the words as they are
+-- a file that was just read holds the words of a region whose log is empty
 pub read_now : (now : Moment) (name : List ℕ) (image : Image) → now.memory ≡ (start image).memory → Holds now.files name image → HoldsAt now name image
-read_now now name image same file = record { file = file; current = λ _. rw same file }
-
--- a save behind a sync leaves the words from before it
-pub saved_drained : (is_saved : Bool) (files now : View) (name : List ℕ) (memory end : Memory) (was : Image) → (HoldsAs is_saved files (current_words end) name was → Holds now name (current_words end))
-    → end ≡ drained memory → HoldsAs is_saved files (current_words memory) name was → HasBytes (now.contents name) (image_bytes (current_words memory))
-saved_drained is_saved files now name memory end was saves done held =
-    let file = saves (rw done held) in
-    let words : HasBytes (now.contents name) (image_bytes (current_words (drained memory))) = rw done at file.bytes in
-    words
+read_now now name image same file = record { file = file; drained = λ _. rw same file }
 
 -- from the moment at which FILE is mounted
 module _ (i j : Input) (files : View) (a b : Moment) (name : List ℕ) (image : Image) (found : HoldsFileSystem (files.contents name) image) (same : a.memory ≡ (start image).memory) (holds : HoldsAt a name image)

@@ -14,7 +14,7 @@ returns-then-len-gt-MAX_LINE-clause-does g c = λ _. rw (command_long c.args.buf
 pub returns-in-Ok-Call-clause-does : goal.returns-in-Ok-Call-clause-does
 returns-in-Ok-Call-clause-does g c = λ _.
     let asked = command_short c.args.buffers.now.line.items _ (omega arith) (let meant = rw c.in-Ok-Call.field-0-is at c.in-Ok-Call.ensures.meaning in meant ∙ ap in_grammar c.deref.ensures.value) in
-    rw (← asked) (does_call c.args.volume.now _ _ _ c.region-region.ensures.safe c.apply.ensures)
+    rw (← asked) (does_call c.args.volume.now _ _ _ c.apply.ensures)
 
 pub returns-in-Ok-Sync-clause-left : goal.returns-in-Ok-Sync-clause-left
 returns-in-Ok-Sync-clause-left g c = λ _.

@@ -10,9 +10,9 @@ invariant-loop-end g l =
     record {
       inside : l.at ≤ l.count;
       piece : l.work.piece.items ≡ l.fn.work.piece.items;
-      waits : Waits (saved_if l.fn.is_saved (moment l.fn.volume (g.F.Files.view l.fn.files) (g.K.Sink.taken l.fn.out) (g.K.Sink.faults l.fn.out))) l.most
+      waits : Waits (saved_if l.fn.is_base_saved (moment l.fn.volume (g.F.Files.view l.fn.files) (g.K.Sink.taken l.fn.out) (g.K.Sink.faults l.fn.out))) l.most
           l.fn.work.buffers.line.items (take l.at l.fn.work.piece.items) l.work.buffers.line.items (waiting l.work.buffers.replies)
-          (saved_if l.is_saved (moment l.volume (g.F.Files.view l.files) (g.K.Sink.taken l.out) (g.K.Sink.faults l.out)));
+          (saved_if l.is_base_saved (moment l.volume (g.F.Files.view l.files) (g.K.Sink.taken l.out) (g.K.Sink.faults l.out)));
     }
 
 abbrev pub decreases-loop-end : goal.decreases-loop-end

@@ -1,10 +1,9 @@
 use Rattle.std.proofs.Common.{refl, sym, ap, true, ◌≡◌, ◌∙◌}
-use Rattle.bp_session.proofs.ActingLaws.{size-drained}
 use Rattle.bp_session.proofs.OthersLaws.{others_then}
-use Rattle.bp_session.proofs.SavingLaws.{stays_attached, still_attached, still_ready}
+use Rattle.bp_session.proofs.SavingLaws.{stays_attached}
 use Rattle.bp_session.specs.Serving.{Moment, moment, saved_if}
 use Rattle.bp_shell.specs.Statuses.{code_of}
-use Rattle.bp_shell.proofs.ProgramLaws.{read_now, run_served, run_unsaved, run_whole, saved_drained, serving_numbers, serving_reads}
+use Rattle.bp_shell.proofs.ProgramLaws.{read_now, run_served, run_unsaved, run_whole, serving_numbers, serving_reads}
 use Rattle.bp_shell.proofs.running.serve_and_save.Goals as goal
 
 pub returns-in_default-clause-outcome : goal.returns-in_default-clause-outcome
@@ -25,8 +24,8 @@ returns-in-Ok-clause-outcome g c = λ before name image mounted.
     let whole : c.serve_gathered-served.result ≡ 0 = sym c.of_serving.ensures.code ∙ ap code_of c.in-Done.is in
     let served = rw whole at c.serve_gathered-served.ensures.outcome in
     let told = (served.whole refl).4 image in
-    run_whole _ _ before begun _ name image mounted.found mounted.starts held mounted.flushed mounted.calm (g.F.Files.view c.save_unless_saved.new.files) served
-    (saved_drained _ _ _ _ c.serve_gathered-served.new.volume _ told.after (c.in-Ok.ensures.saved name told.after) (c.region.ensures.memory ∙ c.sync.ensures.drained) (told.file name held)) c.in-Ok.ensures.flushed c.in-Ok.ensures.cause.same
+    run_whole _ _ before begun _ name image mounted.found mounted.starts held mounted.flushed mounted.calm (g.F.Files.view c.sync_and_save.new.files) served
+    (c.in-Ok.ensures.saved name told.after (told.file name held)).bytes c.in-Ok.ensures.flushed c.in-Ok.ensures.cause.same
 
 pub returns-in-Err-clause-outcome : goal.returns-in-Err-clause-outcome
 returns-in-Err-clause-outcome g c = λ before name image mounted.
@@ -34,11 +33,11 @@ returns-in-Err-clause-outcome g c = λ before name image mounted.
     let held = read_now begun name image mounted.starts mounted.holds in
     let whole : c.serve_gathered-served.result ≡ 0 = sym c.of_serving.ensures.code ∙ ap code_of c.in-Done.is in
     let served = rw whole at c.serve_gathered-served.ensures.outcome in
-    run_unsaved _ _ before begun _ name image mounted.found mounted.starts held mounted.flushed mounted.calm (g.F.Files.view c.save_unless_saved.new.files) served _ c.sync.ensures.drained
-    (λ was file. (rw (c.region.ensures.memory, c.sync.ensures.drained) at (c.in-Err.ensures.partly name was file)).bytes) c.in-Err.ensures.cause.failed
+    run_unsaved _ _ before begun _ name image mounted.found mounted.starts held mounted.flushed mounted.calm (g.F.Files.view c.sync_and_save.new.files) served _ c.sync_and_save.ensures.drained
+    (λ was file. (c.in-Err.ensures.partly name was file).bytes) c.in-Err.ensures.cause.failed
 
-pub save_unless_saved-requires : goal.save_unless_saved-requires
-save_unless_saved-requires g c = rw (c.region.ensures.memory, c.sync.ensures.drained) (still_ready _ _ _ _ c.serve_gathered-served.ensures.again.ready (size-drained c.serve_gathered-served.new.volume) (still_attached _))
+pub sync_and_save-requires : goal.sync_and_save-requires
+sync_and_save-requires g c = c.serve_gathered-served.ensures.again.ready
 
 pub of_serving-requires-clause-most : goal.of_serving-requires-clause-most
 of_serving-requires-clause-most g c = (serving_numbers c.serve_gathered-served.result c.serve_gathered-served.ensures.outcome.one_of).0
@@ -58,17 +57,17 @@ pub returns-in_default-clause-others : goal.returns-in_default-clause-others
 returns-in_default-clause-others g c = c.serve_gathered-served.ensures.outcome.keeps.others
 
 pub returns-in-Ok-clause-attached : goal.returns-in-Ok-clause-attached
-returns-in-Ok-clause-attached g c = stays_attached _ _ _ c.serve_gathered-served.ensures.outcome.keeps.attached c.save_unless_saved.ensures.attached
+returns-in-Ok-clause-attached g c = stays_attached _ _ _ c.serve_gathered-served.ensures.outcome.keeps.attached c.sync_and_save.ensures.attached
 
 pub returns-in-Ok-clause-others : goal.returns-in-Ok-clause-others
 returns-in-Ok-clause-others g c =
     let keeps = c.serve_gathered-served.ensures.outcome.keeps in
-    others_then (g.F.Files.view c.args.files.now) (g.F.Files.view c.serve_gathered-served.new.files) (g.F.Files.view c.save_unless_saved.new.files) keeps.attached keeps.others c.save_unless_saved.ensures.others
+    others_then (g.F.Files.view c.args.files.now) (g.F.Files.view c.serve_gathered-served.new.files) (g.F.Files.view c.sync_and_save.new.files) keeps.attached keeps.others c.sync_and_save.ensures.others
 
 pub returns-in-Err-clause-attached : goal.returns-in-Err-clause-attached
-returns-in-Err-clause-attached g c = stays_attached _ _ _ c.serve_gathered-served.ensures.outcome.keeps.attached c.save_unless_saved.ensures.attached
+returns-in-Err-clause-attached g c = stays_attached _ _ _ c.serve_gathered-served.ensures.outcome.keeps.attached c.sync_and_save.ensures.attached
 
 pub returns-in-Err-clause-others : goal.returns-in-Err-clause-others
 returns-in-Err-clause-others g c =
     let keeps = c.serve_gathered-served.ensures.outcome.keeps in
-    others_then (g.F.Files.view c.args.files.now) (g.F.Files.view c.serve_gathered-served.new.files) (g.F.Files.view c.save_unless_saved.new.files) keeps.attached keeps.others c.save_unless_saved.ensures.others
+    others_then (g.F.Files.view c.args.files.now) (g.F.Files.view c.serve_gathered-served.new.files) (g.F.Files.view c.sync_and_save.new.files) keeps.attached keeps.others c.sync_and_save.ensures.others

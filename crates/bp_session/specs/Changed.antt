@@ -1,0 +1,45 @@
+-- Which blocks of a file a save writes: those that are marked.
+use Rattle.std.specs.Prelude.{◌≡◌, ◌⊎◌, ℕ, ◌*◌, ◌/◌, ◌<◌, ◌≤◌, List, Bool, true, false, Some, None, ⊤, length, slice_index_or, slice_set}
+use Rattle.bp_limits.specs.Limits.{block_size, block_words}
+use Rattle.bp_io.specs.Files.{Known, View, block_bytes}
+use Rattle.pm_epochs.specs.declared.event.Event.{Event}
+use Rattle.pm_epochs.specs.declared.event.Event.TheVariants.{Barrier, Mark, Store}
+use Rattle.bp_layout.specs.Words.{Image, word}
+
+abbrev pub is_marked : List Bool → ℕ → Bool
+is_marked marks i = slice_index_or marks i false
+
+-- no block is
+abbrev pub AreUnmarked : List Bool → Type 0
+AreUnmarked marks = (i : ℕ) → is_marked marks i ≡ false
+
+-- each word of a block that is not marked is the same in both images
+abbrev pub MarksChanges : List Bool → Image → Image → Type 0
+MarksChanges marks old new =
+    (place : ℕ) → place < length old → is_marked marks (place / block_words) ≡ false → word new place ≡ word old place
+
+-- Of the first blocks of a file those that are marked are the second list's, and all others are the first's.
+pub record IsChanged (marks : List Bool) (count : ℕ) (first second found : List ℕ) : Type 0 where
+  pub size : length found ≡ length first
+  pub marked : (i : ℕ) → i < count → block_size * i < length found → is_marked marks i ≡ true →
+      block_bytes found i ≡ block_bytes second i
+  pub others : (i : ℕ) → block_size * i < length found → (count ≤ i) ⊎ (is_marked marks i ≡ false) →
+      block_bytes found i ≡ block_bytes first i
+
+-- where its bytes are told, the file of a name is there and changed so
+abbrev pub HasChanged : Known → List Bool → ℕ → List ℕ → List ℕ → Type 0
+HasChanged None marks count first second = ⊤
+HasChanged (Some None) marks count first second = ⊥
+HasChanged (Some (Some found)) marks count first second = IsChanged marks count first second found
+
+-- The file of this name is attached, has these blocks, and changed so.
+pub record HoldsChanged (marks : List Bool) (files : View) (name first second : List ℕ) : Type 0 where
+  pub attached : files.is_attached name ≡ true
+  pub size : length first ≡ block_size * files.blocks
+  pub has : HasChanged (files.contents name) marks files.blocks first second
+
+-- the marks, with one more where an event stores to a word of a block
+abbrev pub marked_by : List Bool → Event → List Bool
+marked_by marks (Store word value) = slice_set marks (word / block_words) true
+marked_by marks Barrier = marks
+marked_by marks Mark = marks

@@ -1,5 +1,5 @@
 -- A write across the size of a file, by the number of its inode: what its parts ask and give.
-use Rattle.std.proofs.Common.{◌≡◌, ℕ, zero, suc, ◌+◌, ◌-◌, ◌*◌, ◌/◌, ◌<◌, ◌≤◌, List, ◌++◌, length, take, drop, slice_index, sym, ◌∙◌, ap, subst, subst₂, inl, inr, arith}
+use Rattle.std.proofs.Common.{◌≡◌, ℕ, zero, suc, ◌+◌, ◌-◌, ◌*◌, ◌/◌, ◌<◌, ◌≤◌, List, ◌++◌, [], ◌∷◌, length, take, drop, slice_index, sym, ◌∙◌, ap, subst, subst₂, inl, inr, arith}
 use Rattle.std.proofs.lemmas.List.{append-nil, length-append}
 use Rattle.bp_free.specs.Set.{Set, members}
 use Rattle.bp_layout.specs.Free.{HasFree}
@@ -22,7 +22,8 @@ use Rattle.pm_region.specs.Memory.{Memory, current_words, room_in}
 use Rattle.pm_region.proofs.MemoryLaws.{length-current_words, room_in-piece}
 use Rattle.bp_calls.specs.CanWrite.{CanWrite}
 use Rattle.bp_calls.specs.Space.{LacksSpace}
-use Rattle.bp_calls.specs.TouchedAcross.{TouchesAcross, WritesAcross}
+use Rattle.bp_calls.specs.TouchedAcross.{IsRunAcross, IsSizeWord, TouchesAcross, WritesAcross}
+use Rattle.bp_cow.specs.declared.touched.Run.{Run}
 use Rattle.bp_calls.specs.WritesFile.{WritesFile}
 use Rattle.bp_calls.proofs.AcrossDone.{across_exact, across_performs}
 use Rattle.bp_calls.proofs.AcrossMiddle.{across_can, middle_count, middle_formed}
@@ -40,6 +41,11 @@ parted taken rest e = ap (λ (xs : List ℕ). length xs) e ∙ length-append tak
 roomy : (made behind copied needed words room left : ℕ) → room ≤ left + (2 + (block_words * made + behind + 2)) → behind ≤ block_words * suc max_height → needed ≡ made + copied → words ≡ 1 → room_for needed ≤ room →
     (block_words + 1) * copied + words + 1 + 2 ≤ left
 roomy made behind copied needed words room left a b c d e = omega (arith, a, b, c, d, e)
+
+-- a run and a word make what is touched
+pub touches_across : (image : Image) (i off end : ℕ) (bytes : List ℕ) (touched : Touched) (run : Run) → touched.runs.now ≡ run ∷ [] → IsRunAcross image i off end bytes run → IsSizeWord image i end touched.words.now →
+    TouchesAcross image i off end bytes touched
+touches_across image i off end bytes touched run one is sized = record { run = run; one = one; is = is; sized = sized.path; value = sized.value }
 
 module _ (old : Memory) (blocks inodes : Set) (off : ℕ) (bytes : List ℕ) (touched : Touched) where
   abbrev image : Image

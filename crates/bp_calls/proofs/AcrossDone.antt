@@ -81,7 +81,7 @@ module _ (old middle new : Memory) (blocks inodes after last : Set) (n off : ℕ
   file : IsFileRun mid bound touched across.touches.run n
   file =
       across_file old middle blocks inodes after n off bytes touched across prepared
-      (λ k. let small_front = small_take (size_of (current_words old) (suc n) - off) bytes small k in rw across.touches.bytes_are small_front)
+      (λ k. let small_front = small_take (size_of (current_words old) (suc n) - off) bytes small k in rw across.touches.is.bytes_are small_front)
 
   bound_is : bound (suc n) ≡ off + length bytes
   bound_is = bound_here old middle blocks inodes after n off bytes touched across prepared
@@ -111,7 +111,7 @@ module _ (old middle new : Memory) (blocks inodes after last : Set) (n off : ℕ
 
   behind : (o : ℕ) → size_of image (suc n) ≤ o → o < off + length bytes → byte (current_words new) (root_of (current_words new) (suc n)) o ≡ slice_index bytes (o - across.touches.run.off)
   behind o past low =
-      let at : size_of image (suc n) - off + (o - size_of image (suc n)) ≡ o - across.touches.run.off = omega (arith, past, across.below, across.touches.from) in
+      let at : size_of image (suc n) - off + (o - size_of image (suc n)) ≡ o - across.touches.run.off = omega (arith, past, across.below, across.touches.is.from) in
       byte_is o low
       ∙ laid_past across.touches.run o (byte mid (root_of mid (suc n)) o) (omega (arith, past, across_end old blocks inodes n off bytes touched across))
       ∙ prepared.ready.bytes_are o past low ∙ given_inside (size_of image (suc n)) (drop (size_of image (suc n) - off) bytes) o past
@@ -119,10 +119,10 @@ module _ (old middle new : Memory) (blocks inodes after last : Set) (n off : ℕ
 
   pub across_writes : WritesFile (suc n) off bytes (current_words old) (current_words new)
   across_writes =
-      subst (λ f. WritesFile (suc n) f bytes image (current_words new)) across.touches.from
+      subst (λ f. WritesFile (suc n) f bytes image (current_words new)) across.touches.is.from
       (commit_writes_file image (current_words new) (suc n) across.touches.run bytes changes
-      (across.touches.bytes_are ∙ ap (λ f. take (size_of image (suc n) - f) bytes) (sym across.touches.from)) (omega (arith, across.below, across.touches.from))
-      (omega (arith, size_is, across.past, across.touches.from))
+      (across.touches.is.bytes_are ∙ ap (λ f. take (size_of image (suc n) - f) bytes) (sym across.touches.is.from)) (omega (arith, across.below, across.touches.is.from))
+      (omega (arith, size_is, across.past, across.touches.is.from))
       (λ o low. byte_is o (omega (arith, low, across.past)) ∙ ap (run_byte across.touches.run o) (prepared.ready.kept o low))
       (λ o past low. behind o past (omega (arith, low, size_is))))
 
@@ -171,4 +171,4 @@ module _ (old middle new : Memory) (blocks inodes after last : Set) (n off : ℕ
 
   pub across_exact : length last ≡ length after → length after ≡ length blocks → AreExact (current_words new) none_kept last inodes
   across_exact same room =
-      commit_exact mid (current_words new) (suc n) wf_mid changes_mid bound bounds after last inodes (middle_sets old middle blocks inodes after n off bytes touched across prepared room) same done.exact
+      commit_exact mid (current_words new) wf_mid (changed.keeps mid (current_words new) (suc n) wf_mid changes_mid) bound bounds after last inodes (middle_sets old middle blocks inodes after n off bytes touched across prepared room) same done.exact

@@ -1,5 +1,5 @@
 -- Behind the preparation of a write across the size of a file, what is touched can be committed: the sizes that count are those that the trees have, and for the file the end of the bytes.
-use Rattle.std.proofs.Common.{◌≡◌, ◌≢◌, ◌⊎◌, ℕ, suc, ◌+◌, ◌-◌, ◌*◌, ◌<◌, ◌≤◌, List, [], ◌∷◌, length, drop, Some, slice_index, refl, sym, ◌∙◌, ap, subst, suc-ne-zero, arith, true}
+use Rattle.std.proofs.Common.{◌≡◌, ◌≢◌, ◌⊎◌, ℕ, suc, ◌+◌, ◌-◌, ◌*◌, ◌<◌, ◌≤◌, List, [], ◌∷◌, length, drop, slice_index, refl, sym, ◌∙◌, ap, subst, suc-ne-zero, arith, true, inl, inr}
 use Rattle.bp_free.specs.Set.{Set, has, members}
 use Rattle.bp_layout.specs.Free.{AreUnheld}
 use Rattle.bp_layout.specs.Inode.{root_of, size_of, inode_count}
@@ -19,7 +19,7 @@ use Rattle.bp_shapes.specs.Sets.{AreExactFor}
 use Rattle.bp_shapes.specs.Trail.{Trail, trail_of}
 use Rattle.bp_shapes.proofs.FreeSets.{content_fronts, content_no_pointer}
 use Rattle.bp_shapes.proofs.PathTrails.{length-trail_of}
-use Rattle.bp_cow.specs.CanCommit.{CanCommit, HasRunIn}
+use Rattle.bp_cow.specs.CanCommit.{CanCommit, IsRunIn}
 use Rattle.bp_cow.specs.Cover.{commit_cover, copied_count}
 use Rattle.bp_cow.specs.Touched.{path_of, run_path, word_paths}
 use Rattle.bp_cow.specs.declared.touched.Run.{Run}
@@ -151,8 +151,8 @@ module _ (old middle : Memory) (blocks inodes after : Set) (n off : ℕ) (bytes 
         (ap (trail_of (inode_path (height_of (root_of mid 0)) (suc n) 2)) size_long ∙ size_trail);
     reached = here;
     is_file = prepared.ready.meaning.kind (suc n) across.can.reached ∙ across.can.file;
-    root = across.touches.root ∙ ap (λ r. inode_path (height_of r) (suc n) 1) (sym root_stays);
-    height = across.touches.height ∙ sym prepared.ready.height;
+    root = across.touches.is.root ∙ ap (λ r. inode_path (height_of r) (suc n) 1) (sym root_stays);
+    height = across.touches.is.height ∙ sym prepared.ready.height;
     some = across_some old blocks inodes n off bytes touched across;
     below = omega (arith, across_end old blocks inodes n off bytes touched across, bound_here, across.past);
     small = small;
@@ -171,24 +171,27 @@ module _ (old middle : Memory) (blocks inodes after : Set) (n off : ℕ) (bytes 
         (λ pointer.
         content_no_pointer mid bound middle_forest (inode_path (height_of (root_of mid 0)) (suc n) 2) (height_of (root_of mid 0)) 0 (8 * suc n + 2) inode_file (omega (arith, size_low, bound_low 0)) size_trail (λ _ e. omega (arith, e))
         (subst (λ d. IsTreePointer mid bound (trail_of (inode_path (height_of (root_of mid 0)) (suc n) 2) d)) size_long pointer));
-    run = subst (HasRunIn mid bound) (sym across.touches.one) (record {
+    runs = λ r has. subst (IsRunIn mid bound) (only_run r has) (record {
       inode = n;
       reached = here;
-      root = root_path_trail (height_of (root_of mid 0)) n across.touches.run.root.items (across.touches.root ∙ ap (λ r. inode_path (height_of r) (suc n) 1) (sym root_stays));
-      height = across.touches.height ∙ sym prepared.ready.height;
+      root = root_path_trail (height_of (root_of mid 0)) n across.touches.run.root.items (across.touches.is.root ∙ ap (λ r. inode_path (height_of r) (suc n) 1) (sym root_stays));
+      height = across.touches.is.height ∙ sym prepared.ready.height;
       below = omega (arith, across_end old blocks inodes n off bytes touched across, bound_here, across.past);
     });
     apart = λ i k low few same. omega (arith, low, few, across_words old blocks inodes n off bytes touched across);
-    beside = λ r i k e low first last.
-        only_word (λ p. trail_of p (length p) ≢ trail_of (run_path r k) (length (run_path r k))) (λ same. longer r k e same) i low;
+    beside = λ r i k has low first last.
+        only_word (λ p. trail_of p (length p) ≢ trail_of (run_path r k) (length (run_path r k))) (λ same. longer r k has same) i low;
   }
     where
-      longer : (r : Run) (k : ℕ) → touched.run ≡ Some r →
+      only_run : (r : Run) → Has touched.runs.now r → across.touches.run ≡ r
+      only_run r has = elim (subst (λ runs. Has runs r) across.touches.one has) [ inl e ↦ e | inr none_left ↦ absurd none_left ]
+
+      longer : (r : Run) (k : ℕ) → Has touched.runs.now r →
           trail_of (inode_path (height_of (root_of mid 0)) (suc n) 2) (length (inode_path (height_of (root_of mid 0)) (suc n) 2)) ≡ trail_of (run_path r k) (length (run_path r k)) → ⊥
-      longer r k e same =
+      longer r k has same =
           let root_long : length r.root.items ≡ suc (height_of (root_of mid 0)) =
-          subst (λ (x : Run). length x.root.items ≡ suc (height_of (root_of mid 0))) (inject across.touches.run r (sym across.touches.one ∙ e))
-          (ap (λ (p : WordPath). length p) (across.touches.root ∙ ap (λ z. inode_path (height_of z) (suc n) 1) (sym root_stays)) ∙ length-digits (suc (height_of (root_of mid 0))) (8 * suc n + 1)) in
+          subst (λ (x : Run). length x.root.items ≡ suc (height_of (root_of mid 0))) (only_run r has)
+          (ap (λ (p : WordPath). length p) (across.touches.is.root ∙ ap (λ z. inode_path (height_of z) (suc n) 1) (sym root_stays)) ∙ length-digits (suc (height_of (root_of mid 0))) (8 * suc n + 1)) in
           omega (
             arith,
             ap (λ (x : Trail). length x) same,
@@ -198,14 +201,11 @@ module _ (old middle : Memory) (blocks inodes after : Set) (n off : ℕ) (bytes 
             length-run_path r k,
             root_long,
           )
-        where
-          inject : (a b : Run) → Some a ≡ Some b → a ≡ b
-          inject a b f = cc
 
   -- ---- the cover is the one that it was, and the copies are as many
 
   pub run_there : IsSizedRun (height_of (root_of mid 0)) (suc n) touched across.touches.run
-  run_there = record { one = across.touches.one; root = across.touches.root ∙ ap (λ r. inode_path (height_of r) (suc n) 1) (sym root_stays); sized = middle_sized }
+  run_there = record { one = across.touches.one; root = across.touches.is.root ∙ ap (λ r. inode_path (height_of r) (suc n) 1) (sym root_stays); sized = middle_sized }
 
   in_image : suc n < inode_count image
   in_image = reached-in_file image wf (suc n) across.can.reached

@@ -1,5 +1,5 @@
 -- What a write across the size of a file touches and needs, before it prepares anything.
-use Rattle.std.proofs.Common.{◌≡◌, ℕ, suc, ◌+◌, ◌-◌, ◌*◌, ◌/◌, ◌^◌, ◌<◌, ◌≤◌, min, max, List, [], ◌∷◌, ◌++◌, ◌==◌, length, map, fold, flat_map, Bool, true, Some, nat_lt, if◌then◌else◌, refl, sym, ◌∙◌, ap, subst, suc-ne-zero, arith, le_trans}
+use Rattle.std.proofs.Common.{◌≡◌, ℕ, suc, ◌+◌, ◌-◌, ◌*◌, ◌/◌, ◌^◌, ◌<◌, ◌≤◌, min, max, List, [], ◌∷◌, ◌++◌, ◌==◌, length, map, fold, flat_map, Bool, true, nat_lt, if◌then◌else◌, refl, sym, ◌∙◌, ap, subst, suc-ne-zero, arith, le_trans}
 use Rattle.bp_limits.proofs.Versions.{size_most}
 use Rattle.bp_layout.specs.Formatted.{version_of}
 use Rattle.std.specs.List.{range_with_len}
@@ -24,7 +24,7 @@ use Rattle.bp_append.specs.Prepared.{need_for}
 use Rattle.bp_append.proofs.FewNeeded.{few_needed}
 use Rattle.bp_append.proofs.NeedLaws.{tall_fits, tall_low}
 use Rattle.bp_cow.specs.Cover.{LeadsInside, copied_count}
-use Rattle.bp_cow.specs.Touched.{IsTouched, NoneBegins, all_paths, run_end, run_leaves, run_path, run_paths, word_paths}
+use Rattle.bp_cow.specs.Touched.{IsTouched, NoneBegins, all_paths, run_end, paths_of_run, run_leaves, run_path, run_paths, word_paths}
 use Rattle.bp_cow.specs.declared.touched.Run.{Run}
 use Rattle.bp_cow.specs.declared.touched.Touched.{Touched}
 use Rattle.bp_cow.proofs.FewCopies.{run_copies}
@@ -101,14 +101,14 @@ module _ (old : Memory) (blocks inodes : Set) (n off : ℕ) (bytes : List ℕ) (
   inode_sound = wf.sound 0 inode_file
 
   pub across_run : IsSizedRun (height_of (root_of image 0)) (suc n) touched across.touches.run
-  across_run = record { one = across.touches.one; root = across.touches.root; sized = across.touches.sized }
+  across_run = record { one = across.touches.one; root = across.touches.is.root; sized = across.touches.sized }
 
   pub across_long : length across.touches.run.bytes.now ≡ size_of image (suc n) - off
   across_long =
-      ap (λ (bs : List ℕ). length bs) across.touches.bytes_are ∙ length-take (size_of image (suc n) - off) bytes ∙ omega (arith, across.past)
+      ap (λ (bs : List ℕ). length bs) across.touches.is.bytes_are ∙ length-take (size_of image (suc n) - off) bytes ∙ omega (arith, across.past)
 
   pub across_end : run_end across.touches.run ≡ size_of image (suc n)
-  across_end = omega (arith, across.touches.from, across_long, across.below)
+  across_end = omega (arith, across.touches.is.from, across_long, across.below)
 
   pub across_some : 0 < length across.touches.run.bytes.now
   across_some = omega (arith, across_long, across.below)
@@ -123,8 +123,8 @@ module _ (old : Memory) (blocks inodes : Set) (n off : ℕ) (bytes : List ℕ) (
       let wide = span-is (height_with (root_of image (suc n)) (size_of image (suc n)) (off + length bytes)) in
       sized_shape (height_of (root_of image 0)) (suc n) touched across.touches.run across_run (inode_sound.low (omega (arith, there))) across_some
       (omega (arith, across_long, across.past, across.can.short))
-      (subst (λ h. h ≤ max_height) (sym across.touches.height) low_tree)
-      (subst (λ h. run_end across.touches.run ≤ block_size * block_words ^ h) (sym across.touches.height) (omega (arith, fits, wide, across_end, across.past)))
+      (subst (λ h. h ≤ max_height) (sym across.touches.is.height) low_tree)
+      (subst (λ h. run_end across.touches.run ≤ block_size * block_words ^ h) (sym across.touches.is.height) (omega (arith, fits, wide, across_end, across.past)))
 
   pub across_apart : NoneBegins (all_paths touched)
   across_apart = sized_apart (height_of (root_of image 0)) (suc n) touched across.touches.run across_run across_shape
@@ -155,7 +155,7 @@ module _ (old : Memory) (blocks inodes : Set) (n off : ℕ) (bytes : List ℕ) (
 
   across_copies_by : (other : Image) → copied_count other touched ≤ run_leaves across.touches.run + 33
   across_copies_by other =
-      let most = run_copies other touched across_shape across_apart across.touches.run across.touches.one (le_trans across_leaves (omega arith)) in
+      let most = run_copies other touched across_shape across_apart across.touches.run across.touches.one in
       omega (arith, most, across_words)
 
   pub across_copies : (other : Image) → copied_count other touched ≤ 290
@@ -163,21 +163,22 @@ module _ (old : Memory) (blocks inodes : Set) (n off : ℕ) (bytes : List ℕ) (
 
   pub across_few : (other : Image) → need_for image (suc n) (size_of image (suc n)) (off + length bytes) + copied_count other touched ≤ 320
   across_few other =
-      let leaves : run_leaves across.touches.run + made_leaves ≤ 260 = omega (arith, across.touches.from, across_end, across.below, across.past, across.can.short) in
+      let leaves : run_leaves across.touches.run + made_leaves ≤ 260 = omega (arith, across.touches.is.from, across_end, across.below, across.past, across.can.short) in
       omega (arith, leaves, across_made_by, across_copies_by other)
 
   same_path : (k : ℕ) → run_path across.touches.run k ≡ content_path image write (suc n) k
   same_path k =
-      ap (λ (p : WordPath). p ++ digits (suc across.touches.run.height) k) across.touches.root
-      ∙ ap (λ h. inode_path (height_of (root_of image 0)) (suc n) 1 ++ digits (suc h) k) across.touches.height
+      ap (λ (p : WordPath). p ++ digits (suc across.touches.run.height) k) across.touches.is.root
+      ∙ ap (λ h. inode_path (height_of (root_of image 0)) (suc n) 1 ++ digits (suc h) k) across.touches.is.height
       ∙ sym (ap (λ h. tree_path h (suc n) (suc (height_after image write (suc n))) k) (across_inodes image n off (length bytes) across.below across.past)
       ∙ ap (λ h. tree_path (height_of (root_of image 0)) (suc n) (suc h) k) (across_height image n off (length bytes) across.below across.past))
 
   pub across_paths : all_paths touched ≡ layout.touched image write
   across_paths =
-      ap (λ r. run_paths r ++ word_paths touched) across.touches.one
-      ∙ ap (λ (words : List WordPath). run_paths (Some across.touches.run) ++ words) across.touches.sized
-      ∙ ap (λ from. map (run_path across.touches.run) (range_with_len (from / 8) (suc ((run_end across.touches.run - 1) / 8 - from / 8))) ++ inode_path (height_of (root_of image 0)) (suc n) 2 ∷ []) across.touches.from
+      ap (λ runs. run_paths runs ++ word_paths touched) across.touches.one
+      ∙ ap (λ (words : List WordPath). run_paths (across.touches.run ∷ []) ++ words) across.touches.sized
+      ∙ ap (λ (paths : List WordPath). paths ++ inode_path (height_of (root_of image 0)) (suc n) 2 ∷ []) (append-nil (paths_of_run across.touches.run))
+      ∙ ap (λ from. map (run_path across.touches.run) (range_with_len (from / 8) (suc ((run_end across.touches.run - 1) / 8 - from / 8))) ++ inode_path (height_of (root_of image 0)) (suc n) 2 ∷ []) across.touches.is.from
       ∙ ap (λ last. map (run_path across.touches.run) (range_with_len (off / 8) (suc ((last - 1) / 8 - off / 8))) ++ inode_path (height_of (root_of image 0)) (suc n) 2 ∷ []) across_end
       ∙ ap (λ (paths : List WordPath). paths ++ inode_path (height_of (root_of image 0)) (suc n) 2 ∷ [])
       (map-same (run_path across.touches.run) (content_path image write (suc n)) (off / 8) (suc ((size_of image (suc n) - 1) / 8 - off / 8)) (λ k low high. same_path k))

@@ -2,7 +2,9 @@
 use Rattle.std.proofs.Common.{◌≡◌, ◌≢◌, ◌⊎◌, ℕ, ◌*◌, ◌/◌, ◌<◌, ◌≤◌, List, [], ◌∷◌, length, sym, ◌∙◌, ap, subst, arith, inl, inr}
 use Rattle.std.proofs.lemmas.Bool.{cases_eq}
 use Rattle.bp_changes.specs.Effects.{ChangesFile, HasOtherName, IsLastName}
+use Rattle.bp_changes.specs.KeepsDirectories.{KeepsDirectories}
 use Rattle.bp_changes.specs.SameMeaning.{SameMeaning}
+use Rattle.bp_changes.proofs.ChangesFile as changed
 use Rattle.bp_changes.proofs.Named.{changed_counts, meaning_counts}
 use Rattle.bp_free.specs.Set.{Set}
 use Rattle.bp_free.specs.declared.parts.Parts.{Parts}
@@ -31,10 +33,13 @@ module _ {R : Type 0} (old new : Image) (before after : Parts R) (exact : IsExac
   }
 
   module _ (counts : after.counts ≡ before.counts) where
-    -- where the bytes of a file are others
+    -- where the bytes of files are others, or of one
+    pub exact_files : IsWellFormed old → KeepsDirectories old new → IsExact new after
+    exact_files wf keeps =
+        exact_with keeps.trees.whole (ap (λ (ns : List ℕ). length ns) counts) (subst (AreCounts new) (sym counts) (changed_counts old new wf keeps before.counts exact.counts))
+
     pub exact_file : (x : ℕ) → IsWellFormed old → ChangesFile old new x → IsExact new after
-    exact_file x wf changes =
-        exact_with changes.trees.whole (ap (λ (ns : List ℕ). length ns) counts) (subst (AreCounts new) (sym counts) (changed_counts old new x wf changes before.counts exact.counts))
+    exact_file x wf changes = exact_files wf (changed.keeps old new x wf changes)
 
     -- and where nobody sees what was done
     pub exact_meaning : IsWellFormed old → SameMeaning old new → IsExact new after

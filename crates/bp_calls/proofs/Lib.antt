@@ -53,6 +53,11 @@ pub mod GrowthPerforms
 pub mod NewNames
 pub mod ShareLaws
 pub mod WrittenStands
+pub mod PatchRuns
+pub mod PatchPaths
+pub mod PatchWords
+pub mod PatchCommits
+pub mod CommitResults
 pub mod RunCommits
 pub mod WriteBelow
 pub mod RowLaws

@@ -7,6 +7,7 @@ use Rattle.std.specs.List.{All}
 use Rattle.bp_free.specs.Set.{Set, has}
 use Rattle.bp_layout.specs.Free.{AreUnheld}
 use Rattle.bp_layout.specs.Inode.{root_of, size_of}
+use Rattle.bp_layout.specs.Members.{Has}
 use Rattle.bp_layout.specs.Reached.{IsReached, HoldsBlock, IsLiveBlock}
 use Rattle.bp_layout.specs.Reached.IsReached.{inode_file}
 use Rattle.bp_layout.specs.Tree.{byte, span, HasBlock, IsSound}
@@ -16,7 +17,8 @@ use Rattle.bp_layout.specs.Words.{Image, height_of}
 use Rattle.bp_layout.proofs.TreeLaws.{span-is}
 use Rattle.bp_limits.specs.Limits.{block_size, block_words, max_height, max_write}
 use Rattle.bp_changes.specs.Effects.{ChangesFile}
-use Rattle.bp_changes.proofs.ChangesFile.{not_zero, reached-back, reached-on}
+use Rattle.bp_changes.specs.KeepsDirectories.{KeepsDirectories}
+use Rattle.bp_changes.proofs.KeepsDirectories.{reached-back, reached-on}
 use Rattle.bp_shapes.specs.Forest.{IsTreePointer}
 use Rattle.bp_shapes.specs.Sets.{AreExact, AreExactFor}
 use Rattle.bp_shapes.specs.Trail.{trail_of}
@@ -81,9 +83,9 @@ module _ (image : Image) (wf : IsWellFormed image) (n : ℕ) (reached : IsReache
       (leaf-fronts image (size_of image) (wf_forest image wf) run run_is run_in 0 d (omega arith) short)
 
   -- so the word of the cover, whatever else is touched, is one where a call may store
-  pub run_open : (touched : Touched) → IsTouched touched → touched.run ≡ Some run → (taken : List ℕ) → IsOpen image none_kept taken (cover_word image touched)
-  run_open touched shape one taken =
-      cover_open image wf touched shape (run_path run (run.off / 8)) (has-of-run touched shape run (run.off / 8) one (omega arith) (omega (arith, is.some))) run_live taken
+  pub run_open : (touched : Touched) → IsTouched touched → Has touched.runs.now run → (taken : List ℕ) → IsOpen image none_kept taken (cover_word image touched)
+  run_open touched shape has taken =
+      cover_open image wf touched shape (run_path run (run.off / 8)) (has-of-run touched shape run (run.off / 8) has (omega arith) (omega (arith, is.some))) run_live taken
 
 -- the bytes of one write have few leaves
 pub few_leaves : (run : Run) → length run.bytes.now ≤ max_write → run_leaves run ≤ 257
@@ -133,26 +135,26 @@ module _ (image new : Image) (i : ℕ) (run : Run) (bytes : List ℕ) (changes :
 -- ---- the sets
 
 -- Where each reached tree has then the size under which it was committed, just the free blocks are in the set.
-module _ (image new : Image) (i : ℕ) (wf : IsWellFormed image) (changes : ChangesFile image new i) (bound : ℕ → ℕ) (sizes : (t : ℕ) → IsReached image t → size_of new t ≡ bound t) where
+module _ (image new : Image) (wf : IsWellFormed image) (keeps : KeepsDirectories image new) (bound : ℕ → ℕ) (sizes : (t : ℕ) → IsReached image t → size_of new t ≡ bound t) where
   held : (b : ℕ) → IsLiveBlock new b → HoldsBlock new (IsReached image) bound b
   held b one =
-      let reached : IsReached image one.tree = reached-back image new i wf changes one.tree one.reached in
+      let reached : IsReached image one.tree = reached-back image new wf keeps one.tree one.reached in
       record { tree = one.tree; reached = reached; has = subst (λ s. HasBlock new (root_of new one.tree) s b) (sizes one.tree reached) one.has }
 
   lives : (b : ℕ) → HoldsBlock new (IsReached image) bound b → IsLiveBlock new b
   lives b one = record {
     tree = one.tree;
-    reached = reached-on image new i wf changes one.tree one.reached;
+    reached = reached-on image new wf keeps one.tree one.reached;
     has = subst (λ s. HasBlock new (root_of new one.tree) s b) (sym (sizes one.tree one.reached)) one.has;
   }
 
   pub commit_exact : (blocks after inodes : Set) → AreExactFor image (IsReached image) bound none_kept blocks inodes → length after ≡ length blocks → AreUnheld new (IsReached image) bound none_kept (has after) → AreExact new none_kept after inodes
   commit_exact blocks after inodes exact room unheld = record {
-    block_room = rw changes.trees.whole (room ∙ exact.block_room);
-    inode_room = rw changes.trees.whole exact.inode_room;
+    block_room = rw keeps.trees.whole (room ∙ exact.block_room);
+    inode_room = rw keeps.trees.whole exact.inode_room;
     free_blocks = record {
       free = λ b there. let free = unheld.free b there in record { low = free.low; high = free.high; free = λ one. free.free (held b one); loose = free.loose };
       all = λ b free. unheld.all b (record { low = free.low; high = free.high; free = λ one. free.free (lives b one); loose = free.loose });
     };
-    free_inodes = free_inodes_stay image new (has inodes) (changes.size 0 inode_file (not_zero image new i wf changes)) (reached-back image new i wf changes) (reached-on image new i wf changes) exact.free_inodes;
+    free_inodes = free_inodes_stay image new (has inodes) keeps.inode_bytes (reached-back image new wf keeps) (reached-on image new wf keeps) exact.free_inodes;
   }

@@ -1,28 +1,29 @@
 -- A write below the size of a file: what it asks of a commit, and that it is performed.
-use Rattle.std.proofs.Common.{◌≡◌, ◌⊎◌, ℕ, zero, suc, ◌+◌, ◌-◌, ◌<◌, ◌≤◌, List, [], length, Some, slice_index, sym, ◌∙◌, ap, subst, inl, inr, arith, le_trans}
+use Rattle.std.proofs.Common.{◌≡◌, ◌⊎◌, ℕ, zero, suc, ◌+◌, ◌-◌, ◌<◌, ◌≤◌, List, [], ◌∷◌, length, slice_index, refl, sym, ◌∙◌, ap, subst, inl, inr, arith, le_trans}
 use Rattle.std.proofs.lemmas.Bool.{cases_eq}
 use Rattle.std.proofs.lemmas.List.{take_all}
 use Rattle.bp_free.specs.Set.{Set, has, members}
 use Rattle.bp_layout.specs.Free.{HasFree}
 use Rattle.bp_layout.specs.Inode.{size_of}
+use Rattle.bp_layout.specs.Members.{Has}
 use Rattle.bp_layout.specs.Need.{need}
 use Rattle.bp_layout.specs.Need.Change.{writes}
 use Rattle.bp_layout.specs.Reached.{IsReached}
 use Rattle.bp_layout.specs.WellFormed.{IsWellFormed}
 use Rattle.bp_layout.specs.Words.{Image}
 use Rattle.bp_changes.specs.Effects.{ChangesFile}
-use Rattle.bp_changes.proofs.ChangesFile.{well_formed-same}
+use Rattle.bp_changes.proofs.ChangesFile.{keeps, well_formed-same}
 use Rattle.bp_shapes.specs.Sets.{AreExact}
 use Rattle.bp_commit.specs.Performs.{Performs, room_for}
 use Rattle.pm_region.specs.Memory.{Memory, current_words, room_in}
 use Rattle.bp_cow.specs.declared.touched.Run.{Run}
 use Rattle.bp_cow.specs.declared.touched.Touched.{Touched}
-use Rattle.bp_cow.specs.CanCommit.{CanCommit}
+use Rattle.bp_cow.specs.CanCommit.{CanCommit, IsRunIn}
 use Rattle.bp_cow.specs.Commit.{CommitsTouched, HasRoom}
 use Rattle.bp_cow.specs.Cover.{commit_cover, copied_count}
 use Rattle.bp_cow.specs.Job.{IsTurned}
-use Rattle.bp_cow.specs.Touched.{HasRun, IsTouched, job_of, leaves_of, run_leaves}
-use Rattle.bp_cow.proofs.CallerLaws.{run_can}
+use Rattle.bp_cow.specs.Touched.{IsRun, IsTouched, job_of, leaves_of, run_leaves}
+use Rattle.bp_cow.proofs.CallerLaws.{runs_can}
 use Rattle.bp_cow.proofs.CommitTaking.{commit_performs, stores_few}
 use Rattle.bp_cow.proofs.FewCopies.{few_copies}
 use Rattle.bp_cow.proofs.RunThere.{run_cover, run_need}
@@ -38,7 +39,7 @@ use Rattle.bp_calls.proofs.Unthawed.{lacks_thawed, room_asked, unthawed}
 
 -- The run is all that is touched.
 record IsRunAlone (image : Image) (i : ℕ) (touched : Touched) (run : Run) : Type 0 where
-  pub one : touched.run ≡ Some run
+  pub one : touched.runs.now ≡ run ∷ []
   pub no_words : touched.words.now ≡ []
   pub of : IsRunOf image i run
 
@@ -58,12 +59,20 @@ module _ (old : Memory) (blocks inodes : Set) (n : ℕ) (touched : Touched) (run
   none : length touched.words.now ≡ 0
   none = ap (λ ws. length ws) is.no_words
 
-  leaves : leaves_of touched.run ≡ run_leaves run
-  leaves = ap leaves_of is.one
+  leaves : leaves_of touched.runs.now ≡ run_leaves run
+  leaves = ap leaves_of is.one ∙ omega arith
+
+  -- it is the only one
+  only : (r : Run) → Has touched.runs.now r → run ≡ r
+  only r has = elim (subst (λ rs. Has rs r) is.one has) [ inl e ↦ e | inr none_left ↦ absurd none_left ]
+
+  here : Has touched.runs.now run
+  here = subst (λ rs. Has rs run) (sym is.one) (inl refl)
 
   shape : IsTouched touched
   shape = record {
-    run = subst HasRun (sym is.one) (run_is image wf n asks.reached run is.of);
+    runs = λ r has. subst IsRun (only r has) (run_is image wf n asks.reached run is.of);
+    few_runs = omega (arith, ap (λ (rs : List Run). length rs) is.one);
     few = omega (arith, none);
     words = λ i here. absurd (omega (arith, here, none));
     short = λ i here. absurd (omega (arith, here, none));
@@ -72,7 +81,7 @@ module _ (old : Memory) (blocks inodes : Set) (n : ℕ) (touched : Touched) (run
   }
 
   can : CanCommit image (size_of image) touched (has blocks)
-  can = run_can image wf touched shape (has blocks) asks.exact.free_blocks run is.one none (run_in image wf n asks.reached run is.of)
+  can = runs_can image wf touched shape (has blocks) asks.exact.free_blocks none (λ r has. subst (IsRunIn image (size_of image)) (only r has) (run_in image wf n asks.reached run is.of))
 
   copies_need : copied_count image touched ≡ need image (writes (suc n) run.off (length run.bytes.now))
   copies_need = run_need image wf (size_of image) touched (has blocks) can run n is.one is.no_words asks.reached is.of.root is.of.height is.of.some is.of.below
@@ -82,7 +91,7 @@ module _ (old : Memory) (blocks inodes : Set) (n : ℕ) (touched : Touched) (run
     can = can;
     need_is = copies_need;
     room = λ enough.
-        let few = few_copies image (size_of image) touched (has blocks) wf can run is.one (le_trans (few_leaves run asks.short) (omega arith)) in
+        let few = few_copies image (size_of image) touched (has blocks) wf can run is.one in
         let room : room_for (need image (writes (suc n) run.off (length run.bytes.now))) ≤ room_in old = room_asked old blocks (writes (suc n) run.off (length run.bytes.now)) asks.room (omega (arith, copies_need, enough)) in
         omega (arith, few, few_leaves run asks.short, none, copies_need, room);
   }
@@ -117,11 +126,11 @@ module _ (old : Memory) (blocks inodes : Set) (n : ℕ) (touched : Touched) (run
         (commit_performs old new (writes (suc n) run.off (length run.bytes.now)) (WritesFile (suc n) run.off run.bytes.now) (size_of image) touched blocks after done
         (run_cover image wf (size_of image) touched (has blocks) can run n is.one is.no_words asks.reached is.of.root is.of.height is.of.some is.of.below) copies_need
         (let few = stores_few image (size_of image) touched (has blocks) wf can in omega (arith, few, leaves, few_leaves run asks.short, none, copies_need))
-        (run_open image wf n asks.reached run is.of touched shape is.one done.taken)
+        (run_open image wf n asks.reached run is.of touched shape here done.taken)
         (well_formed-same image (current_words new) (suc n) wf changes) below_writes)
 
     below_exact : length after ≡ length blocks → AreExact (current_words new) none_kept after inodes
-    below_exact room = commit_exact image (current_words new) (suc n) wf changes (size_of image) sizes blocks after inodes asks.exact room done.exact
+    below_exact room = commit_exact image (current_words new) wf (keeps image (current_words new) (suc n) wf changes) (size_of image) sizes blocks after inodes asks.exact room done.exact
 
 -- ---- by the number of the inode
 
@@ -150,10 +159,10 @@ module _ (old : Memory) (blocks inodes : Set) (i off : ℕ) (bytes : List ℕ) (
 
   -- what holds of the offset and the bytes holds of the run's, and back
   of_run : (P : ℕ → List ℕ → Type 0) → P off bytes → P run.off run.bytes.now
-  of_run P here = subst (λ o. P o run.bytes.now) (sym write.touches.from) (subst (λ (bs : List ℕ). P off bs) (sym write.touches.bytes_are) here)
+  of_run P here = subst (λ o. P o run.bytes.now) (sym write.touches.is.from) (subst (λ (bs : List ℕ). P off bs) (sym write.touches.is.bytes_are) here)
 
   from_run : (P : ℕ → List ℕ → Type 0) → P run.off run.bytes.now → P off bytes
-  from_run P there = subst (λ o. P o bytes) write.touches.from (subst (λ (bs : List ℕ). P run.off bs) write.touches.bytes_are there)
+  from_run P there = subst (λ o. P o bytes) write.touches.is.from (subst (λ (bs : List ℕ). P run.off bs) write.touches.is.bytes_are there)
 
   asks : CanWrite old blocks inodes i run.off run.bytes.now
   asks = of_run (CanWrite old blocks inodes i) write.can
@@ -163,8 +172,8 @@ module _ (old : Memory) (blocks inodes : Set) (i off : ℕ) (bytes : List ℕ) (
     one = write.touches.one;
     no_words = write.touches.no_words;
     of = record {
-      root = write.touches.root;
-      height = write.touches.height;
+      root = write.touches.is.root;
+      height = write.touches.is.height;
       some = omega (arith, asks.some);
       few = asks.short;
       below = of_run (λ o bs. o + length bs ≤ size_of (current_words old) i) write.below;

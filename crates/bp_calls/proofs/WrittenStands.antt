@@ -16,44 +16,11 @@ use Rattle.bp_layout.proofs.NameBytes.{map-tells}
 use Rattle.bp_plain.specs.Plain.{bytes_at, bytes_in, with_content, written}
 use Rattle.bp_plain.specs.Stands.{Shows}
 use Rattle.bp_stands.proofs.FileStands.{content_shows}
+use Rattle.bp_stands.proofs.WrittenBytes.{in_bytes, in_front, in_front_had, in_rest, written_length, zeros}
 use Rattle.bp_calls.proofs.WriteBehind.{written_before, written_between, written_inside, written_past}
 
 -- the list with the new bytes, byte by byte
 module _ (had : List ℕ) (off : ℕ) (bytes : List ℕ) where
-  abbrev zeros : List ℕ
-  zeros = replicate (off - length had) 0
-
-  abbrev front : List ℕ
-  front = take off (had ++ zeros)
-
-  abbrev rest : List ℕ
-  rest = drop (off + length bytes) had
-
-  front_length : length front ≡ off
-  front_length = omega (arith, length-take off (had ++ zeros), length-append had zeros, length-replicate {A = ℕ} (off - length had) 0)
-
-  both_length : length (front ++ bytes) ≡ off + length bytes
-  both_length = length-append front bytes ∙ ap (λ n. n + length bytes) front_length
-
-  pub written_length : length (written had off bytes) ≡ max (length had) (off + length bytes)
-  written_length = omega (arith, length-append (front ++ bytes) rest, both_length, length-drop (off + length bytes) had)
-
-  in_front : (o : ℕ) → o < off → get_or (written had off bytes) o 0 ≡ get_or (had ++ zeros) o 0
-  in_front o before =
-      get_or_append_left (front ++ bytes) rest 0 o (omega (arith, before, both_length))
-      ∙ get_or_append_left front bytes 0 o (omega (arith, before, front_length))
-      ∙ get_or-take off (had ++ zeros) o 0 before
-
-  in_bytes : (o : ℕ) → off ≤ o → o < off + length bytes → get_or (written had off bytes) o 0 ≡ get_or bytes (o - off) 0
-  in_bytes o low high = get_or_append_left (front ++ bytes) rest 0 o (omega (arith, high, both_length)) ∙ get_or-append_right front bytes off o 0 front_length low
-
-  in_rest : (o : ℕ) → off + length bytes ≤ o → get_or (written had off bytes) o 0 ≡ get_or had o 0
-  in_rest o past =
-      let number : off + length bytes + (o - (off + length bytes)) ≡ o = omega (arith, past) in
-      get_or-append_right (front ++ bytes) rest (off + length bytes) o 0 both_length past
-      ∙ get_or-drop (off + length bytes) had (o - (off + length bytes)) 0
-      ∙ ap (λ k. get_or had k 0) number
-
   module _ (size : ℕ) (old : ℕ → ℕ) (had_length : length had ≡ size) (had_byte : (o : ℕ) → o < size → get_or had o 0 ≡ old o) where
     pub written_tells : (o : ℕ) → o < max size (off + length bytes) → written_byte off bytes size old o ≡ get_or (written had off bytes) o 0
     written_tells o low = go (cases_lt o off) (cases_lt o (off + length bytes)) (cases_lt o size)
@@ -61,12 +28,12 @@ module _ (had : List ℕ) (off : ℕ) (bytes : List ℕ) where
         go : (o < off) ⊎ (off ≤ o) → (o < off + length bytes) ⊎ (off + length bytes ≤ o) → (o < size) ⊎ (size ≤ o) → written_byte off bytes size old o ≡ get_or (written had off bytes) o 0
         go (inl before) _ (inl below) =
             written_before off bytes size old o before below
-            ∙ sym (in_front o before ∙ get_or_append_left had zeros 0 o (omega (arith, below, had_length)) ∙ had_byte o below)
+            ∙ sym (in_front_had had off bytes o before (omega (arith, below, had_length)) ∙ had_byte o below)
         go (inl before) _ (inr above) =
             written_between off bytes size old o before above
-            ∙ sym (in_front o before ∙ get_or-append_right had zeros size o 0 had_length above ∙ get_or-replicate (off - length had) (o - size) 0 0 (omega (arith, before, above, had_length)))
-        go (inr from_here) (inl inside) _ = written_inside off bytes size old o from_here inside ∙ sym (in_bytes o from_here inside)
-        go (inr from_here) (inr past) (inl below) = written_past off bytes size old o past below ∙ sym (in_rest o past ∙ had_byte o below)
+            ∙ sym (in_front had off bytes o before ∙ get_or-append_right had (zeros had off bytes) size o 0 had_length above ∙ get_or-replicate (off - length had) (o - size) 0 0 (omega (arith, before, above, had_length)))
+        go (inr from_here) (inl inside) _ = written_inside off bytes size old o from_here inside ∙ sym (in_bytes had off bytes o from_here inside)
+        go (inr from_here) (inr past) (inl below) = written_past off bytes size old o past below ∙ sym (in_rest had off bytes o past ∙ had_byte o below)
         go (inr from_here) (inr past) (inr above) = absurd (omega (arith, low, past, above))
 
 module _ (old new : Image) (wf : IsWellFormed old) (i off : ℕ) (bytes : List ℕ) (is : WritesFile i off bytes old new) where

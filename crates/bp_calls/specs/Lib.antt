@@ -19,5 +19,6 @@ pub mod Growth
 pub mod Entries
 pub mod TouchedAcross
 pub mod TouchedBelow
+pub mod Overwritten
 pub mod Rows
 pub mod ContentPaths

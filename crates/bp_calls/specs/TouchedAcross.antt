@@ -1,5 +1,5 @@
 -- What a write across the size of a file touches.
-use Rattle.std.specs.Prelude.{◌≡◌, ℕ, ◌+◌, ◌-◌, ◌<◌, List, [], ◌∷◌, length, take, map, Some}
+use Rattle.std.specs.Prelude.{◌≡◌, ℕ, ◌+◌, ◌-◌, ◌<◌, List, [], ◌∷◌, length, take, map}
 use Rattle.arrayvec.specs.ArrayVec.{ArrayVec}
 use Rattle.bp_cow.specs.Touched.{word_paths, word_values}
 use Rattle.bp_cow.specs.declared.touched.Run.{Run}
@@ -17,15 +17,18 @@ pub record IsSizeWord (image : Image) (i end : ℕ) (words : List (ArrayVec ℕ 
   pub path : map (λ word. word.0.items) words ≡ inode_path (height_of (root_of image 0)) i 2 ∷ []
   pub value : map (λ word. word.1) words ≡ end ∷ []
 
--- These bytes from an offset on, as a run in the tree of inode i once it is high enough for an end, and the word of
--- its size, which gets that end.
-pub record TouchesAcross (image : Image) (i off end : ℕ) (bytes : List ℕ) (touched : Touched) : Type 0 where
-  pub run : Run
-  pub one : touched.run ≡ Some run
+-- the run of these bytes from an offset on, in the tree of inode i once it is high enough for an end
+pub record IsRunAcross (image : Image) (i off end : ℕ) (bytes : List ℕ) (run : Run) : Type 0 where
   pub root : run.root.items ≡ inode_path (height_of (root_of image 0)) i 1
   pub height : run.height ≡ height_with (root_of image i) (size_of image i) end
   pub from : run.off ≡ off
   pub bytes_are : run.bytes.now ≡ bytes
+
+-- that run, and the word of the inode's size, which gets that end
+pub record TouchesAcross (image : Image) (i off end : ℕ) (bytes : List ℕ) (touched : Touched) : Type 0 where
+  pub run : Run
+  pub one : touched.runs.now ≡ run ∷ []
+  pub is : IsRunAcross image i off end bytes run
   pub sized : word_paths touched ≡ inode_path (height_of (root_of image 0)) i 2 ∷ []
   pub value : word_values touched ≡ end ∷ []
 

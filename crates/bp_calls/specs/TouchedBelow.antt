@@ -1,5 +1,5 @@
 -- What a write below the size of a file touches.
-use Rattle.std.specs.Prelude.{◌≡◌, ℕ, ◌+◌, ◌≤◌, List, [], Some, length}
+use Rattle.std.specs.Prelude.{◌≡◌, ℕ, ◌+◌, ◌<◌, ◌≤◌, List, [], ◌∷◌, length, slice_index}
 use Rattle.bp_cow.specs.declared.touched.Run.{Run}
 use Rattle.bp_cow.specs.declared.touched.Touched.{Touched}
 use Rattle.bp_free.specs.Set.{Set}
@@ -9,15 +9,21 @@ use Rattle.bp_layout.specs.Words.{Image, height_of}
 use Rattle.bp_calls.specs.CanWrite.{CanWrite}
 use Rattle.pm_region.specs.Memory.{Memory, current_words}
 
--- these bytes from an offset on, as a run in the tree of inode i, and no other word
-pub record TouchesBelow (image : Image) (i off : ℕ) (bytes : List ℕ) (touched : Touched) : Type 0 where
-  pub run : Run
-  pub one : touched.run ≡ Some run
-  pub no_words : touched.words.now ≡ []
+-- the run of these bytes from an offset on, in the tree of inode i
+pub record IsRunFor (image : Image) (i off : ℕ) (bytes : List ℕ) (run : Run) : Type 0 where
   pub root : run.root.items ≡ inode_path (height_of (root_of image 0)) i 1
   pub height : run.height ≡ height_of (root_of image i)
   pub from : run.off ≡ off
   pub bytes_are : run.bytes.now ≡ bytes
+  -- each byte is one
+  pub small : (k : ℕ) → slice_index run.bytes.now k < 256
+
+-- that run and no other word
+pub record TouchesBelow (image : Image) (i off : ℕ) (bytes : List ℕ) (touched : Touched) : Type 0 where
+  pub run : Run
+  pub one : touched.runs.now ≡ run ∷ []
+  pub no_words : touched.words.now ≡ []
+  pub is : IsRunFor image i off bytes run
 
 -- bytes that end below the size of a file or with it, and what is touched for them
 pub record WritesBelow (memory : Memory) (blocks inodes : Set) (i off : ℕ) (bytes : List ℕ)

@@ -1,6 +1,8 @@
 //! The calls of a file system on inodes: what is left of a call once its path was walked.
 #![tactic(auto)]
 
+mod batching;
+mod committing;
 mod creating;
 mod entering;
 mod giving;
@@ -13,6 +15,7 @@ mod removing;
 mod resizing;
 mod writing;
 
+pub use batching::{Patch, batch};
 pub use creating::{create, create_in};
 pub use entering::put_behind;
 pub use giving::give_back;

@@ -4,25 +4,21 @@ ghost use Rattle.std.specs.Prelude.{◌≡◌, ◌+◌, ◌≤◌, length, IfErr
 ghost use Rattle.bp_calls.specs.CanWrite.{CanWrite};
 ghost use Rattle.bp_shapes.specs.Sets.{IsExact, kept_of};
 ghost use Rattle.bp_calls.specs.Space.{LacksSpace};
-ghost use Rattle.bp_calls.specs.TouchedBelow.{TouchesBelow};
 ghost use Rattle.bp_calls.specs.WritesFile.{WritesFile};
-ghost use Rattle.bp_layout.specs.Inode.{root_of, size_of};
+ghost use Rattle.bp_layout.specs.Inode.{size_of};
 ghost use Rattle.bp_layout.specs.Need.Change.{writes};
-ghost use Rattle.bp_layout.specs.WordPaths.{inode_path};
-ghost use Rattle.bp_layout.specs.Words.{height_of};
 ghost use Rattle.bp_commit.specs.Performs.{Performs};
 ghost use Rattle.pm_region.specs.Memory.{current_words};
 
 mod across;
 
+use crate::committing::{commit_below, run_for, touched_by};
 use crate::writing::across::write_across;
 use bp_append::{need_prep, prep};
-use bp_cow::{Run, Touched, commit_at, copies_below, find_cover};
 use bp_free::{NoSpace, Parts};
-use bp_inodes::{inode_file, place, root_path, tree_of};
+use bp_inodes::{place, root_path, tree_of};
 use bp_inplace::commit_word;
-use bp_limits::{INODE_SIZE, SIZE_FIELD};
-use bp_tree::{Slots, Tree, word_path};
+use bp_limits::SIZE_FIELD;
 use pm_region::Region;
 
 /// Writes bytes behind the size of a file. Its tree is prepared for them, and then its size takes them in.
@@ -60,30 +56,6 @@ fn write_behind<R: Region>(
     Ok(())
 }
 
-/// What is touched by bytes below the size of a file: they alone, in its tree.
-fn touched_below<'a, R: Region>(
-    region: &R,
-    i: u32,
-    tree: Tree,
-    off: u64,
-    bytes: &'a [u8],
-) -> Touched<'a>
-    requires some { 4 ≤ length (current_words (R.memory region.now)) }
-    requires root { tree.root ≡ root_of (current_words (R.memory region.now)) i }
-    ensures { TouchesBelow (current_words (R.memory region.now)) i off bytes.now result }
-{
-    let run = Run {
-        root: root_path(region, i),
-        height: tree.height(),
-        off,
-        bytes,
-    };
-    Touched {
-        words: &[],
-        run: Some(run),
-    }
-}
-
 /// Writes bytes below the size of a file, by one commit of them.
 ///
 /// # Errors
@@ -107,15 +79,9 @@ fn write_below<R: Region>(
     ensures same { OnErr result (parts.new ≡ parts.old) }
 {
     let tree = tree_of(&parts.region, i);
-    let touched = touched_below(&parts.region, i, tree, off, bytes);
-    let cover = find_cover(&parts.region, &touched);
-    let copies = copies_below(&touched, cover);
-    let free = parts.blocks.count();
-    if free < copies {
-        return Err(NoSpace { need: copies, free });
-    }
-    commit_at(parts, &touched, cover);
-    Ok(())
+    let runs = [run_for(&parts.region, i, tree, off, bytes)];
+    let touched = touched_by(&runs);
+    commit_below(parts, &touched)
 }
 
 /// Writes bytes into a file from an offset in bytes on, by one store alone in its epoch. The file then reaches to their

@@ -1,22 +1,21 @@
--- Two images that differ in the bytes of one file: the theorem behind every write and truncate.
-use Rattle.std.proofs.Common.{◌≡◌, ◌≢◌, ◌==◌, Bool, true, false, Option, None, Some, ℕ, suc, ◌+◌, ◌*◌, ◌/◌, ◌%◌, ◌<◌, ◌≤◌, refl, sym, ◌∙◌, ap, arith}
-use Rattle.std.proofs.lemmas.List.FromFn.{length-map-range_with_len}
-use Rattle.bp_limits.specs.Limits.{max_name}
-use Rattle.bp_layout.specs.Words.{Image, byte_of}
-use Rattle.bp_layout.specs.Tree.{byte, content}
+-- Two images that differ in the bytes of one file: what the second shows.
+use Rattle.std.proofs.Common.{◌≡◌, ◌≢◌, ◌==◌, Bool, true, false, Option, None, Some, ℕ, ◌<◌, ◌≤◌, refl, ◌∙◌, ap, arith}
+use Rattle.bp_layout.specs.Words.{Image}
+use Rattle.bp_layout.specs.Tree.{content}
 use Rattle.bp_layout.specs.Inode.{kind_of, root_of, size_of}
-use Rattle.bp_layout.specs.Directory.{EntryNames, IsName, name_at, entry_word, entry_count}
+use Rattle.bp_layout.specs.Directory.{EntryNames, name_at}
 use Rattle.bp_layout.specs.Reached.{IsReached}
-use Rattle.bp_layout.specs.Reached.IsReached.{inode_file, root_directory, named}
+use Rattle.bp_layout.specs.Reached.IsReached.{inode_file, root_directory}
 use Rattle.bp_layout.specs.WellFormed.{IsWellFormed}
 use Rattle.bp_layout.specs.Lookup.{Path, lookup, node_of, shown}
 use Rattle.bp_layout.specs.Lookup.Node.{file}
 use Rattle.std.specs.Option.{option_map}
 use Rattle.std.proofs.lemmas.Bool.{eqb-true}
 use Rattle.bp_changes.specs.Effects.{ChangesFile}
+use Rattle.bp_changes.specs.KeepsDirectories.{KeepsDirectories}
 use Rattle.bp_layout.proofs.Finding.{map-same}
-use Rattle.bp_layout.proofs.View.{SameDirectories, lookup_from-same, lookup_from-reached}
-use Rattle.bp_changes.proofs.Formatted.{stays_formatted}
+use Rattle.bp_layout.proofs.View.{SameDirectories, lookup_from-reached}
+use Rattle.bp_changes.proofs.KeepsDirectories as directories
 
 module _ (old new : Image) (x : ℕ) (wf : IsWellFormed old) (same : ChangesFile old new x) where
   pub not_zero : 0 ≢ x
@@ -25,82 +24,36 @@ module _ (old new : Image) (x : ℕ) (wf : IsWellFormed old) (same : ChangesFile
   not_directory : (i : ℕ) → kind_of old i ≡ 2 → i ≢ x
   not_directory i kind e = let two : kind_of old x ≡ 2 = (rw e at kind) in absurd (omega (arith, two, same.is_file))
 
-  directory_size : (i : ℕ) → IsReached old i → kind_of old i ≡ 2 → size_of new i ≡ size_of old i
-  directory_size i reached kind = same.size i reached (not_directory i kind)
-
-  name_byte-same : (i slot j o : ℕ) → IsReached old i → EntryNames old i slot j → o < max_name →
-      byte new (root_of new i) (256 * slot + 16 + o) ≡ byte old (root_of old i) (256 * slot + 16 + o)
-  name_byte-same i slot j o reached names low =
-      let number : (256 * slot + 16 + o) / 8 ≡ 32 * slot + (2 + o / 8) = omega arith in
-      rw number (ap (λ w. byte_of w ((256 * slot + 16 + o) % 8)) (same.entry i slot j (2 + o / 8) reached names (omega (arith, low))))
+  pub keeps : KeepsDirectories old new
+  keeps = record {
+    trees = same.trees;
+    kind = same.kind;
+    inode_bytes = same.size 0 inode_file not_zero;
+    size = λ i reached kind. same.size i reached (not_directory i kind);
+    inumber = same.inumber;
+    entry = same.entry;
+  }
 
   pub name-same : (i slot j : ℕ) → IsReached old i → EntryNames old i slot j → name_at new i slot ≡ name_at old i slot
-  name-same i slot j reached names =
-      let form : IsName (name_at old i slot) = wf.names i slot j reached names in
-      let short : entry_word old i slot 1 ≤ max_name = (rw length-map-range_with_len at form.short) in
-      rw (same.entry i slot j 1 reached names (omega arith))
-      (map-same _ _ 0 (entry_word old i slot 1) (λ o low high. name_byte-same i slot j o reached names (omega (arith, high, short))))
+  name-same = directories.name-same old new wf keeps
 
   pub directories-same : SameDirectories old new
-  directories-same = record {
-    kind = same.kind;
-    count = λ i reached kind. ap (λ s. s / 256) (directory_size i reached kind);
-    inumber = same.inumber;
-    name = name-same;
-  }
-
-  names-back : (i s j : ℕ) → IsReached old i → EntryNames new i s j → EntryNames old i s j
-  names-back i s j reached n =
-      let kind : kind_of old i ≡ 2 = sym (same.kind i reached) ∙ n.directory in
-      let in_size : s < entry_count old i = rw (directory_size i reached kind) at n.in_size in
-      record { directory = kind; in_size = in_size; inumber = sym (same.inumber i s reached kind in_size) ∙ n.inumber; not_empty = n.not_empty }
+  directories-same = directories.directories-same old new wf keeps
 
   pub reached-back : (t : ℕ) → IsReached new t → IsReached old t
-  reached-back _ inode_file = inode_file
-  reached-back _ root_directory = root_directory
-  reached-back _ (named {i} {j} slot r n) = named slot (reached-back i r) (names-back i slot j (reached-back i r) n)
+  reached-back = directories.reached-back old new wf keeps
 
   pub names-on : (i s j : ℕ) → IsReached old i → EntryNames old i s j → EntryNames new i s j
-  names-on i s j reached n = record {
-    directory = same.kind i reached ∙ n.directory;
-    in_size = rw (directory_size i reached n.directory) n.in_size;
-    inumber = same.inumber i s reached n.directory n.in_size ∙ n.inumber;
-    not_empty = n.not_empty;
-  }
+  names-on = directories.names-on old new wf keeps
 
   pub reached-on : (t : ℕ) → IsReached old t → IsReached new t
-  reached-on _ inode_file = inode_file
-  reached-on _ root_directory = root_directory
-  reached-on _ (named {i} {j} slot r n) = named slot (reached-on i r) (names-on i slot j r n)
+  reached-on = directories.reached-on old new wf keeps
 
   pub well_formed-same : IsWellFormed new
-  well_formed-same =
-      let inodes : size_of new 0 ≡ size_of old 0 = same.size 0 inode_file not_zero in
-      record {
-        formatted = stays_formatted old new same.trees wf.formatted;
-        low = λ t r. same.trees.low t (reached-back t r);
-        sound = λ t r. same.trees.sound t (reached-back t r);
-        apart = λ t u b r q has also. same.trees.apart t u b (reached-back t r) (reached-back u q) has also;
-        full_inode_file = same.trees.full_inode_file;
-        full_directories = λ i r kind. same.trees.full_directories i (reached-back i r) (sym (same.kind i (reached-back i r)) ∙ kind);
-        inode_blocks = rw inodes wf.inode_blocks;
-        some_inodes = rw inodes wf.some_inodes;
-        inumbers = λ i s j r n. rw inodes (wf.inumbers i s j (reached-back i r) (names-back i s j (reached-back i r) n));
-        not_root = λ i s j r n. wf.not_root i s j (reached-back i r) (names-back i s j (reached-back i r) n);
-        named_once = λ i s k q j r p n m kind. wf.named_once i s k q j (reached-back i r) (reached-back k p) (names-back i s j (reached-back i r) n) (names-back k q j (reached-back k p) m)
-            (sym (same.kind j (reached-back j (named s r n))) ∙ kind);
-        kinds = λ i r. rw (same.kind (suc i) (reached-back (suc i) r)) (wf.kinds i (reached-back (suc i) r));
-        root_kind = same.kind 1 root_directory ∙ wf.root_kind;
-        directory_sizes = λ i r kind.
-            let before : kind_of old i ≡ 2 = sym (same.kind i (reached-back i r)) ∙ kind in
-            rw (directory_size i (reached-back i r) before) (wf.directory_sizes i (reached-back i r) before);
-        names = λ i s j r n. rw (name-same i s j (reached-back i r) (names-back i s j (reached-back i r) n)) (wf.names i s j (reached-back i r) (names-back i s j (reached-back i r) n));
-        names_once = λ i s q j k r n m e. wf.names_once i s q j k (reached-back i r) (names-back i s j (reached-back i r) n) (names-back i q k (reached-back i r) m)
-            (sym (name-same i s j (reached-back i r) (names-back i s j (reached-back i r) n)) ∙ e ∙ name-same i q k (reached-back i r) (names-back i q k (reached-back i r) m));
-      }
+  well_formed-same = directories.well_formed-same old new wf keeps
 
   pub lookup-same : (path : Path) → lookup new path ≡ lookup old path
-  lookup-same path = lookup_from-same old new directories-same 1 path root_directory
+  lookup-same = directories.lookup-same old new wf keeps
 
   node_of_other : (u : ℕ) → IsReached old u → u ≢ x → node_of new u ≡ node_of old u
   node_of_other u reached other = go (kind_of old u == 1) refl

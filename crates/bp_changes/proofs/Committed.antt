@@ -1,5 +1,5 @@
--- What a commit makes of an image: a name moved, a name spelled anew, the bytes of one file. It may give any values to words that nobody reads.
-use Rattle.std.proofs.Common.{◌≡◌, ◌≢◌, ◌⊎◌, ℕ, zero, suc, ◌+◌, ◌*◌, ◌/◌, ◌%◌, ◌<◌, ◌≤◌, length, refl, sym, ◌∙◌, ap, ap₂, subst, arith, inl, inr}
+-- What a commit makes of an image: a name moved, a name spelled anew, the bytes of one file or of several. It may give any values to words that nobody reads.
+use Rattle.std.proofs.Common.{◌≡◌, ◌≢◌, ◌⊎◌, ℕ, zero, suc, ◌+◌, ◌*◌, ◌/◌, ◌%◌, ◌<◌, ◌≤◌, List, length, refl, sym, ◌∙◌, ap, ap₂, subst, arith, inl, inr}
 use Rattle.std.proofs.lemmas.Bool.{cases_eq}
 use Rattle.std.proofs.lemmas.List.FromFn.{length-map-range_with_len}
 use Rattle.bp_limits.specs.Limits.{max_name}
@@ -14,6 +14,7 @@ use Rattle.bp_layout.specs.WellFormed.{IsWellFormed}
 use Rattle.bp_layout.proofs.Reached.{reached-in_file}
 use Rattle.bp_changes.specs.Commits.{Changes, changed_word, CommitsOnly}
 use Rattle.bp_changes.specs.Effects.{CanMoveEntry, MovesEntry, CarriesEntry, IsNewEntry, IsOldEntry, RespellsEntry, ChangesFile}
+use Rattle.bp_changes.specs.Overwrites.{OverwritesFiles, Patch, patched}
 use Rattle.bp_changes.specs.SameContent.{IsReadByWords}
 
 no_directory : (image : Image) (t : ℕ) → kind_of image t ≡ 2 → t ≢ 0
@@ -292,3 +293,22 @@ commit_writes old new changes x wf reached is_file only = record {
     in_directory : (i : ℕ) {l : ℕ} → kind_of old i ≡ 2 → (i ≡ x) ⊎ ((i ≡ 0) × (l ≡ 8 * x + 2)) → ⊥
     in_directory i kind (inl e) = let one : kind_of old i ≡ 1 = subst (λ y. kind_of old y ≡ 1) (sym e) is_file in omega (arith, kind, one)
     in_directory i kind (inr size) = no_directory old i kind size.0
+
+-- ---- the bytes of files, below their sizes
+
+-- where no word but those of files is given anew
+pub commit_overwrites : (old new : Image) (changes : Changes) (patches : List Patch) → IsWellFormed old → CommitsOnly old new changes (λ t l. kind_of old t ≡ 1) →
+    ((i o : ℕ) → IsReached old i → kind_of old i ≡ 1 → o < size_of old i → byte new (root_of new i) o ≡ patched patches i o (byte old (root_of old i) o)) → OverwritesFiles patches old new
+commit_overwrites old new changes patches wf only bytes = record {
+  trees = only.commits.trees;
+  kind = λ t also. kind-kept old new changes _ only t (reached-in_file old wf t also) no_file;
+  size = λ t also. size-kept old new changes _ only t (reached-in_file old wf t also) no_file;
+  inumber = λ i s also kind low.
+      word-kept old new changes _ only i (32 * s + 0) also (inr kind) (omega (arith, low)) (λ e. absurd (no_directory old i kind e)) (λ one. omega (arith, kind, one));
+  entry = λ i s j f also n few.
+      word-kept old new changes _ only i (32 * s + f) also (inr n.directory) (omega (arith, n.in_size, few)) (λ e. absurd (no_directory old i n.directory e)) (λ one. omega (arith, n.directory, one));
+  bytes = bytes;
+}
+  where
+    no_file : kind_of old 0 ≡ 1 → ⊥
+    no_file one = omega (arith, one)

@@ -13,12 +13,13 @@ use Rattle.bp_layout.specs.WellFormed.{IsWellFormed}
 use Rattle.bp_layout.proofs.Finding.{map-same}
 use Rattle.bp_layout.proofs.Reached.{reached-in_file}
 use Rattle.bp_layout.proofs.View.{SameDirectories}
-use Rattle.bp_changes.specs.Effects.{AddsNames, CanMoveEntry, CanUnlink, CarriesEntry, ChangesFile, IsNewEntry, IsOldEntry, LinksName, MovesEntry, RemovesEntry, RespellsEntry, SetsInumber}
+use Rattle.bp_changes.specs.Effects.{AddsNames, CanMoveEntry, CanUnlink, CarriesEntry, IsNewEntry, IsOldEntry, LinksName, MovesEntry, RemovesEntry, RespellsEntry, SetsInumber}
+use Rattle.bp_changes.specs.KeepsDirectories.{KeepsDirectories}
 use Rattle.bp_changes.specs.KeepsEntries.{KeepsEntries, NoSlot, OneSlot, TwoSlots, WasEntry}
 use Rattle.bp_changes.specs.SameMeaning.{SameMeaning}
 use Rattle.bp_changes.proofs.AddsNames as adding
 use Rattle.bp_changes.proofs.Carry as carry
-use Rattle.bp_changes.proofs.ChangesFile as file
+use Rattle.bp_changes.proofs.KeepsDirectories.{directories-same}
 use Rattle.bp_changes.proofs.GainsEntry.{GainsEntry, adds_gain, links_gain}
 use Rattle.bp_changes.proofs.LinksName as linking
 use Rattle.bp_changes.proofs.Move as move
@@ -95,9 +96,9 @@ module _ (old new : Image) (same : SameDirectories old new) where
       let small : r < entry_count old u = slot_back u r was directory low in
       was_entry old new u r was kind small (same.inumber u r was kind small) (λ n. same.name u r (inumber_at old u r) was n)
 
--- where the bytes of a file change
-pub file_keeps_entries : (old new : Image) → IsWellFormed old → (x : ℕ) → ChangesFile old new x → KeepsEntries old new NoSlot
-file_keeps_entries old new wf x changes = directories_keep_entries old new (file.directories-same old new x wf changes)
+-- where the bytes of files change
+pub files_keep_entries : (old new : Image) → IsWellFormed old → KeepsDirectories old new → KeepsEntries old new NoSlot
+files_keep_entries old new wf keeps = directories_keep_entries old new (directories-same old new wf keeps)
 
 -- and where the image means the same
 pub meaning_keeps_entries : (old new : Image) → IsWellFormed old → SameMeaning old new → KeepsEntries old new NoSlot

@@ -8,7 +8,9 @@ pub mod AddsNames
 pub mod LinksName
 pub mod GainsEntry
 pub mod Link
+pub mod KeepsDirectories
 pub mod ChangesFile
+pub mod Overwrites
 pub mod Resize
 pub mod LinkInPlace
 pub mod Unlink

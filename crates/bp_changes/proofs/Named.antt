@@ -13,10 +13,11 @@ use Rattle.bp_layout.specs.Reached.IsReached.{named}
 use Rattle.bp_layout.specs.WellFormed.{IsWellFormed}
 use Rattle.bp_layout.proofs.MemberLaws.{apart-filter, apart-more, apart-within, each-as, each-has, each-of, filter-has, has-filter}
 use Rattle.bp_layout.proofs.Reached.{reached-in_file}
-use Rattle.bp_changes.specs.Effects.{AddsNames, CanMoveEntry, ChangesFile, CanUnlink, CarriesEntry, IsAtOrBelow, IsNewEntry, IsOldEntry, LinksName, MovesEntry, RemovesEntry, RespellsEntry}
+use Rattle.bp_changes.specs.Effects.{AddsNames, CanMoveEntry, CanUnlink, CarriesEntry, IsAtOrBelow, IsNewEntry, IsOldEntry, LinksName, MovesEntry, RemovesEntry, RespellsEntry}
 use Rattle.bp_changes.specs.SameMeaning.{SameMeaning}
 use Rattle.bp_changes.proofs.SameMeaning as meaning
-use Rattle.bp_changes.proofs.ChangesFile as changed
+use Rattle.bp_changes.proofs.KeepsDirectories as directories
+use Rattle.bp_changes.specs.KeepsDirectories.{KeepsDirectories}
 use Rattle.bp_changes.proofs.ReachedOn.{reached_on}
 use Rattle.bp_changes.proofs.AddsNames as adding
 use Rattle.bp_changes.proofs.LinksName as linking
@@ -459,25 +460,9 @@ meaning_counts old new wf same counts are = counts_same old new counts are
       not_empty = n.not_empty;
     }
 
--- nor where the bytes of a file do
-pub changed_counts : (old new : Image) (x : ℕ) (wf : IsWellFormed old) (changes : ChangesFile old new x) (counts : List ℕ) → AreCounts old counts → AreCounts new counts
-changed_counts old new x wf changes counts are = counts_same old new counts are
-    (λ k e n. let was : IsReached old e.0 = changed.reached-back old new x wf changes e.0 n.reached in record { reached = was; names = back k e.0 e.1 was n.names })
-    (λ k e n. record { reached = changed.reached-on old new x wf changes e.0 n.reached; names = on k e.0 e.1 n.reached n.names })
-  where
-    other : (u : ℕ) → kind_of old u ≡ 2 → u ≢ x
-    other u kind same = let file : kind_of old u ≡ 1 = ap (kind_of old) same ∙ changes.is_file in omega (arith, kind, file)
-
-    on : (k u r : ℕ) → IsReached old u → EntryNames old u r k → EntryNames new u r k
-    on k u r reached n = record {
-      directory = changes.kind u reached ∙ n.directory;
-      in_size = subst (λ z. r < z / 256) (sym (changes.size u reached (other u n.directory))) n.in_size;
-      inumber = changes.inumber u r reached n.directory n.in_size ∙ n.inumber;
-      not_empty = n.not_empty;
-    }
-
-    back : (k u r : ℕ) → IsReached old u → EntryNames new u r k → EntryNames old u r k
-    back k u r reached n =
-        let kind : kind_of old u ≡ 2 = sym (changes.kind u reached) ∙ n.directory in
-        let small : r < entry_count old u = subst (λ z. r < z / 256) (changes.size u reached (other u kind)) n.in_size in
-        record { directory = kind; in_size = small; inumber = sym (changes.inumber u r reached kind small) ∙ n.inumber; not_empty = n.not_empty }
+-- nor where the bytes of files do
+pub changed_counts : (old new : Image) (wf : IsWellFormed old) (keeps : KeepsDirectories old new) (counts : List ℕ) → AreCounts old counts → AreCounts new counts
+changed_counts old new wf keeps counts are = counts_same old new counts are
+    (λ k e n. let was : IsReached old e.0 = directories.reached-back old new wf keeps e.0 n.reached in
+    record { reached = was; names = directories.names-back old new wf keeps e.0 e.1 k was n.names })
+    (λ k e n. record { reached = directories.reached-on old new wf keeps e.0 n.reached; names = directories.names-on old new wf keeps e.0 e.1 k n.reached n.names })

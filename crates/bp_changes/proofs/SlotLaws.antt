@@ -6,11 +6,12 @@ use Rattle.bp_layout.specs.Reached.{IsReached}
 use Rattle.bp_layout.specs.WellFormed.{IsWellFormed}
 use Rattle.bp_layout.specs.Words.{Image}
 use Rattle.bp_layout.proofs.HintLaws.{IsEntryFor, entry_of_slot, slot_of_entry}
-use Rattle.bp_changes.specs.Effects.{AddsNames, CanMoveEntry, CanUnlink, CarriesEntry, ChangesFile, IsAtOrBelow, LinksName, MovesEntry, RemovesEntry, RespellsEntry}
+use Rattle.bp_changes.specs.Effects.{AddsNames, CanMoveEntry, CanUnlink, CarriesEntry, IsAtOrBelow, LinksName, MovesEntry, RemovesEntry, RespellsEntry}
+use Rattle.bp_changes.specs.KeepsDirectories.{KeepsDirectories}
 use Rattle.bp_changes.specs.KeepsSlots.{KeepsSlots, KeepsOther, KeepsOthers}
 use Rattle.bp_changes.proofs.AddsNames as added
 use Rattle.bp_changes.proofs.Carry as carry
-use Rattle.bp_changes.proofs.ChangesFile as file
+use Rattle.bp_changes.proofs.KeepsDirectories as directories
 use Rattle.bp_changes.proofs.LinksName as linking
 use Rattle.bp_changes.proofs.Move as move
 use Rattle.bp_changes.proofs.MoveReach.{carried_on, moved_on, respelled_on}
@@ -43,13 +44,13 @@ links_keeps old new wf i s j links name slot of =
     (links.stay name.0 slot (inumber_at old name.0 slot) of.reached was.entry)
     (links.same_names name.0 slot (inumber_at old name.0 slot) of.reached was.entry)
 
--- the bytes of a file
-pub file_keeps : (old new : Image) → IsWellFormed old → (x : ℕ) → ChangesFile old new x → KeepsSlots old new
-file_keeps old new wf x same name slot of =
+-- the bytes of files
+pub files_keep : (old new : Image) → IsWellFormed old → KeepsDirectories old new → KeepsSlots old new
+files_keep old new wf keeps name slot of =
     let was : IsEntryFor old name slot = entry_of_slot old name slot of in
-    stays old new (file.well_formed-same old new x wf same) name slot was (file.reached-on old new x wf same name.0 of.reached)
-    (file.names-on old new x wf same name.0 slot (inumber_at old name.0 slot) of.reached was.entry)
-    (file.name-same old new x wf same name.0 slot (inumber_at old name.0 slot) of.reached was.entry)
+    stays old new (directories.well_formed-same old new wf keeps) name slot was (directories.reached-on old new wf keeps name.0 of.reached)
+    (directories.names-on old new wf keeps name.0 slot (inumber_at old name.0 slot) of.reached was.entry)
+    (directories.name-same old new wf keeps name.0 slot (inumber_at old name.0 slot) of.reached was.entry)
 
 -- One name fewer. What it names has no entry, so no directory with a name in it goes; other names of a file stay.
 pub removes_keeps : (old new : Image) → IsWellFormed old → (i s j : ℕ) → CanUnlink old i s j → RemovesEntry old new i s → KeepsOther old new (i, name_at old i s)

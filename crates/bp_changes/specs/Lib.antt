@@ -8,7 +8,9 @@ pub mod SameContent
 -- what nobody sees
 pub mod Harmless
 -- what each change makes of an image, and what a commit makes of its words
+pub mod KeepsDirectories
 pub mod Effects
+pub mod Overwrites
 pub mod Commits
 pub mod Thawed
 -- what each keeps of the slots of names, and of entries

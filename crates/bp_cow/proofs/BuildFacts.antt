@@ -187,7 +187,7 @@ value-none job (suc i) q none =
     let not_same : bytes_eq q (word_trail job i) ≡ false = differ q (word_trail job i) (none i (omega arith)) in
     rw not_same (value-none job i q (λ k low. none k (omega (arith, low))))
 
--- ---- the bytes of the run
+-- ---- what is laid over the leaves
 
 laid-upto_other : (old : Image) (job : Job) (count slot : ℕ) (p : Trail) → ((j : ℕ) → j < count → p ≢ end_of job j) → laid_upto old job count (slot ∷ p) ≡ word_on old (slot ∷ p)
 laid-upto_other old job zero slot p none = refl
@@ -198,19 +198,19 @@ laid-upto_other old job (suc j) slot p none =
 pub laid-other : (old : Image) (job : Job) (slot : ℕ) (p : Trail) → ((j : ℕ) → j < job.leaves → p ≢ end_of job j) → laid_on old job (slot ∷ p) ≡ word_on old (slot ∷ p)
 laid-other old job slot p none = laid-upto_other old job job.leaves slot p none
 
-laid-upto_leaf : (old : Image) (job : Job) (count slot j : ℕ) → j < count → ((l : ℕ) → l < count → end_of job j ≡ end_of job l → j ≡ l) →
+laid-upto_leaf : (old : Image) (job : Job) (count slot j : ℕ) → j < count → ((l : ℕ) → l < count → end_of job j ≡ end_of job l → (w : ℕ) → job.patch j slot w ≡ job.patch l slot w) →
     laid_upto old job count (slot ∷ end_of job j) ≡ job.patch j slot (word_on old (slot ∷ end_of job j))
-laid-upto_leaf old job zero slot j low apart = absurd (omega (arith, low))
-laid-upto_leaf old job (suc l) slot j low apart = go (cases_eq j l) (λ small. laid-upto_leaf old job l slot j small (λ k low_k. apart k (omega (arith, low_k))))
+laid-upto_leaf old job zero slot j low agree = absurd (omega (arith, low))
+laid-upto_leaf old job (suc l) slot j low agree =
+    go (bytes_eq (end_of job j) (end_of job l)) refl (cases_eq j l) (λ small. laid-upto_leaf old job l slot j small (λ k low_k. agree k (omega (arith, low_k))))
   where
-    go : (j ≡ l) ⊎ (j ≡ l → ⊥) → (j < l → laid_upto old job l (slot ∷ end_of job j) ≡ job.patch j slot (word_on old (slot ∷ end_of job j))) → laid_upto old job (suc l) (slot ∷ end_of job j) ≡ job.patch j slot (word_on old (slot ∷ end_of job j))
-    go (inl e) rest =
-        let same : bytes_eq (end_of job j) (end_of job l) ≡ true = (bytes_eq-Decides (end_of job j) (end_of job l)).1 (ap (end_of job) e) in
-        rw same (ap (λ n. job.patch n slot (word_on old (slot ∷ end_of job j))) (sym e))
-    go (inr n) rest =
-        let other : bytes_eq (end_of job j) (end_of job l) ≡ false = differ (end_of job j) (end_of job l) (λ e. n (apart l (omega arith) e)) in
-        rw other (rest (omega (arith, low, n)))
+    go : (x : Bool) → bytes_eq (end_of job j) (end_of job l) ≡ x → (j ≡ l) ⊎ (j ≡ l → ⊥) → (j < l → laid_upto old job l (slot ∷ end_of job j) ≡ job.patch j slot (word_on old (slot ∷ end_of job j))) →
+        laid_upto old job (suc l) (slot ∷ end_of job j) ≡ job.patch j slot (word_on old (slot ∷ end_of job j))
+    go true e any rest = rw e (sym (agree l (omega arith) ((bytes_eq-Decides (end_of job j) (end_of job l)).0 e) (word_on old (slot ∷ end_of job j))))
+    go false e (inl same) rest = let equal : bytes_eq (end_of job j) (end_of job l) ≡ true = (bytes_eq-Decides (end_of job j) (end_of job l)).1 (ap (end_of job) same) in absurd (cc)
+    go false e (inr other) rest = rw e (rest (omega (arith, low, other)))
 
-pub laid-leaf : (old : Image) (job : Job) (slot j : ℕ) → j < job.leaves → ((l : ℕ) → l < job.leaves → end_of job j ≡ end_of job l → j ≡ l) →
+-- all ways to one leaf have one patch
+pub laid-leaf : (old : Image) (job : Job) (slot j : ℕ) → j < job.leaves → ((l : ℕ) → l < job.leaves → end_of job j ≡ end_of job l → (w : ℕ) → job.patch j slot w ≡ job.patch l slot w) →
     laid_on old job (slot ∷ end_of job j) ≡ job.patch j slot (word_on old (slot ∷ end_of job j))
-laid-leaf old job slot j low apart = laid-upto_leaf old job job.leaves slot j low apart
+laid-leaf old job slot j low agree = laid-upto_leaf old job job.leaves slot j low agree

@@ -1,6 +1,7 @@
--- Touched words that can be committed under the sizes that the image has: one word of a tree, and a run.
-use Rattle.std.proofs.Common.{◌≡◌, ◌≢◌, ℕ, suc, ◌-◌, ◌*◌, ◌%◌, ◌<◌, ◌≤◌, length, Bool, None, Some, sym, ◌∙◌, ap, subst, arith}
+-- Touched words that can be committed under the sizes that the image has: one word of a tree, and runs.
+use Rattle.std.proofs.Common.{◌≡◌, ◌≢◌, ℕ, suc, ◌-◌, ◌*◌, ◌%◌, ◌<◌, ◌≤◌, [], ◌∷◌, length, Bool, sym, ◌∙◌, ap, subst, arith, inl, inr}
 use Rattle.bp_layout.specs.Free.{AreFreeBlocks}
+use Rattle.bp_layout.specs.Members.{Has}
 use Rattle.bp_layout.specs.Words.{Image, word, height_of}
 use Rattle.bp_layout.specs.Inode.{root_of, size_of}
 use Rattle.bp_layout.specs.Reached.{IsReached}
@@ -11,7 +12,7 @@ use Rattle.bp_shapes.proofs.FreeSets.{wf_forest, content_fronts, content_no_poin
 use Rattle.bp_cow.specs.declared.touched.Run.{Run}
 use Rattle.bp_cow.specs.declared.touched.Touched.{Touched}
 use Rattle.bp_cow.specs.Touched.{IsTouched, path_of, word_paths}
-use Rattle.bp_cow.specs.CanCommit.{IsRunIn, HasRunIn, CanCommit}
+use Rattle.bp_cow.specs.CanCommit.{IsRunIn, CanCommit}
 use Rattle.bp_layout.specs.Thaw.{none_kept}
 
 module _ (old : Image) (wf : IsWellFormed old) (touched : Touched) (shape : IsTouched touched) (free : ℕ → Bool) (exact : AreFreeBlocks old none_kept free) where
@@ -19,7 +20,7 @@ module _ (old : Image) (wf : IsWellFormed old) (touched : Touched) (shape : IsTo
   forest = wf_forest old wf
 
   -- one word
-  module _ (none : touched.run ≡ None) (one : length touched.words.now ≡ 1) (t k : ℕ) (reached : IsReached old t) (below : 8 * k < size_of old t) (no_root : t ≡ 0 → k % 8 ≢ 1)
+  module _ (none : touched.runs.now ≡ []) (one : length touched.words.now ≡ 1) (t k : ℕ) (reached : IsReached old t) (below : 8 * k < size_of old t) (no_root : t ≡ 0 → k % 8 ≢ 1)
       (is : trail_of (path_of (word_paths touched) 0) (length (path_of (word_paths touched) 0)) ≡ tree_trail (height_of (word old 2)) t (suc (height_of (root_of old t))) k) where
     pub word_can : CanCommit old (size_of old) touched free
     word_can = record {
@@ -29,16 +30,16 @@ module _ (old : Image) (wf : IsWellFormed old) (touched : Touched) (shape : IsTo
       exact = exact;
       pointers = λ i d here low. pointers i d (first i here) low;
       contents = λ i here pointer. contents i (first i here) pointer;
-      run = subst (HasRunIn old (size_of old)) (sym none) tt;
+      runs = λ run has. absurd (no_run run has);
       apart = λ i j here there same. omega (arith, first i here, first j there);
-      beside = λ run i j e here low high same. no_run run (sym none ∙ e);
+      beside = λ run i j has here low high same. no_run run has;
     }
       where
         first : (i : ℕ) → i < length touched.words.now → i ≡ 0
         first i here = omega (arith, here, one)
 
-        no_run : (run : Run) → None ≡ Some run → ⊥
-        no_run run e = absurd (cc)
+        no_run : (run : Run) → Has touched.runs.now run → ⊥
+        no_run run has = subst (λ runs. Has runs run) none has
 
         some : 1 ≤ length (path_of (word_paths touched) 0)
         some = shape.words 0 (omega (arith, one))
@@ -60,16 +61,23 @@ module _ (old : Image) (wf : IsWellFormed old) (touched : Touched) (shape : IsTo
             content_no_pointer old (size_of old) forest (path_of (word_paths touched) 0) (length (path_of (word_paths touched) 0) - 1) t k reached below at no_root
             (subst (λ d. IsTreePointer old (size_of old) (trail_of (path_of (word_paths touched) 0) d)) whole (subst (λ n. IsTreePointer old (size_of old) (trail_of (path_of (word_paths touched) n) (length (path_of (word_paths touched) n)))) e pointer))
 
-  -- a run alone
-  pub run_can : (run : Run) → touched.run ≡ Some run → length touched.words.now ≡ 0 → IsRunIn old (size_of old) run → CanCommit old (size_of old) touched free
-  run_can run some none in_tree = record {
+  -- runs alone
+  pub runs_can : length touched.words.now ≡ 0 → ((run : Run) → Has touched.runs.now run → IsRunIn old (size_of old) run) → CanCommit old (size_of old) touched free
+  runs_can none in_trees = record {
     shape = shape;
     forest = forest;
     sizes = λ u r. omega arith;
     exact = exact;
     pointers = λ i d here low. absurd (omega (arith, here, none));
     contents = λ i here pointer. omega (arith, here, none);
-    run = subst (HasRunIn old (size_of old)) (sym some) in_tree;
+    runs = in_trees;
     apart = λ i j here there same. absurd (omega (arith, here, none));
-    beside = λ r i j e here low high same. omega (arith, here, none);
+    beside = λ r i j has here low high same. omega (arith, here, none);
   }
+
+  pub run_can : (run : Run) → touched.runs.now ≡ run ∷ [] → length touched.words.now ≡ 0 → IsRunIn old (size_of old) run → CanCommit old (size_of old) touched free
+  run_can run one none in_tree = runs_can none (λ r has. only r (subst (λ runs. Has runs r) one has))
+    where
+      only : (r : Run) → Has (run ∷ []) r → IsRunIn old (size_of old) r
+      only r (inl e) = subst (IsRunIn old (size_of old)) e in_tree
+      only r (inr none_left) = absurd none_left

@@ -1,9 +1,9 @@
 -- As many blocks are copied as there are proper fronts of touched paths, each once, from the cover on.
-use Rattle.std.proofs.Common.{◌≡◌, ◌⊎◌, ℕ, zero, suc, ◌+◌, ◌-◌, ◌*◌, ◌/◌, ◌%◌, ◌<◌, ◌≤◌, List, [], ◌∷◌, ◌++◌, length, take, map, Bool, Option, None, Some, refl, sym, ◌∙◌, ap, subst, arith, inl, inr, append_assoc, max, ◌^◌, pow-suc}
+use Rattle.std.proofs.Common.{◌≡◌, ◌⊎◌, ℕ, zero, suc, ◌+◌, ◌-◌, ◌*◌, ◌/◌, ◌%◌, ◌<◌, ◌≤◌, List, [], ◌∷◌, ◌++◌, length, take, map, Bool, refl, sym, ◌∙◌, ap, subst, arith, inl, inr, append_assoc, max, ◌^◌, pow-suc}
 use Rattle.std.specs.List.{range_with_len}
 use Rattle.std.proofs.lemmas.Bool.{cases_eq, cases_lt}
 use Rattle.std.proofs.lemmas.List.{length-take, length-map, take-take}
-use Rattle.bp_layout.proofs.MemberLaws.{apart-more, apart-within, has-behind, has-either, has-front}
+use Rattle.bp_layout.proofs.MemberLaws.{apart-more, apart-within, has-behind, has-either, has-flat_map, has-front}
 use Rattle.bp_layout.specs.Words.{Image}
 use Rattle.bp_layout.specs.Members.{AreApart, Has}
 use Rattle.bp_layout.specs.Need.{prefixes_of}
@@ -14,14 +14,15 @@ use Rattle.bp_layout.specs.WellFormed.{IsWellFormed}
 use Rattle.bp_cow.specs.declared.touched.Run.{Run}
 use Rattle.bp_cow.specs.declared.touched.Touched.{Touched}
 use Rattle.bp_cow.specs.Job.{Job, ways, copies_at}
-use Rattle.bp_cow.specs.Touched.{run_path, run_way, run_end, run_leaves, run_paths, leaves_of, above, path_of, word_paths, all_paths, job_of, NoneBegins, IsRun, HasRun, IsTouched}
-use Rattle.bp_cow.specs.Cover.{BeginAlike, end_path, end_path_of, ends, ends_of}
+use Rattle.bp_cow.specs.Touched.{run_path, run_way, run_end, run_leaves, run_paths, paths_of_run, above, path_of, word_paths, all_paths, job_of, NoneBegins, IsRun, IsTouched}
+use Rattle.bp_cow.specs.Cover.{BeginAlike, end_path, ends}
 use Rattle.bp_cow.specs.CanCommit.{CanCommit}
+use Rattle.bp_cow.specs.Leaves.{IsLeaf}
 use Rattle.bp_cow.proofs.RunLaws.{length-run_path, length-run_way}
-use Rattle.bp_cow.proofs.RunFronts.{trail_of-take, between-run}
-use Rattle.bp_cow.proofs.JobLaws.{run-in, leaf-way, word-way, length-above, ways-fronts, leaf-plain}
+use Rattle.bp_cow.proofs.RunsLaws.{end-first, end-last, end-of-word, ends-count, leaf-of, length-above, way-to}
+use Rattle.bp_cow.proofs.RunFronts.{trail_of-take, between-run, run-trail}
+use Rattle.bp_cow.proofs.JobLaws.{run-in, word-way, ways-fronts, leaf-plain}
 use Rattle.bp_cow.proofs.CommonPaths.{begins-self}
-use Rattle.bp_cow.proofs.Values.{run-trail}
 use Rattle.bp_cow.proofs.CommitEnd.{copied-some, copied-none}
 use Rattle.bp_cow.proofs.Distinct.{same-take, fronts_sound, fronts_distinct, fronts_complete}
 use Rattle.bp_cow.proofs.JobFronts.{fronts_upto, length-upto, upto-sound, upto-complete, distinct-upto}
@@ -56,6 +57,26 @@ has-run run start (suc count) k low high = go (cases_eq start k) (λ less. has-r
     go (inl e) rest = inl (ap (run_path run) e)
     go (inr n) rest = inr (rest (omega (arith, low, n)))
 
+-- the words of runs, each by its run
+record IsRunPath (runs : List Run) (path : List ℕ) : Type 0 where
+  pub run : Run
+  pub has : Has runs run
+  pub number : ℕ
+  pub low : run.off / 8 ≤ number
+  pub high : number ≤ (run_end run - 1) / 8
+  pub same : path ≡ run_path run number
+
+run-paths : (runs : List Run) → ((run : Run) → Has runs run → IsRun run) → (path : List ℕ) → Has (run_paths runs) path → IsRunPath runs path
+run-paths [] are path none = absurd none
+run-paths (run ∷ runs) are path has = go (has-either (paths_of_run run) (run_paths runs) path has) (λ more. run-paths runs (λ r also. are r (inr also)) path more)
+  where
+    go : Has (paths_of_run run) path ⊎ Has (run_paths runs) path → (Has (run_paths runs) path → IsRunPath runs path) → IsRunPath (run ∷ runs) path
+    go (inl one) rest =
+        let some : 0 < length run.bytes.now = (are run (inl refl)).some in
+        let at = run-number run (run.off / 8) (suc ((run_end run - 1) / 8 - run.off / 8)) path one in
+        record { run = run; has = inl refl; number = at.0; low = at.1; high = omega (arith, at.1, at.2, some); same = at.3 }
+    go (inr more) rest = let found = rest more in record { run = found.run; has = inr found.has; number = found.number; low = found.low; high = found.high; same = found.same }
+
 -- a way and its last slot
 run-whole : (run : Run) (k j : ℕ) → k / 512 ≡ run.off / 4096 + j → take (length (run_way run j)) (run_path run k) ≡ run_way run j
 run-whole run k j leaf =
@@ -64,48 +85,43 @@ run-whole run k j leaf =
 
 -- with what the paths that tell begin, all touched paths begin
 pub alike-all : (touched : Touched) → IsTouched touched → (n : ℕ) → BeginAlike touched n → (path : List ℕ) → Has (all_paths touched) path → (n ≤ length path) × (trail_of path n ≡ trail_of (end_path touched 0) n)
-alike-all touched shape n alike path has = go (has-either (run_paths touched.run) (word_paths touched) path has)
+alike-all touched shape n alike path has = go (has-either (run_paths touched.runs.now) (word_paths touched) path has)
   where
-    of_run : (run : Option Run) → touched.run ≡ run → Has (run_paths run) path → (n ≤ length path) × (trail_of path n ≡ trail_of (end_path touched 0) n)
-    of_run None e none = absurd none
-    of_run (Some run) e one =
-        let is : IsRun run = subst HasRun e shape.run in
+    of_run : IsRunPath touched.runs.now path → (n ≤ length path) × (trail_of path n ≡ trail_of (end_path touched 0) n)
+    of_run at =
+        let run = at.run in
+        let is : IsRun run = shape.runs run at.has in
         let some : 0 < length run.bytes.now = is.some in
         let covers : run_end run ≤ 4096 * 512 ^ run.height = is.covered in
-        let at = run-number run (run.off / 8) (suc ((run_end run - 1) / 8 - run.off / 8)) path one in
-        let first : end_path touched 0 ≡ run_path run (run.off / 8) = ap (λ r. end_path_of r (word_paths touched) 0) e in
-        let last : end_path touched 1 ≡ run_path run ((run_end run - 1) / 8) = ap (λ r. end_path_of r (word_paths touched) 1) e in
-        let two : 1 < ends touched = subst (λ r. 1 < ends_of r (length touched.words.now)) (sym e) (omega arith) in
-        let high : at.0 ≤ (run_end run - 1) / 8 = omega (arith, at.1, at.2, some) in
-        let long : n ≤ length run.root.items + suc run.height = omega (arith, subst (λ p. n ≤ length p) first (alike.long 0 (omega (arith, two))), length-run_path run (run.off / 8)) in
+        let first = end-first touched.runs.now (word_paths touched) run at.has in
+        let last = end-last touched.runs.now (word_paths touched) run at.has in
+        let start : trail_of (run_path run (run.off / 8)) n ≡ trail_of (end_path touched 0) n = ap (λ p. trail_of p n) (sym first.is) ∙ alike.same first.which (first.here (length touched.words.now)) in
+        let end : trail_of (run_path run ((run_end run - 1) / 8)) n ≡ trail_of (end_path touched 0) n = ap (λ p. trail_of p n) (sym last.is) ∙ alike.same last.which (last.here (length touched.words.now)) in
+        let whole : n ≤ length (run_path run (run.off / 8)) = subst (λ p. n ≤ length p) first.is (alike.long first.which (first.here (length touched.words.now))) in
+        let long : n ≤ length run.root.items + suc run.height = omega (arith, whole, length-run_path run (run.off / 8)) in
         let few : (run_end run - 1) / 8 < 512 ^ suc run.height = rw pow-suc (omega (arith, covers, some)) in
-        let same : trail_of (run_path run (run.off / 8)) n ≡ trail_of (run_path run ((run_end run - 1) / 8)) n = ap (λ p. trail_of p n) (sym first) ∙ sym (alike.same 1 two) ∙ ap (λ p. trail_of p n) last in
-        subst (λ p. (n ≤ length p) × (trail_of p n ≡ trail_of (end_path touched 0) n)) (sym at.3)
-        (omega (arith, long, length-run_path run at.0), between-run run (run.off / 8) at.0 ((run_end run - 1) / 8) n at.1 high few long same ∙ ap (λ p. trail_of p n) (sym first))
+        subst (λ p. (n ≤ length p) × (trail_of p n ≡ trail_of (end_path touched 0) n)) (sym at.same)
+        (omega (arith, long, length-run_path run at.number), between-run run (run.off / 8) at.number ((run_end run - 1) / 8) n at.low at.high few long (start ∙ sym end) ∙ start)
 
-    of_word : (i : ℕ) → i < length touched.words.now → (run : Option Run) → touched.run ≡ run → (n ≤ length (path_of (word_paths touched) i)) × (trail_of (path_of (word_paths touched) i) n ≡ trail_of (end_path touched 0) n)
-    of_word i here None e =
-        let at : i < ends touched = subst (λ r. i < ends_of r (length touched.words.now)) (sym e) here in
-        let is : end_path touched i ≡ path_of (word_paths touched) i = ap (λ r. end_path_of r (word_paths touched) i) e in
-        (subst (λ p. n ≤ length p) is (alike.long i at), ap (λ p. trail_of p n) (sym is) ∙ alike.same i at)
-    of_word i here (Some run) e =
-        let at : suc (suc i) < ends touched = subst (λ r. suc (suc i) < ends_of r (length touched.words.now)) (sym e) (omega (arith, here)) in
-        let is : end_path touched (suc (suc i)) ≡ path_of (word_paths touched) i = ap (λ r. end_path_of r (word_paths touched) (suc (suc i))) e in
-        (subst (λ p. n ≤ length p) is (alike.long (suc (suc i)) at), ap (λ p. trail_of p n) (sym is) ∙ alike.same (suc (suc i)) at)
+    of_word : (i : ℕ) → i < length touched.words.now → (n ≤ length (path_of (word_paths touched) i)) × (trail_of (path_of (word_paths touched) i) n ≡ trail_of (end_path touched 0) n)
+    of_word i here =
+        let at : 2 * length touched.runs.now + i < ends touched = omega (arith, here, ends-count touched.runs.now (length touched.words.now)) in
+        let is : end_path touched (2 * length touched.runs.now + i) ≡ path_of (word_paths touched) i = end-of-word touched.runs.now (word_paths touched) i in
+        (subst (λ p. n ≤ length p) is (alike.long (2 * length touched.runs.now + i) at), ap (λ p. trail_of p n) (sym is) ∙ alike.same (2 * length touched.runs.now + i) at)
 
-    go : Has (run_paths touched.run) path ⊎ Has (word_paths touched) path → (n ≤ length path) × (trail_of path n ≡ trail_of (end_path touched 0) n)
-    go (inl one) = of_run touched.run refl one
+    go : Has (run_paths touched.runs.now) path ⊎ Has (word_paths touched) path → (n ≤ length path) × (trail_of path n ≡ trail_of (end_path touched 0) n)
+    go (inl one) = of_run (run-paths touched.runs.now shape.runs path one)
     go (inr two) =
         let at = index-of (word_paths touched) path two in
         subst (λ p. (n ≤ length p) × (trail_of p n ≡ trail_of (end_path touched 0) n)) at.2
-        (of_word at.0 (omega (arith, at.1, length-map touched.words.now (λ word. word.0.items))) touched.run refl)
+        (of_word at.0 (omega (arith, at.1, length-map touched.words.now (λ word. word.0.items))))
 
 module _ (touched : Touched) (shape : IsTouched touched) where
   abbrev job : Job
   job = job_of touched
 
-  is-run : (run : Run) → touched.run ≡ Some run → IsRun run
-  is-run run e = subst HasRun e shape.run
+  is-run : (run : Run) → Has touched.runs.now run → IsRun run
+  is-run run has = shape.runs run has
 
   -- a touched path and the way to its word
   record IsWayOf (i : ℕ) (path : List ℕ) : Type 0 where
@@ -128,48 +144,46 @@ module _ (touched : Touched) (shape : IsTouched touched) where
         same = ap (λ (p : List ℕ). take (length p) path) way ∙ ap (λ d. take d path) size ∙ sym way;
       }
 
-  leaf-is : (run : Run) (e : touched.run ≡ Some run) (k : ℕ) → run.off / 8 ≤ k → k ≤ (run_end run - 1) / 8 → IsWayOf (k / 512 - run.off / 4096) (run_path run k)
-  leaf-is run e k low high =
-      let j : ℕ = k / 512 - run.off / 4096 in
-      let few : j < run_leaves run = omega (arith, low, high) in
-      let way : job.way j ≡ run_way run j = leaf-way touched run e j few in
-      let leaf : j < job.leaves = subst (λ r. j < leaves_of r) (sym e) few in
+  way-of-leaf : (run : Run) (k i j : ℕ) → k / 512 ≡ run.off / 4096 + j → IsLeaf touched.runs.now touched.runs.now (word_paths touched) i run j → IsWayOf i (run_path run k)
+  way-of-leaf run k i j leaf is =
+      let way : job.way i ≡ run_way run j = is.way in
+      let low : i < job.leaves = is.here in
       record {
-        here = omega (arith, leaf);
+        here = omega (arith, low);
         long = omega (arith, length-run_path run k, length-run_way run j) ∙ ap (λ (p : List ℕ). length p + 1) (sym way);
-        same = ap (λ (p : List ℕ). take (length p) (run_path run k)) way ∙ run-whole run k j (omega (arith, low)) ∙ sym way;
+        same = ap (λ (p : List ℕ). take (length p) (run_path run k)) way ∙ run-whole run k j leaf ∙ sym way;
       }
 
-  -- by cases: a word of the run, or another word
-  pub paths-by : (P : List ℕ → Type 0) → ((run : Run) (k : ℕ) → touched.run ≡ Some run → run.off / 8 ≤ k → k ≤ (run_end run - 1) / 8 → P (run_path run k)) →
-      ((i : ℕ) → i < length touched.words.now → P (path_of (word_paths touched) i)) → (path : List ℕ) → Has (all_paths touched) path → P path
-  paths-by P of_run of_word path has = go (has-either (run_paths touched.run) (word_paths touched) path has)
-    where
-      in_run : (run : Option Run) → touched.run ≡ run → Has (run_paths run) path → P path
-      in_run None e none = absurd none
-      in_run (Some run) e one =
-          let at = run-number run (run.off / 8) (suc ((run_end run - 1) / 8 - run.off / 8)) path one in
-          let some : 0 < length run.bytes.now = (is-run run e).some in
-          subst P (sym at.3) (of_run run at.0 e at.1 (omega (arith, at.1, at.2, some)))
-
-      go : Has (run_paths touched.run) path ⊎ Has (word_paths touched) path → P path
-      go (inl one) = in_run touched.run refl one
-      go (inr two) = let at = index-of (word_paths touched) path two in subst P at.2 (of_word at.0 (omega (arith, at.1, words-count)))
-
-  pub has-word : (i : ℕ) → i < length touched.words.now → Has (all_paths touched) (path_of (word_paths touched) i)
-  has-word i here = has-behind (run_paths touched.run) (word_paths touched) _ (has-index (word_paths touched) i (omega (arith, here, words-count)))
-
-  pub has-of-run : (run : Run) (k : ℕ) → touched.run ≡ Some run → run.off / 8 ≤ k → k ≤ (run_end run - 1) / 8 → Has (all_paths touched) (run_path run k)
-  has-of-run run k e low high =
-      has-front (run_paths touched.run) (word_paths touched) (run_path run k)
-      (subst (λ r. Has (run_paths r) (run_path run k)) (sym e) (has-run run (run.off / 8) (suc ((run_end run - 1) / 8 - run.off / 8)) k low (omega (arith, low, high))))
-
+  -- each touched path has a way
   record HasWay (path : List ℕ) : Type 0 where
     pub which : ℕ
     pub is : IsWayOf which path
 
+  leaf-is : (run : Run) (k : ℕ) → Has touched.runs.now run → run.off / 8 ≤ k → k ≤ (run_end run - 1) / 8 → HasWay (run_path run k)
+  leaf-is run k has low high =
+      let j : ℕ = k / 512 - run.off / 4096 in
+      let way = way-to touched.runs.now touched.runs.now (word_paths touched) run j has (omega (arith, low, high)) in
+      record { which = way.which; is = way-of-leaf run k way.which j (omega (arith, low)) way.is }
+
+  -- by cases: a word of a run, or another word
+  pub paths-by : (P : List ℕ → Type 0) → ((run : Run) (k : ℕ) → Has touched.runs.now run → run.off / 8 ≤ k → k ≤ (run_end run - 1) / 8 → P (run_path run k)) →
+      ((i : ℕ) → i < length touched.words.now → P (path_of (word_paths touched) i)) → (path : List ℕ) → Has (all_paths touched) path → P path
+  paths-by P of_run of_word path has = go (has-either (run_paths touched.runs.now) (word_paths touched) path has)
+    where
+      go : Has (run_paths touched.runs.now) path ⊎ Has (word_paths touched) path → P path
+      go (inl one) = let at = run-paths touched.runs.now shape.runs path one in subst P (sym at.same) (of_run at.run at.number at.has at.low at.high)
+      go (inr two) = let at = index-of (word_paths touched) path two in subst P at.2 (of_word at.0 (omega (arith, at.1, words-count)))
+
+  pub has-word : (i : ℕ) → i < length touched.words.now → Has (all_paths touched) (path_of (word_paths touched) i)
+  has-word i here = has-behind (run_paths touched.runs.now) (word_paths touched) _ (has-index (word_paths touched) i (omega (arith, here, words-count)))
+
+  pub has-of-run : (run : Run) (k : ℕ) → Has touched.runs.now run → run.off / 8 ≤ k → k ≤ (run_end run - 1) / 8 → Has (all_paths touched) (run_path run k)
+  has-of-run run k has low high =
+      has-front (run_paths touched.runs.now) (word_paths touched) (run_path run k)
+      (has-flat_map paths_of_run touched.runs.now run (run_path run k) has (has-run run (run.off / 8) (suc ((run_end run - 1) / 8 - run.off / 8)) k low (omega (arith, low, high))))
+
   way-of : (path : List ℕ) → Has (all_paths touched) path → HasWay path
-  way-of = paths-by HasWay (λ run k e low high. record { which = k / 512 - run.off / 4096; is = leaf-is run e k low high }) (λ i here. record { which = job.leaves + i; is = word-is i here })
+  way-of = paths-by HasWay leaf-is (λ i here. record { which = job.leaves + i; is = word-is i here })
 
   -- each way is that to a touched word
   record HasPath (i : ℕ) : Type 0 where
@@ -180,19 +194,19 @@ module _ (touched : Touched) (shape : IsTouched touched) where
   path-of : (i : ℕ) → i < ways job → HasPath i
   path-of i here = go (cases_lt i job.leaves)
     where
-      leaf : (run : Option Run) → touched.run ≡ run → i < job.leaves → HasPath i
-      leaf None e low = let none : i < leaves_of None = subst (λ r. i < leaves_of r) e low in absurd (omega (arith, none))
-      leaf (Some run) e low =
-          let few : i < run_leaves run = subst (λ r. i < leaves_of r) e low in
-          let some : 0 < length run.bytes.now = (is-run run e).some in
-          let k : ℕ = max (run.off / 8) (512 * (run.off / 4096 + i)) in
+      leaf : i < job.leaves → HasPath i
+      leaf low =
+          let at = leaf-of touched.runs.now touched.runs.now (word_paths touched) i low in
+          let run = at.run in
+          let few : at.leaf < run_leaves run = at.is.low in
+          let some : 0 < length run.bytes.now = (is-run run at.is.has).some in
+          let k : ℕ = max (run.off / 8) (512 * (run.off / 4096 + at.leaf)) in
           let first : run.off / 8 ≤ k = omega arith in
           let last : k ≤ (run_end run - 1) / 8 = omega (arith, few, some) in
-          let number : k / 512 - run.off / 4096 ≡ i = omega arith in
-          record { path = run_path run k; has = has-of-run run k e first last; is = subst (λ n. IsWayOf n (run_path run k)) number (leaf-is run e k first last) }
+          record { path = run_path run k; has = has-of-run run k at.is.has first last; is = way-of-leaf run k i at.leaf (omega arith) at.is }
 
       go : (i < job.leaves) ⊎ (job.leaves ≤ i) → HasPath i
-      go (inl low) = leaf touched.run refl low
+      go (inl low) = leaf low
       go (inr past) =
           let few : i - job.leaves < length touched.words.now = omega (arith, here, past) in
           let back : job.leaves + (i - job.leaves) ≡ i = omega (arith, past) in
@@ -310,7 +324,7 @@ module _ (old : Image) (bound : ℕ → ℕ) (touched : Touched) (free : ℕ →
 
   no-pointer : (path : List ℕ) → Has (all_paths touched) path → IsTreePointer old bound (trail_of path (length path)) → ⊥
   no-pointer = paths-by touched can.shape (λ path. IsTreePointer old bound (trail_of path (length path)) → ⊥)
-      (λ run k e low high one. leaf-plain old bound can.forest run (is-run touched can.shape run e) (run-in old bound touched free wf can run e) (k / 512 - run.off / 4096) (k % 512) (omega (arith, low, high))
+      (λ run k has low high one. leaf-plain old bound can.forest run (is-run touched can.shape run has) (run-in old bound touched free wf can run has) (k / 512 - run.off / 4096) (k % 512) (omega (arith, low, high))
       (subst (IsTreePointer old bound) (run-trail run k low) one))
       (λ i here one. can.contents i here one)
 

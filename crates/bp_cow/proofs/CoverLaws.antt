@@ -1,5 +1,5 @@
 -- The way to the cover, slot by slot.
-use Rattle.std.proofs.Common.{◌≡◌, ◌≢◌, ◌⊎◌, ℕ, zero, suc, ◌+◌, ◌-◌, ◌*◌, ◌/◌, ◌<◌, ◌≤◌, List, length, Option, None, Some, refl, sym, ◌∙◌, ap, subst, arith, inl, inr}
+use Rattle.std.proofs.Common.{◌≡◌, ◌≢◌, ◌⊎◌, ℕ, suc, ◌+◌, ◌-◌, ◌*◌, ◌/◌, ◌<◌, ◌≤◌, List, [], ◌∷◌, length, refl, sym, ◌∙◌, ap, subst, arith, inl, inr}
 use Rattle.std.specs.List.{slice_index}
 use Rattle.std.proofs.Math.ListN.{get_or-append}
 use Rattle.std.proofs.lemmas.Bool.{cases_eq, cases_lt}
@@ -11,10 +11,11 @@ use Rattle.bp_shapes.proofs.PathTrails.{trail_of-next, word-placed, slot-trail_o
 use Rattle.bp_cow.specs.declared.touched.Run.{Run}
 use Rattle.bp_cow.specs.declared.touched.Touched.{Touched}
 use Rattle.bp_cow.specs.declared.covering.FoundCover.{FoundCover}
-use Rattle.bp_cow.specs.Touched.{IsRun, HasRun, IsTouched, run_path, run_end, word_paths}
-use Rattle.bp_cow.specs.Cover.{end_path, end_path_of, ends, ends_of, BeginAlike}
+use Rattle.bp_cow.specs.Touched.{IsRun, IsTouched, run_path, run_end, word_paths}
+use Rattle.bp_cow.specs.Cover.{end_path, ends, BeginAlike}
 use Rattle.bp_cow.specs.Found.{IsAt}
 use Rattle.bp_cow.proofs.RunLaws.{length-run_path, slot-run_path}
+use Rattle.bp_cow.proofs.RunsLaws.{ends-by}
 
 pub run-slots : (run : Run) (k d : ℕ) → IsRun run → d < length (run_path run k) → slice_index (run_path run k) d < 512
 run-slots run k d is low = go (cases_lt d (length run.root.items))
@@ -24,29 +25,23 @@ run-slots run k d is low = go (cases_lt d (length run.root.items))
     go (inr past) = omega (arith, slot-run_path run k d past low)
 
 pub end-slots : (touched : Touched) → IsTouched touched → (i d : ℕ) → i < ends touched → d < length (end_path touched i) → slice_index (end_path touched i) d < 512
-end-slots touched is i d here low = go touched.run i is.run here low
-  where
-    go : (run : Option Run) (i : ℕ) → HasRun run → i < ends_of run (length touched.words.now) → d < length (end_path_of run (word_paths touched) i) → slice_index (end_path_of run (word_paths touched) i) d < 512
-    go None i has here low = is.slots i d here low
-    go (Some run) zero has here low = run-slots run (run.off / 8) d has low
-    go (Some run) (suc zero) has here low = run-slots run ((run_end run - 1) / 8) d has low
-    go (Some run) (suc (suc i)) has here low = is.slots i d (omega (arith, here)) low
+end-slots touched is i d here = ends-by touched.runs.now (word_paths touched) (length touched.words.now) (λ p. d < length p → slice_index p d < 512)
+    (λ run has low. run-slots run (run.off / 8) d (is.runs run has) low)
+    (λ run has low. run-slots run ((run_end run - 1) / 8) d (is.runs run has) low)
+    (λ k few low. is.slots k d few low) i here
 
 pub some-ends : (touched : Touched) → IsTouched touched → 0 < ends touched
-some-ends touched is = go touched.run refl
+some-ends touched is = go touched.runs.now refl
   where
-    go : (run : Option Run) → touched.run ≡ run → 0 < ends touched
-    go None e = let some : 0 < 0 + length touched.words.now = rw e at is.some in rw e (omega (arith, some))
-    go (Some run) e = rw e (omega arith)
+    go : (runs : List Run) → touched.runs.now ≡ runs → 0 < ends touched
+    go [] e = let some : 0 < 0 + length touched.words.now = rw e at is.some in rw e (omega (arith, some))
+    go (run ∷ runs) e = rw e (omega arith)
 
 pub end-short : (touched : Touched) → IsTouched touched → (i : ℕ) → i < ends touched → length (end_path touched i) ≤ 12
-end-short touched is i here = go touched.run i is.run here
-  where
-    go : (run : Option Run) (i : ℕ) → HasRun run → i < ends_of run (length touched.words.now) → length (end_path_of run (word_paths touched) i) ≤ 12
-    go None i has here = is.short i here
-    go (Some run) zero has here = omega (arith, length-run_path run (run.off / 8), has.short)
-    go (Some run) (suc zero) has here = omega (arith, length-run_path run ((run_end run - 1) / 8), has.short)
-    go (Some run) (suc (suc i)) has here = is.short i (omega (arith, here))
+end-short touched is = ends-by touched.runs.now (word_paths touched) (length touched.words.now) (λ p. length p ≤ 12)
+    (λ run has. let short = (is.runs run has).short in omega (arith, length-run_path run (run.off / 8), short))
+    (λ run has. let short = (is.runs run has).short in omega (arith, length-run_path run ((run_end run - 1) / 8), short))
+    (λ k few. is.short k few)
 
 pub alike-slot : (touched : Touched) (count i : ℕ) → i < ends touched → BeginAlike touched (count + 1) → slice_index (end_path touched i) count ≡ slice_index (end_path touched 0) count
 alike-slot touched count i here alike = slot-trail_of (end_path touched i) (end_path touched 0) (count + 1) count (alike.same i here) (omega arith)

@@ -1,5 +1,5 @@
 -- The cover that is found is the cover by its definition.
-use Rattle.std.proofs.Common.{◌≡◌, ◌≢◌, ◌⊎◌, ℕ, zero, suc, ◌+◌, ◌-◌, ◌/◌, ◌<◌, ◌≤◌, List, [], length, take, not, Bool, Option, None, Some, true, false, refl, sym, ◌∙◌, ap, subst, arith, inl, inr}
+use Rattle.std.proofs.Common.{◌≡◌, ◌≢◌, ◌⊎◌, ℕ, zero, suc, ◌+◌, ◌-◌, ◌/◌, ◌<◌, ◌≤◌, List, [], length, take, not, Bool, true, false, refl, sym, ◌∙◌, ap, subst, arith, inl, inr}
 use Rattle.std.specs.Prelude.{◌==◌}
 use Rattle.std.specs.List.{slice_index}
 use Rattle.std.proofs.lemmas.Bool.{cases_eq, cases_lt, eqb-true}
@@ -12,16 +12,16 @@ use Rattle.bp_layout.proofs.TreeLaws.{slot_word-at}
 use Rattle.bp_shapes.specs.Trail.{block_on, word_on, place_on, trail_of}
 use Rattle.bp_shapes.proofs.PathTrails.{AreNodes, address-on, front-trail_of}
 use Rattle.bp_shapes.proofs.TrailLaws.{word_on-top, word_on-slot}
-use Rattle.bp_cow.specs.declared.touched.Run.{Run}
 use Rattle.bp_cow.specs.declared.touched.Touched.{Touched}
-use Rattle.bp_cow.specs.Cover.{end_path, end_path_of, ends, ends_of, BeginAlike, CoverHas, IsCover, commit_cover, copied_count}
+use Rattle.bp_cow.specs.Cover.{end_path, ends, BeginAlike, CoverHas, IsCover, commit_cover, copied_count}
 use Rattle.bp_cow.specs.Job.{copies_at}
-use Rattle.bp_cow.specs.Touched.{HasRun, IsTouched, NoneBegins, all_paths, run_end, word_paths, job_of}
+use Rattle.bp_cow.specs.Touched.{IsTouched, NoneBegins, all_paths, run_end, word_paths, job_of}
 use Rattle.bp_cow.proofs.CommonPaths.{Begins, HasExistingFront, all-begin, all-most, existing}
 use Rattle.bp_cow.proofs.CopiesNeed.{alike-all, has-word, has-of-run, copied-need}
 use Rattle.bp_cow.proofs.CoverLaws.{some-ends}
 use Rattle.bp_cow.proofs.Distinct.{same-take}
 use Rattle.bp_cow.proofs.RunFronts.{trail_of-take}
+use Rattle.bp_cow.proofs.RunsLaws.{ends-by}
 
 -- what begins alike begins alike as far as any shorter front
 pub alike_front : (touched : Touched) (n m : ℕ) → m ≤ n → BeginAlike touched n → BeginAlike touched m
@@ -85,20 +85,10 @@ module _ (image : Image) (path : WordPath) where
 module _ (touched : Touched) (shape : IsTouched touched) where
   -- the paths that tell are touched
   end-touched : (i : ℕ) → i < ends touched → Has (all_paths touched) (end_path touched i)
-  end-touched i here = go touched.run refl i here
-    where
-      at : (run : Option Run) → touched.run ≡ run → (i : ℕ) → Has (all_paths touched) (end_path_of run (word_paths touched) i) → Has (all_paths touched) (end_path touched i)
-      at run e i has = subst (λ r. Has (all_paths touched) (end_path_of r (word_paths touched) i)) (sym e) has
-
-      go : (run : Option Run) → touched.run ≡ run → (i : ℕ) → i < ends_of run (length touched.words.now) → Has (all_paths touched) (end_path touched i)
-      go None e i here = at None e i (has-word touched shape i here)
-      go (Some run) e zero here =
-          let some : 0 < length run.bytes.now = (subst HasRun e shape.run).some in
-          at (Some run) e 0 (has-of-run touched shape run (run.off / 8) e (omega arith) (omega (arith, some)))
-      go (Some run) e (suc zero) here =
-          let some : 0 < length run.bytes.now = (subst HasRun e shape.run).some in
-          at (Some run) e 1 (has-of-run touched shape run ((run_end run - 1) / 8) e (omega (arith, some)) (omega arith))
-      go (Some run) e (suc (suc i)) here = at (Some run) e (suc (suc i)) (has-word touched shape i (omega (arith, here)))
+  end-touched = ends-by touched.runs.now (word_paths touched) (length touched.words.now) (Has (all_paths touched))
+      (λ run has. let some : 0 < length run.bytes.now = (shape.runs run has).some in has-of-run touched shape run (run.off / 8) has (omega arith) (omega (arith, some)))
+      (λ run has. let some : 0 < length run.bytes.now = (shape.runs run has).some in has-of-run touched shape run ((run_end run - 1) / 8) has (omega (arith, some)) (omega arith))
+      (λ i here. has-word touched shape i here)
 
   abbrev shared : WordPath
   shared = common_all (all_paths touched)

@@ -1,8 +1,11 @@
 -- What is asked of touched words, told of the ways to them.
-use Rattle.std.proofs.Common.{◌≡◌, ◌≢◌, ◌⊎◌, ℕ, zero, suc, ◌+◌, ◌-◌, ◌*◌, ◌/◌, ◌%◌, ◌^◌, ◌<◌, ◌≤◌, List, ◌∷◌, length, max, Bool, Option, None, Some, set, unwrap_or, refl, sym, ◌∙◌, ap, subst, arith, inl, inr, pow-suc}
+use Rattle.std.proofs.Common.{◌≡◌, ◌≢◌, ◌⊎◌, ℕ, zero, suc, ◌+◌, ◌-◌, ◌*◌, ◌/◌, ◌%◌, ◌^◌, ◌<◌, ◌≤◌, List, [], ◌∷◌, ◌++◌, length, take, max, Bool, None, Some, set, unwrap_or, refl, sym, ◌∙◌, ap, subst, arith, inl, inr, pow-suc, zero-mul}
 use Rattle.std.specs.List.{slice_index}
 use Rattle.std.proofs.lemmas.Bool.{cases_eq, cases_lt}
-use Rattle.std.proofs.lemmas.List.{get_or-take, length-take}
+use Rattle.std.proofs.lemmas.List.{get_or-take}
+use Rattle.std.proofs.Math.Seq.{take-length}
+use Rattle.bp_layout.specs.Members.{Has}
+use Rattle.bp_layout.specs.WordPaths.{digits}
 use Rattle.bp_layout.specs.Words.{Image, word, block_count, height_of}
 use Rattle.bp_layout.specs.Tree.{IsLivePointer, covered}
 use Rattle.bp_layout.specs.Inode.{root_of}
@@ -13,20 +16,23 @@ use Rattle.bp_shapes.specs.Forest.{along, root_trail, tree_trail, IsForest, IsTr
 use Rattle.bp_shapes.proofs.ForestLaws.{pointers, skeleton, short, same_pointer, same_trail, HasFewDigits}
 use Rattle.bp_shapes.proofs.ExactSets.{unheld_exact}
 use Rattle.bp_shapes.proofs.FreeSets.{pointer_fronts}
-use Rattle.bp_shapes.proofs.PathTrails.{trail_of-next, front-trail_of}
+use Rattle.bp_shapes.proofs.PathTrails.{trail_of-next, front-trail_of, length-trail_of}
 use Rattle.bp_cow.specs.declared.touched.Run.{Run}
 use Rattle.bp_cow.specs.declared.touched.Touched.{Touched}
-use Rattle.bp_cow.specs.Touched.{IsRun, HasRun, run_path, run_way, run_end, run_leaves, leaves_of, way_of, patch_of, above, path_of, word_paths, last_slot, job_of, only_of, only_value, run_word}
+use Rattle.bp_cow.specs.Leaves.{IsLeaf}
+use Rattle.bp_cow.specs.Touched.{IsRun, run_path, run_way, run_end, run_leaves, leaves_of, way_of, above, path_of, word_paths, last_slot, job_of, only_of, only_value, run_word, laid_word}
 use Rattle.bp_cow.specs.Job.{ways, end_of, word_trail, value_upto, laid_on}
 use Rattle.bp_cow.specs.Committed.{IsCommitted, after_commit}
 use Rattle.bp_shapes.proofs.TrailLaws.{Turns, cases_trail, pointer-turned, word-turned, skeleton-turned}
 use Rattle.bp_shapes.proofs.StoreLaws.{store_turns}
 use Rattle.bp_cow.proofs.BuildFacts.{value-here, value-none, laid-leaf, laid-other}
 use Rattle.bp_cow.specs.Cover.{end_path, end_path_of, ends, ends_of, BeginAlike}
-use Rattle.bp_cow.specs.CanCommit.{IsRunIn, HasRunIn, CanCommit}
+use Rattle.bp_cow.specs.CanCommit.{IsRunIn, CanCommit}
 use Rattle.bp_cow.specs.Plan.{IsFeasible}
-use Rattle.bp_cow.proofs.RunLaws.{length-run_path, length-run_way, slot-run_path, slot-run_way, way-leaf, way-word, run_word-outside}
-use Rattle.bp_cow.proofs.RunFronts.{trail_of-take, front-run_way, end-run_way, between-run, same-run_path}
+use Rattle.bp_cow.proofs.Distinct.{same-take}
+use Rattle.bp_cow.proofs.RunLaws.{length-run_path, length-run_way, slot-run_way, run_word-outside}
+use Rattle.bp_cow.proofs.RunsLaws.{HasEnd, HasLeaf, end-first, end-last, end-of-word, ends-count, laid-kept, leaf-here, leaf-of, length-above, way-leaf, way-short, way-word, ways-by}
+use Rattle.bp_cow.proofs.RunFronts.{trail_of-take, first-trail, front-run_way, end-run_way, between-run, same-run_path}
 use Rattle.bp_cow.proofs.CoverLaws.{run-slots, end-slots, some-ends}
 use Rattle.bp_layout.specs.Thaw.{none_kept}
 
@@ -81,13 +87,45 @@ module _ (old : Image) (bound : ℕ → ℕ) (forest : IsForest old bound) (run 
       cons : {s u : ℕ} {p q : Trail} → s ≡ u → p ≡ q → s ∷ p ≡ u ∷ q
       cons e f = cc
 
+-- ---- two runs
+
+same-list : (p q : List ℕ) → trail_of p (length p) ≡ trail_of q (length q) → p ≡ q
+same-list p q same =
+    let size : length p ≡ length q = sym (length-trail_of p (length p)) ∙ ap (λ (x : Trail). length x) same ∙ length-trail_of q (length q) in
+    sym (take-length p) ∙ same-take p q (length p) (omega arith) (omega (arith, size)) (same ∙ ap (trail_of q) (sym size)) ∙ ap (λ n. take n q) size ∙ take-length q
+
+module _ (old : Image) (bound : ℕ → ℕ) (forest : IsForest old bound) (one two : Run) (first : IsRun one) (second : IsRun two) (at : IsRunIn old bound one) (also : IsRunIn old bound two) where
+  -- their leaves are one only in one tree
+  pub same-leaf : (j l : ℕ) → j < run_leaves one → l < run_leaves two → trail_of (run_way one j) (length (run_way one j)) ≡ trail_of (run_way two l) (length (run_way two l)) →
+      (one.root.items ≡ two.root.items) × (one.off / 4096 + j ≡ two.off / 4096 + l)
+  same-leaf j l low small same =
+      let all = same_pointer old bound forest (suc at.inode) one.height (one.off / 4096 + j) (suc also.inode) two.height (two.off / 4096 + l) at.reached also.reached
+      (leaf-live old bound forest one first at j low) (leaf-live old bound forest two second also l small)
+      (sym (leaf-trail old bound forest one first at j) ∙ same ∙ leaf-trail old bound forest two second also l) in
+      (same-list one.root.items two.root.items (at.root ∙ ap (root_trail (height_of (word old 2))) all.0 ∙ sym also.root), all.2)
+
+  top-live : (run : Run) → IsRun run → (t : ℕ) → run_end run ≤ bound t → IsLivePointer (root_of old t) (bound t) 0 0
+  top-live run is t below =
+      let some : 0 < length run.bytes.now = is.some in
+      let inside : 0 < bound t = omega (arith, some, below) in
+      record { level = height_of (root_of old t); height = omega arith; live = rw zero-mul inside }
+
+  -- a word of one tree has one path
+  pub same-path : one.root.items ≡ two.root.items → (k : ℕ) → run_path one k ≡ run_path two k
+  same-path roots k = ap (λ (p : List ℕ). p ++ digits (suc one.height) k) roots ∙ ap (λ h. two.root.items ++ digits (suc h) k) heights
+    where
+      trails : tree_trail (height_of (word old 2)) (suc at.inode) 0 0 ≡ tree_trail (height_of (word old 2)) (suc also.inode) 0 0
+      trails = sym at.root ∙ ap (λ (p : List ℕ). trail_of p (length p)) roots ∙ also.root
+
+      heights : one.height ≡ two.height
+      heights =
+          let all = same_pointer old bound forest (suc at.inode) 0 0 (suc also.inode) 0 0 at.reached also.reached (top-live one first (suc at.inode) at.below) (top-live two second (suc also.inode) also.below) trails in
+          at.height ∙ ap (λ (t : ℕ). height_of (root_of old t)) all.0 ∙ sym also.height
+
 -- ---- a word
 
 above-trail : (path : List ℕ) (d : ℕ) → d < length path → trail_of (above path) d ≡ trail_of path d
 above-trail path d low = trail_of-take path (length path - 1) d (omega (arith, low))
-
-pub length-above : (path : List ℕ) → length (above path) ≡ length path - 1
-length-above path = length-take (length path - 1) path ∙ omega arith
 
 -- the way to a word and its last slot
 pub whole-word : (path : List ℕ) → 1 ≤ length path → last_slot path ∷ trail_of (above path) (length (above path)) ≡ trail_of path (length path)
@@ -104,55 +142,33 @@ whole-word path some =
 module _ (touched : Touched) where
   pub word-way : (i : ℕ) → (job_of touched).way ((job_of touched).leaves + i) ≡ above (path_of (word_paths touched) i)
   word-way i =
-      let back : leaves_of touched.run + i - leaves_of touched.run ≡ i = omega arith in
-      way-word touched.run (word_paths touched) (leaves_of touched.run + i) (omega arith) ∙ ap (λ k. above (path_of (word_paths touched) k)) back
-
-  pub leaf-way : (run : Run) → touched.run ≡ Some run → (j : ℕ) → j < run_leaves run → (job_of touched).way j ≡ run_way run j
-  leaf-way run e j low = ap (λ r. way_of r (word_paths touched) j) e ∙ way-leaf run (word_paths touched) j low
+      let back : leaves_of touched.runs.now + i - leaves_of touched.runs.now ≡ i = omega arith in
+      way-word touched.runs.now (word_paths touched) (leaves_of touched.runs.now + i) (omega arith) ∙ ap (λ k. above (path_of (word_paths touched) k)) back
 
 module _ (old : Image) (bound : ℕ → ℕ) (touched : Touched) (free : ℕ → Bool) (wf : IsWellFormed old) (can : CanCommit old bound touched free) where
   abbrev paths : List (List ℕ)
   paths = word_paths touched
 
-  -- by cases: a leaf of the run, or a word
-  pub ways-by : (P : List ℕ → Type 0) → ((run : Run) (j : ℕ) → touched.run ≡ Some run → j < run_leaves run → P (run_way run j)) → ((i : ℕ) → i < length touched.words.now → P (above (path_of paths i))) →
-      (i : ℕ) → i < ways (job_of touched) → P ((job_of touched).way i)
-  ways-by P leaf at_word i here = go touched.run refl
-    where
-      go : (run : Option Run) → touched.run ≡ run → P (way_of touched.run paths i)
-      go None e =
-          let some : i < 0 + length touched.words.now = rw e at here in
-          rw e (at_word i (omega (arith, some)))
-      go (Some run) e = split (cases_lt i (run_leaves run))
-        where
-          split : (i < run_leaves run) ⊎ (run_leaves run ≤ i) → P (way_of touched.run paths i)
-          split (inl low) = rw e (rw (way-leaf run paths i low) (leaf run i e low))
-          split (inr past) =
-              let some : i < run_leaves run + length touched.words.now = rw e at here in
-              rw e (rw (way-word (Some run) paths i past) (at_word (i - run_leaves run) (omega (arith, some, past))))
+  pub is-run : (run : Run) → Has touched.runs.now run → IsRun run
+  is-run run has = can.shape.runs run has
 
-  pub is-run : (run : Run) → touched.run ≡ Some run → IsRun run
-  is-run run e = subst HasRun e can.shape.run
-
-  pub run-in : (run : Run) → touched.run ≡ Some run → IsRunIn old bound run
-  run-in run e = subst (HasRunIn old bound) e can.run
+  pub run-in : (run : Run) → Has touched.runs.now run → IsRunIn old bound run
+  run-in run has = can.runs run has
 
   pub ways-fronts : (i : ℕ) → i < ways (job_of touched) → (d : ℕ) → d ≤ length ((job_of touched).way i) → IsTreePointer old bound (trail_of ((job_of touched).way i) d)
-  ways-fronts = ways-by (λ p. (d : ℕ) → d ≤ length p → IsTreePointer old bound (trail_of p d))
-      (λ run j e low d short. leaf-fronts old bound can.forest run (is-run run e) (run-in run e) j d low short)
+  ways-fronts = ways-by touched (λ p. (d : ℕ) → d ≤ length p → IsTreePointer old bound (trail_of p d))
+      (λ run j has low d short. leaf-fronts old bound can.forest run (is-run run has) (run-in run has) j d low short)
       (λ i here d low.
       let some : 1 ≤ length (path_of paths i) = can.shape.words i here in
       let less : d < length (path_of paths i) = omega (arith, low, length-above (path_of paths i), some) in
       subst (IsTreePointer old bound) (sym (above-trail (path_of paths i) d less)) (can.pointers i d here less))
 
   pub ways-short : (i : ℕ) → i < ways (job_of touched) → length ((job_of touched).way i) ≤ 11
-  ways-short = ways-by (λ p. length p ≤ 11)
-      (λ run j e low. let short = (is-run run e).short in omega (arith, short, length-run_way run j))
-      (λ i here. omega (arith, can.shape.short i here, length-above (path_of paths i)))
+  ways-short = way-short touched can.shape
 
   ways-slots : (i : ℕ) → i < ways (job_of touched) → (d : ℕ) → d < length ((job_of touched).way i) → slice_index ((job_of touched).way i) d < 512
-  ways-slots = ways-by (λ p. (d : ℕ) → d < length p → slice_index p d < 512)
-      (λ run j e low d short. subst (λ n. n < 512) (slot-run_way run j d short) (run-slots run (512 * (run.off / 4096 + j)) d (is-run run e) (omega (arith, short, length-run_path run (512 * (run.off / 4096 + j)), length-run_way run j))))
+  ways-slots = ways-by touched (λ p. (d : ℕ) → d < length p → slice_index p d < 512)
+      (λ run j has low d short. subst (λ n. n < 512) (slot-run_way run j d short) (run-slots run (512 * (run.off / 4096 + j)) d (is-run run has) (omega (arith, short, length-run_path run (512 * (run.off / 4096 + j)), length-run_way run j))))
       (λ i here d low.
       let less : d < length (path_of paths i) - 1 = omega (arith, low, length-above (path_of paths i)) in
       subst (λ n. n < 512) (sym (get_or-take (length (path_of paths i) - 1) (path_of paths i) d 0 less)) (can.shape.slots i d here (omega (arith, less))))
@@ -161,19 +177,39 @@ module _ (old : Image) (bound : ℕ → ℕ) (touched : Touched) (free : ℕ →
   word-trail i here =
       ap (λ p. last_slot (path_of paths i) ∷ trail_of p (length p)) (word-way touched i) ∙ whole-word (path_of paths i) (can.shape.words i here)
 
-  pub leaf-end : (run : Run) → touched.run ≡ Some run → (j : ℕ) → j < run_leaves run → end_of (job_of touched) j ≡ trail_of (run_way run j) (length (run_way run j))
-  leaf-end run e j low = ap (λ p. trail_of p (length p)) (leaf-way touched run e j low)
+  pub leaf-end : (i : ℕ) (run : Run) (leaf : ℕ) → IsLeaf touched.runs.now touched.runs.now paths i run leaf → end_of (job_of touched) i ≡ trail_of (run_way run leaf) (length (run_way run leaf))
+  leaf-end i run leaf is = ap (λ p. trail_of p (length p)) is.way
 
-  pub leaves-low : (run : Run) → touched.run ≡ Some run → (j : ℕ) → j < (job_of touched).leaves → j < run_leaves run
-  leaves-low run e j low = subst (λ r. j < leaves_of r) e low
+  pub leaf-at : (i : ℕ) → i < (job_of touched).leaves → HasLeaf touched.runs.now touched.runs.now paths i
+  leaf-at i low = leaf-of touched.runs.now touched.runs.now paths i low
 
-  -- where there is a leaf there is a run
-  pub with-run : (A : Type 0) (j : ℕ) → j < (job_of touched).leaves → ((run : Run) → touched.run ≡ Some run → A) → A
-  with-run A j low use_run = go touched.run refl
-    where
-      go : (run : Option Run) → touched.run ≡ run → A
-      go None e = let none : j < leaves_of None = subst (λ r. j < leaves_of r) e low in absurd (omega (arith, none))
-      go (Some run) e = use_run run e
+  -- the leaves have no pointers
+  leaves-bare : (i slot : ℕ) → i < (job_of touched).leaves → IsTreePointer old bound (slot ∷ end_of (job_of touched) i) → ⊥
+  leaves-bare i slot low one =
+      let at = leaf-at i low in
+      leaf-plain old bound can.forest at.run (is-run at.run at.is.has) (run-in at.run at.is.has) at.leaf slot at.is.low
+      (subst (λ q. IsTreePointer old bound (slot ∷ q)) (leaf-end i at.run at.leaf at.is) one)
+
+  -- and ways to one leaf have one patch
+  pub leaves-agree : (i l : ℕ) → i < (job_of touched).leaves → l < (job_of touched).leaves → end_of (job_of touched) i ≡ end_of (job_of touched) l → (slot w : ℕ) → (job_of touched).patch i slot w ≡ (job_of touched).patch l slot w
+  leaves-agree i l low small same slot w =
+      let one = leaf-at i low in
+      let two = leaf-at l small in
+      let both = same-leaf old bound can.forest one.run two.run (is-run one.run one.is.has) (is-run two.run two.is.has) (run-in one.run one.is.has) (run-in two.run two.is.has) one.leaf two.leaf one.is.low two.is.low
+      (sym (leaf-end i one.run one.leaf one.is) ∙ same ∙ leaf-end l two.run two.leaf two.is) in
+      one.is.patch slot w
+      ∙ ap (λ (root : List ℕ). laid_word touched.runs.now root (512 * (one.run.off / 4096 + one.leaf) + slot) w) both.0
+      ∙ ap (λ n. laid_word touched.runs.now two.run.root.items (512 * n + slot) w) both.1
+      ∙ sym (two.is.patch slot w)
+
+  first-way : (run : Run) (runs : List Run) → touched.runs.now ≡ run ∷ runs → (job_of touched).way 0 ≡ run_way run 0
+  first-way run runs e = ap (λ r. way_of r paths 0) e ∙ way-leaf run runs paths 0 (omega arith)
+
+  first-leaf : (run : Run) (runs : List Run) → touched.runs.now ≡ run ∷ runs → IsLeaf touched.runs.now touched.runs.now paths 0 run 0
+  first-leaf run runs e = subst (λ rs. IsLeaf rs rs paths 0 run 0) (sym e) (leaf-here (run ∷ runs) run runs paths 0 (omega arith))
+
+  first-has : (run : Run) (runs : List Run) → touched.runs.now ≡ run ∷ runs → Has touched.runs.now run
+  first-has run runs e = subst (λ rs. Has rs run) (sym e) (inl refl)
 
   -- ---- with what all begin
 
@@ -185,17 +221,17 @@ module _ (old : Image) (bound : ℕ → ℕ) (touched : Touched) (free : ℕ →
     some-ways = can.shape.some
 
     pub first-front : (d : ℕ) → d ≤ length ((job_of touched).way 0) → trail_of ((job_of touched).way 0) d ≡ trail_of first d
-    first-front d low = go touched.run refl
+    first-front d low = go touched.runs.now refl
       where
-        go : (run : Option Run) → touched.run ≡ run → trail_of ((job_of touched).way 0) d ≡ trail_of first d
-        go None e =
+        go : (runs : List Run) → touched.runs.now ≡ runs → trail_of ((job_of touched).way 0) d ≡ trail_of first d
+        go [] e =
             let some : 0 < 0 + length touched.words.now = subst (λ r. 0 < leaves_of r + length touched.words.now) e can.shape.some in
-            let way : (job_of touched).way 0 ≡ above (path_of paths 0) = ap (λ r. way_of r paths 0) e ∙ way-word None paths 0 (omega arith) in
+            let way : (job_of touched).way 0 ≡ above (path_of paths 0) = ap (λ r. way_of r paths 0) e in
             let len : 1 ≤ length (path_of paths 0) = can.shape.words 0 (omega (arith, some)) in
             let less : d < length (path_of paths 0) = omega (arith, subst (λ p. d ≤ length p) way low, length-above (path_of paths 0), len) in
             ap (λ p. trail_of p d) way ∙ above-trail (path_of paths 0) d less ∙ ap (λ r. trail_of (end_path_of r paths 0) d) (sym e)
-        go (Some run) e =
-            let way : (job_of touched).way 0 ≡ run_way run 0 = leaf-way touched run e 0 (omega arith) in
+        go (run ∷ runs) e =
+            let way : (job_of touched).way 0 ≡ run_way run 0 = first-way run runs e in
             let leaf : run.off / 8 / 512 ≡ run.off / 4096 + 0 = omega arith in
             ap (λ p. trail_of p d) way ∙ front-run_way run 0 (run.off / 8) d leaf (subst (λ p. d ≤ length p) way low) ∙ ap (λ r. trail_of (end_path_of r paths 0) d) (sym e)
 
@@ -204,17 +240,10 @@ module _ (old : Image) (bound : ℕ → ℕ) (touched : Touched) (free : ℕ →
 
     -- a word's path, among the paths that tell
     end-word : (i : ℕ) → i < length touched.words.now → (n ≤ length (path_of paths i)) × (trail_of (path_of paths i) n ≡ trail_of first n)
-    end-word i here = go touched.run refl
-      where
-        go : (run : Option Run) → touched.run ≡ run → (n ≤ length (path_of paths i)) × (trail_of (path_of paths i) n ≡ trail_of first n)
-        go None e =
-            let at : i < ends touched = subst (λ r. i < ends_of r (length touched.words.now)) (sym e) here in
-            let is : end_path touched i ≡ path_of paths i = ap (λ r. end_path_of r paths i) e in
-            (subst (λ p. n ≤ length p) is (alike.long i at), ap (λ p. trail_of p n) (sym is) ∙ alike.same i at)
-        go (Some run) e =
-            let at : suc (suc i) < ends touched = subst (λ r. suc (suc i) < ends_of r (length touched.words.now)) (sym e) (omega (arith, here)) in
-            let is : end_path touched (suc (suc i)) ≡ path_of paths i = ap (λ r. end_path_of r paths (suc (suc i))) e in
-            (subst (λ p. n ≤ length p) is (alike.long (suc (suc i)) at), ap (λ p. trail_of p n) (sym is) ∙ alike.same (suc (suc i)) at)
+    end-word i here =
+        let at : 2 * length touched.runs.now + i < ends touched = omega (arith, here, ends-count touched.runs.now (length touched.words.now)) in
+        let is : end_path touched (2 * length touched.runs.now + i) ≡ path_of paths i = end-of-word touched.runs.now paths i in
+        (subst (λ p. n ≤ length p) is (alike.long (2 * length touched.runs.now + i) at), ap (λ p. trail_of p n) (sym is) ∙ alike.same (2 * length touched.runs.now + i) at)
 
     begin-word : (i : ℕ) → i < length touched.words.now → (n ≤ length (above (path_of paths i))) × (trail_of (above (path_of paths i)) n ≡ trail_of first n)
     begin-word i here = go (cases_eq n (length (path_of paths i)))
@@ -228,27 +257,37 @@ module _ (old : Image) (bound : ℕ → ℕ) (touched : Touched) (free : ℕ →
             let low : n ≤ length (path_of paths i) = both.0 in
             (omega (arith, low, other, length-above (path_of paths i)), above-trail (path_of paths i) n (omega (arith, low, other)) ∙ both.1)
 
-    begin-leaf : (run : Run) (j : ℕ) → touched.run ≡ Some run → j < run_leaves run → (n ≤ length (run_way run j)) × (trail_of (run_way run j) n ≡ trail_of first n)
-    begin-leaf run j e low = (long, front-run_way run j k n leaf long ∙ between-run run (run.off / 8) k ((run_end run - 1) / 8) n from_first to_last few (omega (arith, long, length-run_way run j)) ends_same ∙ ap (λ p. trail_of p n) (sym is_first))
+    begin-leaf : (run : Run) (j : ℕ) → Has touched.runs.now run → j < run_leaves run → (n ≤ length (run_way run j)) × (trail_of (run_way run j) n ≡ trail_of first n)
+    begin-leaf run j has low =
+        (long, front-run_way run j k n leaf long ∙ between-run run (run.off / 8) k ((run_end run - 1) / 8) n from_first to_last few (omega (arith, long, length-run_way run j)) (from_start ∙ sym from_end) ∙ from_start)
       where
-        is_first : end_path touched 0 ≡ run_path run (run.off / 8)
-        is_first = ap (λ r. end_path_of r paths 0) e
+        start : HasEnd touched.runs.now paths (run_path run (run.off / 8))
+        start = end-first touched.runs.now paths run has
 
-        is_last : end_path touched 1 ≡ run_path run ((run_end run - 1) / 8)
-        is_last = ap (λ r. end_path_of r paths 1) e
+        end : HasEnd touched.runs.now paths (run_path run ((run_end run - 1) / 8))
+        end = end-last touched.runs.now paths run has
 
-        ends_same : trail_of (run_path run (run.off / 8)) n ≡ trail_of (run_path run ((run_end run - 1) / 8)) n
-        ends_same =
-            let at : 1 < ends touched = subst (λ r. 1 < ends_of r (length touched.words.now)) (sym e) (omega arith) in
-            ap (λ p. trail_of p n) (sym is_first) ∙ sym (alike.same 1 at) ∙ ap (λ p. trail_of p n) is_last
+        from_start : trail_of (run_path run (run.off / 8)) n ≡ trail_of first n
+        from_start = ap (λ p. trail_of p n) (sym start.is) ∙ alike.same start.which (start.here (length touched.words.now))
 
+        from_end : trail_of (run_path run ((run_end run - 1) / 8)) n ≡ trail_of first n
+        from_end = ap (λ p. trail_of p n) (sym end.is) ∙ alike.same end.which (end.here (length touched.words.now))
+
+        -- the word itself is no pointer
         long : n ≤ length (run_way run j)
-        long =
-            let way : (job_of touched).way 0 ≡ run_way run 0 = leaf-way touched run e 0 (omega arith) in
-            omega (arith, subst (λ p. n ≤ length p) way short, length-run_way run 0, length-run_way run j)
+        long = go (cases_eq n (length (run_path run (run.off / 8))))
+          where
+            whole : n ≤ length (run_path run (run.off / 8))
+            whole = subst (λ p. n ≤ length p) start.is (alike.long start.which (start.here (length touched.words.now)))
+
+            go : (n ≡ length (run_path run (run.off / 8))) ⊎ (n ≡ length (run_path run (run.off / 8)) → ⊥) → n ≤ length (run_way run j)
+            go (inl e) =
+                absurd (leaf-plain old bound can.forest run (is-run run has) (run-in run has) 0 (run.off / 8 % 512) (omega arith)
+                (subst (IsTreePointer old bound) (sym from_start ∙ ap (trail_of (run_path run (run.off / 8))) e ∙ first-trail run) (first-pointer n short)))
+            go (inr other) = omega (arith, whole, other, length-run_path run (run.off / 8), length-run_way run j)
 
         some : 0 < length run.bytes.now
-        some = (is-run run e).some
+        some = (is-run run has).some
 
         -- a touched word of the leaf
         k : ℕ
@@ -264,10 +303,10 @@ module _ (old : Image) (bound : ℕ → ℕ) (touched : Touched) (free : ℕ →
         to_last = omega (arith, low, some)
 
         few : (run_end run - 1) / 8 < 512 ^ suc run.height
-        few = let covers : run_end run ≤ 4096 * 512 ^ run.height = (is-run run e).covered in rw pow-suc (omega (arith, covers, some))
+        few = let covers : run_end run ≤ 4096 * 512 ^ run.height = (is-run run has).covered in rw pow-suc (omega (arith, covers, some))
 
     pub begin-way : (i : ℕ) → i < ways (job_of touched) → (n ≤ length ((job_of touched).way i)) × (trail_of ((job_of touched).way i) n ≡ trail_of first n)
-    begin-way = ways-by (λ p. (n ≤ length p) × (trail_of p n ≡ trail_of first n)) begin-leaf begin-word
+    begin-way = ways-by touched (λ p. (n ≤ length p) × (trail_of p n ≡ trail_of first n)) begin-leaf begin-word
 
     placed-first : (d : ℕ) → d ≤ n → ((k : ℕ) → k < n → block_on old (trail_of first k) ≢ 0) → IsPlaced old (IsTreePointer old bound) (trail_of first d)
     placed-first zero low exists = at_top
@@ -289,33 +328,23 @@ module _ (old : Image) (bound : ℕ → ℕ) (touched : Touched) (free : ℕ →
       slots = λ i d here low. ways-slots i here d low;
       word_slots = λ i here. let some = can.shape.words i here in can.shape.slots i (length (path_of paths i) - 1) here (omega (arith, some));
       contents = λ i here one. can.contents i here (subst (IsTreePointer old bound) (word-trail i here) one);
-      plain = λ j slot w low one. absurd (with-run ⊥ j low (λ run e.
-          let less = leaves-low run e j low in
-          leaf-plain old bound can.forest run (is-run run e) (run-in run e) j slot less (subst (λ q. IsTreePointer old bound (slot ∷ q)) (leaf-end run e j less) one)));
-      long = λ j low. with-run (length ((job_of touched).way j) ≡ length ((job_of touched).way 0)) j low (λ run e.
-          let less = leaves-low run e j low in
-          let one : (job_of touched).way j ≡ run_way run j = leaf-way touched run e j less in
-          let two : (job_of touched).way 0 ≡ run_way run 0 = leaf-way touched run e 0 (omega arith) in
-          ap (λ (p : List ℕ). length p) one ∙ length-run_way run j ∙ sym (length-run_way run 0) ∙ ap (λ (p : List ℕ). length p) (sym two));
-      apart = λ j l low small same. with-run (j ≡ l) j low (λ run e.
-          let less = leaves-low run e j low in
-          let few = leaves-low run e l small in
-          leaf-apart old bound can.forest run (is-run run e) (run-in run e) j l less few (sym (leaf-end run e j less) ∙ same ∙ leaf-end run e l few));
+      bare = λ j slot low one. leaves-bare j slot low one;
+      agree = λ j l low small same slot w. leaves-agree j l low small same slot w;
       placed = subst (IsPlaced old (IsTreePointer old bound)) (sym (first-front n short)) (placed-first n (omega arith) exists);
       at = ap (place_on old) (first-front n short) ∙ at;
     }
 
   pub first-length : length (end_path touched 0) ≡ length ((job_of touched).way 0) + 1
-  first-length = go touched.run refl
+  first-length = go touched.runs.now refl
     where
-      go : (run : Option Run) → touched.run ≡ run → length (end_path touched 0) ≡ length ((job_of touched).way 0) + 1
-      go None e =
+      go : (runs : List Run) → touched.runs.now ≡ runs → length (end_path touched 0) ≡ length ((job_of touched).way 0) + 1
+      go [] e =
           let some : 0 < 0 + length touched.words.now = subst (λ r. 0 < leaves_of r + length touched.words.now) e can.shape.some in
-          let way : (job_of touched).way 0 ≡ above (path_of paths 0) = ap (λ r. way_of r paths 0) e ∙ way-word None paths 0 (omega arith) in
+          let way : (job_of touched).way 0 ≡ above (path_of paths 0) = ap (λ r. way_of r paths 0) e in
           let len : 1 ≤ length (path_of paths 0) = can.shape.words 0 (omega (arith, some)) in
           ap (λ r. length (end_path_of r paths 0)) e ∙ omega (arith, len, length-above (path_of paths 0)) ∙ ap (λ (p : List ℕ). length p + 1) (sym way)
-      go (Some run) e =
-          let way : (job_of touched).way 0 ≡ run_way run 0 = leaf-way touched run e 0 (omega arith) in
+      go (run ∷ runs) e =
+          let way : (job_of touched).way 0 ≡ run_way run 0 = first-way run runs e in
           ap (λ r. length (end_path_of r paths 0)) e ∙ omega (arith, length-run_path run (run.off / 8), length-run_way run 0) ∙ ap (λ (p : List ℕ). length p + 1) (sym way)
 
   pub alike-less : (m : ℕ) → BeginAlike touched (suc m) → BeginAlike touched m
@@ -350,24 +379,33 @@ module _ (old : Image) (bound : ℕ → ℕ) (touched : Touched) (free : ℕ →
     slot-low : slot < 512
     slot-low = end-slots touched can.shape 0 m (some-ends touched can.shape) (omega (arith, alike.long 0 (some-ends touched can.shape)))
 
-    -- what is known where there is no run, and where there is one
+    abbrev here : Trail
+    here = slot ∷ up
+
+    content-here : IsTreePointer old bound here → ⊥
+    content-here one = go touched.runs.now refl
+      where
+        go : (runs : List Run) → touched.runs.now ≡ runs → ⊥
+        go [] e =
+            let some : 0 < 0 + length touched.words.now = subst (λ r. 0 < leaves_of r + length touched.words.now) e can.shape.some in
+            let first_is : end_path touched 0 ≡ path_of paths 0 = ap (λ r. end_path_of r paths 0) e in
+            let size : suc m ≡ length (path_of paths 0) = omega (arith, first-length, long, ap (λ (p : List ℕ). length p) first_is) in
+            can.contents 0 (omega (arith, some)) (subst (IsTreePointer old bound) (ap (λ p. trail_of p (suc m)) first_is ∙ ap (trail_of (path_of paths 0)) size) one)
+        go (run ∷ runs) e =
+            let has : Has touched.runs.now run = first-has run runs e in
+            let first_is : end_path touched 0 ≡ run_path run (run.off / 8) = ap (λ r. end_path_of r paths 0) e in
+            let size : suc m ≡ length (run_path run (run.off / 8)) = omega (arith, first-length, long, ap (λ (p : List ℕ). length p) first_is) in
+            leaf-plain old bound can.forest run (is-run run has) (run-in run has) 0 (run.off / 8 % 512) (omega arith)
+            (subst (IsTreePointer old bound) (ap (λ p. trail_of p (suc m)) first_is ∙ ap (trail_of (run_path run (run.off / 8))) size ∙ first-trail run) one)
+
+    -- what is known where there is no run
     pub record IsOneWord : Type 0 where
-      pub none : touched.run ≡ None
       pub words : length touched.words.now ≡ 1
       pub trail : word_trail (job_of touched) 0 ≡ slot ∷ up
       pub leaves : (job_of touched).leaves ≡ 0
 
-    pub record IsOneOfRun (run : Run) : Type 0 where
-      pub is : touched.run ≡ Some run
-      pub words : length touched.words.now ≡ 0
-      pub leaves : (job_of touched).leaves ≡ 1
-      pub one : run.off / 8 ≡ (run_end run - 1) / 8
-      pub last : slot ≡ run.off / 8 % 512
-      pub leaf : end_of (job_of touched) 0 ≡ up
-
-    pub one-word : touched.run ≡ None → IsOneWord
+    pub one-word : touched.runs.now ≡ [] → IsOneWord
     one-word none = record {
-      none = none;
       words = omega (arith, some, at_most);
       trail = word-trail 0 (omega (arith, some)) ∙ ap (trail_of (path_of paths 0)) size ∙ ap (λ p. trail_of p (suc m)) (sym first_is);
       leaves = ap leaves_of none;
@@ -379,11 +417,8 @@ module _ (old : Image) (bound : ℕ → ℕ) (touched : Touched) (free : ℕ →
         first_is : end_path touched 0 ≡ path_of paths 0
         first_is = ap (λ r. end_path_of r paths 0) none
 
-        way_is : (job_of touched).way 0 ≡ above (path_of paths 0)
-        way_is = ap (λ r. way_of r paths 0) none ∙ way-word None paths 0 (omega arith)
-
         size : length (path_of paths 0) ≡ suc m
-        size = omega (arith, subst (λ p. length p ≡ m) way_is long, length-above (path_of paths 0), can.shape.words 0 some)
+        size = omega (arith, first-length, long, ap (λ (p : List ℕ). length p) first_is)
 
         same : (i : ℕ) → i < length touched.words.now → i ≡ 0
         same i here = go (cases_eq (length (path_of paths i)) (suc m))
@@ -410,154 +445,174 @@ module _ (old : Image) (bound : ℕ → ℕ) (touched : Touched) (free : ℕ →
             go (inr few) = few
             go (inl more) = absurd (omega (arith, same 1 more))
 
-    pub one-of-run : (run : Run) → touched.run ≡ Some run → IsOneOfRun run
-    one-of-run run e = record {
-      is = e;
-      words = none_left;
-      leaves = ap leaves_of e ∙ omega (arith, one);
-      one = one;
-      last = ap (λ p. slice_index p m) first_is ∙ slot-run_path run (run.off / 8) m (omega (arith, size)) (omega (arith, size, length-run_path run (run.off / 8))) ∙ final;
-      leaf = leaf-end run e 0 (omega arith) ∙ ap (trail_of (run_way run 0)) (ap (λ (p : List ℕ). length p) (sym way_is) ∙ long) ∙ front-run_way run 0 (run.off / 8) m (omega arith) (omega (arith, size, length-run_way run 0)) ∙ ap (λ p. trail_of p m) (sym first_is);
-    }
+    -- and of each run: it has this word alone
+    pub record IsOneOfRun (run : Run) : Type 0 where
+      pub one : run.off / 8 ≡ (run_end run - 1) / 8
+      pub trail : trail_of (run_path run (run.off / 8)) (length (run_path run (run.off / 8))) ≡ slot ∷ up
+      pub last : run.off / 8 % 512 ≡ slot
+      pub leaf : trail_of (run_way run 0) (length (run_way run 0)) ≡ up
+
+    pub one-of-run : (run : Run) → Has touched.runs.now run → IsOneOfRun run
+    one-of-run run has = record { one = one; trail = trail; last = parts.0; leaf = parts.1 }
       where
-        first_is : end_path touched 0 ≡ run_path run (run.off / 8)
-        first_is = ap (λ r. end_path_of r paths 0) e
+        start : HasEnd touched.runs.now paths (run_path run (run.off / 8))
+        start = end-first touched.runs.now paths run has
 
-        last_is : end_path touched 1 ≡ run_path run ((run_end run - 1) / 8)
-        last_is = ap (λ r. end_path_of r paths 1) e
+        end : HasEnd touched.runs.now paths (run_path run ((run_end run - 1) / 8))
+        end = end-last touched.runs.now paths run has
 
-        way_is : (job_of touched).way 0 ≡ run_way run 0
-        way_is = leaf-way touched run e 0 (omega arith)
+        from_start : trail_of (run_path run (run.off / 8)) (suc m) ≡ slot ∷ up
+        from_start = ap (λ p. trail_of p (suc m)) (sym start.is) ∙ alike.same start.which (start.here (length touched.words.now))
 
-        size : m ≡ length run.root.items + run.height
-        size = sym long ∙ ap (λ (p : List ℕ). length p) way_is ∙ length-run_way run 0
+        from_end : trail_of (run_path run ((run_end run - 1) / 8)) (suc m) ≡ slot ∷ up
+        from_end = ap (λ p. trail_of p (suc m)) (sym end.is) ∙ alike.same end.which (end.here (length touched.words.now))
 
-        final : run.off / 8 / 512 ^ (run.height - (m - length run.root.items)) % 512 ≡ run.off / 8 % 512
-        final =
-            let level : run.height - (m - length run.root.items) ≡ 0 = omega (arith, size) in
-            let same : run.off / 8 / 512 ^ 0 ≡ run.off / 8 = omega arith in
-            ap (λ l. run.off / 8 / 512 ^ l % 512) level ∙ ap (λ n. n % 512) same
+        full : length (run_path run (run.off / 8)) ≡ suc m
+        full = go (cases_eq (length (run_path run (run.off / 8))) (suc m))
+          where
+            whole : suc m ≤ length (run_path run (run.off / 8))
+            whole = subst (λ p. suc m ≤ length p) start.is (alike.long start.which (start.here (length touched.words.now)))
+
+            go : (length (run_path run (run.off / 8)) ≡ suc m) ⊎ (length (run_path run (run.off / 8)) ≡ suc m → ⊥) → length (run_path run (run.off / 8)) ≡ suc m
+            go (inl e) = e
+            go (inr other) =
+                let short : suc m ≤ length (run_way run 0) = omega (arith, whole, other, length-run_path run (run.off / 8), length-run_way run 0) in
+                absurd (content-here (subst (IsTreePointer old bound) (front-run_way run 0 (run.off / 8) (suc m) (omega arith) short ∙ from_start)
+                (leaf-fronts old bound can.forest run (is-run run has) (run-in run has) 0 (suc m) (omega arith) short)))
+
+        trail : trail_of (run_path run (run.off / 8)) (length (run_path run (run.off / 8))) ≡ slot ∷ up
+        trail = ap (trail_of (run_path run (run.off / 8))) full ∙ from_start
+
+        parts : (run.off / 8 % 512 ≡ slot) × (trail_of (run_way run 0) (length (run_way run 0)) ≡ up)
+        parts = both (sym (first-trail run) ∙ trail)
+          where
+            both : {s u : ℕ} {p q : Trail} → s ∷ p ≡ u ∷ q → (s ≡ u) × (p ≡ q)
+            both e = (cc, cc)
 
         few : (k : ℕ) → k ≤ (run_end run - 1) / 8 → k < 512 ^ suc run.height
         few k low =
-            let covers : run_end run ≤ 4096 * 512 ^ run.height = (is-run run e).covered in
-            let some : 0 < length run.bytes.now = (is-run run e).some in
+            let covers : run_end run ≤ 4096 * 512 ^ run.height = (is-run run has).covered in
+            let some : 0 < length run.bytes.now = (is-run run has).some in
             rw pow-suc (omega (arith, covers, some, low))
 
         one : run.off / 8 ≡ (run_end run - 1) / 8
         one =
-            let at : 1 < ends touched = subst (λ r. 1 < ends_of r (length touched.words.now)) (sym e) (omega arith) in
-            let some : 0 < length run.bytes.now = (is-run run e).some in
-            let full : length (run_path run (run.off / 8)) ≡ suc m = omega (arith, length-run_path run (run.off / 8), size) in
+            let some : 0 < length run.bytes.now = (is-run run has).some in
             same-run_path run (run.off / 8) ((run_end run - 1) / 8) (few (run.off / 8) (omega (arith, some))) (few ((run_end run - 1) / 8) (omega arith))
-            (ap (trail_of (run_path run (run.off / 8))) full ∙ ap (λ p. trail_of p (suc m)) (sym first_is) ∙ sym (alike.same 1 at) ∙ ap (λ p. trail_of p (suc m)) last_is ∙ ap (trail_of (run_path run ((run_end run - 1) / 8))) (sym full))
+            (trail ∙ sym from_end ∙ ap (trail_of (run_path run ((run_end run - 1) / 8))) (sym full))
 
-        none_left : length touched.words.now ≡ 0
-        none_left = go (cases_eq (length touched.words.now) 0)
-          where
-            begins : 0 < length touched.words.now → (suc m ≤ length (path_of paths 0)) × (trail_of (path_of paths 0) (suc m) ≡ trail_of (run_path run (run.off / 8)) (suc m))
-            begins here =
-                let at : 2 < ends touched = subst (λ r. 2 < ends_of r (length touched.words.now)) (sym e) (omega (arith, here)) in
-                let is : end_path touched 2 ≡ path_of paths 0 = ap (λ r. end_path_of r paths 2) e in
-                (subst (λ p. suc m ≤ length p) is (alike.long 2 at), ap (λ p. trail_of p (suc m)) (sym is) ∙ alike.same 2 at ∙ ap (λ p. trail_of p (suc m)) first_is)
-
-            full : length (run_path run (run.off / 8)) ≡ suc m
-            full = omega (arith, length-run_path run (run.off / 8), size)
-
-            none : (here : 0 < length touched.words.now) → (length (path_of paths 0) ≡ suc m) ⊎ (length (path_of paths 0) ≡ suc m → ⊥) → ⊥
-            none here (inl whole_word) =
-                let some : 0 < length run.bytes.now = (is-run run e).some in
-                can.beside run 0 (run.off / 8) e here (omega arith) (omega (arith, some)) (ap (trail_of (path_of paths 0)) whole_word ∙ (begins here).1 ∙ ap (trail_of (run_path run (run.off / 8))) (sym full))
-            none here (inr n) =
-                let low : suc m < length (path_of paths 0) = omega (arith, n, (begins here).0) in
-                let pointed : IsTreePointer old bound (trail_of (run_path run (run.off / 8)) (suc m)) = subst (IsTreePointer old bound) (begins here).1 (can.pointers 0 (suc m) here low) in
-                leaf-plain old bound can.forest run (is-run run e) (run-in run e) 0 (slice_index (run_path run (run.off / 8)) m) (omega arith)
-                (subst (λ q. IsTreePointer old bound (slice_index (run_path run (run.off / 8)) m ∷ q))
-                (sym (ap (trail_of (run_way run 0)) (ap (λ (p : List ℕ). length p) (sym way_is) ∙ long) ∙ front-run_way run 0 (run.off / 8) m (omega arith) (omega (arith, size, length-run_way run 0)))) pointed)
-
-            go : (length touched.words.now ≡ 0) ⊎ (length touched.words.now ≡ 0 → ⊥) → length touched.words.now ≡ 0
-            go (inl is) = is
-            go (inr some) = absurd (none (omega (arith, some)) (cases_eq (length (path_of paths 0)) (suc m)))
-
-    abbrev here : Trail
-    here = slot ∷ up
-
-    content-here : IsTreePointer old bound here → ⊥
-    content-here one = go touched.run refl
+    -- so no other word is touched
+    no-words : (run : Run) → Has touched.runs.now run → length touched.words.now ≡ 0
+    no-words run has = go (cases_eq (length touched.words.now) 0)
       where
-        go : (run : Option Run) → touched.run ≡ run → ⊥
-        go None e =
-            let word_one = one-word e in
-            let some : 0 < length touched.words.now = omega (arith, word_one.words) in
-            can.contents 0 some (subst (IsTreePointer old bound) (sym word_one.trail ∙ word-trail 0 some) one)
-        go (Some run) e =
-            let run_one = one-of-run run e in
-            leaf-plain old bound can.forest run (is-run run e) (run-in run e) 0 slot (omega arith) (subst (λ q. IsTreePointer old bound (slot ∷ q)) (sym run_one.leaf ∙ leaf-end run e 0 (omega arith)) one)
+        single : IsOneOfRun run
+        single = one-of-run run has
+
+        begins : 0 < length touched.words.now → (suc m ≤ length (path_of paths 0)) × (trail_of (path_of paths 0) (suc m) ≡ slot ∷ up)
+        begins some =
+            let at : 2 * length touched.runs.now + 0 < ends touched = omega (arith, some, ends-count touched.runs.now (length touched.words.now)) in
+            let is : end_path touched (2 * length touched.runs.now + 0) ≡ path_of paths 0 = end-of-word touched.runs.now paths 0 in
+            (subst (λ p. suc m ≤ length p) is (alike.long (2 * length touched.runs.now + 0) at), ap (λ p. trail_of p (suc m)) (sym is) ∙ alike.same (2 * length touched.runs.now + 0) at)
+
+        none : (some : 0 < length touched.words.now) → (length (path_of paths 0) ≡ suc m) ⊎ (length (path_of paths 0) ≡ suc m → ⊥) → ⊥
+        none some (inl whole) =
+            let bytes : 0 < length run.bytes.now = (is-run run has).some in
+            can.beside run 0 (run.off / 8) has some (omega arith) (omega (arith, bytes)) (ap (trail_of (path_of paths 0)) whole ∙ (begins some).1 ∙ sym single.trail)
+        none some (inr n) =
+            let low : suc m < length (path_of paths 0) = omega (arith, n, (begins some).0) in
+            content-here (subst (IsTreePointer old bound) (begins some).1 (can.pointers 0 (suc m) some low))
+
+        go : (length touched.words.now ≡ 0) ⊎ (length touched.words.now ≡ 0 → ⊥) → length touched.words.now ≡ 0
+        go (inl is) = is
+        go (inr some) = absurd (none (omega (arith, some)) (cases_eq (length (path_of paths 0)) (suc m)))
+
+    no-value : (run : Run) → Has touched.runs.now run → (q : Trail) → value_upto (job_of touched) (job_of touched).words q ≡ None
+    no-value run has q = ap (λ n. value_upto (job_of touched) n q) (no-words run has)
+
+    -- all leaves are that of the word
+    one-leaf : (j : ℕ) → j < (job_of touched).leaves → end_of (job_of touched) j ≡ up
+    one-leaf j low =
+        let at = leaf-at j low in
+        let single : IsOneOfRun at.run = one-of-run at.run at.is.has in
+        let none : at.leaf ≡ 0 = omega (arith, at.is.low, single.one) in
+        leaf-end j at.run at.leaf at.is ∙ ap (λ l. trail_of (run_way at.run l) (length (run_way at.run l))) none ∙ single.leaf
+
+    -- what is laid over a word of that leaf
+    laid-here : (run : Run) (runs : List Run) → touched.runs.now ≡ run ∷ runs → (s : ℕ) → laid_on old (job_of touched) (s ∷ up) ≡ laid_word touched.runs.now run.root.items (512 * (run.off / 4096 + 0) + s) (word_on old (s ∷ up))
+    laid-here run runs e s =
+        let leaf = first-leaf run runs e in
+        let at : end_of (job_of touched) 0 ≡ up = one-leaf 0 leaf.here in
+        ap (λ q. laid_on old (job_of touched) (s ∷ q)) (sym at)
+        ∙ laid-leaf old (job_of touched) s 0 leaf.here (λ l low same w. leaves-agree 0 l leaf.here low same s w)
+        ∙ leaf.patch s (word_on old (s ∷ end_of (job_of touched) 0))
+        ∙ ap (λ q. laid_word touched.runs.now run.root.items (512 * (run.off / 4096 + 0) + s) (word_on old (s ∷ q))) at
 
     -- the word is given its value
     after-here : after_commit old (job_of touched) here ≡ only_value touched (word_on old here)
-    after-here = go touched.run refl
+    after-here = go touched.runs.now refl
       where
-        go : (run : Option Run) → touched.run ≡ run → after_commit old (job_of touched) here ≡ only_value touched (word_on old here)
-        go None e =
+        go : (runs : List Run) → touched.runs.now ≡ runs → after_commit old (job_of touched) here ≡ only_value touched (word_on old here)
+        go [] e =
             let word_one = one-word e in
             let given : value_upto (job_of touched) (job_of touched).words here ≡ Some ((job_of touched).value 0) =
             ap (λ n. value_upto (job_of touched) n here) word_one.words ∙ ap (value_upto (job_of touched) 1) (sym word_one.trail) ∙ value-here (job_of touched) 0 in
             ap (λ v. unwrap_or v (laid_on old (job_of touched) here)) given ∙ ap (λ r. only_of r ((job_of touched).value 0) (word_on old here)) (sym e)
-        go (Some run) e =
-            let run_one = one-of-run run e in
-            let none : value_upto (job_of touched) (job_of touched).words here ≡ None = ap (λ n. value_upto (job_of touched) n here) run_one.words in
-            let one : 0 < (job_of touched).leaves = omega (arith, run_one.leaves) in
-            let number : 512 * (run.off / 4096 + 0) + slot ≡ run.off / 8 = omega (arith, run_one.last) in
-            ap (λ v. unwrap_or v (laid_on old (job_of touched) here)) none
-            ∙ ap (λ q. laid_on old (job_of touched) (slot ∷ q)) (sym run_one.leaf)
-            ∙ laid-leaf old (job_of touched) slot 0 one (λ l low _. omega (arith, low, run_one.leaves))
-            ∙ ap (λ q. patch_of touched.run 0 slot (word_on old (slot ∷ q))) run_one.leaf
-            ∙ ap (λ r. patch_of r 0 slot (word_on old here)) e
-            ∙ ap (λ k. run_word run k (word_on old here)) number
+        go (run ∷ runs) e =
+            let has : Has touched.runs.now run = first-has run runs e in
+            let single : IsOneOfRun run = one-of-run run has in
+            let number : 512 * (run.off / 4096 + 0) + slot ≡ run.off / 8 = omega (arith, single.last) in
+            ap (λ v. unwrap_or v (laid_on old (job_of touched) here)) (no-value run has here)
+            ∙ laid-here run runs e slot
+            ∙ ap (λ k. laid_word touched.runs.now run.root.items k (word_on old here)) number
+            ∙ ap (λ r. laid_word r run.root.items (run.off / 8) (word_on old here)) e
             ∙ ap (λ r. only_of r ((job_of touched).value 0) (word_on old here)) (sym e)
 
     -- and no other word
     after-other : (s : ℕ) (q : Trail) → s < 512 → s ∷ q ≢ here → after_commit old (job_of touched) (s ∷ q) ≡ word_on old (s ∷ q)
-    after-other s q low other = go touched.run refl
+    after-other s q low other = go touched.runs.now refl
       where
-        go : (run : Option Run) → touched.run ≡ run → after_commit old (job_of touched) (s ∷ q) ≡ word_on old (s ∷ q)
-        go None e =
+        go : (runs : List Run) → touched.runs.now ≡ runs → after_commit old (job_of touched) (s ∷ q) ≡ word_on old (s ∷ q)
+        go [] e =
             let word_one = one-word e in
             let none : value_upto (job_of touched) (job_of touched).words (s ∷ q) ≡ None =
             value-none (job_of touched) (job_of touched).words (s ∷ q) (λ i few same. let first_one : i ≡ 0 = omega (arith, few, word_one.words) in other (same ∙ ap (word_trail (job_of touched)) first_one ∙ word_one.trail)) in
             ap (λ v. unwrap_or v (laid_on old (job_of touched) (s ∷ q))) none ∙ laid-other old (job_of touched) s q (λ j few. absurd (omega (arith, few, word_one.leaves)))
-        go (Some run) e = ap (λ v. unwrap_or v (laid_on old (job_of touched) (s ∷ q))) none ∙ either (cases_trail q (end_of (job_of touched) 0))
+        go (run ∷ runs) e = ap (λ v. unwrap_or v (laid_on old (job_of touched) (s ∷ q))) (no-value run has (s ∷ q)) ∙ either (cases_trail q up)
           where
-            run_one : IsOneOfRun run
-            run_one = one-of-run run e
+            has : Has touched.runs.now run
+            has = first-has run runs e
 
-            none : value_upto (job_of touched) (job_of touched).words (s ∷ q) ≡ None
-            none = ap (λ n. value_upto (job_of touched) n (s ∷ q)) run_one.words
+            single : IsOneOfRun run
+            single = one-of-run run has
 
-            number : slot ≡ run.off / 8 % 512
-            number = run_one.last
+            -- each run has the one word
+            number : (r : Run) → Has touched.runs.now r → r.off / 8 ≡ run.off / 8
+            number r also =
+                let same : IsOneOfRun r = one-of-run r also in
+                let leaf = same-leaf old bound can.forest r run (is-run r also) (is-run run has) (run-in r also) (run-in run has) 0 0 (omega arith) (omega arith) (same.leaf ∙ sym single.leaf) in
+                omega (arith, leaf.1, same.last, single.last)
 
-            beside_it : s ≢ slot → run_word run (512 * (run.off / 4096 + 0) + s) (word_on old (s ∷ q)) ≡ word_on old (s ∷ q)
-            beside_it apart = run_word-outside run (512 * (run.off / 4096 + 0) + s) (word_on old (s ∷ q)) (split (cases_lt (512 * (run.off / 4096 + 0) + s) (run.off / 8)))
+            beside_it : s ≢ slot → (r : Run) → Has touched.runs.now r → run_word r (512 * (run.off / 4096 + 0) + s) (word_on old (s ∷ up)) ≡ word_on old (s ∷ up)
+            beside_it apart r also = run_word-outside r (512 * (run.off / 4096 + 0) + s) (word_on old (s ∷ up)) (split (cases_lt (512 * (run.off / 4096 + 0) + s) (run.off / 8)))
               where
+                same : IsOneOfRun r
+                same = one-of-run r also
+
                 split : (512 * (run.off / 4096 + 0) + s < run.off / 8) ⊎ (run.off / 8 ≤ 512 * (run.off / 4096 + 0) + s) →
-                    (8 * (512 * (run.off / 4096 + 0) + s) + 8 ≤ run.off) ⊎ (run_end run ≤ 8 * (512 * (run.off / 4096 + 0) + s))
-                split (inl before) = inl (omega (arith, before))
-                split (inr behind) = inr (omega (arith, behind, apart, number, run_one.one))
+                    (8 * (512 * (run.off / 4096 + 0) + s) + 8 ≤ r.off) ⊎ (run_end r ≤ 8 * (512 * (run.off / 4096 + 0) + s))
+                split (inl before) = inl (omega (arith, before, number r also))
+                split (inr behind) = inr (omega (arith, behind, apart, single.last, same.one, number r also))
 
-            either : (q ≡ end_of (job_of touched) 0) ⊎ (q ≢ end_of (job_of touched) 0) → laid_on old (job_of touched) (s ∷ q) ≡ word_on old (s ∷ q)
+            cons : s ≡ slot → q ≡ up → s ∷ q ≡ slot ∷ up
+            cons f g = cc
+
+            either : (q ≡ up) ⊎ (q ≢ up) → laid_on old (job_of touched) (s ∷ q) ≡ word_on old (s ∷ q)
             either (inl at) =
-                let one : 0 < (job_of touched).leaves = omega (arith, run_one.leaves) in
                 ap (λ p. laid_on old (job_of touched) (s ∷ p)) at
-                ∙ laid-leaf old (job_of touched) s 0 one (λ l few _. omega (arith, few, run_one.leaves))
-                ∙ ap (λ p. patch_of touched.run 0 s (word_on old (s ∷ p))) (sym at)
-                ∙ ap (λ r. patch_of r 0 s (word_on old (s ∷ q))) e
-                ∙ beside_it (λ same. other (cons same (at ∙ run_one.leaf)))
-              where
-                cons : s ≡ slot → q ≡ up → s ∷ q ≡ slot ∷ up
-                cons e f = cc
-            either (inr away) = laid-other old (job_of touched) s q (λ j few same. let first_one : j ≡ 0 = omega (arith, few, run_one.leaves) in away (same ∙ ap (end_of (job_of touched)) first_one))
+                ∙ laid-here run runs e s
+                ∙ laid-kept touched.runs.now run.root.items (512 * (run.off / 4096 + 0) + s) (word_on old (s ∷ up)) (λ r also _. beside_it (λ same. other (cons same at)) r also)
+                ∙ ap (λ p. word_on old (s ∷ p)) (sym at)
+            either (inr away) = laid-other old (job_of touched) s q (λ j few same. away (same ∙ one-leaf j few))
 
     module _ (exists : (k : ℕ) → k < suc m → block_on old (trail_of whole k) ≢ 0) where
       bones : IsSkeleton old (IsTreePointer old bound)

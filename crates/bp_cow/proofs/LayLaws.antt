@@ -1,10 +1,9 @@
--- What is laid over a block as it is copied: the bytes of the run at the end of a way to one of its leaves, and else nothing.
-use Rattle.std.proofs.Common.{◌≡◌, ◌≢◌, ◌⊎◌, ℕ, ◌<◌, ◌≤◌, ◌∷◌, length, Bool, true, false, ◌==◌, refl, sym, ◌∙◌, ap, subst, arith, inl, inr, eq-eqb}
-use Rattle.std.specs.Prelude.{nat_lt}
+-- What is laid over a block as it is copied: the bytes of the runs at the end of a way to a leaf, and else nothing.
+use Rattle.std.proofs.Common.{◌≡◌, ◌≢◌, ◌⊎◌, ℕ, suc, ◌+◌, ◌<◌, ◌≤◌, ◌∷◌, length, Bool, true, false, ◌==◌, refl, sym, ◌∙◌, subst, arith, inl, inr, eq-eqb}
+use Rattle.std.specs.Prelude.{nat_lt, slice_index}
 use Rattle.std.proofs.lemmas.Bool.{cases_eq, cases_lt, eqb-true, ltb-true, lt-ltb}
 use Rattle.bp_shapes.specs.Trail.{Trail, word_on}
 use Rattle.bp_shapes.specs.Forest.{IsTreePointer}
-use Rattle.bp_shapes.proofs.PathTrails.{length-trail_of}
 use Rattle.bp_cow.specs.Job.{Job, ways, front, laid_on, patch_at, IsBegun}
 use Rattle.bp_cow.specs.Plan.{Plan, CanMake}
 use Rattle.bp_cow.proofs.BuildFacts.{laid-other, laid-leaf}
@@ -34,8 +33,7 @@ module _ (plan : Plan) (from i d : ℕ) (can : CanMake plan from) (here : i < wa
       go (inr past) any = patch-none plan.job i d slot w (λ l. absurd (omega (arith, l, past)))
       go (inl l) (inr n) = patch-none plan.job i d slot w (λ _. n)
       go (inl l) (inl e) =
-          patch-leaf plan.job i d slot w l e
-          ∙ can.plain i slot w l (subst (λ k. IsTreePointer plan.old plan.bound (slot ∷ front plan.job i k)) e pointed)
+          absurd (can.bare i slot l (subst (λ k. IsTreePointer plan.old plan.bound (slot ∷ front plan.job i k)) e pointed))
 
   pub lay_laid : (IsBegun plan.job from i (front plan.job i d) → ⊥) → (slot : ℕ) → patch_at plan.job i d slot (word_on plan.old (slot ∷ front plan.job i d)) ≡ laid_on plan.old plan.job (slot ∷ front plan.job i d)
   lay_laid none slot = go (cases_lt i plan.job.leaves) (cases_eq d (length (plan.job.way i)))
@@ -47,8 +45,10 @@ module _ (plan : Plan) (from i d : ℕ) (can : CanMake plan from) (here : i < wa
       go (inl l) (inr n) =
           patch-none plan.job i d slot _ (λ _. n)
           ∙ sym (laid-other plan.old plan.job slot (front plan.job i d) (λ j small e.
-          n (omega (arith, length-trail_of (plan.job.way i) d, length-trail_of (plan.job.way j) (length (plan.job.way j)), ap (λ (x : Trail). length x) e, can.long i l, can.long j small))))
+          let next : d + 1 ≡ suc d = omega arith in
+          let pointed : IsTreePointer plan.old plan.bound (front plan.job i (suc d)) = subst (λ k. IsTreePointer plan.old plan.bound (front plan.job i k)) next (can.pointers i (d + 1) here (omega (arith, high, n))) in
+          can.bare j (slice_index (plan.job.way i) d) small (subst (λ (q : Trail). IsTreePointer plan.old plan.bound (slice_index (plan.job.way i) d ∷ q)) e pointed)))
       go (inl l) (inl e) =
           patch-leaf plan.job i d slot _ l e
           ∙ subst (λ k. plan.job.patch i slot (word_on plan.old (slot ∷ front plan.job i k)) ≡ laid_on plan.old plan.job (slot ∷ front plan.job i k)) (sym e)
-          (sym (laid-leaf plan.old plan.job slot i l (λ k small same. can.apart i k l small same)))
+          (sym (laid-leaf plan.old plan.job slot i l (λ k small same w. can.agree i k l small same slot w)))

@@ -1,6 +1,6 @@
 -- The words of a run in an inode's tree, with the word of the inode's size, have the pointer to the inode's leaf for their cover, since the inode file has no null.
 -- So they have it in each image, and before a preparation as behind it.
-use Rattle.std.proofs.Common.{◌≡◌, ◌⊎◌, ℕ, zero, suc, ◌+◌, ◌-◌, ◌*◌, ◌/◌, ◌%◌, ◌^◌, ◌<◌, ◌≤◌, List, [], ◌∷◌, length, take, Some, slice_index, refl, sym, ◌∙◌, ap, subst, inl, inr, arith}
+use Rattle.std.proofs.Common.{◌≡◌, ◌⊎◌, ℕ, zero, suc, ◌+◌, ◌-◌, ◌*◌, ◌/◌, ◌%◌, ◌^◌, ◌<◌, ◌≤◌, List, [], ◌∷◌, length, take, slice_index, refl, sym, ◌∙◌, ap, subst, inl, inr, arith}
 use Rattle.std.specs.List.{All}
 use Rattle.std.proofs.lemmas.Bool.{cases_lt}
 use Rattle.std.proofs.lemmas.List.{length-map, length-take}
@@ -24,7 +24,7 @@ use Rattle.bp_tree.proofs.Digits.{length-digits}
 use Rattle.bp_tree.proofs.ExistingPaths.{AllThere, existing-all, inodes-there}
 use Rattle.bp_tree.proofs.PathLaws.{small_digits}
 use Rattle.bp_cow.specs.Cover.{end_path, end_path_of, ends, ends_of, BeginAlike, CoverHas, LeadsInside, commit_cover, copied_count}
-use Rattle.bp_cow.specs.Touched.{HasRun, IsTouched, NoneBegins, all_paths, leaves_of, path_of, run_end, run_leaves, run_path, word_paths}
+use Rattle.bp_cow.specs.Touched.{IsRun, IsTouched, NoneBegins, all_paths, leaves_of, path_of, run_end, run_leaves, run_path, word_paths}
 use Rattle.bp_cow.specs.declared.touched.Run.{Run}
 use Rattle.bp_cow.specs.declared.touched.Touched.{Touched}
 use Rattle.bp_cow.proofs.CommonPaths.{Begins, all-begin, all-most}
@@ -43,7 +43,7 @@ leaf_path height i = digits height ((8 * i + 1) / block_words)
 
 -- a run under the root word of an inode, and the word of the inode's size
 pub record IsSizedRun (height i : ℕ) (touched : Touched) (run : Run) : Type 0 where
-  pub one : touched.run ≡ Some run
+  pub one : touched.runs.now ≡ run ∷ []
   pub root : run.root.items ≡ inode_path height i 1
   pub sized : word_paths touched ≡ inode_path height i 2 ∷ []
 
@@ -69,6 +69,10 @@ words_apart height i same =
     heads : {s t : ℕ} {p q : Trail} → s ∷ p ≡ t ∷ q → s ≡ t
     heads e = cc
 
+only-run : (run r : Run) → Has (run ∷ []) r → run ≡ r
+only-run run r (inl e) = e
+only-run run r (inr none) = absurd none
+
 under_full : (image : Image) (root size d k : ℕ) → IsFull image root size → IsLiveWord root size d k → IsUnderNodes image root d k
 under_full image root size zero k full live = tt
 under_full image root size (suc d) k full live = full d (k / 512) (live_above root size d k live)
@@ -83,10 +87,16 @@ module _ (height i : ℕ) (touched : Touched) (run : Run) (is : IsSizedRun heigh
   root_long : length run.root.items ≡ suc height
   root_long = ap (λ (p : WordPath). length p) is.root ∙ length-digits (suc height) (8 * i + 1)
 
+  only : (r : Run) → Has touched.runs.now r → run ≡ r
+  only r has = only-run run r (subst (λ runs. Has runs r) is.one has)
+
+  has-run : Has touched.runs.now run
+  has-run = subst (λ runs. Has runs run) (sym is.one) (inl refl)
+
   -- what code asks of them
   pub sized_shape : height ≤ max_height → 0 < length run.bytes.now → length run.bytes.now ≤ max_write → run.height ≤ max_height → run_end run ≤ block_size * block_words ^ run.height → IsTouched touched
   sized_shape low some few low_tree covered = record {
-    run = subst HasRun (sym is.one) (record {
+    runs = λ r has. subst IsRun (only r has) (record {
       some = some;
       few = few;
       low = low_tree;
@@ -94,11 +104,12 @@ module _ (height i : ℕ) (touched : Touched) (run : Run) (is : IsSizedRun heigh
       short = omega (arith, root_long, low, low_tree);
       slots = λ d short. All-get_or (λ slot. slot < 512) run.root.items d 0 short (subst (All (λ slot. slot < 512)) (sym is.root) (small_digits (suc height) (8 * i + 1)));
     });
+    few_runs = let count : length touched.runs.now ≡ 1 = ap (λ (runs : List Run). length runs) is.one in omega (arith, count);
     few = omega (arith, one_word);
     words = λ j here. by_word (λ p. 1 ≤ length p) (omega (arith, size_long)) j here;
     short = λ j here. by_word (λ p. length p ≤ 12) (omega (arith, size_long, low)) j here;
     slots = λ j d here. by_word (λ p. d < length p → slice_index p d < 512) (λ few. All-get_or (λ slot. slot < 512) (inode_path height i 2) d 0 few (small_digits (suc height) (8 * i + 2))) j here;
-    some = let leaves : leaves_of touched.run ≡ run_leaves run = ap leaves_of is.one in omega (arith, leaves);
+    some = let leaves : leaves_of touched.runs.now ≡ run_leaves run + 0 = ap leaves_of is.one in omega (arith, leaves);
   }
     where
       size_long : length (inode_path height i 2) ≡ suc height
@@ -157,10 +168,10 @@ module _ (height i : ℕ) (touched : Touched) (run : Run) (is : IsSizedRun heigh
         same-take path (leaf_path height i) height long (omega (arith, leaf_long)) same ∙ ap (λ n. take n (leaf_path height i)) (sym leaf_long) ∙ take-length (leaf_path height i)
 
     some : 0 < length run.bytes.now
-    some = (subst HasRun is.one shape.run).some
+    some = (shape.runs run has-run).some
 
     first_path : Has (all_paths touched) (run_path run (run.off / 8))
-    first_path = has-of-run touched shape run (run.off / 8) is.one (omega arith) (omega (arith, some))
+    first_path = has-of-run touched shape run (run.off / 8) has-run (omega arith) (omega (arith, some))
 
     pub has_size : Has (all_paths touched) (inode_path height i 2)
     has_size = subst (Has (all_paths touched)) size_path (has-word touched shape 0 (omega (arith, one_word)))
@@ -206,11 +217,8 @@ module _ (height i : ℕ) (touched : Touched) (run : Run) (is : IsSizedRun heigh
         kind : (p : WordPath) → Has (all_paths touched) p → Kind p
         kind = paths-by touched shape Kind of_run of_word
           where
-            of_run : (r : Run) (k : ℕ) → touched.run ≡ Some r → r.off / 8 ≤ k → k ≤ (run_end r - 1) / 8 → Kind (run_path r k)
-            of_run r k e first last = subst (λ (x : Run). Kind (run_path x k)) (inject run r (sym is.one ∙ e)) (inr (omega (arith, length-run_path run k, root_long), run_front k (suc height) (omega arith)))
-              where
-                inject : (a b : Run) → Some a ≡ Some b → a ≡ b
-                inject a b f = cc
+            of_run : (r : Run) (k : ℕ) → Has touched.runs.now r → r.off / 8 ≤ k → k ≤ (run_end r - 1) / 8 → Kind (run_path r k)
+            of_run r k has first last = subst (λ (x : Run). Kind (run_path x k)) (only r has) (inr (omega (arith, length-run_path run k, root_long), run_front k (suc height) (omega arith)))
 
             of_word : (j : ℕ) → j < length touched.words.now → Kind (path_of (word_paths touched) j)
             of_word j here =

@@ -12,6 +12,7 @@ pub mod EndLaws
 pub mod AddsLaws
 pub mod CommitLaws
 pub mod RunLaws
+pub mod RunsLaws
 pub mod QuietCopies
 pub mod CoverLaws
 pub mod CommonPaths

@@ -10,10 +10,11 @@ use Rattle.bp_shapes.specs.Trail.{Trail, trail_of}
 use Rattle.bp_layout.specs.WordPaths.{digits}
 use Rattle.bp_shapes.specs.Forest.{along}
 use Rattle.bp_shapes.proofs.ForestLaws.{HasFewDigits, same_along}
+use Rattle.bp_shapes.proofs.PathTrails.{trail_of-next}
 use Rattle.bp_tree.proofs.StepDown.{quotient}
 use Rattle.bp_cow.specs.declared.touched.Run.{Run}
 use Rattle.bp_cow.specs.Touched.{run_path, run_way}
-use Rattle.bp_cow.proofs.RunLaws.{slot-digits, length-run_path, length-run_way}
+use Rattle.bp_cow.proofs.RunLaws.{slot-digits, slot-run_path, length-run_path, length-run_way}
 
 cons : {s t : ℕ} {p q : Trail} → s ≡ t → p ≡ q → s ∷ p ≡ t ∷ q
 cons e f = cc
@@ -122,3 +123,25 @@ same-run_path run a b low high same = (same_along (trail_of root (length root)) 
         ap (trail_of (run_path run n)) at
         ∙ front-digits root (suc run.height) n (suc run.height) (omega arith)
         ∙ ap (along (trail_of root (length root)) (suc run.height)) (ap (λ l. n / 512 ^ l) none ∙ whole)
+
+-- the trail of a word of a tree, by its leaf
+pub leaf-trail-of : (run : Run) (j k : ℕ) → k / 512 ≡ run.off / 4096 + j → trail_of (run_path run k) (length (run_path run k)) ≡ k % 512 ∷ trail_of (run_way run j) (length (run_way run j))
+leaf-trail-of run j k leaf =
+    let count : ℕ = length (run_way run j) in
+    let size : length (run_path run k) ≡ count + 1 = omega (arith, length-run_path run k, length-run_way run j) in
+    ap (trail_of (run_path run k)) size ∙ trail_of-next (run_path run k) count
+    ∙ cons (last run k count (length-run_way run j)) (sym (front-run_way run j k count leaf (omega arith)))
+  where
+    last : (run : Run) (k count : ℕ) → count ≡ length run.root.items + run.height → slice_index (run_path run k) count ≡ k % 512
+    last run k count is =
+        let level : run.height - (count - length run.root.items) ≡ 0 = omega (arith, is) in
+        let whole : k / 512 ^ 0 ≡ k = omega arith in
+        slot-run_path run k count (omega (arith, is)) (omega (arith, is, length-run_path run k)) ∙ ap (λ l. k / 512 ^ l % 512) level ∙ ap (λ n. n % 512) whole
+
+-- of a run's words, and of the first
+pub run-trail : (run : Run) (k : ℕ) → run.off / 8 ≤ k →
+    trail_of (run_path run k) (length (run_path run k)) ≡ k % 512 ∷ trail_of (run_way run (k / 512 - run.off / 4096)) (length (run_way run (k / 512 - run.off / 4096)))
+run-trail run k low = leaf-trail-of run (k / 512 - run.off / 4096) k (omega (arith, low))
+
+pub first-trail : (run : Run) → trail_of (run_path run (run.off / 8)) (length (run_path run (run.off / 8))) ≡ run.off / 8 % 512 ∷ trail_of (run_way run 0) (length (run_way run 0))
+first-trail run = leaf-trail-of run 0 (run.off / 8) (omega arith)

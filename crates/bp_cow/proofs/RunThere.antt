@@ -1,9 +1,10 @@
 -- A write below the size of a file makes no node, so on the common path of its words a node is there just where a pointer of the image leads to it.
-use Rattle.std.proofs.Common.{◌≡◌, ◌≢◌, ◌⊎◌, ℕ, zero, suc, ◌+◌, ◌-◌, ◌*◌, ◌/◌, ◌%◌, ◌<◌, ◌≤◌, List, [], ◌∷◌, ◌++◌, length, take, Bool, true, false, not, ◌==◌, ◌||◌, Some, refl, sym, ◌∙◌, ap, subst, arith, inl, inr}
+use Rattle.std.proofs.Common.{◌≡◌, ◌≢◌, ◌⊎◌, ℕ, zero, suc, ◌+◌, ◌-◌, ◌*◌, ◌/◌, ◌%◌, ◌<◌, ◌≤◌, List, [], ◌∷◌, ◌++◌, length, take, Bool, true, false, not, ◌==◌, ◌||◌, refl, sym, ◌∙◌, ap, subst, arith, inl, inr}
 use Rattle.std.proofs.lemmas.Bool.{cases_eq, cases_lt, eq-eqb, le-leb, lt-ltb}
 use Rattle.std.proofs.lemmas.List.{length-append, take-append-le, take-take}
 use Rattle.std.proofs.Math.Seq.{take-append-add, take-length}
 use Rattle.bp_layout.specs.Inode.{root_of, size_of, inode_count}
+use Rattle.bp_layout.specs.Members.{Has}
 use Rattle.bp_layout.specs.Need.{Change, preparation, growth, height_after, path_number, is_there, is_there_after, common_all}
 use Rattle.bp_layout.specs.Need.Change.{writes}
 use Rattle.bp_layout.specs.Reached.{IsReached}
@@ -188,7 +189,7 @@ module _ (image : Image) (wf : IsWellFormed image) (n : ℕ) (reached : IsReache
 
 -- ---- a run alone, below the size
 
-module _ (image : Image) (wf : IsWellFormed image) (bound : ℕ → ℕ) (touched : Touched) (free : ℕ → Bool) (can : CanCommit image bound touched free) (run : Run) (n : ℕ) (one : touched.run ≡ Some run) (none : touched.words.now ≡ [])
+module _ (image : Image) (wf : IsWellFormed image) (bound : ℕ → ℕ) (touched : Touched) (free : ℕ → Bool) (can : CanCommit image bound touched free) (run : Run) (n : ℕ) (one : touched.runs.now ≡ run ∷ []) (none : touched.words.now ≡ [])
     (reached : IsReached image (suc n)) (root : run.root.items ≡ inode_path (height_of (root_of image 0)) (suc n) 1) (height : run.height ≡ height_of (root_of image (suc n))) (some : 0 < length run.bytes.now)
     (below : run_end run ≤ size_of image (suc n)) where
   abbrev write : Change
@@ -198,7 +199,7 @@ module _ (image : Image) (wf : IsWellFormed image) (bound : ℕ → ℕ) (touche
   word_path = inode_path (height_of (root_of image 0)) (suc n) 1 ++ digits (suc (height_of (root_of image (suc n)))) (run.off / 8)
 
   begins : Begins (common_all (all_paths touched)) (run_path run (run.off / 8))
-  begins = all-begin (all_paths touched) (run_path run (run.off / 8)) (has-of-run touched can.shape run (run.off / 8) one (omega arith) (omega (arith, some)))
+  begins = all-begin (all_paths touched) (run_path run (run.off / 8)) (has-of-run touched can.shape run (run.off / 8) (subst (λ runs. Has runs run) (sym one) (inl refl)) (omega arith) (omega (arith, some)))
 
   path_is : run_path run (run.off / 8) ≡ word_path
   path_is = ap (λ (p : WordPath). p ++ digits (suc run.height) (run.off / 8)) root ∙ ap (λ h. inode_path (height_of (root_of image 0)) (suc n) 1 ++ digits (suc h) (run.off / 8)) height

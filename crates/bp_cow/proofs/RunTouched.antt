@@ -1,5 +1,5 @@
 -- A write below the size of a file touches the words of one run, and prepares nothing.
-use Rattle.std.proofs.Common.{◌≡◌, ℕ, suc, ◌+◌, ◌-◌, ◌/◌, ◌<◌, ◌≤◌, min, List, [], ◌∷◌, ◌++◌, length, map, Bool, true, false, Some, refl, sym, ◌∙◌, ap, arith, take}
+use Rattle.std.proofs.Common.{◌≡◌, ℕ, suc, ◌+◌, ◌-◌, ◌/◌, ◌<◌, ◌≤◌, min, List, [], ◌∷◌, ◌++◌, length, map, Bool, true, false, refl, sym, ◌∙◌, ap, arith, take}
 use Rattle.std.specs.Prelude.{nat_lt, if◌then◌else◌}
 use Rattle.std.specs.List.{range_with_len}
 use Rattle.std.proofs.lemmas.Bool.{lt-ltb, ltb-true}
@@ -15,7 +15,7 @@ use Rattle.bp_cow.specs.declared.touched.Run.{Run}
 use Rattle.bp_cow.specs.declared.touched.Touched.{Touched}
 use Rattle.bp_cow.specs.Cover.{commit_cover, copied_paths}
 use Rattle.bp_cow.proofs.CommonPaths.{existing_same}
-use Rattle.bp_cow.specs.Touched.{run_end, run_path, run_paths, word_paths, all_paths}
+use Rattle.bp_cow.specs.Touched.{run_end, run_path, run_paths, paths_of_run, word_paths, all_paths}
 
 pub not_above : (a b : ℕ) → b ≤ a → nat_lt a b ≡ false
 not_above a b low = go (nat_lt a b) refl
@@ -56,7 +56,7 @@ module _ (image : Image) (i off len : ℕ) (below : off + len ≤ size_of image 
 
 -- ---- the run of such a write
 
-module _ (image : Image) (touched : Touched) (run : Run) (i : ℕ) (one : touched.run ≡ Some run) (none : touched.words.now ≡ []) (root : run.root.items ≡ inode_path (height_of (root_of image 0)) (suc i) 1)
+module _ (image : Image) (touched : Touched) (run : Run) (i : ℕ) (one : touched.runs.now ≡ run ∷ []) (none : touched.words.now ≡ []) (root : run.root.items ≡ inode_path (height_of (root_of image 0)) (suc i) 1)
     (height : run.height ≡ height_of (root_of image (suc i))) (some : 0 < length run.bytes.now) (below : run_end run ≤ size_of image (suc i)) where
   abbrev write : Change
   write = writes (suc i) run.off (length run.bytes.now)
@@ -74,8 +74,9 @@ module _ (image : Image) (touched : Touched) (run : Run) (i : ℕ) (one : touche
   pub run_touched : all_paths touched ≡ layout.touched image write
   run_touched =
       ap (λ r. run_paths r ++ word_paths touched) one
-      ∙ ap (λ (words : List WordPath). run_paths (Some run) ++ words) no_words
-      ∙ append-nil (run_paths (Some run))
+      ∙ ap (λ (words : List WordPath). run_paths (run ∷ []) ++ words) no_words
+      ∙ append-nil (run_paths (run ∷ []))
+      ∙ append-nil (paths_of_run run)
       ∙ same_paths (run.off / 8) (suc ((run_end run - 1) / 8 - run.off / 8))
       ∙ sym (write_touched image (suc i) run.off (length run.bytes.now) below some)
     where

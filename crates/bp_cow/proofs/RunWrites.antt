@@ -1,7 +1,8 @@
 -- What a commit of a run, alone or with the size of its file beside it, makes of an image: the file has the new bytes and that size, and nothing else has changed.
-use Rattle.std.proofs.Common.{◌≡◌, ◌⊎◌, ℕ, zero, suc, ◌+◌, ◌-◌, ◌*◌, ◌/◌, ◌%◌, ◌^◌, ◌<◌, ◌≤◌, List, [], ◌∷◌, ◌++◌, length, max, Bool, true, false, ◌&&◌, nat_le, if◌then◌else◌, Some, slice_index, refl, sym, ◌∙◌, ap, subst, arith, inl, inr, lt_of_lt_of_le}
+use Rattle.std.proofs.Common.{◌≡◌, ◌⊎◌, ℕ, zero, suc, ◌+◌, ◌-◌, ◌*◌, ◌/◌, ◌%◌, ◌^◌, ◌<◌, ◌≤◌, List, [], ◌∷◌, ◌++◌, length, max, Bool, true, false, ◌&&◌, nat_le, if◌then◌else◌, slice_index, refl, sym, ◌∙◌, ap, subst, arith, inl, inr, lt_of_lt_of_le}
 use Rattle.std.proofs.lemmas.Bool.{cases_eq, cases_lt, le-ltb, lt-leb}
 use Rattle.bp_layout.specs.Inode.{kind_of, root_of, size_of}
+use Rattle.bp_layout.specs.Members.{Has}
 use Rattle.bp_layout.specs.Reached.{IsReached}
 use Rattle.bp_layout.specs.Reached.IsReached.{inode_file}
 use Rattle.bp_layout.specs.Tree.{byte, content_word, IsFull, IsLivePointer}
@@ -20,10 +21,11 @@ use Rattle.bp_cow.specs.declared.touched.Run.{Run}
 use Rattle.bp_cow.specs.declared.touched.Touched.{Touched}
 use Rattle.bp_cow.specs.CanCommit.{CanCommit}
 use Rattle.bp_cow.specs.Committed.{IsCommitted, after_commit, changes_of}
-use Rattle.bp_cow.specs.Touched.{job_of, run_byte, run_end, run_path, run_word, touched_trail}
+use Rattle.bp_cow.specs.Touched.{job_of, laid_word, run_byte, run_end, run_path, run_word, touched_trail}
 use Rattle.bp_cow.proofs.CommitLaws.{committed_commits, size_after}
 use Rattle.bp_cow.proofs.RunFronts.{front-digits}
 use Rattle.bp_cow.proofs.RunLaws.{byte-run_word, length-run_path}
+use Rattle.bp_cow.proofs.RunsLaws.{laid-one}
 use Rattle.bp_cow.proofs.Values.{after-others, after-run, after-word}
 
 -- the whole trail of a path of digits
@@ -41,7 +43,7 @@ root_path_trail height n path is =
 
 -- The run lies in the tree of a file, under a bound that only this file has above its size. The touched words beside it are that of the file's size, or there is none.
 pub record IsFileRun (old : Image) (bound : ℕ → ℕ) (touched : Touched) (run : Run) (n : ℕ) : Type 0 where
-  pub one : touched.run ≡ Some run
+  pub one : touched.runs.now ≡ run ∷ []
   pub words : (i : ℕ) → i < length touched.words.now → touched_trail touched i ≡ tree_trail (height_of (word old 2)) 0 (suc (height_of (root_of old 0))) (8 * suc n + 2)
   pub reached : IsReached old (suc n)
   pub is_file : kind_of old (suc n) ≡ 1
@@ -103,19 +105,17 @@ module _ (old new : Image) (bound : ℕ → ℕ) (wf : IsWellFormed old) (touche
   kept_apart t k no_size other =
       after-others old bound touched free wf can (k % 512) (along (root_trail (height_of (word old 2)) t) (height_of (root_of old t)) (k / 512)) (omega arith)
       (λ i here same. no_size (omega (arith, here)) (same ∙ is.words i here))
-      (λ r l e low high same. apart r l e low high same)
+      (λ r l has low high same. apart r l has low high same)
       ∙ word-tree old t (suc (height_of (root_of old t))) k
     where
-      one_run : (r : Run) → touched.run ≡ Some r → run ≡ r
-      one_run r e = inject run r (sym is.one ∙ e)
-        where
-          inject : (a b : Run) → Some a ≡ Some b → a ≡ b
-          inject a b f = cc
+      one_run : (r : Run) → Has (run ∷ []) r → run ≡ r
+      one_run r (inl e) = e
+      one_run r (inr none) = absurd none
 
-      apart : (r : Run) (l : ℕ) → touched.run ≡ Some r → r.off / 8 ≤ l → l ≤ (run_end r - 1) / 8 →
+      apart : (r : Run) (l : ℕ) → Has touched.runs.now r → r.off / 8 ≤ l → l ≤ (run_end r - 1) / 8 →
           (k % 512) ∷ along (root_trail (height_of (word old 2)) t) (height_of (root_of old t)) (k / 512) ≡ trail_of (run_path r l) (length (run_path r l)) → ⊥
-      apart r l e low high same =
-          let here : run ≡ r = one_run r e in
+      apart r l has low high same =
+          let here : run ≡ r = one_run r (subst (λ runs. Has runs r) is.one has) in
           other l (subst (λ (x : Run). x.off / 8 ≤ l) (sym here) low) (subst (λ (x : Run). l ≤ (run_end x - 1) / 8) (sym here) high)
           (same ∙ ap (λ (x : Run). trail_of (run_path x l) (length (run_path x l))) (sym here) ∙ run_trail l)
 
@@ -204,7 +204,8 @@ module _ (old new : Image) (bound : ℕ → ℕ) (wf : IsWellFormed old) (touche
         go (inr first) (inr last) =
             let number : 8 * (o / 8) + o % 8 ≡ o = omega arith in
             ap (λ w. byte_of w (o % 8))
-            (ap (after_commit old (job_of touched)) (sym (run_trail (o / 8))) ∙ after-run old bound touched free wf can run (o / 8) is.one first last
+            (ap (after_commit old (job_of touched)) (sym (run_trail (o / 8))) ∙ after-run old bound touched free wf can run (o / 8) (subst (λ runs. Has runs run) (sym is.one) (inl refl)) first last
+            ∙ ap (λ runs. laid_word runs run.root.items (o / 8) (word_on old (trail_of (run_path run (o / 8)) (length (run_path run (o / 8)))))) is.one ∙ laid-one run (o / 8) (word_on old (trail_of (run_path run (o / 8)) (length (run_path run (o / 8)))))
             ∙ ap (λ q. run_word run (o / 8) (word_on old q)) (run_trail (o / 8)) ∙ ap (run_word run (o / 8)) (word-tree old (suc n) (suc (height_of (root_of old (suc n)))) (o / 8)))
             ∙ byte-run_word run (o / 8) (content_word old (root_of old (suc n)) (o / 8)) (o % 8) (omega arith) is.small
             ∙ ap (λ m. run_byte run m (byte old (root_of old (suc n)) o)) number
@@ -213,7 +214,7 @@ module _ (old new : Image) (bound : ℕ → ℕ) (wf : IsWellFormed old) (touche
 
 -- ---- a run alone
 
-module _ (old new : Image) (wf : IsWellFormed old) (touched : Touched) (free : ℕ → Bool) (can : CanCommit old (size_of old) touched free) (run : Run) (n : ℕ) (one : touched.run ≡ Some run) (none : length touched.words.now ≡ 0)
+module _ (old new : Image) (wf : IsWellFormed old) (touched : Touched) (free : ℕ → Bool) (can : CanCommit old (size_of old) touched free) (run : Run) (n : ℕ) (one : touched.runs.now ≡ run ∷ []) (none : length touched.words.now ≡ 0)
     (reached : IsReached old (suc n)) (is_file : kind_of old (suc n) ≡ 1) (root : run.root.items ≡ inode_path (height_of (root_of old 0)) (suc n) 1) (height : run.height ≡ height_of (root_of old (suc n))) (some : 0 < length run.bytes.now)
     (below : run_end run ≤ size_of old (suc n)) (small : (i : ℕ) → slice_index run.bytes.now i < 256) (turned : Trail → Type 0)
     (stage : IsCommitted old new (IsTreePointer old (size_of old)) turned (after_commit old (job_of touched))) where

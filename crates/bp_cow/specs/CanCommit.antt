@@ -1,6 +1,7 @@
 -- What a commit asks.
-use Rattle.std.specs.Prelude.{◌≡◌, ◌≢◌, ℕ, suc, ◌-◌, ◌/◌, ◌<◌, ◌≤◌, length, Bool, Option, None, Some}
+use Rattle.std.specs.Prelude.{◌≡◌, ◌≢◌, ℕ, suc, ◌-◌, ◌/◌, ◌<◌, ◌≤◌, length, Bool}
 use Rattle.bp_layout.specs.Free.{AreUnheld}
+use Rattle.bp_layout.specs.Members.{Has}
 use Rattle.bp_layout.specs.Words.{Image, word, height_of}
 use Rattle.bp_layout.specs.Inode.{root_of, size_of}
 use Rattle.bp_layout.specs.Reached.{IsReached}
@@ -11,17 +12,13 @@ use Rattle.bp_cow.specs.declared.touched.Run.{Run}
 use Rattle.bp_cow.specs.declared.touched.Touched.{Touched}
 use Rattle.bp_layout.specs.Thaw.{none_kept}
 
--- the run lies in the tree of a reached inode, which has that height, below the size that counts
+-- a run lies in the tree of a reached inode, which has that height, below the size that counts
 pub record IsRunIn (old : Image) (bound : ℕ → ℕ) (run : Run) : Type 0 where
   pub inode : ℕ
   pub reached : IsReached old (suc inode)
   pub root : trail_of run.root.items (length run.root.items) ≡ root_trail (height_of (word old 2)) (suc inode)
   pub height : run.height ≡ height_of (root_of old (suc inode))
   pub below : run_end run ≤ bound (suc inode)
-
-abbrev pub HasRunIn : Image → (ℕ → ℕ) → Option Run → Type 0
-HasRunIn old bound None = Unit {0}
-HasRunIn old bound (Some run) = IsRunIn old bound run
 
 -- `bound`: of each tree the greater of its size and the size that it is given. Under these sizes the reached trees
 -- are sound, no block is in two, and the free blocks are just those that none of them has. Each proper front of a
@@ -34,10 +31,10 @@ pub record CanCommit (old : Image) (bound : ℕ → ℕ) (touched : Touched) (fr
   pub pointers : (i d : ℕ) → i < length touched.words.now → d < length (path_of (word_paths touched) i) →
       IsTreePointer old bound (trail_of (path_of (word_paths touched) i) d)
   pub contents : (i : ℕ) → i < length touched.words.now → ¬ IsTreePointer old bound (touched_trail touched i)
-  pub run : HasRunIn old bound touched.run
-  -- the paths are different, and none is that of a word of the run
+  pub runs : (run : Run) → Has touched.runs.now run → IsRunIn old bound run
+  -- the paths are different, and none is that of a word of a run
   pub apart : (i k : ℕ) → i < length touched.words.now → k < length touched.words.now
       → touched_trail touched i ≡ touched_trail touched k → i ≡ k
-  pub beside : (run : Run) (i k : ℕ) → touched.run ≡ Some run → i < length touched.words.now → run.off / 8 ≤ k
+  pub beside : (run : Run) (i k : ℕ) → Has touched.runs.now run → i < length touched.words.now → run.off / 8 ≤ k
       → k ≤ (run_end run - 1) / 8 →
       touched_trail touched i ≢ end_trail (run_path run k)

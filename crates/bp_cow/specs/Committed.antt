@@ -7,7 +7,7 @@ use Rattle.bp_shapes.specs.Trail.{Trail, word_on, block_on, IsSkeleton, LeadsTo}
 use Rattle.bp_shapes.specs.Forest.{tree_trail}
 use Rattle.bp_cow.specs.Job.{Job, value_upto, laid_on}
 
--- the value that a word is given, or else the one that it had, with the bytes of the run laid over
+-- the value that a word is given, or else the one that it had, with the bytes of the runs laid over
 abbrev pub after_commit : Image → Job → Trail → ℕ
 after_commit old job q = unwrap_or (value_upto job job.words q) (laid_on old job q)
 

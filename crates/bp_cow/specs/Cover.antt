@@ -1,5 +1,5 @@
 -- The cover of touched words.
-use Rattle.std.specs.Prelude.{◌≡◌, ◌≢◌, ℕ, zero, suc, ◌+◌, ◌-◌, ◌/◌, ◌<◌, ◌≤◌, List, length, take, Option, None, Some}
+use Rattle.std.specs.Prelude.{◌≡◌, ◌≢◌, ℕ, zero, suc, ◌+◌, ◌-◌, ◌/◌, ◌<◌, ◌≤◌, List, [], ◌∷◌, length, take}
 use Rattle.bp_layout.specs.Words.{Image, block_count}
 use Rattle.bp_shapes.specs.Trail.{block_on, trail_of}
 use Rattle.bp_layout.specs.Need.{cover_of, copies_of}
@@ -8,23 +8,23 @@ use Rattle.bp_cow.specs.Touched.{run_path, run_end, path_of, word_paths, all_pat
 use Rattle.bp_cow.specs.declared.touched.Run.{Run}
 use Rattle.bp_cow.specs.declared.touched.Touched.{Touched}
 
--- The paths that tell with what all touched paths begin: those of the first and of the last word of the run, between
--- which the other words of the run lie, and those of the words.
-abbrev pub end_path_of : Option Run → List WordPath → ℕ → WordPath
-end_path_of None paths i = path_of paths i
-end_path_of (Some run) paths zero = run_path run (run.off / 8)
-end_path_of (Some run) paths (suc zero) = run_path run ((run_end run - 1) / 8)
-end_path_of (Some run) paths (suc (suc i)) = path_of paths i
+-- The paths that tell with what all touched paths begin: of each run those of its first and of its last word, between
+-- which its other words lie, and those of the words.
+abbrev pub end_path_of : List Run → List WordPath → ℕ → WordPath
+end_path_of [] paths i = path_of paths i
+end_path_of (run ∷ runs) paths zero = run_path run (run.off / 8)
+end_path_of (run ∷ runs) paths (suc zero) = run_path run ((run_end run - 1) / 8)
+end_path_of (run ∷ runs) paths (suc (suc i)) = end_path_of runs paths i
 
-abbrev pub ends_of : Option Run → ℕ → ℕ
-ends_of None count = count
-ends_of (Some run) count = 2 + count
+abbrev pub ends_of : List Run → ℕ → ℕ
+ends_of [] count = count
+ends_of (run ∷ runs) count = 2 + ends_of runs count
 
 abbrev pub end_path : Touched → ℕ → WordPath
-end_path touched i = end_path_of touched.run (word_paths touched) i
+end_path touched i = end_path_of touched.runs.now (word_paths touched) i
 
 abbrev pub ends : Touched → ℕ
-ends touched = ends_of touched.run (length touched.words.now)
+ends touched = ends_of touched.runs.now (length touched.words.now)
 
 -- all of them begin with the same slots, so many
 pub record BeginAlike (touched : Touched) (count : ℕ) : Type 0 where

@@ -5,8 +5,8 @@ use Rattle.bp_shapes.specs.Trail.{Trail, word_on, trail_of}
 use Rattle.bp_cow.specs.Copies.{Patch}
 
 -- The ways to the touched words: the paths of the pointers to the blocks that hold them, first those to the leaves of
--- the run, and then those to the words. Of each leaf the bytes that are laid over, and of each word its slot and its
--- value.
+-- the runs, and then those to the words. Several may lead to one block. Of each leaf what is laid over it, and of each
+-- word its slot and its value.
 pub record Job : Type 0 where
   pub way : ℕ → List ℕ
   pub leaves : ℕ
@@ -50,7 +50,7 @@ abbrev pub value_upto : Job → ℕ → Trail → Option ℕ
 value_upto job zero q = None
 value_upto job (suc i) q = if bytes_eq q (word_trail job i) then Some (job.value i) else value_upto job i q
 
--- a word with the bytes of the run laid over, where it stands in one of the first leaves
+-- a word with what is laid over it, where it stands in one of the first leaves
 abbrev pub laid_upto : Image → Job → ℕ → Trail → ℕ
 laid_upto old job zero q = word_on old q
 laid_upto old job (suc j) [] = word_on old []

@@ -26,14 +26,13 @@ pub record IsFeasible (old : Image) (bound : ℕ → ℕ) (job : Job) (from plac
   pub cover : (i : ℕ) → i < ways job → front job i from ≡ front job 0 from
   pub pointers : (i d : ℕ) → i < ways job → d ≤ length (job.way i) → IsTreePointer old bound (front job i d)
   pub slots : (i d : ℕ) → i < ways job → d < length (job.way i) → slice_index (job.way i) d < block_words
-  -- the words are no pointers, and the run has none
+  -- the words are no pointers, and the leaves of the runs have none
   pub word_slots : (i : ℕ) → i < job.words → job.slot i < block_words
   pub contents : (i : ℕ) → i < job.words → IsTreePointer old bound (word_trail job i) → ⊥
-  pub plain : (j slot old_word : ℕ) → j < job.leaves → IsTreePointer old bound (slot ∷ end_of job j)
-      → job.patch j slot old_word ≡ old_word
-  -- the leaves of the run stand at one depth, each once
-  pub long : (j : ℕ) → j < job.leaves → length (job.way j) ≡ length (job.way 0)
-  pub apart : (j l : ℕ) → j < job.leaves → l < job.leaves → end_of job j ≡ end_of job l → j ≡ l
+  pub bare : (j slot : ℕ) → j < job.leaves → IsTreePointer old bound (slot ∷ end_of job j) → ⊥
+  -- the same is laid over one leaf, whichever way leads there
+  pub agree : (j l : ℕ) → j < job.leaves → l < job.leaves → end_of job j ≡ end_of job l
+      → (slot old_word : ℕ) → job.patch j slot old_word ≡ job.patch l slot old_word
   -- the cover exists
   pub placed : IsPlaced old (IsTreePointer old bound) (front job 0 from)
   pub at : place_on old (front job 0 from) ≡ place

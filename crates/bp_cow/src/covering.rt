@@ -14,16 +14,13 @@ use bp_tree::Slots;
 use pm_region::Region;
 
 impl Touched<'_> {
-    /// How many paths tell with what all touched paths begin: those of the first and of the last word of the run, and
+    /// How many paths tell with what all touched paths begin: of each run those of its first and of its last word, and
     /// those of the words.
     fn ends(&self) -> usize
         requires { IsTouched self.now }
         ensures { result ≡ ends self.now }
     {
-        match &self.run {
-            Some(_) => 2 + self.words.len(),
-            None => self.words.len(),
-        }
+        2 * self.runs.len() + self.words.len()
     }
 
     /// How many slots such a path has.
@@ -32,11 +29,12 @@ impl Touched<'_> {
         requires i { i < ends self.now }
         ensures { result ≡ length (end_path self.now i) }
     {
-        match &self.run {
-            Some(run) if i < 2 => run.root.len() + run.height as usize + 1,
-            Some(_) => self.path_len(i - 2),
-            None => self.path_len(i),
+        let of_runs = 2 * self.runs.len();
+        if i < of_runs {
+            let run = &self.runs[i / 2];
+            return run.root.len() + run.height as usize + 1;
         }
+        self.path_len(i - of_runs)
     }
 
     /// A slot of such a path.
@@ -46,12 +44,12 @@ impl Touched<'_> {
         requires depth { depth < length (end_path self.now i) }
         ensures { result ≡ slice_index (end_path self.now i) depth }
     {
-        match &self.run {
-            Some(run) if i == 0 => run.slot(run.off / 8, depth),
-            Some(run) if i == 1 => run.slot(run.last_word(), depth),
-            Some(_) => self.path_slot(i - 2, depth),
-            None => self.path_slot(i, depth),
+        let of_runs = 2 * self.runs.len();
+        if i < of_runs {
+            let run = &self.runs[i / 2];
+            return run.slot(run.end_word(i % 2 == 0), depth);
         }
+        self.path_slot(i - of_runs, depth)
     }
 
     /// Whether all touched paths, which begin alike so far, have one more slot alike.

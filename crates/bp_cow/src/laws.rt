@@ -16,8 +16,7 @@ ghost use Rattle.std.specs.Prelude.{
   length,
   slice_index,
   Bool,
-  None,
-  Some,
+  [],
 };
 ghost use Rattle.bp_limits.specs.Limits.{block_words, inode_words, super_root};
 ghost use Rattle.bp_changes.specs.Commits.{Commits};
@@ -41,6 +40,7 @@ ghost use Rattle.bp_cow.specs.Touched.{
   run_path,
   run_end,
   run_word,
+  laid_word,
   run_byte,
   all_paths,
   end_trail,
@@ -78,27 +78,27 @@ pub fn what_can_be_committed_has_a_cover(image: &[u64], touched: &Touched<'_>)
         CanCommit image.now bound touched.now free → NoneBegins (all_paths touched.now) }
 {}
 
-/// After a commit each touched word has the value that it is given, a word of the run its new bytes beside those that
-/// it had, and each other word the value that it had.
+/// After a commit each touched word has the value that it is given, a word of a run the new bytes beside those that it
+/// had, and each other word the value that it had.
 pub fn touched_words_have_their_values(image: &[u64], touched: &Touched<'_>)
     requires { IsWellFormed image.now }
     ensures words { (bound : ℕ → ℕ) (free : ℕ → Bool) (i : ℕ) → CanCommit image.now bound touched.now free →
         i < length touched.now.words.now →
         after_commit image.now (job_of touched.now) (touched_trail touched.now i) ≡ (job_of touched.now).value i }
     ensures run { (bound : ℕ → ℕ) (free : ℕ → Bool) (run : Run) (k : ℕ) →
-        CanCommit image.now bound touched.now free → touched.now.run ≡ Some run →
+        CanCommit image.now bound touched.now free → Has touched.now.runs.now run →
         run.off / 8 ≤ k → k ≤ (run_end run - 1) / 8 →
         after_commit image.now (job_of touched.now) (end_trail (run_path run k)) ≡
-        run_word run k (word_on image.now (end_trail (run_path run k))) }
+        laid_word touched.now.runs.now run.root.items k (word_on image.now (end_trail (run_path run k))) }
     ensures others { (bound : ℕ → ℕ) (free : ℕ → Bool) (slot : ℕ) (p : Trail) →
         CanCommit image.now bound touched.now free → slot < block_words →
         ((i : ℕ) → i < length touched.now.words.now → slot ∷ p ≢ touched_trail touched.now i) →
-        ((run : Run) (k : ℕ) → touched.now.run ≡ Some run → run.off / 8 ≤ k → k ≤ (run_end run - 1) / 8 →
+        ((run : Run) (k : ℕ) → Has touched.now.runs.now run → run.off / 8 ≤ k → k ≤ (run_end run - 1) / 8 →
         slot ∷ p ≢ end_trail (run_path run k)) →
         after_commit image.now (job_of touched.now) (slot ∷ p) ≡ word_on image.now (slot ∷ p) }
 {}
 
-/// Each byte of a word of the run is the new one, or else the one that it had.
+/// Each byte of a word with a run laid over is the new one, or else the one that it had.
 pub fn words_of_a_run_have_its_bytes(run: &Run<'_>)
     requires { (i : ℕ) → slice_index run.now.bytes.now i < 256 }
     ensures { (k old c : ℕ) → c < 8 →
@@ -132,17 +132,17 @@ pub fn commits_are_told_on_trees(old: &[u64], new: &[u64], touched: &Touched<'_>
 {}
 
 /// One word of a tree that a well-formed image has below its size, but for a root word in the inode file, can be
-/// committed; and so can a run of a file or a directory, below its size.
-pub fn a_word_or_a_run_can_be_committed(image: &[u64], touched: &Touched<'_>)
+/// committed; and so can runs of files and directories, below their sizes.
+pub fn a_word_or_runs_can_be_committed(image: &[u64], touched: &Touched<'_>)
     requires well_formed { IsWellFormed image.now }
     requires touched { IsTouched touched.now }
-    ensures word { (free : ℕ → Bool) (t k : ℕ) → AreFreeBlocks image.now none_kept free → touched.now.run ≡ None →
+    ensures word { (free : ℕ → Bool) (t k : ℕ) → AreFreeBlocks image.now none_kept free → touched.now.runs.now ≡ [] →
         length touched.now.words.now ≡ 1 →
         IsReached image.now t → 8 * k < size_of image.now t → (t ≡ 0 → k % 8 ≢ 1) →
         touched_trail touched.now 0 ≡
         tree_trail (height_of (word image.now super_root)) t (suc (height_of (root_of image.now t))) k →
         CanCommit image.now (size_of image.now) touched.now free }
-    ensures run { (free : ℕ → Bool) (run : Run) → AreFreeBlocks image.now none_kept free → touched.now.run ≡ Some run →
-        length touched.now.words.now ≡ 0 →
-        IsRunIn image.now (size_of image.now) run → CanCommit image.now (size_of image.now) touched.now free }
+    ensures runs { (free : ℕ → Bool) → AreFreeBlocks image.now none_kept free → length touched.now.words.now ≡ 0 →
+        ((run : Run) → Has touched.now.runs.now run → IsRunIn image.now (size_of image.now) run) →
+        CanCommit image.now (size_of image.now) touched.now free }
 {}

@@ -21,10 +21,10 @@ use Rattle.bp_shapes.proofs.ForestLaws.{same_along, same_trail, short, skeleton,
 use Rattle.bp_shapes.proofs.FreeSets.{content_fronts, content_no_pointer}
 use Rattle.bp_tree.proofs.Digits.{length-digits}
 use Rattle.bp_tree.proofs.PathLaws.{small_digits}
-use Rattle.bp_cow.specs.CanCommit.{CanCommit, HasRunIn}
+use Rattle.bp_cow.specs.CanCommit.{CanCommit}
 use Rattle.bp_cow.specs.Committed.{IsCommitted, after_commit, changes_of}
 use Rattle.bp_cow.specs.Cover.{LeadsInside, end_path, end_path_of}
-use Rattle.bp_cow.specs.Touched.{HasRun, IsTouched, NoneBegins, all_paths, job_of, path_of, touched_trail, word_paths}
+use Rattle.bp_cow.specs.Touched.{IsTouched, NoneBegins, all_paths, job_of, path_of, touched_trail, word_paths}
 use Rattle.bp_cow.specs.declared.touched.Run.{Run}
 use Rattle.bp_cow.specs.declared.touched.Touched.{Touched}
 use Rattle.bp_cow.proofs.CommitLaws.{committed_commits, size_after}
@@ -37,7 +37,7 @@ use Rattle.bp_layout.specs.Thaw.{none_kept}
 
 -- Content words alone are touched: each in a reached tree below a size that counts, no root word, and no two alike.
 pub record AreContent (image : Image) (bound : ℕ → ℕ) (touched : Touched) (tree number : ℕ → ℕ) : Type 0 where
-  pub none : touched.run ≡ None
+  pub none : touched.runs.now ≡ []
   pub some : 1 ≤ length touched.words.now
   pub few : length touched.words.now ≤ 32
   pub reached : (i : ℕ) → i < length touched.words.now → IsReached image (tree i)
@@ -121,11 +121,15 @@ module _ (image : Image) (bound : ℕ → ℕ) (forest : IsForest image bound) (
   low_tree : (t : ℕ) → IsReached image t → 0 < bound t → height_of (root_of image t) ≤ max_height
   low_tree t reached some = (forest.sound t reached).low some
 
+  none_has : (run : Run) → Has touched.runs.now run → ⊥
+  none_has run has = subst (λ runs. Has runs run) are.none has
+
   pub words_shape : IsTouched touched
   words_shape =
       let top : height_of (root_of image 0) ≤ max_height = low_tree 0 inode_file forest.some in
       record {
-        run = subst HasRun (sym are.none) tt;
+        runs = λ run has. absurd (none_has run has);
+        few_runs = omega (arith, ap (λ (runs : List Run). length runs) are.none);
         few = are.few;
         words = λ i here.
             rw (are.path i here) (omega (arith, content_some (height_of (root_of image 0)) (tree i) (suc (height_of (root_of image (tree i)))) (number i)));
@@ -160,12 +164,6 @@ module _ (image : Image) (bound : ℕ → ℕ) (forest : IsForest image bound) (
       content_no_pointer image bound forest (path_of (word_paths touched) i) (length (path_of (word_paths touched) i) - 1) (tree i) (number i) (are.reached i here) (are.below i here) (at i here) (are.no_root i here)
       (subst (λ d. IsTreePointer image bound (trail_of (path_of (word_paths touched) i) d)) (whole i here) pointer)
 
-  no_run : (run : Run) → touched.run ≡ Some run → ⊥
-  no_run run e = clash (sym are.none ∙ e)
-    where
-      clash : None ≡ Some run → ⊥
-      clash f = absurd (cc)
-
   -- so the cover and its need can be asked for
   pub words_apart : NoneBegins (all_paths touched)
   words_apart path other has also m low same =
@@ -174,10 +172,10 @@ module _ (image : Image) (bound : ℕ → ℕ) (forest : IsForest image bound) (
       (subst (IsTreePointer image bound) (sym (ap (trail_of path) size ∙ ap (λ p. trail_of p m) (sym same) ∙ trail_of-take other m m (omega arith))) (fronts other also m low))
     where
       plain : (p : WordPath) → Has (all_paths touched) p → IsTreePointer image bound (trail_of p (length p)) → ⊥
-      plain = paths-by touched words_shape (λ p. IsTreePointer image bound (trail_of p (length p)) → ⊥) (λ run k e _ _. absurd (no_run run e)) words_no_pointer
+      plain = paths-by touched words_shape (λ p. IsTreePointer image bound (trail_of p (length p)) → ⊥) (λ run k has _ _. absurd (none_has run has)) words_no_pointer
 
       fronts : (p : WordPath) → Has (all_paths touched) p → (d : ℕ) → d < length p → IsTreePointer image bound (trail_of p d)
-      fronts = paths-by touched words_shape (λ p. (d : ℕ) → d < length p → IsTreePointer image bound (trail_of p d)) (λ run k e _ _. absurd (no_run run e)) (λ i here d deep. words_fronts i d here deep)
+      fronts = paths-by touched words_shape (λ p. (d : ℕ) → d < length p → IsTreePointer image bound (trail_of p d)) (λ run k has _ _. absurd (none_has run has)) (λ i here d deep. words_fronts i d here deep)
 
   pub words_inside : IsWellFormed image → LeadsInside image touched
   words_inside wf d alike =
@@ -195,12 +193,12 @@ module _ (image : Image) (bound : ℕ → ℕ) (forest : IsForest image bound) (
       exact = exact;
       pointers = words_fronts;
       contents = words_no_pointer;
-      run = subst (HasRunIn image bound) (sym are.none) tt;
+      runs = λ run has. absurd (none_has run has);
       apart = λ i k here there same.
           let both = same_word image bound forest (tree i) (number i) (tree k) (number k) (are.reached i here) (are.reached k there) (are.below i here) (are.below k there)
           (sym (words_trail i here) ∙ same ∙ words_trail k there) in
           are.apart i k here there both.0 both.1;
-      beside = λ run i k e here low high same. no_run run e;
+      beside = λ run i k has here low high same. none_has run has;
     }
 
   -- ---- what the commit makes
@@ -219,7 +217,7 @@ module _ (image : Image) (bound : ℕ → ℕ) (forest : IsForest image bound) (
         (λ i here same.
         let both = same_word image bound forest t k (tree i) (number i) reached (are.reached i here) low (are.below i here) (same ∙ words_trail i here) in
         other i here both.0 both.1)
-        (λ run l e low high same. no_run run e)
+        (λ run l has low high same. none_has run has)
         ∙ word-tree image t (suc (height_of (root_of image t))) k
 
     -- Where no size grows past what counts, the commit is told on content words.

@@ -1,5 +1,5 @@
 -- Bytes of a directory that are committed alone: what that asks, and what it makes of an image.
-use Rattle.std.proofs.Common.{◌≡◌, ℕ, zero, suc, ◌+◌, ◌-◌, ◌*◌, ◌/◌, ◌%◌, ◌<◌, ◌≤◌, List, ◌∷◌, length, Bool, Some, slice_index, sym, ◌∙◌, ap, subst, arith, inr}
+use Rattle.std.proofs.Common.{◌≡◌, ℕ, zero, suc, ◌+◌, ◌-◌, ◌*◌, ◌/◌, ◌%◌, ◌<◌, ◌≤◌, List, [], ◌∷◌, length, Bool, slice_index, refl, sym, ◌∙◌, ap, subst, arith, inl, inr}
 use Rattle.std.proofs.lemmas.List.{length-take}
 use Rattle.bp_layout.specs.Free.{AreFreeBlocks}
 use Rattle.bp_layout.specs.Inode.{kind_of, root_of, size_of}
@@ -17,7 +17,7 @@ use Rattle.bp_shapes.proofs.FreeSets.{wf_forest}
 use Rattle.bp_cow.specs.CanCommit.{CanCommit}
 use Rattle.bp_cow.specs.Committed.{IsCommitted, after_commit, changes_of}
 use Rattle.bp_cow.specs.Cover.{LeadsInside, end_path, end_path_of}
-use Rattle.bp_cow.specs.Touched.{HasRun, IsTouched, NoneBegins, all_paths, job_of, leaves_of, run_byte, run_end, run_leaves, run_path, run_way, run_word, word_paths}
+use Rattle.bp_cow.specs.Touched.{IsRun, IsTouched, NoneBegins, all_paths, job_of, laid_word, leaves_of, run_byte, run_end, run_leaves, run_path, run_way, run_word, word_paths}
 use Rattle.bp_cow.specs.declared.touched.Run.{Run}
 use Rattle.bp_cow.specs.declared.touched.Touched.{Touched}
 use Rattle.bp_cow.proofs.CallerLaws.{run_can}
@@ -28,6 +28,7 @@ use Rattle.bp_cow.proofs.JobLaws.{leaf-fronts}
 use Rattle.bp_cow.proofs.RunFronts.{front-run_way}
 use Rattle.bp_cow.proofs.RunLaws.{byte-run_word, length-run_path, length-run_way}
 use Rattle.bp_cow.proofs.RunWrites.{digits_trail, root_path_trail}
+use Rattle.bp_cow.proofs.RunsLaws.{laid-one}
 use Rattle.bp_cow.proofs.Values.{after-others, after-run}
 use Rattle.bp_calls.proofs.RunCommits.{IsRunOf, laid_inside, run_in, run_is}
 use Rattle.bp_rename.proofs.ContentWords.{same_word}
@@ -35,14 +36,22 @@ use Rattle.bp_layout.specs.Thaw.{none_kept}
 
 -- ---- what is asked
 
-module _ (image : Image) (wf : IsWellFormed image) (n : ℕ) (reached : IsReached image (suc n)) (touched : Touched) (run : Run) (one : touched.run ≡ Some run) (none : length touched.words.now ≡ 0)
+module _ (image : Image) (wf : IsWellFormed image) (n : ℕ) (reached : IsReached image (suc n)) (touched : Touched) (run : Run) (one : touched.runs.now ≡ run ∷ []) (none : length touched.words.now ≡ 0)
     (of : IsRunOf image (suc n) run) where
-  leaves : leaves_of touched.run ≡ run_leaves run
-  leaves = ap leaves_of one
+  leaves : leaves_of touched.runs.now ≡ run_leaves run
+  leaves = ap leaves_of one ∙ omega arith
+
+  -- it is the only one
+  one_run : (r : Run) → Has touched.runs.now r → run ≡ r
+  one_run r has = elim (subst (λ runs. Has runs r) one has) [ inl e ↦ e | inr none_left ↦ absurd none_left ]
+
+  the_run : Has touched.runs.now run
+  the_run = subst (λ runs. Has runs run) (sym one) (inl refl)
 
   pub run_shape : IsTouched touched
   run_shape = record {
-    run = subst HasRun (sym one) (run_is image wf n reached run of);
+    runs = λ r has. subst IsRun (one_run r has) (run_is image wf n reached run of);
+    few_runs = omega (arith, ap (λ (runs : List Run). length runs) one);
     few = omega (arith, none);
     words = λ i here. absurd (omega (arith, here, none));
     short = λ i here. absurd (omega (arith, here, none));
@@ -59,15 +68,9 @@ module _ (image : Image) (wf : IsWellFormed image) (n : ℕ) (reached : IsReache
       let size : length path ≡ m = ap (λ (p : List ℕ). length p) (sym same) ∙ length-take m other ∙ omega (arith, low) in
       omega (arith, size, low, long path has, long other also)
     where
-      one_run : (r : Run) → touched.run ≡ Some r → run ≡ r
-      one_run r e = inject run r (sym one ∙ e)
-        where
-          inject : (a b : Run) → Some a ≡ Some b → a ≡ b
-          inject a b f = cc
-
       long : (p : List ℕ) → Has (all_paths touched) p → length p ≡ length run.root.items + run.height + 1
       long = paths-by touched run_shape (λ p. length p ≡ length run.root.items + run.height + 1)
-          (λ r k e low high. subst (λ (x : Run). length (run_path x k) ≡ length run.root.items + run.height + 1) (one_run r e) (length-run_path run k))
+          (λ r k has low high. subst (λ (x : Run). length (run_path x k) ≡ length run.root.items + run.height + 1) (one_run r has) (length-run_path run k))
           (λ i here. absurd (omega (arith, here, none)))
 
   -- the pointers on the path of its first word
@@ -109,16 +112,10 @@ module _ (image : Image) (wf : IsWellFormed image) (n : ℕ) (reached : IsReache
         (λ r l e first last same. apart r l e first last same)
         ∙ word-tree image t (suc (height_of (root_of image t))) k
       where
-        one_run : (r : Run) → touched.run ≡ Some r → run ≡ r
-        one_run r e = inject run r (sym one ∙ e)
-          where
-            inject : (a b : Run) → Some a ≡ Some b → a ≡ b
-            inject a b f = cc
-
-        apart : (r : Run) (l : ℕ) → touched.run ≡ Some r → r.off / 8 ≤ l → l ≤ (run_end r - 1) / 8 →
+        apart : (r : Run) (l : ℕ) → Has touched.runs.now r → r.off / 8 ≤ l → l ≤ (run_end r - 1) / 8 →
             (k % 512) ∷ along (root_trail (height_of (word image 2)) t) (height_of (root_of image t)) (k / 512) ≡ trail_of (run_path r l) (length (run_path r l)) → ⊥
-        apart r l e first last same =
-            let is : run ≡ r = one_run r e in
+        apart r l has first last same =
+            let is : run ≡ r = one_run r has in
             let low_word : run.off / 8 ≤ l = subst (λ (x : Run). x.off / 8 ≤ l) (sym is) first in
             let high_word : l ≤ (run_end run - 1) / 8 = subst (λ (x : Run). l ≤ (run_end x - 1) / 8) (sym is) last in
             let both = same_word image (size_of image) (wf_forest image wf) t k (suc n) l also reached low (omega (arith, high_word, of.below, of.some))
@@ -147,7 +144,8 @@ module _ (image : Image) (wf : IsWellFormed image) (n : ℕ) (reached : IsReache
         content_word new (root_of new (suc n)) k ≡ run_word run k (content_word image (root_of image (suc n)) k)
     run_words k first last low =
         commits.words (suc n) k reached (inr directory) (omega (arith, low)) (λ e. absurd (omega (arith, e)))
-        ∙ ap (after_commit image (job_of touched)) (sym (run_trail k)) ∙ after-run image (size_of image) touched free wf can run k one first last
+        ∙ ap (after_commit image (job_of touched)) (sym (run_trail k)) ∙ after-run image (size_of image) touched free wf can run k the_run first last
+        ∙ ap (λ runs. laid_word runs run.root.items k (word_on image (trail_of (run_path run k) (length (run_path run k))))) one ∙ laid-one run k (word_on image (trail_of (run_path run k) (length (run_path run k))))
         ∙ ap (λ q. run_word run k (word_on image q)) (run_trail k) ∙ ap (run_word run k) (word-tree image (suc n) (suc (height_of (root_of image (suc n)))) k)
 
     -- a byte of the run

@@ -1,5 +1,5 @@
 -- The run of a new name.
-use Rattle.std.proofs.Common.{◌≡◌, ◌⊎◌, ℕ, ◌+◌, ◌*◌, ◌<◌, ◌≤◌, List, [], length, take, Some, slice_index, ◌∙◌, ap, arith, inl, inr}
+use Rattle.std.proofs.Common.{◌≡◌, ◌⊎◌, ℕ, ◌+◌, ◌*◌, ◌<◌, ◌≤◌, List, length, take, slice_index, ◌∙◌, ap, arith, inl, inr}
 use Rattle.std.proofs.lemmas.Bool.{cases_lt}
 use Rattle.std.proofs.lemmas.List.{get_or_past, get_or-take, length-take}
 use Rattle.bp_layout.specs.Directory.{Name}
@@ -8,8 +8,7 @@ use Rattle.bp_layout.specs.WordPaths.{inode_path}
 use Rattle.bp_layout.specs.Words.{Image, height_of}
 use Rattle.bp_limits.specs.Limits.{max_name}
 use Rattle.bp_cow.specs.declared.touched.Run.{Run}
-use Rattle.bp_cow.specs.declared.touched.Touched.{Touched}
-use Rattle.bp_rename.specs.Respelled.{IsRespelled, TouchesName, respelled_length}
+use Rattle.bp_rename.specs.Respelled.{IsNameRun, IsRespelled, respelled_length}
 
 small_front : (n : ℕ) (xs : List ℕ) → ((i : ℕ) → slice_index xs i < 256) → (at : ℕ) → slice_index (take n xs) at < 256
 small_front n xs small at = go (cases_lt at n)
@@ -18,14 +17,11 @@ small_front n xs small at = go (cases_lt at n)
     go (inl low) = rw (get_or-take n xs at 0 low) (small at)
     go (inr past) = let none : slice_index (take n xs) at ≡ 0 = get_or_past (take n xs) at 0 (omega (arith, past, length-take n xs)) in omega (arith, none)
 
-pub touches_name : {touched : Touched} {run : Run} → (image : Image) (i slot : ℕ) (name : Name) (bytes : List ℕ) → touched.run ≡ Some run → touched.words.now ≡ [] →
+pub is_name_run : {run : Run} → (image : Image) (i slot : ℕ) (name : Name) (bytes : List ℕ) →
     run.root.items ≡ inode_path (height_of (root_of image 0)) i 1 → run.height ≡ height_of (root_of image i) → run.off ≡ 256 * slot + 8 →
     run.bytes.now ≡ take (respelled_length name) bytes → length bytes ≡ max_name + 8 → length name ≤ max_name → IsRespelled name bytes → ((at : ℕ) → slice_index bytes at < 256) →
-    TouchesName image i slot name touched
-touches_name {run = run} image i slot name bytes one none root height from part whole short are small = record {
-  run = run;
-  one = one;
-  no_words = none;
+    IsNameRun image i slot name run
+is_name_run image i slot name bytes root height from part whole short are small = record {
   root = root;
   height = height;
   from = from;

@@ -24,7 +24,7 @@ pick a b zero = a
 pick a b (suc i) = b
 
 -- what is touched by two words and no run
-pub touches_two : {first second : WordPath} {one two : ℕ} → (touched : Touched) (words : List (ArrayVec ℕ × ℕ)) → touched.words.now ≡ words → touched.run ≡ None → AreTwo words first second one two →
+pub touches_two : {first second : WordPath} {one two : ℕ} → (touched : Touched) (words : List (ArrayVec ℕ × ℕ)) → touched.words.now ≡ words → touched.runs.now ≡ [] → AreTwo words first second one two →
     TouchesTwo touched first second one two
 touches_two touched words e none are = record {
   none = none;

@@ -1,11 +1,12 @@
 -- A name has been spelled anew: that it is performed, and that the sets are exact.
-use Rattle.std.proofs.Common.{◌≡◌, ◌≢◌, ℕ, zero, suc, ◌+◌, ◌-◌, ◌*◌, ◌/◌, ◌<◌, ◌≤◌, List, length, get_or, slice_index, refl, sym, ◌∙◌, ap, arith, le-ltb, le_trans, lt-ltb}
+use Rattle.std.proofs.Common.{◌≡◌, ◌≢◌, ℕ, zero, suc, ◌+◌, ◌-◌, ◌*◌, ◌/◌, ◌<◌, ◌≤◌, List, [], ◌∷◌, length, get_or, slice_index, refl, sym, ◌∙◌, ap, subst, arith, inl, le-ltb, le_trans, lt-ltb}
 use Rattle.pm_words.proofs.Bytes.{word_of_bytes}
 use Rattle.pm_words.specs.Bytes.{word_bytes}
 use Rattle.bp_free.specs.Set.{Set, has}
 use Rattle.bp_layout.specs.Directory.{EntryNames, Name, entry_word, name_at}
 use Rattle.bp_layout.specs.Inode.{root_of, size_of}
 use Rattle.bp_layout.specs.Names.{AreCounts}
+use Rattle.bp_layout.specs.Members.{Has}
 use Rattle.bp_layout.specs.Need.Change.{respells}
 use Rattle.bp_layout.specs.Tree.{byte, content_word}
 use Rattle.bp_layout.specs.Words.{Image, byte_of}
@@ -66,11 +67,11 @@ module _ (memory : Memory) (n s j : ℕ) (name : Name) (can : CanRespell (curren
       (has blocks) exact.free_blocks
 
   few : run_leaves is.run ≤ 257
-  few = few_leaves is.run (omega (arith, is.count, few_words (current_words memory) n s j name can touched is))
+  few = few_leaves is.run (omega (arith, is.is.count, few_words (current_words memory) n s j name can touched is))
 
   pub within_room : HasRoom memory touched
   within_room =
-      let copies = few_copies (current_words memory) (size_of (current_words memory)) touched (has blocks) can.well_formed within_ready is.run is.one (le_trans few (omega arith)) in
+      let copies = few_copies (current_words memory) (size_of (current_words memory)) touched (has blocks) can.well_formed within_ready is.run is.one in
       let asked = room_needed memory (respells (suc n) s (length name)) room in
       omega (arith, copies, few, no_words (current_words memory) n s j name can touched is, within_need (current_words memory) n s j name can touched is, asked)
 
@@ -91,25 +92,25 @@ module _ (old new : Memory) (n s j : ℕ) (name : Name) (can : CanRespell (curre
   length_word =
       run_words (current_words old) can.well_formed n can.reached touched is.run is.one (no_words (current_words old) n s j name can touched is) (name_run (current_words old) n s j name can touched is)
       (has blocks) exact.free_blocks can.names.directory (current_words new) (IsTurned (job_of touched) (length (commit_cover (current_words old) touched))) done.words
-      (32 * s + 1) (omega (arith, is.from)) (omega (arith, ends)) (omega (arith, can.names.in_size))
-      ∙ sym (run_word-inside is.run (32 * s + 1) (content_word (current_words old) (root_of (current_words old) (suc n)) (32 * s + 1)) (word_bytes (length name)) (omega (arith, is.from)) (omega (arith, ends)) refl same)
+      (32 * s + 1) (omega (arith, is.is.from)) (omega (arith, ends)) (omega (arith, can.names.in_size))
+      ∙ sym (run_word-inside is.run (32 * s + 1) (content_word (current_words old) (root_of (current_words old) (suc n)) (32 * s + 1)) (word_bytes (length name)) (omega (arith, is.is.from)) (omega (arith, ends)) refl same)
       ∙ word_of_bytes (length name) (omega (arith, can.form.short))
     where
       same : (i : ℕ) → i < 8 → slice_index (word_bytes (length name)) i ≡ slice_index is.run.bytes.now (8 * (32 * s + 1) - is.run.off + i)
       same i low =
-          let at : 8 * (32 * s + 1) - is.run.off + i ≡ i = omega (arith, is.from) in
-          byte_at (length name) i low ∙ sym (ap (slice_index is.run.bytes.now) at ∙ is.bytes_are i (omega (arith, low)) ∙ length_byte name i low)
+          let at : 8 * (32 * s + 1) - is.run.off + i ≡ i = omega (arith, is.is.from) in
+          byte_at (length name) i low ∙ sym (ap (slice_index is.run.bytes.now) at ∙ is.is.bytes_are i (omega (arith, low)) ∙ length_byte name i low)
 
   pub within_name : name_at (current_words new) (suc n) s ≡ name
   within_name = rw length_word (map-tells (λ o. byte (current_words new) (root_of (current_words new) (suc n)) (256 * s + 16 + o)) name each)
     where
       each : (o : ℕ) → o < length name → byte (current_words new) (root_of (current_words new) (suc n)) (256 * s + 16 + o) ≡ get_or name o 0
       each o low =
-          let at : 256 * s + 16 + o - is.run.off ≡ 8 + o = omega (arith, is.from) in
+          let at : 256 * s + 16 + o - is.run.off ≡ 8 + o = omega (arith, is.is.from) in
           run_given (current_words old) can.well_formed n can.reached touched is.run is.one (no_words (current_words old) n s j name can touched is) (name_run (current_words old) n s j name can touched is)
           (has blocks) exact.free_blocks can.names.directory (current_words new) (IsTurned (job_of touched) (length (commit_cover (current_words old) touched))) done.words
-          (256 * s + 16 + o) is.small (omega (arith, is.from)) (omega (arith, ends, low)) (omega (arith, low, can.form.short, can.names.in_size))
-          ∙ ap (slice_index is.run.bytes.now) at ∙ is.bytes_are (8 + o) (omega (arith, low)) ∙ name_byte name o
+          (256 * s + 16 + o) is.is.small (omega (arith, is.is.from)) (omega (arith, ends, low)) (omega (arith, low, can.form.short, can.names.in_size))
+          ∙ ap (slice_index is.run.bytes.now) at ∙ is.is.bytes_are (8 + o) (omega (arith, low)) ∙ name_byte name o
 
   no_name : (x l : ℕ) → EntryNames (current_words old) (suc n) x l → name_at (current_words old) (suc n) x ≢ name
   no_name = not_named (current_words old) can.well_formed (suc n) name can.reached can.missing
@@ -120,7 +121,7 @@ module _ (old new : Memory) (n s j : ℕ) (name : Name) (can : CanRespell (curre
       (run_only (current_words old) can.well_formed n can.reached touched is.run is.one (no_words (current_words old) n s j name can touched is) (name_run (current_words old) n s j name can touched is)
       (has blocks) exact.free_blocks can.names.directory (current_words new) (IsTurned (job_of touched) (length (commit_cover (current_words old) touched))) done.words
       (λ t l. (t ≡ suc n) × (32 * s + 1 ≤ l) × (l < 32 * s + 32))
-      (λ k first last. (refl, omega (arith, first, is.from), omega (arith, last, ends, few_of))))
+      (λ k first last. (refl, omega (arith, first, is.is.from), omega (arith, last, ends, few_of))))
       (rw within_name can.form) (λ same. no_name s j can.names (same ∙ within_name)) (λ x l names other same. no_name x l names (same ∙ within_name))
 
   pub within_performs : (Effect : Image → Image → Type 0) → (RespellsEntry (current_words old) (current_words new) (suc n) s j → name_at (current_words new) (suc n) s ≡ name → Effect (current_words old) (current_words new)) →
@@ -131,7 +132,7 @@ module _ (old new : Memory) (n s j : ℕ) (name : Name) (can : CanRespell (curre
       (within_cover (current_words old) n s j name can touched is) (within_need (current_words old) n s j name can touched is)
       (let stores = stores_few (current_words old) (size_of (current_words old)) touched (has blocks) can.well_formed ready in
       omega (arith, stores, ap leaves_of is.one, few old n s j name can touched is blocks inodes exact room, no_words (current_words old) n s j name can touched is, within_need (current_words old) n s j name can touched is))
-      (run_open (current_words old) can.well_formed n can.reached is.run (name_run (current_words old) n s j name can touched is) touched (within_shape (current_words old) n s j name can touched is) is.one done.taken)
+      (run_open (current_words old) can.well_formed n can.reached is.run (name_run (current_words old) n s j name can touched is) touched (within_shape (current_words old) n s j name can touched is) (subst (λ runs. Has runs is.run) (sym is.one) (inl refl)) done.taken)
       (respelled_well_formed (current_words old) (current_words new) can.well_formed (suc n) s j within_respells)
       (so within_respells within_name))
 

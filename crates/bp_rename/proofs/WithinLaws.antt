@@ -46,14 +46,14 @@ module _ (image : Image) (n s j : ℕ) (name : Name) (can : CanRespell image (su
   few_words = omega (arith, can.form.short)
 
   pub name_end : run_end is.run ≡ 256 * s + 16 + 8 * ((length name + 7) / 8)
-  name_end = omega (arith, is.from, is.count)
+  name_end = omega (arith, is.is.from, is.is.count)
 
   pub name_run : IsRunOf image (suc n) is.run
   name_run = record {
-    root = is.root;
-    height = is.height;
-    some = omega (arith, is.count);
-    few = omega (arith, is.count, few_words);
+    root = is.is.root;
+    height = is.is.height;
+    some = omega (arith, is.is.count);
+    few = omega (arith, is.is.count, few_words);
     below = omega (arith, name_end, few_words, can.names.in_size);
   }
 
@@ -73,11 +73,11 @@ module _ (image : Image) (n s j : ℕ) (name : Name) (can : CanRespell image (su
 
   same_path : (k : ℕ) → run_path is.run (32 * s + k) ≡ entry_path image (respells (suc n) s (length name)) (suc n) s k
   same_path k =
-      ap (λ (p : WordPath). p ++ digits (suc is.run.height) (32 * s + k)) is.root ∙ ap (λ h. inode_path (height_of (root_of image 0)) (suc n) 1 ++ digits (suc h) (32 * s + k)) is.height
+      ap (λ (p : WordPath). p ++ digits (suc is.run.height) (32 * s + k)) is.is.root ∙ ap (λ h. inode_path (height_of (root_of image 0)) (suc n) 1 ++ digits (suc h) (32 * s + k)) is.is.height
 
   same_paths : all_paths touched ≡ layout.touched image (respells (suc n) s (length name))
   same_paths =
-      let first : is.run.off / 8 ≡ 32 * s + 1 = omega (arith, is.from) in
+      let first : is.run.off / 8 ≡ 32 * s + 1 = omega (arith, is.is.from) in
       let count : suc ((run_end is.run - 1) / 8 - is.run.off / 8) ≡ suc ((length name + 7) / 8) = omega (arith, name_end, first) in
       ap (λ r. run_paths r ++ word_paths touched) is.one
       ∙ ap (λ (words : List WordPath). run_paths (Some is.run) ++ words) nothing

@@ -1,5 +1,5 @@
 -- The words of an entry behind its inumber, for a new name.
-use Rattle.std.specs.Prelude.{◌≡◌, ℕ, ◌+◌, ◌-◌, ◌*◌, ◌/◌, ◌<◌, List, [], length, nat_lt, slice_index, Some, if◌then◌else◌}
+use Rattle.std.specs.Prelude.{◌≡◌, ℕ, ◌+◌, ◌-◌, ◌*◌, ◌/◌, ◌<◌, List, [], ◌∷◌, length, nat_lt, slice_index, if◌then◌else◌}
 use Rattle.bp_cow.specs.declared.touched.Run.{Run}
 use Rattle.bp_cow.specs.declared.touched.Touched.{Touched}
 use Rattle.bp_layout.specs.Directory.{Name}
@@ -19,14 +19,18 @@ IsRespelled name bytes = (at : ℕ) → at < max_name + 8 → slice_index bytes 
 abbrev pub respelled_length : Name → ℕ
 respelled_length name = 8 + 8 * ((length name + 7) / 8)
 
--- the bytes of an entry behind its inumber, of which these alone are touched
-pub record TouchesName (image : Image) (i slot : ℕ) (name : Name) (touched : Touched) : Type 0 where
-  pub run : Run
-  pub one : touched.run ≡ Some run
-  pub no_words : touched.words.now ≡ []
+-- the run of the bytes of an entry behind its inumber that are touched
+pub record IsNameRun (image : Image) (i slot : ℕ) (name : Name) (run : Run) : Type 0 where
   pub root : run.root.items ≡ inode_path (height_of (root_of image 0)) i 1
   pub height : run.height ≡ height_of (root_of image i)
   pub from : run.off ≡ entry_size * slot + 8
   pub count : length run.bytes.now ≡ respelled_length name
   pub bytes_are : (at : ℕ) → at < respelled_length name → slice_index run.bytes.now at ≡ respelled_byte name at
   pub small : (at : ℕ) → slice_index run.bytes.now at < 256
+
+-- these alone are touched
+pub record TouchesName (image : Image) (i slot : ℕ) (name : Name) (touched : Touched) : Type 0 where
+  pub run : Run
+  pub one : touched.runs.now ≡ run ∷ []
+  pub no_words : touched.words.now ≡ []
+  pub is : IsNameRun image i slot name run

@@ -1,5 +1,5 @@
 -- Two touched words.
-use Rattle.std.specs.Prelude.{◌≡◌, ℕ, suc, ◌+◌, ◌*◌, List, [], ◌∷◌, map, None}
+use Rattle.std.specs.Prelude.{◌≡◌, ℕ, suc, ◌+◌, ◌*◌, List, [], ◌∷◌, map}
 use Rattle.arrayvec.specs.ArrayVec.{ArrayVec}
 use Rattle.bp_cow.specs.Touched.{word_paths, word_values}
 use Rattle.bp_cow.specs.declared.touched.Touched.{Touched}
@@ -24,6 +24,6 @@ pub record AreTwo (words : List (ArrayVec ℕ × ℕ)) (first second : WordPath)
 
 -- These words alone are touched, in this order, and get these values.
 pub record TouchesTwo (touched : Touched) (first second : WordPath) (one two : ℕ) : Type 0 where
-  pub none : touched.run ≡ None
+  pub none : touched.runs.now ≡ []
   pub paths : word_paths touched ≡ first ∷ second ∷ []
   pub values : word_values touched ≡ one ∷ two ∷ []

@@ -1,6 +1,6 @@
 //! The words that a rename touches.
 
-ghost use Rattle.std.specs.Prelude.{◌≡◌, suc, ◌+◌, ◌*◌, ◌<◌, ◌≤◌, None};
+ghost use Rattle.std.specs.Prelude.{◌≡◌, suc, ◌+◌, ◌*◌, ◌<◌, ◌≤◌, []};
 ghost use Rattle.bp_limits.specs.Limits.{entry_words};
 ghost use Rattle.bp_layout.specs.Directory.{entry_count};
 ghost use Rattle.bp_layout.specs.Inode.{root_of};
@@ -36,7 +36,7 @@ pub(crate) fn entry_path<R: Region>(region: &R, dir: u32, slot: u64) -> Slots
 /// What is touched by two words and no run.
 pub(crate) fn touched_two(words: &[(Slots, u64); 2]) -> Touched<'_>
     ensures words { result.words.now ≡ words.now }
-    ensures none { result.run ≡ None }
+    ensures none { result.runs.now ≡ [] }
 {
-    Touched { words, run: None }
+    Touched { words, runs: &[] }
 }

@@ -1,13 +1,13 @@
 //! A name is spelled anew, within its directory.
 
-ghost use Rattle.std.specs.Prelude.{◌≡◌, ◌≤◌, None, length};
+ghost use Rattle.std.specs.Prelude.{◌≡◌, ◌≤◌, None, [], length};
 ghost use Rattle.bp_free.specs.Set.{members};
 ghost use Rattle.bp_layout.specs.Need.{need};
 ghost use Rattle.bp_layout.specs.Need.Change.{respells};
 ghost use Rattle.bp_limits.specs.Limits.{max_name};
 ghost use Rattle.bp_rename.specs.CanRename.{CanRename};
 ghost use Rattle.bp_rename.specs.RenamesEntry.{RenamesEntry};
-ghost use Rattle.bp_rename.specs.Respelled.{IsRespelled, TouchesName, respelled_byte};
+ghost use Rattle.bp_rename.specs.Respelled.{IsNameRun, IsRespelled, respelled_byte};
 ghost use Rattle.bp_shapes.specs.Sets.{IsExact, kept_of};
 ghost use Rattle.bp_commit.specs.Performs.{HasRoomFor, Performs};
 ghost use Rattle.pm_region.specs.Memory.{current_words};
@@ -46,28 +46,32 @@ fn respelled(name: &[u8]) -> [u8; MAX_NAME + 8]
     bytes
 }
 
-/// What is touched: the length of the name and the words of the new one, to the end of the last.
-fn touched_name<'a, R: Region>(
+/// The words that get others: that of the length of the name, and those of the name to the end of the last.
+fn name_run<'a, R: Region>(
     region: &R,
     to_move: &Move<'_>,
     bytes: &'a [u8; MAX_NAME + 8],
-) -> Touched<'a>
+) -> Run<'a>
     requires can { CanRename (current_words (R.memory region.now)) to_move.now }
     requires bytes { IsRespelled to_move.now.name.now bytes.now }
-    ensures { TouchesName (current_words (R.memory region.now)) to_move.now.from_dir to_move.now.from_slot
+    ensures { IsNameRun (current_words (R.memory region.now)) to_move.now.from_dir to_move.now.from_slot
         to_move.now.name.now result }
 {
     let tree = tree_of(region, to_move.from_dir);
-    let run = Run {
+    Run {
         root: root_path(region, to_move.from_dir),
         height: tree.height(),
         off: to_move.from_slot * ENTRY_SIZE + 8,
         bytes: &bytes[..8 + 8 * to_move.name.len().div_ceil(8)],
-    };
-    Touched {
-        words: &[],
-        run: Some(run),
     }
+}
+
+/// What is touched by a run alone.
+fn touched_by<'a>(runs: &'a [Run<'a>; 1]) -> Touched<'a>
+    ensures runs { result.runs.now ≡ runs.now }
+    ensures words { result.words.now ≡ [] }
+{
+    Touched { words: &[], runs }
 }
 
 /// How many blocks a name needs that is spelled anew.
@@ -79,7 +83,8 @@ pub(crate) fn need_within<R: Region>(region: &R, to_move: &Move<'_>) -> u32
         (respells to_move.now.from_dir to_move.now.from_slot (length to_move.now.name.now)) }
 {
     let bytes = respelled(to_move.name);
-    need_cover(region, &touched_name(region, to_move, &bytes))
+    let runs = [name_run(region, to_move, &bytes)];
+    need_cover(region, &touched_by(&runs))
 }
 
 /// Spells a name anew, by one commit of its words.
@@ -98,6 +103,7 @@ pub(crate) fn rename_within<R: Region>(parts: &mut Parts<R>, to_move: &Move<'_>)
     ensures exact { IsExact (current_words (R.memory parts.new.region)) parts.new }
 {
     let bytes = respelled(to_move.name);
-    let touched = touched_name(&parts.region, to_move, &bytes);
+    let runs = [name_run(&parts.region, to_move, &bytes)];
+    let touched = touched_by(&runs);
     commit(parts, &touched);
 }

@@ -3,9 +3,11 @@ use Rattle.std.proofs.Common.{◌≡◌, ℕ, refl, sym, ◌∙◌}
 use Rattle.std.specs.Prelude.{Result, Ok, Err, MatchResult, OnErr, OnOk, unwrap_or}
 use Rattle.bp_cache.specs.Changes.{KeepsAllNames, NameEnters}
 use Rattle.bp_cache.specs.declared.name_at.NameAt.{NameAt}
-use Rattle.bp_cache.proofs.EffectLaws.{adds_enter, file_keeps_all, links_enter}
+use Rattle.bp_cache.proofs.EffectLaws.{adds_enter, directories_keep_all, file_keeps_all, links_enter}
 use Rattle.bp_calls.specs.Created.{EntersName, LinksEntry}
 use Rattle.bp_changes.specs.Effects.{ChangesFile}
+use Rattle.bp_changes.specs.KeepsDirectories.{KeepsDirectories}
+use Rattle.bp_changes.proofs.KeepsDirectories.{directories-same, well_formed-same}
 use Rattle.bp_free.specs.declared.parts.NoSpace.{NoSpace}
 use Rattle.bp_plain.specs.declared.errors.FsError.{FsError}
 use Rattle.bp_layout.specs.Directory.{Name, empty_slot, entry_count}
@@ -50,6 +52,13 @@ pub file_kept : (old new : Memory) (inner : Result (Unit {0}) NoSpace) → IsWel
     KeepsAllNames (current_words old) (current_words new)
 file_kept old new (Ok x) wf i changes same = file_keeps_all (current_words old) (current_words new) wf i changes
 file_kept old new (Err lacks) wf i changes same = rw same (all_kept (current_words old))
+
+-- the same where it changes several files
+pub files_kept : (old new : Memory) (inner : Result (Unit {0}) NoSpace) → IsWellFormed (current_words old) → OnOk inner (KeepsDirectories (current_words old) (current_words new)) → OnErr inner (new ≡ old) →
+    KeepsAllNames (current_words old) (current_words new)
+files_kept old new (Ok x) wf keeps same =
+    directories_keep_all (current_words old) (current_words new) (directories-same (current_words old) (current_words new) wf keeps) (well_formed-same (current_words old) (current_words new) wf keeps)
+files_kept old new (Err lacks) wf keeps same = rw same (all_kept (current_words old))
 
 -- a call on inodes whose result, with its refusal told as that of a call with a path, is `Ok`
 pub on_ok_was : {P : Type 0} (inner : Result (Unit {0}) NoSpace) (v : Unit {0}) → MatchResult inner (λ x. ◌≡◌ {A = Result (Unit {0}) FsError} (Ok v) (Ok x)) (λ _. ⊥) → OnOk inner P → P

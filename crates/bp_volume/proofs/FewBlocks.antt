@@ -136,14 +136,17 @@ module _ (base : WordPath) (height : ℕ) (low : height ≤ max_height) (shortes
         let both = length-append (filter (λ prefix. not (list_any (is_prefix prefix) (path k ∷ earlier))) (prefixes_from shortest (path (k + 1)))) (prefixes_of shortest (path (k + 1) ∷ path k ∷ earlier) (map path (range_with_len (k + 1 + 1) n) ++ rest)) in
         omega (arith, behind, here, both)
 
-    -- a run of paths copies few blocks besides those of the first
-    pub run_few : (n k : ℕ) → length (prefixes_of shortest [] (map path (range_with_len k n) ++ rest)) + charge k ≤ length (path k) + charge (k + n) + most
-    run_few zero k = omega (arith, few [])
-    run_few (suc n) k =
-        let behind = run_behind n k [] in
-        let here = one_few shortest [] (path k) in
-        let both = length-append (filter (λ prefix. not (list_any (is_prefix prefix) [])) (prefixes_from shortest (path k))) (prefixes_of shortest (path k ∷ []) (map path (range_with_len (k + 1) n) ++ rest)) in
+    -- a run of paths copies few blocks besides those of the first, whatever comes before
+    pub run_few_after : (earlier : List WordPath) (n k : ℕ) → length (prefixes_of shortest earlier (map path (range_with_len k n) ++ rest)) + charge k ≤ length (path k) + charge (k + n) + most
+    run_few_after earlier zero k = omega (arith, few earlier)
+    run_few_after earlier (suc n) k =
+        let behind = run_behind n k earlier in
+        let here = one_few shortest earlier (path k) in
+        let both = length-append (filter (λ prefix. not (list_any (is_prefix prefix) earlier)) (prefixes_from shortest (path k))) (prefixes_of shortest (path k ∷ earlier) (map path (range_with_len (k + 1) n) ++ rest)) in
         omega (arith, behind, here, both)
+
+    pub run_few : (n k : ℕ) → length (prefixes_of shortest [] (map path (range_with_len k n) ++ rest)) + charge k ≤ length (path k) + charge (k + n) + most
+    run_few = run_few_after []
 
 -- a path by itself
 pub alone_few : (shortest : ℕ) (earlier : List WordPath) (path : WordPath) → length (prefixes_of shortest earlier (path ∷ [])) ≤ length path

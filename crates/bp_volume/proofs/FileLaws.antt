@@ -89,7 +89,7 @@ module _ (image : Image) (text : List ℕ) (i : ℕ) (at : PathFinds image text 
   path_is = ap (λ (o : Option Path). unwrap_or o []) at.parsed
 
   -- the text spells no other path
-  same_file : (k : ℕ) → PathFinds image text k → k ≡ i
+  pub same_file : (k : ℕ) → PathFinds image text k → k ≡ i
   same_file k other =
       let paths : ◌≡◌ {A = Option Path} (Some other.path) (Some at.path) = sym other.parsed ∙ at.parsed in
       let same : other.path ≡ at.path = cc in

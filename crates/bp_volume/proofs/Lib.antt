@@ -8,6 +8,9 @@ pub mod AskingLaws
 pub mod ChangeLaws
 pub mod FewBlocks
 pub mod FileLaws
+pub mod FewStretches
+pub mod BatchLaws
+pub mod PieceLaws
 pub mod FullLaws
 pub mod LeavingLaws
 pub mod RenameLaws

@@ -1,11 +1,11 @@
 -- Calls that change nothing, as images tell them.
-use Rattle.std.specs.Prelude.{◌≡◌, ℕ, List, [], ◌∷◌, false, Option, None, Some}
+use Rattle.std.specs.Prelude.{◌≡◌, ℕ, List, [], ◌∷◌, map, false, Option, None, Some}
 use Rattle.bp_layout.specs.Words.{Image}
 use Rattle.bp_layout.specs.Lookup.{Path}
 use Rattle.bp_plain.specs.PlainTree.{FileTree}
 use Rattle.bp_plain.specs.Stands.{Stands}
-use Rattle.bp_plain.specs.Calls.{Call, Answer, Refusal}
-use Rattle.bp_plain.specs.Plain.{on_path, refusal, walk, walk_parent, first, when, file_refusal, is_root_path, move_refusal, new_refusal}
+use Rattle.bp_plain.specs.Calls.{Call, Answer, Piece, Refusal}
+use Rattle.bp_plain.specs.Plain.{on_path, refusal, walk, walk_parent, first, when, file_refusal, is_root_path, move_refusal, new_refusal, piece_refusal}
 use Rattle.bp_plain.specs.Calls.Refusal.{not_found, not_dir}
 use Rattle.bp_path.specs.Walk.{Walked}
 use Rattle.bp_path.specs.Walk.Walked.{found, missing, in_file}
@@ -79,3 +79,11 @@ RefusesParent image path why = (tree : FileTree) → Stands image tree → walk_
 -- a rename of the first path to the second is refused so
 abbrev pub RefusesRename : Image → Path → Path → Refusal → Type 0
 RefusesRename image p q why = (tree : FileTree) → Stands image tree → move_refusal tree.now.nodes p q ≡ Some why
+
+-- a piece of a batch is refused so, and the first of some pieces that is refused
+abbrev pub RefusesPiece : Image → Piece → Refusal → Type 0
+RefusesPiece image piece why = (tree : FileTree) → Stands image tree → piece_refusal tree.now.nodes piece ≡ Some why
+
+abbrev pub RefusesPieces : Image → List Piece → Refusal → Type 0
+RefusesPieces image pieces why = (tree : FileTree) → Stands image tree →
+    first (map (piece_refusal tree.now.nodes) pieces) ≡ Some why

@@ -2,6 +2,7 @@
 #![tactic(auto)]
 
 mod asking;
+mod batching;
 mod creating;
 pub mod laws;
 mod laying;

@@ -1,20 +1,21 @@
 //! The volume.
 
-ghost use Rattle.std.specs.Prelude.{[], ◌*◌, ◌≡◌, ◌⊎◌, ◌≤◌, ◌↔◌, IfErr, IfOk, IsOk, OnErr, OnOk, drop, length};
+ghost use Rattle.std.specs.List.{All};
+ghost use Rattle.std.specs.Prelude.{[], ◌*◌, ◌≡◌, ◌⊎◌, ◌≤◌, ◌↔◌, IfErr, IfOk, IsOk, OnErr, OnOk, drop, length, map};
 ghost use Rattle.bp_cache.specs.Cache.{IsCacheOf};
 ghost use Rattle.bp_layout.specs.Formatted.{IsSized};
 ghost use Rattle.bp_layout.specs.Whole.{HasSpace, IsFileSystem, SameFiles};
 ghost use Rattle.bp_layout.specs.Words.{block_count};
-ghost use Rattle.bp_limits.specs.Limits.{block_inodes, call_room, max_read};
+ghost use Rattle.bp_limits.specs.Limits.{block_inodes, call_room, max_pieces, max_read};
 ghost use Rattle.pm_epochs.specs.Log.{marks};
 ghost use Rattle.pm_epochs.specs.Replay.{IsRight, after_calls, kept_calls};
 ghost use Rattle.pm_region.specs.Memory.{crashed, current_words, drained, room_in, with_room};
 ghost use Rattle.pm_region.specs.Safe.{IsSafe};
 ghost use Rattle.bp_limits.specs.declared.version.Version.TheVariants.{One};
 ghost use Rattle.bp_plain.specs.Calls.Answer.{done};
-ghost use Rattle.bp_plain.specs.Calls.Call.{create, link, links, list, mkdir, read, rename, rmdir, stat, truncate, unlink, upgrade, write};
+ghost use Rattle.bp_plain.specs.Calls.Call.{batch, create, link, links, list, mkdir, read, rename, rmdir, stat, truncate, unlink, upgrade, write};
 ghost use Rattle.bp_plain.specs.PlainTree.{empty_tree};
-ghost use Rattle.bp_plain.specs.Seen.{call_of};
+ghost use Rattle.bp_plain.specs.Seen.{CanAsk, LiesIn, call_of, piece_in};
 ghost use Rattle.bp_plain.specs.Served.{IsServed};
 ghost use Rattle.bp_plain.specs.Stands.{Stands};
 ghost use Rattle.bp_scan.specs.Faults.{IsFault};
@@ -24,6 +25,7 @@ ghost use Rattle.bp_volume.specs.Laid.{formatted_memory};
 ghost use Rattle.bp_volume.specs.Seen.{links_answer, list_answer_of, read_answer, stat_answer_of, unit_answer};
 
 use crate::asking::{links_at, list_at, read_at, stat_at};
+use crate::batching::batch_at;
 use crate::creating::create_at;
 use crate::laying::lay_out;
 use crate::linking::link_at;
@@ -40,7 +42,7 @@ use bp_cache::DirectoryCache;
 use bp_free::Parts;
 use bp_layout::{Kind, Listing, Stat};
 use bp_limits::{BLOCK_WORDS, CALL_ROOM, Version};
-use bp_plain::{Call, FsError, Reply};
+use bp_plain::{Call, FsError, Piece, Reply};
 use bp_scan::{MountFault, Pending, Totals, scan};
 use pm_epochs::{BadChoice, Choice, Kept};
 use pm_region::Region;
@@ -318,6 +320,28 @@ impl<R: Region> Volume<R> {
         made
     }
 
+    /// Puts bytes into several files, or into one, all at once: the pieces in their order, so that of two which give the
+    /// same byte the later one stands. The paths of the pieces and their bytes are parts of the text. Each file keeps its
+    /// size, and with no byte in all nothing changes.
+    ///
+    /// # Errors
+    ///
+    /// `BadPath` where the path text of a piece is no path; `TooLong` where there are more than 65,536 bytes in all; of
+    /// the first piece that meets one of these `NotFound` or `NotDir` at the first name on the way that is missing, or is
+    /// sought in a file, `IsDir` where a directory stands there, and `PastEnd` where its bytes, or its place where it has
+    /// none, end past the size of the file; and last `NoSpace` where fewer blocks are free than the batch needs. Nothing
+    /// has changed then.
+    pub fn batch(&mut self, text: &[u8], pieces: &[Piece]) -> Result<(), FsError>
+        requires few { length pieces.now ≤ max_pieces }
+        requires lie { All (LiesIn text.now) pieces.now }
+        ensures { FileCall self.old (batch (map (piece_in text.now) pieces.now)) (unit_answer result) self.new }
+    {
+        self.make_room();
+        let made = batch_at(&mut self.parts, &mut self.cache, text, pieces);
+        self.parts.region.mark();
+        made
+    }
+
     /// Gives the file at a path another size in bytes: it ends there, or gets zeros behind its old bytes.
     ///
     /// # Errors
@@ -407,10 +431,11 @@ impl<R: Region> Volume<R> {
         self.parts.region.mark();
     }
 
-    /// Makes a call, and tells its result in the reply. A read may ask for 65,536 bytes at most. Snapshots and batches are
+    /// Makes a call, and tells its result in the reply. A read may ask for 65,536 bytes at most. Calls on a snapshot are
     /// not carried out yet.
     pub fn apply(&mut self, alloc: Global, call: &Call, reply: &mut Reply)
-        requires { IsServed (call_of call.now) }
+        requires served { IsServed (call_of call.now) }
+        requires can { CanAsk call.now }
         ensures { FileCall self.old (call_of call.now) reply.new.answer self.new }
     {
         match call {
@@ -427,12 +452,12 @@ impl<R: Region> Volume<R> {
             Call::Link { from, to } => tell_done(reply, self.link(from, to)),
             Call::Links(path) => tell_links(reply, self.links(path)),
             Call::Upgrade => self.apply_upgrade(reply),
+            Call::Batch { text, pieces } => tell_done(reply, self.batch(text, pieces)),
             Call::Snap
             | Call::Unsnap
             | Call::SnapList(_)
             | Call::SnapStat(_)
-            | Call::SnapRead { .. }
-            | Call::Batch { .. } => unreachable!(),
+            | Call::SnapRead { .. } => unreachable!(),
         }
     }
 

@@ -4,7 +4,7 @@
 ghost use Rattle.std.specs.Prelude.{◌≡◌, ◌+◌, ◌<◌, ◌≤◌, length, IfErr, OnErr, OnOk};
 ghost use Rattle.bp_calls.specs.CanWrite.{CanWrite};
 ghost use Rattle.bp_calls.specs.Space.{LacksSpace};
-ghost use Rattle.bp_calls.specs.TouchedAcross.{IsSizeWord, TouchesAcross};
+ghost use Rattle.bp_calls.specs.TouchedAcross.{IsRunAcross, WritesAcross};
 ghost use Rattle.bp_calls.specs.WritesFile.{WritesFile};
 ghost use Rattle.bp_layout.specs.Inode.{root_of, size_of};
 ghost use Rattle.bp_layout.specs.Need.Change.{writes};
@@ -19,37 +19,67 @@ use bp_inodes::{root_path, size_path, tree_of};
 use bp_tree::{Slots, Tree};
 use pm_region::Region;
 
-/// What is touched by bytes that end past the size of a file: those below its size, in its tree once it is high enough
-/// for all of them, and its size, which will be the end.
-fn touched_across<'a, R: Region>(
+/// The run of bytes that lie below the size of a file, in its tree once it is high enough for an end.
+fn run_across<'a, R: Region>(
     region: &R,
     i: u32,
     tree: Tree,
     off: u64,
     below: &'a [u8],
-    sized: &'a [(Slots, u64); 1],
     end: u64,
-) -> Touched<'a>
+) -> Run<'a>
     requires some { 4 ≤ length (current_words (R.memory region.now)) }
     requires root { tree.root ≡ root_of (current_words (R.memory region.now)) i }
     requires size { tree.size ≡ size_of (current_words (R.memory region.now)) i }
-    requires sized { IsSizeWord (current_words (R.memory region.now)) i end sized.now }
-    ensures { TouchesAcross (current_words (R.memory region.now)) i off end below.now result }
+    ensures { IsRunAcross (current_words (R.memory region.now)) i off end below.now result }
 {
-    let run = Run {
+    Run {
         root: root_path(region, i),
         height: height_with(tree, end),
         off,
         bytes: below,
-    };
-    Touched {
-        words: sized,
-        run: Some(run),
     }
 }
 
-/// Writes bytes that begin below the size of a file and end past it. Its tree is prepared for those behind the size, and
-/// then one store brings the others in, together with the size.
+/// Writes bytes across the size of a file, given what is touched for them. Its tree is prepared for those behind the
+/// size, and then one store brings the others in, together with the size.
+///
+/// # Errors
+///
+/// Where fewer blocks are free than are needed.
+fn write_touched<R: Region>(
+    parts: &mut Parts<R>,
+    i: u32,
+    off: u64,
+    bytes: &[u8],
+    touched: &Touched<'_>,
+) -> Result<(), NoSpace>
+    requires exact { IsExact (current_words (R.memory parts.old.region)) parts.old }
+    requires across { WritesAcross (R.memory parts.old.region) parts.old.blocks parts.old.inodes i off bytes.now
+        touched.now }
+    ensures performs { OnOk result (Performs (kept_of parts.old) (R.memory parts.old.region) (R.memory parts.new.region)
+        (writes i off (length bytes.now)) (WritesFile i off bytes.now)) }
+    ensures exact { IsExact (current_words (R.memory parts.new.region)) parts.new }
+    ensures refused { IfErr result (LacksSpace (current_words (R.memory parts.old.region)) (kept_of parts.old)
+        (writes i off (length bytes.now))) }
+    ensures same { OnErr result (parts.new ≡ parts.old) }
+{
+    let tree = tree_of(&parts.region, i);
+    let end = off + bytes.len() as u64;
+    let (_, beyond) = bytes.split_at((tree.size - off) as usize);
+    let root = root_path(&parts.region, i);
+    let behind = need_prep(&parts.region, tree, tree.size, end);
+    let need = behind + need_cover(&parts.region, touched);
+    let free = parts.blocks.count();
+    if free < need {
+        return Err(NoSpace { need, free });
+    }
+    prep(parts, &root, tree.size, beyond, end);
+    commit(parts, touched);
+    Ok(())
+}
+
+/// Writes bytes that begin below the size of a file and end past it.
 ///
 /// # Errors
 ///
@@ -73,17 +103,12 @@ pub(crate) fn write_across<R: Region>(
 {
     let tree = tree_of(&parts.region, i);
     let end = off + bytes.len() as u64;
-    let (below, beyond) = bytes.split_at((tree.size - off) as usize);
-    let root = root_path(&parts.region, i);
+    let (below, _) = bytes.split_at((tree.size - off) as usize);
     let sized = [(size_path(&parts.region, i), end)];
-    let touched = touched_across(&parts.region, i, tree, off, below, &sized, end);
-    let behind = need_prep(&parts.region, tree, tree.size, end);
-    let need = behind + need_cover(&parts.region, &touched);
-    let free = parts.blocks.count();
-    if free < need {
-        return Err(NoSpace { need, free });
-    }
-    prep(parts, &root, tree.size, beyond, end);
-    commit(parts, &touched);
-    Ok(())
+    let runs = [run_across(&parts.region, i, tree, off, below, end)];
+    let touched = Touched {
+        words: &sized,
+        runs: &runs,
+    };
+    write_touched(parts, i, off, bytes, &touched)
 }

@@ -3,7 +3,7 @@ use Rattle.bp_cow.specs.Touched.{job_of}
 use Rattle.bp_cow.specs.Job.{ways, turned_upto}
 use Rattle.bp_cow.proofs.CommitEnd.{copied-some, copied-none}
 use Rattle.bp_cow.proofs.NeedLaws.{upto-next}
-use Rattle.bp_cow.proofs.RunLaws.{leaves-few}
+use Rattle.bp_cow.proofs.RunsLaws.{leaves-few}
 use Rattle.bp_cow.proofs.need.copies_below.Goals as goal
 
 pub way_len-requires-clause-i : goal.way_len-requires-clause-i
@@ -17,7 +17,7 @@ turned_for-count-requires-clause-i c = subst (λ n. c.loop-i.i < n) c.ways-ways.
 
 pub overflow_add-count : goal.overflow_add-count
 overflow_add-count c =
-    omega (arith, c.loop-i.invariant.few, c.turned_for-count.ensures.few, c.loop-i-test.true, c.ways-ways.ensures, leaves-few c.args.touched.now.run c.requires.run, c.requires.few)
+    omega (arith, c.loop-i.invariant.few, c.turned_for-count.ensures.few, c.loop-i-test.true, c.ways-ways.ensures, leaves-few c.args.touched.now.runs.now c.requires.runs, c.requires.few_runs, c.requires.few)
 
 pub loop-i-preserved : goal.loop-i-preserved
 loop-i-preserved c = record {

@@ -2,7 +2,7 @@ use Rattle.std.proofs.Common.{◌≡◌, ℕ, ◌-◌, ◌<◌, ◌≤◌, lengt
 use Rattle.std.proofs.lemmas.Bool.{cases_eq}
 use Rattle.bp_shapes.specs.Trail.{Trail}
 use Rattle.bp_shapes.proofs.PathTrails.{length-trail_of}
-use Rattle.bp_cow.specs.Touched.{job_of, word_paths}
+use Rattle.bp_cow.specs.Touched.{first_leaves, job_of, word_paths}
 use Rattle.bp_cow.specs.Job.{Job, front, IsBegun}
 use Rattle.bp_cow.proofs.LeafBefore.{leaf-before}
 use Rattle.bp_cow.proofs.ways.is_new.Goals as goal
@@ -30,12 +30,12 @@ loop-j-preserved c =
           ];
     }
 
-pub returns-then-i-leaves-clause-first : goal.returns-then-i-leaves-clause-first
-returns-then-i-leaves-clause-first c _ b =
+pub returns-then-i-first_leaves-clause-first : goal.returns-then-i-first_leaves-clause-first
+returns-then-i-first_leaves-clause-first c _ b =
     let touched = c.args.touched.now in
     let job = job_of touched in
-    let leaf : c.args.i < job.leaves = subst (λ n. c.args.i < n) c.leaves.ensures c.if-i-leaves.true in
-    let before = leaf-before touched.run (word_paths touched) b.which c.args.i c.args.depth c.requires.touched.run b.early leaf c.requires.depth (same_front job c.args.from c.args.i c.args.depth b) in
+    let leaf : c.args.i < first_leaves touched.runs.now = subst (λ n. c.args.i < n) c.first_leaves.ensures c.if-i-first_leaves.true in
+    let before = leaf-before touched.runs.now (word_paths touched) b.which c.args.i c.args.depth c.requires.touched.runs b.early leaf c.requires.depth (same_front job c.args.from c.args.i c.args.depth b) in
     let seen = c.loop-j.invariant.rest (record { which = c.args.i - 1; depth = c.args.depth; early = omega (arith, b.early); low = c.requires.from; high = before.0; same = before.1 }) in
     let asked : c.args.i - 1 ≡ c.loop-j.j - 1 = omega (arith, seen, c.loop-j.invariant.low) in
     c.begins.ensures.no c.if-begins.false (subst (λ w. c.args.depth ≤ length (job.way w)) asked before.0) (before.1 ∙ ap (λ w. front job w c.args.depth) asked)

@@ -1,0 +1,63 @@
+-- What bytes for several files ask, and what they touch.
+use Rattle.std.specs.Prelude.{◌≡◌, ℕ, ◌+◌, ◌≤◌, List, [], ◌∷◌, length, map}
+use Rattle.bp_limits.specs.Limits.{max_batch, max_pieces}
+use Rattle.bp_layout.specs.Inode.{IsFile, root_of, size_of}
+use Rattle.bp_layout.specs.Members.{Each}
+use Rattle.bp_layout.specs.Need.{Stretch}
+use Rattle.bp_layout.specs.Need.Change.{overwrites}
+use Rattle.bp_layout.specs.Reached.{IsReached}
+use Rattle.bp_layout.specs.Thaw.{none_kept}
+use Rattle.bp_layout.specs.WellFormed.{IsWellFormed}
+use Rattle.bp_layout.specs.Words.{Image}
+use Rattle.bp_changes.specs.Overwrites.{Patch}
+use Rattle.bp_shapes.specs.Sets.{AreExact}
+use Rattle.bp_free.specs.Set.{Set}
+use Rattle.bp_cow.specs.declared.touched.Run.{Run}
+use Rattle.bp_calls.specs.declared.batching.Patch.{Patch as GivenPatch}
+use Rattle.bp_calls.specs.Space.{HasRoomWhereFree}
+use Rattle.bp_calls.specs.TouchedBelow.{IsRunFor}
+use Rattle.pm_region.specs.Memory.{Memory, current_words}
+
+-- the patches of code as those of the definitions
+abbrev pub patch_seen : GivenPatch → Patch
+patch_seen patch = record { inode = patch.inode; off = patch.off; bytes = patch.bytes.now }
+
+abbrev pub patches_seen : List GivenPatch → List Patch
+patches_seen patches = map patch_seen patches
+
+-- the bytes that they change, by their place alone
+abbrev pub stretch_of : Patch → Stretch
+stretch_of patch = record { inode = patch.inode; off = patch.off; len = length patch.bytes }
+
+abbrev pub stretches_of : List Patch → List Stretch
+stretches_of patches = map stretch_of patches
+
+abbrev pub byte_count : List Patch → ℕ
+byte_count [] = 0
+byte_count (patch ∷ patches) = length patch.bytes + byte_count patches
+
+-- the inode is a file, and the bytes end at its size at most
+pub record IsPatchIn (image : Image) (patch : Patch) : Type 0 where
+  pub reached : IsReached image patch.inode
+  pub is_file : IsFile image patch.inode
+  pub within : patch.off + length patch.bytes ≤ size_of image patch.inode
+
+-- The image is well formed, the sets are exact, and the patches lie in files, so many at most. Some of them has a byte,
+-- and all have no more than one call writes. The log has room for the change, where enough blocks are free.
+pub record CanOverwrite (memory : Memory) (blocks inodes : Set) (patches : List Patch) : Type 0 where
+  pub well_formed : IsWellFormed (current_words memory)
+  pub exact : AreExact (current_words memory) none_kept blocks inodes
+  pub few : length patches ≤ max_pieces
+  pub each : Each (IsPatchIn (current_words memory)) patches
+  pub some : 1 ≤ byte_count patches
+  pub short : byte_count patches ≤ max_batch
+  pub room : HasRoomWhereFree memory none_kept blocks (overwrites (stretches_of patches))
+
+-- the runs of the patches that have bytes, in their order
+pub data AreRuns (image : Image) : List Patch → List Run → Type 0 where
+  none : AreRuns image [] []
+  empty : {patch : Patch} {patches : List Patch} {runs : List Run} → length patch.bytes ≡ 0 →
+      AreRuns image patches runs → AreRuns image (patch ∷ patches) runs
+  more : {patch : Patch} {patches : List Patch} {run : Run} {runs : List Run} → 1 ≤ length patch.bytes →
+      IsRunFor image patch.inode patch.off patch.bytes run → AreRuns image patches runs →
+      AreRuns image (patch ∷ patches) (run ∷ runs)

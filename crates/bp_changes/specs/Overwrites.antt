@@ -1,0 +1,38 @@
+-- Bytes are laid into files, below their sizes.
+use Rattle.std.specs.Prelude.{◌≡◌, ℕ, ◌+◌, ◌-◌, ◌<◌, List, [], ◌∷◌, length, ◌==◌, ◌&&◌, nat_le, nat_lt, if◌then◌else◌, slice_index}
+use Rattle.bp_limits.specs.Limits.{entry_words}
+use Rattle.bp_layout.specs.Words.{Image}
+use Rattle.bp_layout.specs.Tree.{byte}
+use Rattle.bp_layout.specs.Inode.{IsDirectory, IsFile, kind_of, root_of, size_of}
+use Rattle.bp_layout.specs.Directory.{EntryNames, inumber_at, entry_word, entry_count}
+use Rattle.bp_layout.specs.Reached.{IsReached}
+use Rattle.bp_changes.specs.KeepsTrees.{KeepsTrees}
+
+-- bytes for a file, from an offset on
+pub record Patch : Type 0 where
+  pub inode : ℕ
+  pub off : ℕ
+  pub bytes : List ℕ
+
+-- byte o of file i with a patch laid over it, where it had this one
+abbrev pub patched_by : Patch → ℕ → ℕ → ℕ → ℕ
+patched_by patch i o had =
+    if (patch.inode == i) && nat_le patch.off o && nat_lt o (patch.off + length patch.bytes)
+    then slice_index patch.bytes (o - patch.off) else had
+
+-- and with several, one after the other: where two give the same byte, that of the later one stands
+abbrev pub patched : List Patch → ℕ → ℕ → ℕ → ℕ
+patched [] i o had = had
+patched (patch ∷ patches) i o had = patched patches i o (patched_by patch i o had)
+
+-- Each file has its bytes with the patches laid over them. All else is as it was, sizes too.
+pub record OverwritesFiles (patches : List Patch) (old new : Image) : Type 0 where
+  pub trees : KeepsTrees old new
+  pub kind : (t : ℕ) → IsReached old t → kind_of new t ≡ kind_of old t
+  pub size : (t : ℕ) → IsReached old t → size_of new t ≡ size_of old t
+  pub inumber : (i s : ℕ) → IsReached old i → IsDirectory old i → s < entry_count old i →
+      inumber_at new i s ≡ inumber_at old i s
+  pub entry : (i s j f : ℕ) → IsReached old i → EntryNames old i s j → f < entry_words →
+      entry_word new i s f ≡ entry_word old i s f
+  pub bytes : (i o : ℕ) → IsReached old i → IsFile old i → o < size_of old i →
+      byte new (root_of new i) o ≡ patched patches i o (byte old (root_of old i) o)

@@ -1,0 +1,17 @@
+-- The leaves of runs, by the ways to them.
+use Rattle.std.specs.Prelude.{◌≡◌, ℕ, ◌+◌, ◌*◌, ◌/◌, ◌<◌, List}
+use Rattle.bp_limits.specs.Limits.{block_size, block_words}
+use Rattle.bp_layout.specs.Members.{Has}
+use Rattle.bp_layout.specs.WordPaths.{WordPath}
+use Rattle.bp_cow.specs.Touched.{laid_word, leaves_of, patch_of, run_leaves, run_way, way_of}
+use Rattle.bp_cow.specs.declared.touched.Run.{Run}
+
+-- A way among those of some runs leads to a leaf of one of them, by the leaf's number in that run. What all runs that
+-- there are lay over it goes by the run's tree.
+pub record IsLeaf (all runs : List Run) (paths : List WordPath) (i : ℕ) (run : Run) (leaf : ℕ) : Type 0 where
+  pub has : Has runs run
+  pub low : leaf < run_leaves run
+  pub here : i < leaves_of runs
+  pub way : way_of runs paths i ≡ run_way run leaf
+  pub patch : (slot old : ℕ) → patch_of all runs i slot old
+      ≡ laid_word all run.root.items (block_words * (run.off / block_size + leaf) + slot) old

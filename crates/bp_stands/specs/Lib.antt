@@ -1,0 +1,2 @@
+-- The pieces of a batch in an image.
+pub mod Pieces

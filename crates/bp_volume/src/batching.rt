@@ -1,0 +1,175 @@
+//! Bytes into several files at once.
+
+ghost use Rattle.std.specs.List.{All, list_any, sum_by};
+ghost use Rattle.std.specs.Prelude.{◌≡◌, ◌+◌, ◌≤◌, IfErr, IfOk, false, is_none, length, map};
+ghost use Rattle.bp_cache.specs.Cache.{IsCacheOf};
+ghost use Rattle.bp_cache.specs.Changes.{KeepsAllNames};
+ghost use Rattle.bp_calls.specs.Overwritten.{patch_seen, patches_seen};
+ghost use Rattle.bp_layout.specs.PathText.{parse};
+ghost use Rattle.bp_layout.specs.WellFormed.{IsWellFormed};
+ghost use Rattle.bp_limits.specs.Limits.{max_batch, max_pieces};
+ghost use Rattle.bp_plain.specs.Calls.Call.{batch};
+ghost use Rattle.bp_plain.specs.Seen.{LiesIn, piece_in, refusal_of, spanned};
+ghost use Rattle.bp_shapes.specs.Sets.{IsExact};
+ghost use Rattle.bp_stands.specs.Pieces.{ArePatches, PieceFinds, patch_of};
+ghost use Rattle.bp_volume.specs.Carried.{CarriesOut};
+ghost use Rattle.bp_volume.specs.Ready.{IsReady};
+ghost use Rattle.bp_volume.specs.Seen.{unit_answer};
+ghost use Rattle.bp_volume.specs.Told.{RefusesPiece, RefusesPieces};
+ghost use Rattle.pm_region.specs.Memory.{current_words};
+
+use crate::refusing::no_space;
+use crate::walking::file_at;
+use arrayvec::ArrayVec;
+use bp_cache::DirectoryCache;
+use bp_calls::Patch;
+use bp_free::Parts;
+use bp_limits::MAX_BATCH;
+use bp_path::parse;
+use bp_plain::{FsError, Piece, Span};
+use pm_region::Region;
+
+/// A part of a text.
+fn part_of(text: &[u8], span: Span) -> &[u8]
+    requires { span.at + span.len ≤ length text.now }
+    ensures { result.now ≡ spanned text.now span }
+{
+    let at = span.at as usize;
+    &text[at..at + span.len as usize]
+}
+
+/// Whether the path of a piece is not one.
+fn has_bad_path(text: &[u8], pieces: &[Piece]) -> bool
+    requires { All (LiesIn text.now) pieces.now }
+    ensures { result ≡ list_any (λ piece. is_none (parse piece.path)) (map (piece_in text.now) pieces.now) }
+{
+    for piece in pieces {
+        if parse(part_of(text, piece.path)).is_err() {
+            return true;
+        }
+    }
+    false
+}
+
+/// How many bytes the pieces have.
+fn total(pieces: &[Piece]) -> u64
+    requires { length pieces.now ≤ max_pieces }
+    ensures { result ≡ sum_by (λ piece. piece.bytes.len) pieces.now }
+{
+    let mut total = 0;
+    for piece in pieces {
+        total += u64::from(piece.bytes.len);
+    }
+    total
+}
+
+/// The patch of a piece whose path is one: its bytes, for the file at the path.
+fn patch_for<'a, R: Region>(
+    region: &R,
+    cache: &mut DirectoryCache,
+    text: &'a [u8],
+    piece: &Piece,
+) -> Result<Patch<'a>, FsError>
+    requires well_formed { IsWellFormed (current_words (R.memory region.now)) }
+    requires right { IsCacheOf (current_words (R.memory region.now)) cache.old }
+    requires lies { LiesIn text.now piece.now }
+    requires path { is_none (parse (spanned text.now piece.now.path)) ≡ false }
+    ensures found { IfOk result (λ patch.
+        PieceFinds (current_words (R.memory region.now)) (piece_in text.now piece.now) patch.inode) }
+    ensures patch { IfOk result (λ patch. patch_seen patch ≡ patch_of (piece_in text.now piece.now) patch.inode) }
+    ensures refused { IfErr result (λ e.
+        RefusesPiece (current_words (R.memory region.now)) (piece_in text.now piece.now) (refusal_of e)) }
+    ensures right { IsCacheOf (current_words (R.memory region.now)) cache.new }
+{
+    let file = file_at(region, cache, part_of(text, piece.path))?;
+    let bytes = part_of(text, piece.bytes);
+    if file.size < piece.off || file.size - piece.off < bytes.len() as u64 {
+        return Err(FsError::PastEnd);
+    }
+    Ok(Patch {
+        inode: file.inumber,
+        off: piece.off,
+        bytes,
+    })
+}
+
+/// The patches of pieces whose paths are ones, in their order.
+fn patches_for<'a, R: Region>(
+    region: &R,
+    cache: &mut DirectoryCache,
+    text: &'a [u8],
+    pieces: &[Piece],
+) -> Result<ArrayVec<Patch<'a>, 16>, FsError>
+    requires well_formed { IsWellFormed (current_words (R.memory region.now)) }
+    requires right { IsCacheOf (current_words (R.memory region.now)) cache.old }
+    requires few { length pieces.now ≤ max_pieces }
+    requires lie { All (LiesIn text.now) pieces.now }
+    requires paths { list_any (λ piece. is_none (parse piece.path)) (map (piece_in text.now) pieces.now) ≡ false }
+    ensures found { IfOk result (λ patches. ArePatches (current_words (R.memory region.now))
+        (map (piece_in text.now) pieces.now) (patches_seen patches.items)) }
+    ensures refused { IfErr result (λ e. RefusesPieces (current_words (R.memory region.now))
+        (map (piece_in text.now) pieces.now) (refusal_of e)) }
+    ensures right { IsCacheOf (current_words (R.memory region.now)) cache.new }
+{
+    let mut patches = ArrayVec::new();
+    for piece in pieces {
+        let patch = patch_for(region, cache, text, piece)?;
+        patches.push(patch);
+    }
+    Ok(patches)
+}
+
+/// Writes the bytes of pieces into their files, all at once. With no byte it changes nothing.
+fn batch_into<R: Region>(
+    parts: &mut Parts<R>,
+    text: &[u8],
+    pieces: &[Piece],
+    total: u64,
+    patches: &[Patch<'_>],
+) -> Result<(), FsError>
+    requires ready { IsReady (R.memory parts.old.region) parts.old }
+    requires few { length pieces.now ≤ max_pieces }
+    requires lie { All (LiesIn text.now) pieces.now }
+    requires paths { list_any (λ piece. is_none (parse piece.path)) (map (piece_in text.now) pieces.now) ≡ false }
+    requires total { total ≡ sum_by (λ piece. piece.bytes.len) pieces.now }
+    requires short { total ≤ max_batch }
+    requires found { ArePatches (current_words (R.memory parts.old.region)) (map (piece_in text.now) pieces.now)
+        (patches_seen patches.now) }
+    ensures called { CarriesOut (R.memory parts.old.region) (batch (map (piece_in text.now) pieces.now))
+        (unit_answer result) (R.memory parts.new.region) }
+    ensures exact { IsExact (current_words (R.memory parts.new.region)) parts.new }
+    ensures names { KeepsAllNames (current_words (R.memory parts.old.region)) (current_words (R.memory parts.new.region)) }
+{
+    if total == 0 {
+        return Ok(());
+    }
+    bp_calls::batch(parts, patches).map_err(no_space)
+}
+
+/// What `batch` does before its mark.
+pub(crate) fn batch_at<R: Region>(
+    parts: &mut Parts<R>,
+    cache: &mut DirectoryCache,
+    text: &[u8],
+    pieces: &[Piece],
+) -> Result<(), FsError>
+    requires ready { IsReady (R.memory parts.old.region) parts.old }
+    requires right { IsCacheOf (current_words (R.memory parts.old.region)) cache.old }
+    requires few { length pieces.now ≤ max_pieces }
+    requires lie { All (LiesIn text.now) pieces.now }
+    ensures called { CarriesOut (R.memory parts.old.region) (batch (map (piece_in text.now) pieces.now))
+        (unit_answer result) (R.memory parts.new.region) }
+    ensures exact { IsExact (current_words (R.memory parts.new.region)) parts.new }
+    ensures right { IsCacheOf (current_words (R.memory parts.new.region)) cache.new }
+{
+    // All texts are to be paths before anything is sought.
+    if has_bad_path(text, pieces) {
+        return Err(FsError::BadPath);
+    }
+    let total = total(pieces);
+    if total > MAX_BATCH {
+        return Err(FsError::TooLong);
+    }
+    let patches = patches_for(&parts.region, cache, text, pieces)?;
+    batch_into(parts, text, pieces, total, patches.as_slice())
+}

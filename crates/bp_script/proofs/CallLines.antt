@@ -28,6 +28,7 @@ use Rattle.bp_script.specs.Export.{IsSpelled, IsWord, FitsLine, call_line, path_
 use Rattle.bp_script.specs.Texts.{digits_or_dash, is_escaped}
 use Rattle.bp_script.proofs.EachByte.{all_below, from_all_below}
 use Rattle.bp_script.proofs.Numbers.{number_is}
+use Rattle.bp_script.proofs.Rows.{row_three, row_two}
 use Rattle.bp_script.proofs.Splitting.{slice_split-cons}
 
 -- ---- the bytes of a word
@@ -254,7 +255,7 @@ module _ (text : List ℕ) (word : IsWord text) where
   path_asks verb call whole some row spelled line fits =
       asks (call text) (verb ∷ w ∷ []) (call w) fits
       (ap words_of line ∙ words-front verb w whole ∙ ap (λ ws. verb ∷ ws) (words-last w has.whole))
-      (rw (some, has.some) (row w))
+      (rw (some, has.some) (row_two verb w ∙ row w))
       (ap file_call (spelled w ∙ ap call has.is))
 
   truncate_asks : (size : ℕ) → size < 2 ^ 64 → IsRead (truncate text size)
@@ -308,7 +309,7 @@ pair_asks from to from_word to_word verb call whole some row spelled line fits =
     asks (call from to) (verb ∷ path_word from ∷ path_word to ∷ []) (call (path_word from) (path_word to)) fits
     (ap words_of line ∙ words-front verb (path_word from ++ 32 ∷ path_word to) whole
     ∙ ap (λ ws. verb ∷ ws) (words-front (path_word from) (path_word to) one.whole ∙ ap (λ ws. path_word from ∷ ws) (words-last (path_word to) two.whole)))
-    (rw (some, one.some, two.some) (row (path_word from) (path_word to)))
+    (rw (some, one.some, two.some) (row_three verb (path_word from) (path_word to) ∙ row (path_word from) (path_word to)))
     (ap file_call (spelled (path_word from) (path_word to) ∙ ap₂ call one.is two.is))
 
 pub call_asks : (call : Call) → IsSpelled call → FitsLine call → command_of (call_line call) ≡ file_call call

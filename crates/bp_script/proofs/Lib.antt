@@ -1,3 +1,6 @@
+mod Asked
+mod BatchWords
+mod NoBatch
 pub mod DigitPairs
 pub mod DigitRuns
 pub mod EachByte

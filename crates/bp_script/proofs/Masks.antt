@@ -1,5 +1,5 @@
 -- A mask has half as many bytes as its line spells digits.
-use Rattle.std.proofs.Common.{◌≡◌, ℕ, ◌*◌, ◌≤◌, ◌==◌, List, [], ◌∷◌, length, codes, Bool, true, false, Option, None, Some, Ok, Err, Result, if◌then◌else◌, nat_le, refl, ap, arith}
+use Rattle.std.proofs.Common.{◌≡◌, ℕ, ◌*◌, ◌≤◌, ◌==◌, List, [], ◌∷◌, length, codes, Bool, true, false, ◌&&◌, Option, None, Some, Ok, Err, Result, if◌then◌else◌, nat_le, refl, ap, arith}
 use Rattle.std.specs.Option.{unwrap_or}
 use Rattle.std.specs.List.{list_any, AllByRecursion}
 use Rattle.std.specs.Prelude.{bytes_eq}
@@ -7,11 +7,12 @@ use Rattle.std.specs.Result.{result_ok}
 use Rattle.hex.specs.Hex.{decode_of}
 use Rattle.hex.specs.declared.error.FromHexError.{FromHexError}
 use Rattle.hex.proofs.HexLemmas.{decode_of-ok}
-use Rattle.bp_limits.specs.Limits.{max_read}
-use Rattle.bp_script.specs.Commands.{Command, asked_by, bare_command, bytes_spelled, cache_command, command_by_words, decoded, in_grammar, is_empty_word, mask_in, masked_crash, number_spelled, pair_command, path_command, read_command, storm_command, truncate_command, whole_crash, word_command, words_of, write_command}
+use Rattle.bp_limits.specs.Limits.{max_pieces, max_read}
+use Rattle.bp_script.specs.Commands.{Command, asked_by, bare_command, batch_of, bytes_spelled, cache_command, command_by_words, decoded, in_grammar, is_empty_word, mask_in, masked_crash, number_spelled, pair_command, path_command, piece_words, read_command, row_command, storm_command, truncate_command, whole_crash, word_command, words_of, write_command}
 use Rattle.bp_replay.specs.Wanted.Wanted.{all, nothing}
 use Rattle.bp_script.specs.Commands.Command.{file_call, sync, space, crash, log, bad_syntax}
-use Rattle.bp_plain.specs.Calls.Call.{create, mkdir, unlink, rmdir, list, stat, read, rename, link, links, upgrade}
+use Rattle.bp_plain.specs.Calls.{Piece}
+use Rattle.bp_plain.specs.Calls.Call.{create, mkdir, unlink, rmdir, list, stat, read, rename, link, links, upgrade, batch}
 use Rattle.bp_script.proofs.Rows.{parts_within}
 
 -- ---- most commands have none
@@ -110,24 +111,35 @@ long_short digits false true c x y z p q r = none_short digits (mask_in y) q
 long_short digits false false true x y z p q r = r
 long_short digits false false false x y z p q r = omega arith
 
-row_short : (digits : ℕ) (words : List (List ℕ)) → AllByRecursion (λ word. length word ≤ digits) words → 2 * length (mask_in (command_by_words words)) ≤ digits
-row_short digits [] fit = omega arith
-row_short digits (verb ∷ []) fit = none_short digits (mask_in (bare_command verb)) (bare_none verb)
-row_short digits (verb ∷ word ∷ []) fit = none_short digits (mask_in (word_command verb word)) (word_none verb word)
-row_short digits (verb ∷ first ∷ second ∷ []) fit = none_short digits (mask_in (pair_command verb first second)) (pair_none verb first second)
-row_short digits (verb ∷ first ∷ second ∷ third ∷ []) fit =
+batch_none : (found : Option (List Piece)) → mask_in (batch_of found) ≡ []
+batch_none None = refl
+batch_none (Some pieces) = none_either (nat_le 1 (length pieces) && nat_le (length pieces) max_pieces) (file_call (batch pieces)) bad_syntax refl refl
+
+row_short : (digits : ℕ) (verb : List ℕ) (words : List (List ℕ)) → AllByRecursion (λ word. length word ≤ digits) words → 2 * length (mask_in (row_command verb words)) ≤ digits
+row_short digits verb [] fit = none_short digits (mask_in (bare_command verb)) (bare_none verb)
+row_short digits verb (word ∷ []) fit = none_short digits (mask_in (word_command verb word)) (word_none verb word)
+row_short digits verb (first ∷ second ∷ []) fit = none_short digits (mask_in (pair_command verb first second)) (pair_none verb first second)
+row_short digits verb (first ∷ second ∷ third ∷ []) fit =
     long_short digits (bytes_eq verb (codes "read")) (bytes_eq verb (codes "write")) (bytes_eq verb (codes "crash"))
     (read_command first (number_spelled second) (number_spelled third)) (write_command first (number_spelled second) (bytes_spelled third)) (masked_crash (number_spelled first) (number_spelled second) (bytes_spelled third))
     (read_none first (number_spelled second) (number_spelled third)) (write_none first (number_spelled second) (bytes_spelled third))
-    (masked_short digits (number_spelled first) (number_spelled second) (bytes_spelled third) (λ bytes is. omega (arith, bytes_short third bytes is, fit.1.1.1.0)))
-row_short digits (a ∷ b ∷ c ∷ d ∷ e ∷ words) fit = omega arith
+    (masked_short digits (number_spelled first) (number_spelled second) (bytes_spelled third) (λ bytes is. omega (arith, bytes_short third bytes is, fit.1.1.0)))
+row_short digits verb (a ∷ b ∷ c ∷ d ∷ words) fit = omega arith
+
+words_short : (digits : ℕ) (words : List (List ℕ)) → AllByRecursion (λ word. length word ≤ digits) words → 2 * length (mask_in (command_by_words words)) ≤ digits
+words_short digits [] fit = omega arith
+words_short digits (verb ∷ words) fit = go (bytes_eq verb (codes "batch"))
+  where
+    go : (a : Bool) → 2 * length (mask_in (if a then batch_of (piece_words words) else row_command verb words)) ≤ digits
+    go true = none_short digits (mask_in (batch_of (piece_words words))) (batch_none (piece_words words))
+    go false = row_short digits verb words fit.1
 
 asked_short : (digits : ℕ) (words : List (List ℕ)) → AllByRecursion (λ word. length word ≤ digits) words → 2 * length (mask_in (asked_by words)) ≤ digits
 asked_short digits words fit = go (list_any is_empty_word words)
   where
     go : (a : Bool) → 2 * length (mask_in (if a then bad_syntax else command_by_words words)) ≤ digits
     go true = omega arith
-    go false = row_short digits words fit
+    go false = words_short digits words fit
 
 mask_decoded : (command : Command) → mask_in (decoded command) ≡ mask_in command
 mask_decoded (file_call call) = refl

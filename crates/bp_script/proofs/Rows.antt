@@ -1,6 +1,7 @@
 -- The rows of the table of commands.
 use Rattle.std.proofs.Common.{◌≡◌, ℕ, zero, suc, ◌+◌, ◌-◌, ◌<◌, ◌≤◌, List, [], ◌∷◌, ◌==◌, ◌&&◌, ◌||◌, length, take, drop, slice_index, position, codes, nat_le, nat_lt, Bool, true, false, Option, None, Some, Result, Ok, Err, if◌then◌else◌, refl, sym, ◌∙◌, ap, arith, true≢false}
 use Rattle.std.proofs.lemmas.Bool.{eqb-true, ne_eqb}
+use Rattle.std.proofs.lemmas.Slice.Eq.{bytes_eq-Decides}
 use Rattle.std.proofs.lemmas.List.Folds.{list_all_at}
 use Rattle.std.proofs.lemmas.List.Quantifiers.{position-Some}
 use Rattle.std.proofs.lemmas.List.Sums.{list_all-from_AllPass}
@@ -13,7 +14,7 @@ use Rattle.hex.specs.Hex.{decode_of, is_hex_digit}
 use Rattle.hex.specs.declared.error.FromHexError.{FromHexError}
 use Rattle.hex.proofs.HexLemmas.{decode_of-ok}
 use Rattle.bp_plain.specs.Calls.Call.{upgrade}
-use Rattle.bp_script.specs.Commands.{Command, asked_by, bare_command, bytes_spelled, decoded, is_empty_word, long_command, masked_crash, number_spelled, path_bytes, read_command, words_of, write_command}
+use Rattle.bp_script.specs.Commands.{Command, asked_by, bare_command, batch_of, bytes_spelled, command_by_words, decoded, is_empty_word, long_command, masked_crash, number_spelled, pair_command, path_bytes, piece_words, read_command, row_command, word_command, words_of, write_command}
 use Rattle.bp_script.specs.Commands.Command.{bad_syntax, file_call, log, space, sync}
 use Rattle.bp_script.specs.Lines.{path_row}
 use Rattle.bp_script.specs.declared.lines.PathVerb.{PathVerb}
@@ -25,21 +26,52 @@ use Rattle.bp_script.proofs.Splitting.{slice_split-cons, slice_split-none, slice
 filled : (word : List ℕ) → 0 < length word → is_empty_word word ≡ false
 filled word some = ne_eqb (length word) 0 (λ none. absurd (omega (arith, some, none)))
 
+-- where `batch` has fewer words than a piece, it is no row either way
+row_of : (verb : List ℕ) (words : List (List ℕ)) → (bytes_eq verb (codes "batch") ≡ true → batch_of (piece_words words) ≡ row_command verb words)
+    → command_by_words (verb ∷ words) ≡ row_command verb words
+row_of verb words same = go (bytes_eq verb (codes "batch")) refl
+  where
+    go : (t : Bool) → bytes_eq verb (codes "batch") ≡ t → (if t then batch_of (piece_words words) else row_command verb words) ≡ row_command verb words
+    go true at = same at
+    go false at = refl
+
+is_verb : (verb word : List ℕ) → bytes_eq verb word ≡ true → verb ≡ word
+is_verb verb word at = (bytes_eq-Decides verb word).0 at
+
+pub row_one : (verb : List ℕ) → command_by_words (verb ∷ []) ≡ bare_command verb
+row_one verb = row_of verb [] (λ at. rw (is_verb verb (codes "batch") at) refl)
+
+pub row_two : (verb word : List ℕ) → command_by_words (verb ∷ word ∷ []) ≡ word_command verb word
+row_two verb word = row_of verb (word ∷ []) (λ at. rw (is_verb verb (codes "batch") at) refl)
+
+pub row_three : (verb first second : List ℕ) → command_by_words (verb ∷ first ∷ second ∷ []) ≡ pair_command verb first second
+row_three verb first second = row_of verb (first ∷ second ∷ []) (λ at. rw (is_verb verb (codes "batch") at) refl)
+
 asked_one : (verb : List ℕ) → asked_by (verb ∷ []) ≡ bare_command verb
 asked_one [] = refl
-asked_one (v ∷ verb) = rw (filled (v ∷ verb) (omega arith)) refl
+asked_one (v ∷ verb) = rw (filled (v ∷ verb) (omega arith)) (row_one (v ∷ verb))
 
-asked_four : (verb first second third : List ℕ) → 0 < length first → 0 < length second → 0 < length third → asked_by (verb ∷ first ∷ second ∷ third ∷ []) ≡ long_command verb first second third
-asked_four [] first second third some some_second some_third = refl
-asked_four (v ∷ verb) first second third some some_second some_third =
-    rw (filled (v ∷ verb) (omega arith), filled first some, filled second some_second, filled third some_third) refl
+-- a verb and one word, or two, of which no word but the verb is empty
+pub asked_two : (verb word : List ℕ) → 0 < length word → asked_by (verb ∷ word ∷ []) ≡ word_command verb word
+asked_two [] word some = refl
+asked_two (v ∷ verb) word some = rw (filled (v ∷ verb) (omega arith), filled word some) (row_two (v ∷ verb) word)
 
-asked_more : (a b c d e : List ℕ) (more : List (List ℕ)) → asked_by (a ∷ b ∷ c ∷ d ∷ e ∷ more) ≡ bad_syntax
-asked_more a b c d e more = go (list_any is_empty_word (a ∷ b ∷ c ∷ d ∷ e ∷ more)) refl
+pub asked_three : (verb first second : List ℕ) → 0 < length first → 0 < length second → asked_by (verb ∷ first ∷ second ∷ []) ≡ pair_command verb first second
+asked_three [] first second some some_second = refl
+asked_three (v ∷ verb) first second some some_second = rw (filled (v ∷ verb) (omega arith), filled first some, filled second some_second) (row_three (v ∷ verb) first second)
+
+asked_four : (verb first second third : List ℕ) → bytes_eq verb (codes "batch") ≡ false → 0 < length first → 0 < length second → 0 < length third
+    → asked_by (verb ∷ first ∷ second ∷ third ∷ []) ≡ long_command verb first second third
+asked_four [] first second third other some some_second some_third = refl
+asked_four (v ∷ verb) first second third other some some_second some_third =
+    rw (filled (v ∷ verb) (omega arith), filled first some, filled second some_second, filled third some_third, other) refl
+
+asked_more : (a b c d e : List ℕ) (more : List (List ℕ)) → bytes_eq a (codes "batch") ≡ false → asked_by (a ∷ b ∷ c ∷ d ∷ e ∷ more) ≡ bad_syntax
+asked_more a b c d e more other = go (list_any is_empty_word (a ∷ b ∷ c ∷ d ∷ e ∷ more)) refl
   where
     go : (t : Bool) → list_any is_empty_word (a ∷ b ∷ c ∷ d ∷ e ∷ more) ≡ t → asked_by (a ∷ b ∷ c ∷ d ∷ e ∷ more) ≡ bad_syntax
     go true at = rw at refl
-    go false at = rw at refl
+    go false at = rw (at, other) refl
 
 -- an empty word makes a line none of the table
 
@@ -110,17 +142,17 @@ long_with_space verb first second third i inside is =
     go false false false = refl
 
 -- what is behind the third space, as a whole
-pub asked_behind : (verb first second rest : List ℕ) → 0 < length first → 0 < length second → 0 < length rest
+pub asked_behind : (verb first second rest : List ℕ) → bytes_eq verb (codes "batch") ≡ false → 0 < length first → 0 < length second → 0 < length rest
     → long_command verb first second rest ≡ asked_by (verb ∷ first ∷ second ∷ words_of rest)
-asked_behind verb first second rest some some_second some_rest = go (position (λ b. b == 32) rest) refl
+asked_behind verb first second rest other some some_second some_rest = go (position (λ b. b == 32) rest) refl
   where
     go : (found : Option ℕ) → position (λ b. b == 32) rest ≡ found → long_command verb first second rest ≡ asked_by (verb ∷ first ∷ second ∷ words_of rest)
-    go None at = rw (slice_split-none (λ b. b == 32) rest at) (sym (asked_four verb first second rest some some_second some_rest))
+    go None at = rw (slice_split-none (λ b. b == 32) rest at) (sym (asked_four verb first second rest other some some_second some_rest))
     go (Some i) at =
         let here : (i < length rest) × ((slice_index rest i == 32) ≡ true) × ((k : ℕ) → k < i → (slice_index rest k == 32) ≡ false) = position-Some (λ b. b == 32) rest i 0 at in
         let more = slice_split-cons (λ b. b == 32) (take (length rest - (i + 1)) (drop (i + 1) rest)) in
         long_with_space verb first second rest i here.0 (eqb-true _ _ here.1)
-        ∙ sym (rw (slice_split-some (λ b. b == 32) rest i at, more.2) (asked_more verb first second (take i rest) more.0 more.1))
+        ∙ sym (rw (slice_split-some (λ b. b == 32) rest i at, more.2) (asked_more verb first second (take i rest) more.0 more.1 other))
 
 -- ---- no word of a line is longer than the line
 

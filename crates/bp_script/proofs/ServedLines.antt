@@ -1,14 +1,15 @@
 -- A volume carries out each call that a line asks for.
-use Rattle.std.proofs.Common.{◌≡◌, ℕ, List, [], ◌∷◌, Bool, true, false, Option, None, Some, codes, if◌then◌else◌, nat_le, refl}
+use Rattle.std.proofs.Common.{◌≡◌, ℕ, List, [], ◌∷◌, Bool, true, false, Option, None, Some, codes, length, ◌&&◌, if◌then◌else◌, nat_le, refl, arith}
 use Rattle.std.specs.List.{list_any}
 use Rattle.std.specs.Prelude.{bytes_eq}
 use Rattle.std.proofs.lemmas.Bool.{leb-true}
-use Rattle.bp_limits.specs.Limits.{max_read}
-use Rattle.bp_plain.specs.Calls.{Call}
-use Rattle.bp_plain.specs.Calls.Call.{create, mkdir, unlink, rmdir, list, stat, read, rename, link, links, upgrade}
+use Rattle.std.proofs.lemmas.List.{length-map}
+use Rattle.bp_limits.specs.Limits.{max_pieces, max_read}
+use Rattle.bp_plain.specs.Calls.{Call, Piece}
+use Rattle.bp_plain.specs.Calls.Call.{create, mkdir, unlink, rmdir, list, stat, read, rename, link, links, upgrade, batch}
 use Rattle.bp_plain.specs.Served.{IsServed}
 use Rattle.bp_replay.specs.Wanted.Wanted.{all, nothing}
-use Rattle.bp_script.specs.Commands.{Command, IsServedCommand, bare_command, bytes_spelled, cache_command, command_by_words, decoded, decoded_call, in_grammar, is_empty_word, long_command, masked_crash, number_spelled, pair_command, path_command, read_command, storm_command, truncate_command, whole_crash, word_command, words_of, write_command}
+use Rattle.bp_script.specs.Commands.{Command, IsServedCommand, bare_command, batch_of, bytes_spelled, cache_command, command_by_words, decoded, decoded_call, decoded_piece, in_grammar, is_empty_word, long_command, masked_crash, number_spelled, pair_command, path_command, piece_words, read_command, row_command, storm_command, truncate_command, whole_crash, word_command, words_of, write_command}
 use Rattle.bp_script.specs.Commands.Command.{file_call, sync, space, crash, log, bad_syntax}
 
 served_either : (test : Bool) (first second : Command) → IsServedCommand first → IsServedCommand second → IsServedCommand (if test then first else second)
@@ -83,17 +84,31 @@ served_long verb first second third =
     (served_either (bytes_eq verb (codes "write")) (write_command first (number_spelled second) (bytes_spelled third)) _ (served_write first (number_spelled second) (bytes_spelled third))
     (served_either (bytes_eq verb (codes "crash")) (masked_crash (number_spelled first) (number_spelled second) (bytes_spelled third)) bad_syntax (served_masked (number_spelled first) (number_spelled second) (bytes_spelled third)) tt))
 
+served_batch : (found : Option (List Piece)) → IsServedCommand (batch_of found)
+served_batch None = tt
+served_batch (Some pieces) = go (nat_le 1 (length pieces)) (nat_le (length pieces) max_pieces) refl refl
+  where
+    go : (some few : Bool) → nat_le 1 (length pieces) ≡ some → nat_le (length pieces) max_pieces ≡ few → IsServedCommand (if some && few then file_call (batch pieces) else bad_syntax)
+    go true true at_some at_few = (leb-true 1 (length pieces) at_some, leb-true (length pieces) max_pieces at_few)
+    go true false at_some at_few = tt
+    go false few at_some at_few = tt
+
+served_row : (verb : List ℕ) (words : List (List ℕ)) → IsServedCommand (row_command verb words)
+served_row verb [] = served_bare verb
+served_row verb (word ∷ []) = served_word verb word
+served_row verb (first ∷ second ∷ []) = served_pair verb first second
+served_row verb (first ∷ second ∷ third ∷ []) = served_long verb first second third
+served_row verb (first ∷ second ∷ third ∷ fourth ∷ more) = tt
+
 served_words : (words : List (List ℕ)) → IsServedCommand (command_by_words words)
 served_words [] = tt
-served_words (verb ∷ []) = served_bare verb
-served_words (verb ∷ word ∷ []) = served_word verb word
-served_words (verb ∷ first ∷ second ∷ []) = served_pair verb first second
-served_words (verb ∷ first ∷ second ∷ third ∷ []) = served_long verb first second third
-served_words (verb ∷ first ∷ second ∷ third ∷ fourth ∷ more) = tt
+served_words (verb ∷ words) =
+    served_either (bytes_eq verb (codes "batch")) (batch_of (piece_words words)) (row_command verb words) (served_batch (piece_words words)) (served_row verb words)
 
 -- decoded paths make no other call of one
 served_decoded_call : (call : Call) → IsServed call → IsServed (decoded_call call)
 served_decoded_call (read path off len) served = served
+served_decoded_call (batch pieces) served = let len = length-map pieces decoded_piece in (omega (arith, len, served.0), omega (arith, len, served.1))
 served_decoded_call call served = served
 
 served_decoded : (command : Command) → IsServedCommand command → IsServedCommand (decoded command)

@@ -6,10 +6,10 @@ use Rattle.std.specs.Str.Parse.{digits_value}
 use Rattle.std.specs.Result.{result_ok}
 use Rattle.hex.specs.Hex.{decode_of}
 use Rattle.percent_encoding.specs.Percent.{percent_decode}
-use Rattle.bp_limits.specs.Limits.{max_line, max_read}
-use Rattle.bp_plain.specs.Calls.{Call}
+use Rattle.bp_limits.specs.Limits.{max_line, max_pieces, max_read}
+use Rattle.bp_plain.specs.Calls.{Call, Piece}
 use Rattle.bp_plain.specs.Served.{IsServed}
-use Rattle.bp_plain.specs.Calls.Call.{create, mkdir, unlink, rmdir, list, stat, read, write, truncate, rename, link, links, upgrade}
+use Rattle.bp_plain.specs.Calls.Call.{create, mkdir, unlink, rmdir, list, stat, read, write, truncate, rename, link, links, upgrade, batch}
 use Rattle.bp_replay.specs.Wanted.{Wanted}
 use Rattle.bp_replay.specs.Wanted.Wanted.{all, nothing, at}
 
@@ -90,6 +90,28 @@ abbrev pub masked_crash : Option ℕ → Option ℕ → Option (List ℕ) → Co
 masked_crash (Some moment) (Some epoch) (Some mask) = crash (at moment epoch mask)
 masked_crash moment epoch mask = bad_syntax
 
+-- a piece of a batch, where its offset is a number and its bytes are bytes
+abbrev pub piece_spelled : List ℕ → Option ℕ → Option (List ℕ) → Option Piece
+piece_spelled path (Some off) (Some bytes) = Some (record { path = path; off = off; bytes = bytes })
+piece_spelled path off bytes = None
+
+abbrev pub and_pieces : Option Piece → Option (List Piece) → Option (List Piece)
+and_pieces (Some piece) (Some pieces) = Some (piece ∷ pieces)
+and_pieces piece pieces = None
+
+-- the pieces of words, three words each: a path, an offset and bytes
+abbrev pub piece_words : List (List ℕ) → Option (List Piece)
+piece_words [] = Some []
+piece_words (path ∷ off ∷ bytes ∷ words) =
+    and_pieces (piece_spelled path (number_spelled off) (bytes_spelled bytes)) (piece_words words)
+piece_words words = None
+
+-- as many pieces as a batch may have; it refuses what is too long for it
+abbrev pub batch_of : Option (List Piece) → Command
+batch_of (Some pieces) =
+    if nat_le 1 (length pieces) && nat_le (length pieces) max_pieces then file_call (batch pieces) else bad_syntax
+batch_of None = bad_syntax
+
 abbrev pub storm_command : Option ℕ → Command
 storm_command (Some seed) = storm seed
 storm_command None = bad_syntax
@@ -141,18 +163,25 @@ long_command verb first second third =
     (bytes_spelled third)
     else bad_syntax
 
+-- a verb and the words behind it, by how many there are
+abbrev pub row_command : List ℕ → List (List ℕ) → Command
+row_command verb [] = bare_command verb
+row_command verb (word ∷ []) = word_command verb word
+row_command verb (first ∷ second ∷ []) = pair_command verb first second
+row_command verb (first ∷ second ∷ third ∷ []) = long_command verb first second third
+row_command verb words = bad_syntax
+
 -- The table of commands, by the words of a line.
 --     sync      space      log
 --     create PATH      mkdir PATH      unlink PATH      rmdir PATH      list PATH      stat PATH
 --     read PATH OFF LEN      write PATH OFF HEX      truncate PATH SIZE
 --     rename PATH PATH      link PATH PATH      links PATH      upgrade
+--     batch PATH OFF HEX ..      with PATH OFF HEX 1 to 16 times
 --     crash all      crash none      crash MOMENT EPOCH MASK      storm SEED      cache SEED
 abbrev pub command_by_words : List (List ℕ) → Command
-command_by_words (verb ∷ []) = bare_command verb
-command_by_words (verb ∷ word ∷ []) = word_command verb word
-command_by_words (verb ∷ first ∷ second ∷ []) = pair_command verb first second
-command_by_words (verb ∷ first ∷ second ∷ third ∷ []) = long_command verb first second third
-command_by_words words = bad_syntax
+command_by_words (verb ∷ words) =
+    if bytes_eq verb (codes "batch") then batch_of (piece_words words) else row_command verb words
+command_by_words [] = bad_syntax
 
 -- ---- what a line asks for
 
@@ -172,6 +201,10 @@ asked_by words = if list_any is_empty_word words then bad_syntax else command_by
 abbrev pub written_command : List ℕ → Command
 written_command line = asked_by (words_of line)
 
+-- a piece with what its path stands for
+abbrev pub decoded_piece : Piece → Piece
+decoded_piece piece = record piece { path = path_bytes piece.path }
+
 -- a call with what its paths stand for
 abbrev pub decoded_call : Call → Call
 decoded_call (create path) = create (path_bytes path)
@@ -186,6 +219,7 @@ decoded_call (truncate path size) = truncate (path_bytes path) size
 decoded_call (rename from to) = rename (path_bytes from) (path_bytes to)
 decoded_call (link from to) = link (path_bytes from) (path_bytes to)
 decoded_call (links path) = links (path_bytes path)
+decoded_call (batch pieces) = batch (map decoded_piece pieces)
 -- the others have no line
 decoded_call call = call
 

@@ -1,11 +1,16 @@
 -- What a line that was read asks for.
-use Rattle.std.specs.Prelude.{ℕ, ◌≤◌, List, min, Option, None, Some, Result, Ok, Err}
-use Rattle.std.specs.Borrow.{Fml, MutBor}
+use Rattle.std.specs.Prelude.{ℕ, ◌≤◌, ◌+◌, ◌||◌, if◌then◌else◌, List, [], ◌∷◌, length, map, min, Option, None, Some, option_map, Result, Ok, Err}
+use Rattle.std.specs.Borrow.{Bor, Fml, MutBor}
+use Rattle.std.specs.List.{All}
+use Rattle.std.specs.Option.{option_map_or}
 use Rattle.std.specs.Io.BufRead.{Rests}
 use Rattle.std.specs.Vec.{vec_capacity}
 use Rattle.bp_plain.specs.Calls.Call.{create, mkdir, unlink, rmdir, list, stat, rename, link, links}
-use Rattle.bp_plain.specs.Seen.{call_of}
+use Rattle.bp_plain.specs.Calls.{Piece}
+use Rattle.bp_plain.specs.Seen.{CanAsk, LiesIn, call_of, piece_in}
+use Rattle.bp_plain.specs.declared.calls.Call.TheVariants as given
 use Rattle.bp_replay.specs.Wanted.{wanted_by}
+use Rattle.bp_script.specs.declared.batches.PieceWords.{PieceWords}
 use Rattle.bp_script.specs.declared.lines.Decoded.{Decoded}
 use Rattle.bp_script.specs.declared.lines.Line.{Line}
 use Rattle.bp_script.specs.declared.lines.Line.TheVariants as asks
@@ -14,15 +19,20 @@ use Rattle.bp_script.specs.declared.lines.PairVerb.TheVariants as pair
 use Rattle.bp_script.specs.declared.lines.PathVerb.{PathVerb}
 use Rattle.bp_script.specs.declared.lines.PathVerb.TheVariants as verb
 use Rattle.bp_script.specs.declared.lines.Syntax.{Syntax}
+use Rattle.bp_script.specs.declared.lines.TheConstants.{MOST_ROOM}
 use Rattle.bp_script.specs.declared.lines.WordVerb.{WordVerb}
 use Rattle.bp_script.specs.declared.lines.WordVerb.TheVariants as on
 use Rattle.bp_script.specs.contracts.lines.Decoded.{the_row}
-use Rattle.bp_script.specs.Commands.{Command, cache_command, number_spelled, storm_command, truncate_command, whole_crash}
+use Rattle.bp_script.specs.Commands.{Command, bytes_spelled, cache_command, decoded_piece, is_empty_word, number_spelled, piece_spelled, storm_command, truncate_command, whole_crash, words_of}
 use Rattle.bp_script.specs.Commands.Command.{file_call, sync, space, crash, storm, cache, log, bad_syntax}
+
+-- the most bytes of a line, so that a place in it has 32 bits
+abbrev pub most_room : ℕ
+most_room = MOST_ROOM
 
 -- the bytes of the longest line that can be decoded
 abbrev pub decoded_room : Decoded → ℕ
-decoded_room decoded = min (vec_capacity decoded.first) (vec_capacity decoded.second)
+decoded_room decoded = min (min (vec_capacity decoded.first) (vec_capacity decoded.second)) most_room
 
 -- once what was borrowed of it is given back, it has no less room
 abbrev pub KeepsRoom : MutBor Decoded → Fml
@@ -35,6 +45,13 @@ first_held decoded = decoded.first.items
 abbrev pub second_held : Decoded → List ℕ
 second_held decoded = decoded.second.items
 
+-- the pieces that it holds, of which the first memory has the parts
+abbrev pub pieces_held : Decoded → List Piece
+pieces_held decoded = map (piece_in decoded.first.items) decoded.pieces.items
+
+abbrev pub HoldsParts : Decoded → Type 0
+HoldsParts decoded = All (LiesIn decoded.first.items) decoded.pieces.items
+
 abbrev pub line_asks : Result Line Syntax → Command
 line_asks (Ok (asks.Call call)) = file_call (call_of call)
 line_asks (Ok asks.Sync) = sync
@@ -44,6 +61,38 @@ line_asks (Ok (asks.Storm seed)) = storm seed
 line_asks (Ok (asks.Cache seed)) = cache seed
 line_asks (Ok asks.Log) = log
 line_asks (Err fault) = bad_syntax
+
+-- the parts of each piece of a batch lie in its text
+abbrev pub HasItsParts : Result Line Syntax → Type 0
+HasItsParts (Ok (asks.Call (given.Batch text pieces))) = All (LiesIn text.now) pieces.now
+HasItsParts asked = Unit {0}
+
+-- the call of a line can be asked for
+abbrev pub CanBeAsked : Result Line Syntax → Type 0
+CanBeAsked (Ok (asks.Call call)) = CanAsk call
+CanBeAsked asked = Unit {0}
+
+-- ---- the words of pieces
+
+-- those of a piece and of all behind it, and how many bytes they have
+abbrev pub words_at : PieceWords → List (List ℕ)
+words_at words = words.path.now ∷ words.off.now ∷ words_of words.rest.now
+
+abbrev pub words_len : PieceWords → ℕ
+words_len words = length words.path.now + length words.off.now + length words.rest.now
+
+-- those of a text, or none where there is no text, and how many bytes that has
+abbrev pub words_behind : Option (Bor (List ℕ)) → List (List ℕ)
+words_behind text = option_map_or (λ t. words_of t.now) text []
+
+abbrev pub len_behind : Option (Bor (List ℕ)) → ℕ
+len_behind text = option_map_or (λ t. length t.now) text 0
+
+-- a piece decoded from its three words, of which none is empty
+abbrev pub piece_decoded : List ℕ → List ℕ → List ℕ → Option Piece
+piece_decoded path off bytes =
+    if is_empty_word path || is_empty_word bytes then None
+    else option_map decoded_piece (piece_spelled path (number_spelled off) (bytes_spelled bytes))
 
 -- what a verb and a path ask for
 abbrev pub path_row : PathVerb → List ℕ → Command

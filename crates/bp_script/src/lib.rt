@@ -1,6 +1,7 @@
 //! The lines of scripts and the texts of replies.
 #![tactic(auto)]
 
+mod batches;
 mod calls;
 mod digits;
 pub mod laws;

@@ -1,20 +1,22 @@
 //! The lines of a script.
 
-ghost use Rattle.bp_plain.specs.Calls.Call.{link, rename, write};
+ghost use Rattle.bp_plain.specs.Calls.Call.{batch, link, rename, write};
 ghost use Rattle.bp_replay.specs.Wanted.Wanted.{at};
 ghost use Rattle.bp_script.specs.Commands.Command.{bad_syntax, crash, file_call};
 ghost use Rattle.bp_script.specs.Commands.{IsServedCommand, asked_by, bare_command, bytes_spelled, cache_command, decoded, in_grammar, long_command, mask_in, masked_crash, number_spelled, pair_command, part_bytes, path_bytes, read_command, storm_command, truncate_command, unslashed, whole_crash, word_command, words_of, write_command};
-ghost use Rattle.bp_script.specs.Lines.{KeepsRoom, decoded_room, first_held, line_asks, pair_row, path_row, second_held, word_row};
+ghost use Rattle.bp_script.specs.Lines.{CanBeAsked, HasItsParts, HoldsParts, KeepsRoom, decoded_room, first_held, line_asks, most_room, pair_row, path_row, pieces_held, second_held, word_row};
 ghost use Rattle.std.specs.Borrow.{sem};
 ghost use Rattle.std.specs.List.{slice_split};
 ghost use Rattle.std.specs.Option.{option_map_or};
 ghost use Rattle.hex.specs.Hex.{decode_of};
 ghost use Rattle.std.specs.Result.{is_ok, result_ok};
-ghost use Rattle.std.specs.Prelude.{◌/◌, ◌*◌, if◌then◌else◌, List, None, Ok, Some, IfOk, length, vec_capacity, vec_len, [], ◌∷◌, ◌+◌, ◌++◌, ◌==◌, ◌<◌, ◌≡◌, ◌≤◌, ℕ};
+ghost use Rattle.std.specs.Prelude.{◌/◌, ◌*◌, if◌then◌else◌, List, None, Ok, Some, IfOk, OnOk, bytes_eq, codes, length, min, vec_capacity, vec_len, [], ◌∷◌, ◌+◌, ◌++◌, ◌==◌, ◌<◌, ◌≡◌, ◌≤◌, ℕ};
 
+use crate::batches::{PieceWords, decode_pieces};
 use crate::digits::decode_digits;
-use bp_limits::MAX_READ;
-use bp_plain::Call;
+use arrayvec::ArrayVec;
+use bp_limits::{MAX_PIECES, MAX_READ};
+use bp_plain::{Call, Piece};
 use bp_replay::Cut;
 use bp_text::first_of;
 use percent_encoding::percent_decode;
@@ -23,6 +25,9 @@ use thiserror::Error;
 
 /// The most digits of a number.
 const MOST_DIGITS: usize = 20;
+
+/// The most bytes of a line, so that a place in it has 32 bits.
+const MOST_ROOM: usize = 4_294_967_295;
 
 /// What a line of a script asks for.
 #[derive(Clone, Copy, Debug, PartialEq, Eq)]
@@ -48,32 +53,41 @@ pub enum Line<'a> {
 #[error("not a line of a script")]
 pub struct Syntax;
 
-/// Memory for what two words of a line stand for, decoded. Each has the room of a line.
+/// Memory for what the words of a line stand for, decoded. Both texts have the room of a line, and the pieces of a batch
+/// are parts of the first.
 #[derive(Drop)]
 pub struct Decoded {
     first: Vec<u8>,
     second: Vec<u8>,
+    pieces: ArrayVec<Piece, MAX_PIECES>,
 }
 
 impl Decoded {
-    /// Memory for lines of at most `room` bytes.
+    /// Memory for lines of at most `room` bytes, and of less than 4 GiB.
     pub fn new(alloc: Global, room: usize) -> Result<Decoded, AllocError>
-        ensures { IfOk result (λ decoded. decoded_room decoded ≡ room) }
+        ensures { IfOk result (λ decoded. decoded_room decoded ≡ min room most_room) }
     {
         let first = Vec::with_capacity(alloc, room)?;
         let second = Vec::with_capacity(alloc, room)?;
-        Ok(Decoded { first, second })
+        Ok(Decoded {
+            first,
+            second,
+            pieces: ArrayVec::new(),
+        })
     }
 
     /// The bytes of the longest line that it has memory for.
     pub fn room(&self) -> usize
         ensures { result ≡ decoded_room self.now }
     {
-        self.first.capacity().min(self.second.capacity())
+        self.first
+            .capacity()
+            .min(self.second.capacity())
+            .min(MOST_ROOM)
     }
 
     /// What a line of a script asks for. Its paths, its bytes and its mask are decoded, and lie in this memory. A mask has at most
-    /// half as many bytes as the line. A call is one that a volume carries out.
+    /// half as many bytes as the line. A call is one that a volume carries out: the parts of a batch lie in its text.
     ///
     /// # Errors
     ///
@@ -84,6 +98,7 @@ impl Decoded {
         ensures meaning { line_asks result ≡ in_grammar bytes.now }
         ensures mask { 2 * length (mask_in (line_asks result)) ≤ length bytes.now }
         ensures served { IsServedCommand (line_asks result) }
+        ensures can { CanBeAsked result }
     {
         let (verb, rest) = split_once(bytes, b' ');
         match rest {
@@ -97,6 +112,7 @@ impl Decoded {
         requires { length rest.now ≤ decoded_room self.old }
         ensures* keeps_room { sem 𝓛 (KeepsRoom self.entry) }
         ensures meaning { line_asks result ≡ decoded (asked_by (verb.now ∷ words_of rest.now)) }
+        ensures whole { HasItsParts result }
     {
         let (word, more) = split_once(rest, b' ');
         if word.is_empty() {
@@ -110,11 +126,11 @@ impl Decoded {
 
     /// What two words and the text behind the second one's space ask for.
     fn behind_pair(&mut self, verb: &[u8], first: &[u8], rest: &[u8]) -> Result<Line<'_>, Syntax>
-        requires first { length first.now ≤ decoded_room self.old }
         requires some { 0 < length first.now }
-        requires rest { length rest.now ≤ decoded_room self.old }
+        requires fits { length first.now + length rest.now ≤ decoded_room self.old }
         ensures* keeps_room { sem 𝓛 (KeepsRoom self.entry) }
         ensures meaning { line_asks result ≡ decoded (asked_by (verb.now ∷ first.now ∷ words_of rest.now)) }
+        ensures whole { HasItsParts result }
     {
         let (second, third) = split_once(rest, b' ');
         if second.is_empty() {
@@ -207,8 +223,8 @@ impl Decoded {
         })
     }
 
-    /// What three words and the text behind the third one's space ask for. A space in that text is no digit of any
-    /// kind, so where there is one the line is none of the table, as it must be: it has more words than four.
+    /// What three words and the text behind the third one's space ask for. But for a batch, a space in that text is no digit
+    /// of any kind, so where there is one the line is none of the table, as it must be: it has more words than four.
     fn long(
         &mut self,
         verb: &[u8],
@@ -216,18 +232,58 @@ impl Decoded {
         second: &[u8],
         rest: &[u8],
     ) -> Result<Line<'_>, Syntax>
-        requires first { length first.now ≤ decoded_room self.old }
         requires some_first { 0 < length first.now }
         requires some_second { 0 < length second.now }
-        requires rest { length rest.now ≤ decoded_room self.old }
+        requires fits { length first.now + length second.now + length rest.now ≤ decoded_room self.old }
         ensures* keeps_room { sem 𝓛 (KeepsRoom self.entry) }
         ensures meaning { line_asks result ≡
             decoded (asked_by (verb.now ∷ first.now ∷ second.now ∷ words_of rest.now)) }
+        ensures whole { HasItsParts result }
     {
         if rest.is_empty() {
             return Err(Syntax);
         }
-        self.on_long(verb, first, second, rest)
+        if is_batch(verb) {
+            self.batch(first, second, rest)
+        } else {
+            self.on_long(verb, first, second, rest)
+        }
+    }
+
+    /// The line of a batch: the first two words of its first piece, and the text behind them.
+    fn batch(&mut self, path: &[u8], off: &[u8], rest: &[u8]) -> Result<Line<'_>, Syntax>
+        requires { length path.now + length off.now + length rest.now ≤ decoded_room self.old }
+        ensures* keeps_room { sem 𝓛 (KeepsRoom self.entry) }
+        ensures meaning { line_asks result ≡
+            decoded (asked_by (codes "batch" ∷ path.now ∷ off.now ∷ words_of rest.now)) }
+        ensures whole { HasItsParts result }
+    {
+        self.pieces_of(path, off, rest)?;
+        Ok(self.batch_held())
+    }
+
+    /// Decodes the pieces of a batch.
+    fn pieces_of(&mut self, path: &[u8], off: &[u8], rest: &[u8]) -> Result<(), Syntax>
+        requires { length path.now + length off.now + length rest.now ≤ decoded_room self.old }
+        ensures meaning { (if is_ok result then file_call (batch (pieces_held self.new)) else bad_syntax) ≡
+            decoded (asked_by (codes "batch" ∷ path.now ∷ off.now ∷ words_of rest.now)) }
+        ensures whole { OnOk result (HoldsParts self.new) }
+        ensures room { decoded_room self.old ≤ decoded_room self.new }
+    {
+        let Decoded { first, pieces, .. } = self;
+        decode_pieces(PieceWords { path, off, rest }, first, pieces)
+    }
+
+    /// The line of a batch with the pieces that are held.
+    fn batch_held(&self) -> Line<'_>
+        requires { HoldsParts self.now }
+        ensures meaning { line_asks (Ok result) ≡ file_call (batch (pieces_held self.now)) }
+        ensures whole { HasItsParts (Ok result) }
+    {
+        Line::Call(Call::Batch {
+            text: self.first.as_slice(),
+            pieces: self.pieces.as_slice(),
+        })
     }
 
     /// What a line of four words asks for, where the last may hold spaces.
@@ -351,7 +407,7 @@ impl Decoded {
         ensures second { second_held self.new ≡ path_bytes other.now }
         ensures room { decoded_room self.old ≤ decoded_room self.new }
     {
-        let Decoded { first, second } = self;
+        let Decoded { first, second, .. } = self;
         decode(one, first);
         decode(other, second);
     }
@@ -369,7 +425,7 @@ impl Decoded {
             (if is_ok result then Some (second_held self.new) else None) }
         ensures room { decoded_room self.old ≤ decoded_room self.new }
     {
-        let Decoded { first, second } = self;
+        let Decoded { first, second, .. } = self;
         decode(path, first);
         decode_bytes(digits, second)
     }
@@ -390,7 +446,7 @@ fn decode_bytes(digits: &[u8], into: &mut Vec<u8>) -> Result<(), Syntax>
 }
 
 /// The same into memory with half as many bytes.
-fn decode_into(digits: &[u8], into: &mut [u8]) -> Result<(), Syntax>
+pub(crate) fn decode_into(digits: &[u8], into: &mut [u8]) -> Result<(), Syntax>
     requires { length into.old ≡ length digits.now / 2 }
     ensures { result_ok (decode_of digits.now) ≡ (if is_ok result then Some into.new else None) }
 {
@@ -407,32 +463,43 @@ fn decode(word: &[u8], into: &mut Vec<u8>)
     ensures path { into.new.items ≡ path_bytes word.now }
     ensures room { vec_capacity into.old ≤ vec_capacity into.new }
 {
+    into.clear();
+    add_path(word, into);
+}
+
+/// Adds the path of a word, in room that is there.
+pub(crate) fn add_path(word: &[u8], into: &mut Vec<u8>)
+    requires { vec_len into.old + length word.now ≤ vec_capacity into.old }
+    ensures path { into.new.items ≡ into.old.items ++ path_bytes word.now }
+    ensures len { vec_len into.new ≤ vec_len into.old + length word.now }
+    ensures room { vec_capacity into.old ≤ vec_capacity into.new }
+{
     match first_of(b'%', word) {
-        Some(_) => decode_parts(word, into),
-        None => copy(word, into),
+        Some(_) => add_parts(word, into),
+        None => add(word, into),
     }
 }
 
-/// Copies bytes, in room that is there.
-fn copy(bytes: &[u8], into: &mut Vec<u8>)
-    requires { length bytes.now ≤ vec_capacity into.old }
-    ensures items { into.new.items ≡ bytes.now }
+/// Adds bytes, in room that is there.
+fn add(bytes: &[u8], into: &mut Vec<u8>)
+    requires { vec_len into.old + length bytes.now ≤ vec_capacity into.old }
+    ensures items { into.new.items ≡ into.old.items ++ bytes.now }
+    ensures len { vec_len into.new ≡ vec_len into.old + length bytes.now }
     ensures room { vec_capacity into.old ≤ vec_capacity into.new }
 {
-    into.clear();
     match into.extend_from_slice(bytes) {
         Ok(()) => {}
         Err(_) => unreachable!(),
     }
 }
 
-/// Decodes the parts of a word one by one, in room that is there.
-fn decode_parts(word: &[u8], into: &mut Vec<u8>)
-    requires { length word.now ≤ vec_capacity into.old }
-    ensures path { into.new.items ≡ path_bytes word.now }
+/// Adds the parts of a word decoded one by one, in room that is there.
+fn add_parts(word: &[u8], into: &mut Vec<u8>)
+    requires { vec_len into.old + length word.now ≤ vec_capacity into.old }
+    ensures path { into.new.items ≡ into.old.items ++ path_bytes word.now }
+    ensures len { vec_len into.new ≤ vec_len into.old + length word.now }
     ensures room { vec_capacity into.old ≤ vec_capacity into.new }
 {
-    into.clear();
     let (first, mut left) = split_once(word, b'/');
     add_part(first, into);
     while let Some(text) = left {
@@ -548,6 +615,13 @@ fn pair_verb(verb: &[u8]) -> Option<PairVerb>
     }
 }
 
+/// Whether a word spells the verb of a batch.
+fn is_batch(verb: &[u8]) -> bool
+    ensures { result ≡ bytes_eq verb.now (codes "batch") }
+{
+    matches!(verb, b"batch")
+}
+
 /// The line of a verb and a decoded path.
 fn path_line(verb: PathVerb, path: &[u8]) -> Line<'_>
     ensures { line_asks (Ok result) ≡ path_row verb path.now }
@@ -594,7 +668,7 @@ fn read(path: &[u8], off: Option<u64>, len: Option<u64>) -> Result<Line<'_>, Syn
 }
 
 /// The hexadecimal digits of a word, of which `-` stands for none.
-fn digits_of(word: &[u8]) -> &[u8]
+pub(crate) fn digits_of(word: &[u8]) -> &[u8]
     ensures bytes { result_ok (decode_of result.now) ≡ bytes_spelled word.now }
     ensures len { length result.now ≤ length word.now }
 {
@@ -605,7 +679,7 @@ fn digits_of(word: &[u8]) -> &[u8]
 }
 
 /// The number that a word stands for: one to twenty decimal digits, with a value below 2^64.
-fn number(word: &[u8]) -> Option<u64>
+pub(crate) fn number(word: &[u8]) -> Option<u64>
     ensures { result ≡ number_spelled word.now }
 {
     if word.is_empty() || word.len() > MOST_DIGITS {
@@ -650,7 +724,7 @@ fn long_number(word: &[u8]) -> Option<u64>
 }
 
 /// The text before the first byte of this kind, and what stands after it.
-fn split_once(text: &[u8], at: u8) -> (&[u8], Option<&[u8]>)
+pub(crate) fn split_once(text: &[u8], at: u8) -> (&[u8], Option<&[u8]>)
     ensures split { slice_split (λ b. b == at) text.now ≡
         result.0.now ∷ option_map_or (λ rest. slice_split (λ b. b == at) rest.now) result.1 [] }
     ensures len { length result.0.now + option_map_or (λ rest. length rest.now + 1) result.1 0 ≡ length text.now }

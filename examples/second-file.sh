@@ -131,6 +131,11 @@ expect 'the file that was replaced waits' "$was" "$(stat -c %i $second)"
 did 'create /twice' sync
 expect 'it has the name of FILE again' "$was" "$(stat -c %i FILE)"
 none_left $second
+printf X | dd of=$second conv=notrunc bs=1 seek=$(($(stat -c %s FILE) - 1)) 2> /dev/null
+expect 'the last byte of a file that was written meanwhile' X "$(tail -c 1 $second)"
+did 'create /written' sync
+expect 'the last byte of FILE' 0 "$(tail -c 1 FILE | od -An -tu1 | tr -d ' ')"
+none_left $second
 ln $second KEPT
 cp KEPT copy
 did 'create /kept' sync 'create /later' sync
@@ -154,7 +159,7 @@ did 'create /alone' sync 'create /end'
 ended 0
 none_left
 "$program" run FILE < listing > out
-expect 'files of that run' 10 "$(grep -c 'entry f [a-z]*$' out)"
+expect 'files of that run' 11 "$(grep -c 'entry f [a-z]*$' out)"
 began
 did 'create /mine' sync
 rm $second

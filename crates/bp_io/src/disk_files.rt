@@ -27,7 +27,7 @@ use std::{io, rt};
 /// `DiskFiles` does. Where the file system knows no locks there is none.
 ///
 /// **What is written is there at the flush, whole.** What is written between two flushes goes to a
-/// second file in the same folder. A flush completes that one by the bytes that were not written,
+/// second file in the same folder. A flush completes that one by the bytes of the first that it lacks,
 /// makes it last, gives it the name of the first, and makes that last too. So whenever the process
 /// is killed, or the power fails, the name leads to a file as it was at the end of one flush (or as
 /// it was attached), and to none older than the last that was answered. The new file has the owner,
@@ -37,10 +37,12 @@ use std::{io, rt};
 /// and the next flush of the first one begins by removing it, as may anyone.
 ///
 /// **The file that was replaced is the next second one**, so that only the first flush has to find room on the
-/// disk. It waits under the second name, and is removed when another file is attached and when the files are
+/// disk, and to copy the whole file: from then on it lacks the blocks that the flush before wrote, and no other
+/// ones. It waits under the second name, and is removed when another file is attached and when the files are
 /// dropped. On its way there it is called as the first one with `.bpfs-sync-old` behind it, of which the
 /// same holds. None waits where a file can't have two names, or a folder can't be made last, and one that has
-/// another name meanwhile is not written. Who opened the file before a flush reads on in the one that was
+/// another name meanwhile, or another length or time of change, is not written: a new one is made. A change
+/// within the same tick of the system's clock as the flush is not seen. Who opened the file before a flush reads on in the one that was
 /// replaced, and sees what is written for the flush behind the next.
 ///
 /// A file is written **in place** where no second one can be had, or none may take its place: where
@@ -81,7 +83,7 @@ impl<R: rt::Files<File = File> + Drop> DiskFiles<R> {
     ///
     /// # Errors
     ///
-    /// `AllocError` only where there is no memory for 64 blocks.
+    /// `AllocError` only where there is no memory for 64 blocks, and for what 65,536 blocks hold.
     pub fn new(alloc: Global, runtime: R) -> Result<Self, AllocError>
         ensures attached { IfOk result (λ files. (name : List ℕ) →
             (⟦<DiskFiles<R> as files::Files>⟧.view files).is_attached name ≡ false) }

@@ -7,6 +7,7 @@ mod disk_files;
 mod fair_files;
 mod faults;
 mod files;
+mod held;
 mod image;
 mod mem_files;
 mod memory_streams;

@@ -2,8 +2,9 @@
 ghost use Rattle.std.specs.Prelude.{◌≡◌, ◌<◌, ◌+◌, ◌^◌, is_some, length};
 
 use crate::Access;
+use crate::held::HeldBlocks;
 use crate::opening::lock;
-use crate::second_file::{Names, SecondFile, fill_in_place, has_room, lacks_room};
+use crate::second_file::{Names, SecondFile, Waiting, fill_in_place, has_room, lacks_room};
 use crate::window::Window;
 use bp_limits::BLOCK_SIZE;
 use std::alloc::{AllocError, Global};
@@ -31,8 +32,10 @@ pub(crate) struct Saver {
     names: Option<Names>,
     way: Way,
     /// The file that was attached before the last flush. It waits under the second name to be the next second
-    /// file, which then has its room on the disk already.
-    waiting: Option<File>,
+    /// file, which then has its room on the disk already, and most of its bytes.
+    waiting: Option<Waiting>,
+    /// What the blocks hold of the second file, or of the one that waits to be it.
+    held: HeldBlocks,
     window: Window,
 }
 
@@ -56,11 +59,12 @@ fn way_to<R: rt::Files<File = File>>(
     file: &File,
     least: u64,
     waiting: Option<File>,
+    held: &mut HeldBlocks,
 ) -> io::Result<Way> {
     let Some(names) = names else {
         return Ok(Way::InPlace);
     };
-    match SecondFile::new(runtime, names, file, waiting) {
+    match SecondFile::new(runtime, names, file, waiting, held) {
         Ok(second) => Ok(Way::Beside(second)),
         // Another process is writing, or no write gets through to the end of the file.
         Err(e) if matches!(e.kind(), ErrorKind::ResourceBusy | ErrorKind::FileTooLarge) => Err(e),
@@ -76,6 +80,7 @@ impl Saver {
             names: None,
             way: Way::Clean,
             waiting: None,
+            held: HeldBlocks::new(alloc)?,
             window: Window::new(alloc)?,
         })
     }
@@ -92,7 +97,7 @@ impl Saver {
         let waiting = self.waiting.take();
         match (&self.names, &self.way, &waiting) {
             (Some(names), Way::Beside(_), _) => names.remove_second(runtime),
-            (Some(names), _, Some(file)) => names.take_from(runtime, file),
+            (Some(names), _, Some(waiting)) => waiting.remove(runtime, names),
             _ => {}
         }
     }
@@ -104,18 +109,22 @@ impl Saver {
         self.way = Way::Lost;
     }
 
-    /// A file that waits, or is to wait, where it has the second name and no other one.
-    fn if_second<R: rt::Files<File = File>>(&self, runtime: &R, file: File) -> Option<File> {
-        match &self.names {
-            Some(names) => names.if_second(runtime, file),
+    /// Lets the file wait that a flush replaced, where that can be done.
+    fn let_wait<R: rt::Files<File = File>>(&mut self, runtime: &R, file: File) {
+        self.held.swap();
+        self.waiting = match &self.names {
+            Some(names) => names.let_wait(runtime, file),
             None => None,
-        }
+        };
     }
 
     /// The file that waits, unless something else was done with it.
     fn take_waiting<R: rt::Files<File = File>>(&mut self, runtime: &R) -> Option<File> {
-        let file = self.waiting.take()?;
-        self.if_second(runtime, file)
+        let waiting = self.waiting.take()?;
+        match &self.names {
+            Some(names) => names.if_unchanged(runtime, waiting),
+            None => None,
+        }
     }
 
     /// An error loses what was written.
@@ -141,7 +150,7 @@ impl Saver {
         match self.way {
             Way::Clean => {
                 let waiting = self.take_waiting(runtime);
-                self.way = way_to(runtime, &self.names, file, least, waiting)?;
+                self.way = way_to(runtime, &self.names, file, least, waiting, &mut self.held)?;
                 Ok(())
             }
             Way::Beside(_) | Way::InPlace => Ok(()),
@@ -158,7 +167,7 @@ impl Saver {
         match (mem::replace(&mut self.way, Way::InPlace), &self.names) {
             (Way::Beside(second), Some(names)) => {
                 names.remove_second(runtime);
-                second.write_to(file)
+                second.write_to(&self.held, file)
             }
             _ => Ok(()),
         }
@@ -181,12 +190,11 @@ impl Saver {
 
     /// Writes the blocks that wait.
     fn write_out<R: rt::Files<File = File>>(&mut self, runtime: &R, file: &File) -> io::Result<()> {
-        // A window without blocks stands where the last one ended: a second file needs nothing before that yet.
         if self.window.is_empty() {
             return Ok(());
         }
-        if let Way::Beside(second) = &mut self.way {
-            let done = second.take(file, &mut self.window);
+        if let Way::Beside(second) = &self.way {
+            let done = second.take(&mut self.held, &mut self.window);
             self.or_go_in_place(runtime, file, done)?;
         }
         match self.way {
@@ -198,8 +206,8 @@ impl Saver {
     /// Writes the blocks that wait, and completes a second file.
     fn write_all<R: rt::Files<File = File>>(&mut self, runtime: &R, file: &File) -> io::Result<()> {
         self.write_out(runtime, file)?;
-        if let Way::Beside(second) = &mut self.way {
-            let done = second.complete(file);
+        if let Way::Beside(second) = &self.way {
+            let done = second.complete(&mut self.held, file);
             self.or_go_in_place(runtime, file, done)?;
         }
         Ok(())
@@ -231,8 +239,8 @@ impl Saver {
     ) -> io::Result<()>
         requires { at + length from.now < 2 ^ 64 }
     {
-        if let Way::Beside(second) = &mut self.way {
-            let done = second.write(file, from, at);
+        if let Way::Beside(second) = &self.way {
+            let done = second.write(&mut self.held, from, at);
             self.or_go_in_place(runtime, file, done)?;
         }
         match self.way {
@@ -264,7 +272,7 @@ impl Saver {
         self.begin(runtime, file, length)?;
         self.write_out(runtime, file)?;
         match &mut self.way {
-            Way::Beside(second) => second.set_len(length),
+            Way::Beside(second) => second.set_len(&mut self.held, length),
             Way::Clean | Way::InPlace | Way::Lost => file.set_len(length),
         }
     }
@@ -280,7 +288,7 @@ impl Saver {
         // The blocks that wait are replaced too.
         self.window.restart(0);
         let done = match &mut self.way {
-            Way::Beside(second) => second.replace(front, length),
+            Way::Beside(second) => second.replace(&mut self.held, front, length),
             Way::Clean | Way::InPlace | Way::Lost => fill_in_place(file, front, length),
         };
         match (done, &self.way, &self.names) {
@@ -319,7 +327,7 @@ impl Saver {
         match mem::replace(&mut self.way, Way::Clean) {
             Way::Beside(second) => {
                 let first = mem::replace(file, second.into_file());
-                self.waiting = self.if_second(runtime, first);
+                self.let_wait(runtime, first);
                 Ok(())
             }
             Way::Clean | Way::InPlace => file.sync_data(),

@@ -2,6 +2,7 @@
 ghost use Rattle.std.specs.Prelude.{◌<◌, ◌≤◌, ◌+◌, ◌^◌, length};
 
 use crate::Access;
+use crate::held::{Held, HeldBlocks, TOLD_APART};
 use crate::opening::{in_use, leads_to, lock};
 use crate::window::Window;
 use std::alloc::Global;
@@ -64,15 +65,32 @@ impl Names {
         Ok(file.metadata()?.nlink() == 1 && is_name_of(runtime, self.second.as_str(), file)?)
     }
 
-    /// The file, where it has the second name and no other one. Else it has that name no more.
-    pub(crate) fn if_second<R: rt::Files<File = File>>(
+    /// Lets a file wait, where it has the second name and no other one. Else it has that name no more.
+    pub(crate) fn let_wait<R: rt::Files<File = File>>(
         &self,
         runtime: &R,
         file: File,
+    ) -> Option<Waiting> {
+        match (self.is_second(runtime, &file), Stamp::of(&file)) {
+            (Ok(true), Ok(stamp)) => Some(Waiting { file, stamp }),
+            _ => {
+                self.take_from(runtime, &file);
+                None
+            }
+        }
+    }
+
+    /// The file that waits, where it still has the second name and no other one, and nothing else was done with
+    /// it. Else it has that name no more.
+    pub(crate) fn if_unchanged<R: rt::Files<File = File>>(
+        &self,
+        runtime: &R,
+        waiting: Waiting,
     ) -> Option<File> {
-        match self.is_second(runtime, &file) {
-            Ok(true) => Some(file),
-            Ok(false) | Err(_) => {
+        let Waiting { file, stamp } = waiting;
+        match (self.is_second(runtime, &file), Stamp::of(&file)) {
+            (Ok(true), Ok(now)) if now == stamp => Some(file),
+            _ => {
                 self.take_from(runtime, &file);
                 None
             }
@@ -105,15 +123,46 @@ impl Names {
     }
 }
 
-/// A second file beside a first one. It has a front of the bytes that are to be; behind that they are
-/// those of the first file, and zeros where that one has none or was cut off.
+/// The length of a file, and when it was last written or otherwise changed: what tells that nobody did since.
+#[derive(Clone, Copy, PartialEq, Eq)]
+struct Stamp {
+    length: u64,
+    modified: (i64, i64),
+    changed: (i64, i64),
+}
+
+impl Stamp {
+    fn of(file: &File) -> io::Result<Self> {
+        let metadata = file.metadata()?;
+        Ok(Stamp {
+            length: metadata.len(),
+            modified: (metadata.mtime(), metadata.mtime_nsec()),
+            changed: (metadata.ctime(), metadata.ctime_nsec()),
+        })
+    }
+}
+
+/// The file that the last flush replaced. It waits under the second name to be the next second file.
+#[derive(Drop)]
+pub(crate) struct Waiting {
+    file: File,
+    stamp: Stamp,
+}
+
+impl Waiting {
+    /// Takes the second name from it.
+    pub(crate) fn remove<R: rt::Files<File = File>>(&self, runtime: &R, names: &Names) {
+        names.take_from(runtime, &self.file);
+    }
+}
+
+/// A second file beside a first one. What each of its blocks holds is told beside it; the bytes behind those that are
+/// told apart are those that are to be.
 #[derive(Drop)]
 pub(crate) struct SecondFile {
     file: File,
     folder: File,
-    /// How many bytes it has.
-    filled: u64,
-    /// How many bytes of the first file stay, but for those that it has.
+    /// How many bytes of the first file stay, but for those that were written.
     kept: u64,
     /// The length that is to be.
     length: u64,
@@ -225,11 +274,12 @@ fn make_second<R: rt::Files<File = File>>(runtime: &R, name: &str) -> io::Result
     }
 }
 
-/// Locks a new file, and makes it like the first one but for its bytes.
-fn prepare(file: &File, first: &Metadata) -> io::Result<()> {
+/// Locks a file, and makes it like the first one but for the blocks that are told apart.
+fn prepare(file: &File, first: &File, metadata: &Metadata) -> io::Result<()> {
     lock(file, Access::Write)?;
-    take_after(file, first)?;
-    file.set_len(first.len())
+    take_after(file, metadata)?;
+    file.set_len(metadata.len())?;
+    copy_bytes(first, file, TOLD_APART, metadata.len())
 }
 
 /// The folder of a file, to be flushed.
@@ -241,8 +291,8 @@ fn open_folder<R: rt::Files<File = File>>(runtime: &R, file: &PathBuf) -> io::Re
 }
 
 impl SecondFile {
-    /// Makes a second file beside the first, which has no bytes of its own yet: of the one that waits under
-    /// the second name, whatever it holds, or anew.
+    /// Makes a second file beside the first: of the one that waits under the second name, which holds what is told of
+    /// it, or anew.
     ///
     /// # Errors
     ///
@@ -253,7 +303,11 @@ impl SecondFile {
         names: &Names,
         first: &File,
         waiting: Option<File>,
+        held: &mut HeldBlocks,
     ) -> io::Result<Self> {
+        if waiting.is_none() {
+            held.clear();
+        }
         let waits = waiting.is_some();
         let made = Self::make(runtime, names, first, waiting);
         if waits && made.is_err() {
@@ -278,70 +332,68 @@ impl SecondFile {
             Some(file) => file,
             None => make_second(runtime, names.second.as_str())?,
         };
-        if let Err(e) = prepare(&file, &metadata) {
+        if let Err(e) = prepare(&file, first, &metadata) {
             names.remove_second(runtime);
             return Err(e);
         }
         Ok(SecondFile {
             file,
             folder,
-            filled: 0,
             kept: metadata.len(),
             length: metadata.len(),
         })
     }
 
-    /// Gives it all bytes of the first file that stay, up to this one.
-    fn fill(&mut self, first: &File, end: u64) -> io::Result<()> {
-        let end = end.min(self.kept);
-        if self.filled < end {
-            copy_bytes(first, &self.file, self.filled, end)?;
-            self.filled = end;
-        }
-        Ok(())
-    }
-
-    /// Gives it these bytes from a byte on, and the bytes of the first file before them.
-    pub(crate) fn write(&mut self, first: &File, from: &[u8], at: u64) -> io::Result<()>
+    /// Gives it these bytes from a byte on.
+    pub(crate) fn write(&self, held: &mut HeldBlocks, from: &[u8], at: u64) -> io::Result<()>
         requires { at + length from.now < 2 ^ 64 }
     {
-        self.fill(first, at)?;
         self.file.write_all_at(from, at)?;
-        self.filled = self.filled.max(at + from.len() as u64);
+        held.set_written(at, from.len() as u64);
         Ok(())
     }
 
-    /// Gives it the blocks that wait, and the bytes of the first file before them.
-    pub(crate) fn take(&mut self, first: &File, window: &mut Window) -> io::Result<()> {
-        self.write(first, window.bytes(), window.start())?;
+    /// Gives it the blocks that wait.
+    pub(crate) fn take(&self, held: &mut HeldBlocks, window: &mut Window) -> io::Result<()> {
+        self.write(held, window.bytes(), window.start())?;
         window.clear();
         Ok(())
     }
 
-    /// Gives it all bytes that it lacks.
-    pub(crate) fn complete(&mut self, first: &File) -> io::Result<()> {
-        self.fill(first, self.kept)
+    /// Gives it all bytes of the first file that it lacks.
+    pub(crate) fn complete(&self, held: &mut HeldBlocks, first: &File) -> io::Result<()> {
+        let mut at = 0;
+        while let Some(run) = held.run_of(at, Held::Lacking) {
+            copy_bytes(first, &self.file, run.start, run.end.min(self.kept))?;
+            held.set_same(run);
+            at = run.next;
+        }
+        Ok(())
     }
 
     /// Cuts it off there, or fills it up with zeros.
-    pub(crate) fn set_len(&mut self, length: u64) -> io::Result<()> {
+    pub(crate) fn set_len(&mut self, held: &mut HeldBlocks, length: u64) -> io::Result<()> {
         self.file.set_len(length)?;
-        self.filled = self.filled.min(length);
+        held.set_zeros_behind(self.length.min(length));
         self.kept = self.kept.min(length);
         self.length = length;
         Ok(())
     }
 
     /// Gives it these bytes, and zeros behind them up to its new length. Nothing of the first file stays.
-    pub(crate) fn replace(&mut self, front: &[u8], length: u64) -> io::Result<()> {
+    pub(crate) fn replace(
+        &mut self,
+        held: &mut HeldBlocks,
+        front: &[u8],
+        length: u64,
+    ) -> io::Result<()> {
         // Zeros by the length alone take no time, and on most file systems no room.
         self.file.set_len(0)?;
         self.file.set_len(length)?;
-        self.file.write_all_at(front, 0)?;
-        self.filled = front.len() as u64;
+        held.set_zeros_behind(0);
         self.kept = 0;
         self.length = length;
-        Ok(())
+        self.write(held, front, 0)
     }
 
     /// Reads from it. It has to be complete.
@@ -354,13 +406,33 @@ impl SecondFile {
         has_room(first, self.length)
     }
 
+    /// Gives the first file the blocks that were written.
+    fn copy_written(&self, held: &HeldBlocks, first: &File) -> io::Result<()> {
+        let mut at = 0;
+        while let Some(run) = held.run_of(at, Held::Written) {
+            copy_bytes(&self.file, first, run.start, run.end.min(self.length))?;
+            at = run.next;
+        }
+        copy_bytes(&self.file, first, TOLD_APART, self.length)
+    }
+
+    /// Gives the first file zeros where this one has them by its length alone, up to a byte.
+    fn copy_zeros(&self, held: &HeldBlocks, first: &File, end: u64) -> io::Result<()> {
+        let mut at = 0;
+        while let Some(run) = held.run_of(at, Held::Zeros) {
+            write_zeros(first, run.start, run.end.min(end))?;
+            at = run.next;
+        }
+        Ok(())
+    }
+
     /// Makes the first file what this one stands for, in place. It gives up no room on the disk that it
     /// still needs, and has no third length on the way.
-    pub(crate) fn write_to(&self, first: &File) -> io::Result<()> {
+    pub(crate) fn write_to(&self, held: &HeldBlocks, first: &File) -> io::Result<()> {
         let had = first.metadata()?.len();
         first.set_len(self.length)?;
-        copy_bytes(&self.file, first, 0, self.filled)?;
-        write_zeros(first, self.kept.max(self.filled), had.min(self.length))
+        self.copy_written(held, first)?;
+        self.copy_zeros(held, first, had.min(self.length))
     }
 
     /// Flushes it, and gives it the name of the first file, which then has the second name, where it can have

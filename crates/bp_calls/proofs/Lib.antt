@@ -53,6 +53,7 @@ pub mod GrowthPerforms
 pub mod NewNames
 pub mod ShareLaws
 pub mod WrittenStands
+pub mod TreeTrails
 pub mod PatchRuns
 pub mod PatchPaths
 pub mod PatchWords

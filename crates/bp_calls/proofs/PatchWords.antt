@@ -30,7 +30,7 @@ use Rattle.bp_cow.specs.Touched.{job_of, laid_word, run_byte, run_end, run_path,
 use Rattle.bp_cow.proofs.CommitLaws.{committed_commits, size_after}
 use Rattle.bp_cow.proofs.RunLaws.{byte-run_word, length-run_path, run_word-outside}
 use Rattle.bp_cow.proofs.RunWrites.{digits_trail, root_path_trail}
-use Rattle.bp_cow.proofs.TreeTrails.{apart_trees, content_trail, same_word}
+use Rattle.bp_calls.proofs.TreeTrails.{same_word, word_trail}
 use Rattle.bp_cow.proofs.Values.{after-others, after-run}
 use Rattle.bp_calls.specs.Overwritten.{AreRuns, IsPatchIn}
 use Rattle.bp_calls.specs.Overwritten.AreRuns.{none, empty, more}
@@ -139,7 +139,7 @@ module _ (image : Image) (wf : IsWellFormed image) (i : ℕ) (reached : IsReache
 module _ (old new : Image) (wf : IsWellFormed old) (touched : Touched) (free : ℕ → Bool) (can : CanCommit old (size_of old) touched free) (no_word : length touched.words.now ≡ 0)
     (at : (run : Run) → Has touched.runs.now run → IsInFile old run) (turned : Trail → Type 0) (stage : IsCommitted old new (IsTreePointer old (size_of old)) turned (after_commit old (job_of touched))) where
   -- the trail of a word by the run's path is that of the content word
-  run_trail : (run : Run) (has : Has touched.runs.now run) (k : ℕ) → trail_of (run_path run k) (length (run_path run k)) ≡ content_trail old (size_of old) can.forest (suc (at run has).inode) k
+  run_trail : (run : Run) (has : Has touched.runs.now run) (k : ℕ) → trail_of (run_path run k) (length (run_path run k)) ≡ word_trail old (suc (at run has).inode) k
   run_trail run has k =
       let file = at run has in
       let size : length (run_path run k) ≡ length run.root.items + suc run.height = omega (arith, length-run_path run k) in
@@ -149,8 +149,8 @@ module _ (old new : Image) (wf : IsWellFormed old) (touched : Touched) (free : �
 
   -- a word of no run stays
   stays_apart : (t k : ℕ) → ((run : Run) (has : Has touched.runs.now run) (l : ℕ) → run.off / 8 ≤ l → l ≤ (run_end run - 1) / 8 →
-      content_trail old (size_of old) can.forest t k ≡ content_trail old (size_of old) can.forest (suc (at run has).inode) l → ⊥) →
-      after_commit old (job_of touched) (content_trail old (size_of old) can.forest t k) ≡ content_word old (root_of old t) k
+      word_trail old t k ≡ word_trail old (suc (at run has).inode) l → ⊥) →
+      after_commit old (job_of touched) (word_trail old t k) ≡ content_word old (root_of old t) k
   stays_apart t k other =
       after-others old (size_of old) touched free wf can (k % 512) (along (root_trail (height_of (word old 2)) t) (height_of (root_of old t)) (k / 512)) (omega arith)
       (λ i here same. omega (arith, here, no_word))
@@ -158,15 +158,13 @@ module _ (old new : Image) (wf : IsWellFormed old) (touched : Touched) (free : �
       ∙ word-tree old t (suc (height_of (root_of old t))) k
 
   -- so do all that are of no file
-  stays : (t k : ℕ) → IsReached old t → 8 * k < size_of old t → (kind_of old t ≡ 1 → ⊥) → after_commit old (job_of touched) (content_trail old (size_of old) can.forest t k) ≡ content_word old (root_of old t) k
-  stays zero k also low no_file = stays_apart 0 k (λ run has l first last same. apart_trees old (size_of old) can.forest (at run has).inode k l same)
-  stays (suc m) k also low no_file = stays_apart (suc m) k apart
+  stays : (t k : ℕ) → IsReached old t → 8 * k < size_of old t → (kind_of old t ≡ 1 → ⊥) → after_commit old (job_of touched) (word_trail old t k) ≡ content_word old (root_of old t) k
+  stays t k also low no_file = stays_apart t k apart
     where
-      apart : (run : Run) (has : Has touched.runs.now run) (l : ℕ) → run.off / 8 ≤ l → l ≤ (run_end run - 1) / 8 →
-          content_trail old (size_of old) can.forest (suc m) k ≡ content_trail old (size_of old) can.forest (suc (at run has).inode) l → ⊥
+      apart : (run : Run) (has : Has touched.runs.now run) (l : ℕ) → run.off / 8 ≤ l → l ≤ (run_end run - 1) / 8 → word_trail old t k ≡ word_trail old (suc (at run has).inode) l → ⊥
       apart run has l first last same =
           let file = at run has in
-          let here = same_word old (size_of old) can.forest m k file.inode l also low file.reached (omega (arith, last, file.of.below, file.of.some)) same in
+          let here = same_word old (size_of old) can.forest t k (suc file.inode) l also file.reached low (omega (arith, last, file.of.below, file.of.some)) same in
           no_file (subst (λ i. kind_of old i ≡ 1) (sym here.0) file.is_file)
 
   pub sizes_stay : (t : ℕ) → IsReached old t → size_of new t ≡ size_of old t
@@ -184,17 +182,17 @@ module _ (old new : Image) (wf : IsWellFormed old) (touched : Touched) (free : �
 
   -- a word of a file has the bytes of all runs in the file
   word_laid : (m k : ℕ) → IsReached old (suc m) → 8 * k < size_of old (suc m) →
-      after_commit old (job_of touched) (content_trail old (size_of old) can.forest (suc m) k) ≡ laid_word touched.runs.now (inode_path (height_of (root_of old 0)) (suc m) 1) k (content_word old (root_of old (suc m)) k)
+      after_commit old (job_of touched) (word_trail old (suc m) k) ≡ laid_word touched.runs.now (inode_path (height_of (root_of old 0)) (suc m) 1) k (content_word old (root_of old (suc m)) k)
   word_laid m k also low = go (some_covers (inode_path (height_of (root_of old 0)) (suc m) 1) k touched.runs.now)
     where
       go : ((run : Run) × Has touched.runs.now run × Covers (inode_path (height_of (root_of old 0)) (suc m) 1) k run) ⊎ ((run : Run) → Has touched.runs.now run → Covers (inode_path (height_of (root_of old 0)) (suc m) 1) k run → ⊥) →
-          after_commit old (job_of touched) (content_trail old (size_of old) can.forest (suc m) k) ≡ laid_word touched.runs.now (inode_path (height_of (root_of old 0)) (suc m) 1) k (content_word old (root_of old (suc m)) k)
+          after_commit old (job_of touched) (word_trail old (suc m) k) ≡ laid_word touched.runs.now (inode_path (height_of (root_of old 0)) (suc m) 1) k (content_word old (root_of old (suc m)) k)
       go (inl found) =
           let run = found.0 in
           let has = found.1 in
           let file = at run has in
           let inode : suc file.inode ≡ suc m = same_inode old wf (suc file.inode) (suc m) file.reached also (sym file.of.root ∙ found.2.tree) in
-          let trail : trail_of (run_path run k) (length (run_path run k)) ≡ content_trail old (size_of old) can.forest (suc m) k = run_trail run has k ∙ ap (λ t. content_trail old (size_of old) can.forest t k) inode in
+          let trail : trail_of (run_path run k) (length (run_path run k)) ≡ word_trail old (suc m) k = run_trail run has k ∙ ap (λ t. word_trail old t k) inode in
           ap (after_commit old (job_of touched)) (sym trail)
           ∙ after-run old (size_of old) touched free wf can run k has found.2.low found.2.high
           ∙ ap (λ (r : WordPath). laid_word touched.runs.now r k (word_on old (trail_of (run_path run k) (length (run_path run k))))) found.2.tree
@@ -203,10 +201,10 @@ module _ (old new : Image) (wf : IsWellFormed old) (touched : Touched) (free : �
       go (inr nowhere) = stays_apart (suc m) k apart ∙ sym (laid_stays (inode_path (height_of (root_of old 0)) (suc m) 1) k touched.runs.now (content_word old (root_of old (suc m)) k) nowhere)
         where
           apart : (run : Run) (has : Has touched.runs.now run) (l : ℕ) → run.off / 8 ≤ l → l ≤ (run_end run - 1) / 8 →
-              content_trail old (size_of old) can.forest (suc m) k ≡ content_trail old (size_of old) can.forest (suc (at run has).inode) l → ⊥
+              word_trail old (suc m) k ≡ word_trail old (suc (at run has).inode) l → ⊥
           apart run has l first last same =
               let file = at run has in
-              let here = same_word old (size_of old) can.forest m k file.inode l also low file.reached (omega (arith, last, file.of.below, file.of.some)) same in
+              let here = same_word old (size_of old) can.forest (suc m) k (suc file.inode) l also file.reached low (omega (arith, last, file.of.below, file.of.some)) same in
               nowhere run has (record {
                 tree = file.of.root ∙ ap (λ i. inode_path (height_of (root_of old 0)) i 1) (sym here.0);
                 low = omega (arith, first, here.1);

@@ -5,7 +5,8 @@ use Rattle.bp_layout.specs.Lookup.{Path, lookup}
 use Rattle.bp_layout.specs.Words.{Image}
 use Rattle.bp_layout.specs.declared.fields.Kind.{Kind}
 use Rattle.bp_layout.specs.declared.fields.Kind.TheVariants.{File, Dir}
-use Rattle.bp_plain.specs.Plain.{bytes_at, resized, with_content, with_dir, with_file, with_name, with_nothing, written}
+use Rattle.bp_plain.specs.Calls.{Piece}
+use Rattle.bp_plain.specs.Plain.{bytes_at, resized, with_content, with_dir, with_file, with_name, with_nothing, with_pieces, written}
 use Rattle.bp_plain.specs.PlainTree.{PathMap}
 use Rattle.bp_plain.specs.Stands.{Shows}
 
@@ -41,3 +42,7 @@ GetsSize i size old new = (map : PathMap) (here : Path) → Shows old map → lo
 abbrev pub GetsBytes : ℕ → ℕ → List ℕ → Image → Image → Type 0
 GetsBytes i off bytes old new = (map : PathMap) (here : Path) → Shows old map → lookup old here ≡ Some i →
     Shows new (with_content map here (written (bytes_at map.nodes here) off bytes))
+
+-- the second image shows the pieces of a batch, laid one after the other into the files that their paths find
+abbrev pub GetsPieces : List Piece → Image → Image → Type 0
+GetsPieces pieces old new = (map : PathMap) → Shows old map → Shows new (with_pieces map pieces)

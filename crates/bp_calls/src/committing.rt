@@ -38,7 +38,7 @@ pub(crate) fn run_for<'a, R: Region>(
 }
 
 /// What is touched by runs alone.
-pub(crate) fn touched_by<'a>(runs: &'a [Run<'a>]) -> Touched<'a>
+pub fn touched_by<'a>(runs: &'a [Run<'a>]) -> Touched<'a>
     ensures runs { result.runs.now ≡ runs.now }
     ensures words { result.words.now ≡ [] }
 {

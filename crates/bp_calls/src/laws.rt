@@ -5,12 +5,13 @@ ghost use Rattle.std.specs.Prelude.{◌≡◌, ◌≤◌, ℕ, Bool, List, [], l
 ghost use Rattle.bp_calls.specs.ContentPaths.{HasContentWord, KeepsHeights, WholePathExists};
 ghost use Rattle.bp_calls.specs.Created.{EntersName, LinksEntry};
 ghost use Rattle.bp_calls.specs.InPlace.{LiesInWord};
-ghost use Rattle.bp_calls.specs.OnTrees.{GainsName, GetsBytes, GetsSize, LosesName, SharesName};
+ghost use Rattle.bp_calls.specs.OnTrees.{GainsName, GetsBytes, GetsPieces, GetsSize, LosesName, SharesName};
 ghost use Rattle.bp_calls.specs.Removed.{IsFoundAt};
 ghost use Rattle.bp_calls.specs.Resized.{ResizesFile};
 ghost use Rattle.bp_calls.specs.WritesFile.{WritesFile};
 ghost use Rattle.bp_layout.specs.declared.fields.Kind.{Kind};
 ghost use Rattle.bp_changes.specs.Effects.{CanUnlink, RemovesEntry};
+ghost use Rattle.bp_changes.specs.Overwrites.{OverwritesFiles, Patch};
 ghost use Rattle.bp_dirs.specs.Names.{name_count};
 ghost use Rattle.bp_free.specs.Set.{has, members};
 ghost use Rattle.bp_layout.specs.Directory.{Name, inumber_at, name_at};
@@ -22,6 +23,8 @@ ghost use Rattle.bp_layout.specs.Need.Change.{leaves, resizes, writes};
 ghost use Rattle.bp_layout.specs.Reached.{IsReached};
 ghost use Rattle.bp_layout.specs.WellFormed.{IsWellFormed};
 ghost use Rattle.bp_layout.specs.Words.{block_count};
+ghost use Rattle.bp_plain.specs.Calls.{Piece};
+ghost use Rattle.bp_stands.specs.Pieces.{ArePatches};
 
 use bp_free::Blocks;
 
@@ -108,4 +111,12 @@ pub fn written_files_get_their_bytes(old: &[u64], new: &[u64])
     requires { IsWellFormed old.now }
     ensures { (i off : ℕ) (bytes : List ℕ) → WritesFile i off bytes old.now new.now →
         GetsBytes i off bytes old.now new.now }
+{}
+
+/// Files into which the pieces of a batch were laid have them in the plain tree, one piece after the other, at each path
+/// that finds one of the files.
+pub fn overwritten_files_get_their_bytes(old: &[u64], new: &[u64])
+    requires { IsWellFormed old.now }
+    ensures { (pieces : List Piece) (patches : List Patch) → ArePatches old.now pieces patches →
+        OverwritesFiles patches old.now new.now → GetsPieces pieces old.now new.now }
 {}

@@ -9,15 +9,14 @@ use Rattle.bp_layout.specs.Inode.{kind_of, root_of, size_of}
 use Rattle.bp_layout.specs.Members.{Has}
 use Rattle.bp_layout.specs.Reached.{IsReached}
 use Rattle.bp_layout.specs.Reached.IsReached.{inode_file}
-use Rattle.bp_layout.specs.Tree.{content_word, IsFull, IsLivePointer}
+use Rattle.bp_layout.specs.Tree.{content_word, IsFull}
 use Rattle.bp_layout.specs.WellFormed.{IsWellFormed}
 use Rattle.bp_layout.specs.WordPaths.{WordPath, digits, inode_path, tree_path}
 use Rattle.bp_layout.specs.Words.{Image, word, height_of}
-use Rattle.bp_layout.proofs.TreeLaws.{live_above, live_content}
 use Rattle.bp_changes.specs.Commits.{CommitsOnly}
 use Rattle.bp_shapes.specs.Forest.{along, root_trail, tree_trail, IsForest, IsTreePointer}
 use Rattle.bp_shapes.specs.Trail.{Trail, trail_of}
-use Rattle.bp_shapes.proofs.ForestLaws.{same_along, same_trail, short, skeleton, word-tree}
+use Rattle.bp_shapes.proofs.ForestLaws.{skeleton, word-tree}
 use Rattle.bp_shapes.proofs.FreeSets.{content_fronts, content_no_pointer}
 use Rattle.bp_tree.proofs.Digits.{length-digits}
 use Rattle.bp_tree.proofs.PathLaws.{small_digits}
@@ -34,6 +33,7 @@ use Rattle.bp_cow.proofs.RunFronts.{trail_of-take}
 use Rattle.bp_cow.proofs.RunWrites.{digits_trail, root_path_trail}
 use Rattle.bp_cow.proofs.Values.{after-others, after-word}
 use Rattle.bp_layout.specs.Thaw.{none_kept}
+use Rattle.bp_calls.proofs.TreeTrails.{same_word}
 
 -- Content words alone are touched: each in a reached tree below a size that counts, no root word, and no two alike.
 pub record AreContent (image : Image) (bound : ℕ → ℕ) (touched : Touched) (tree number : ℕ → ℕ) : Type 0 where
@@ -46,10 +46,6 @@ pub record AreContent (image : Image) (bound : ℕ → ℕ) (touched : Touched) 
   pub path : (i : ℕ) → i < length touched.words.now →
       path_of (word_paths touched) i ≡ tree_path (height_of (root_of image 0)) (tree i) (suc (height_of (root_of image (tree i)))) (number i)
   pub apart : (i k : ℕ) → i < length touched.words.now → k < length touched.words.now → tree i ≡ tree k → number i ≡ number k → i ≡ k
-
-long_along : (base : Trail) (depth index : ℕ) → length (along base depth index) ≡ depth + length base
-long_along base zero index = omega arith
-long_along base (suc depth) index = omega (arith, long_along base depth (index / 512))
 
 -- ---- the path of a content word
 
@@ -78,38 +74,7 @@ content_trail top (suc n) depth k =
     ap (trail_of (inode_path top (suc n) 1 ++ digits depth k)) size ∙ digits_trail (inode_path top (suc n) 1) depth k
     ∙ ap (λ (base : Trail). along base depth k) (root_path_trail top n (inode_path top (suc n) 1) refl)
 
--- ---- different words are on different trails
-
-module _ (image : Image) (bound : ℕ → ℕ) (forest : IsForest image bound) where
-  -- a word of the inode file is on a shorter trail than those of an inode's tree
-  other_tree : (k m l : ℕ) → tree_trail (height_of (word image 2)) 0 (suc (height_of (root_of image 0))) k ≡ tree_trail (height_of (word image 2)) (suc m) (suc (height_of (root_of image (suc m)))) l → ⊥
-  other_tree k m l same =
-      omega (
-        arith,
-        ap (λ (x : Trail). length x) same,
-        long_along [] (suc (height_of (root_of image 0))) k,
-        long_along (root_trail (height_of (word image 2)) (suc m)) (suc (height_of (root_of image (suc m)))) l,
-        long_along [] (suc (height_of (word image 2))) (8 * suc m + 1),
-      )
-
-  leaf : (t k : ℕ) → 8 * k < bound t → IsLivePointer (root_of image t) (bound t) (height_of (root_of image t)) (k / 512)
-  leaf t k low = live_above _ _ _ _ (live_content (root_of image t) (bound t) k low)
-
-  -- a word's trail tells its tree and its number
-  pub same_word : (t k u l : ℕ) → IsReached image t → IsReached image u → 8 * k < bound t → 8 * l < bound u →
-      tree_trail (height_of (word image 2)) t (suc (height_of (root_of image t))) k ≡ tree_trail (height_of (word image 2)) u (suc (height_of (root_of image u))) l → (t ≡ u) × (k ≡ l)
-  same_word zero k zero l one two low few same =
-      let all = same_along [] [] (suc (height_of (root_of image 0))) k l
-      (short image bound forest 0 (height_of (root_of image 0)) (k / 512) one (leaf 0 k low)) (short image bound forest 0 (height_of (root_of image 0)) (l / 512) two (leaf 0 l few)) same in
-      (refl, all.1)
-  same_word zero k (suc m) l one two low few same = absurd (other_tree k m l same)
-  same_word (suc n) k zero l one two low few same = absurd (other_tree l n k (sym same))
-  same_word (suc n) k (suc m) l one two low few same =
-      let all = same_trail image bound forest (suc n) (suc (height_of (root_of image (suc n)))) k (suc m) (suc (height_of (root_of image (suc m)))) l one two
-      (short image bound forest (suc n) (height_of (root_of image (suc n))) (k / 512) one (leaf (suc n) k low))
-      (short image bound forest (suc m) (height_of (root_of image (suc m))) (l / 512) two (leaf (suc m) l few))
-      (omega arith) (omega arith) (λ e _ _. absurd (omega (arith, e))) (λ e _ _. absurd (omega (arith, e))) same in
-      (all.0, all.2)
+-- ---- what is touched
 
 module _ (image : Image) (bound : ℕ → ℕ) (forest : IsForest image bound) (touched : Touched) (tree number : ℕ → ℕ) (are : AreContent image bound touched tree number) where
   abbrev count : ℕ

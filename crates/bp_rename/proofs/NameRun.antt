@@ -31,7 +31,7 @@ use Rattle.bp_cow.proofs.RunWrites.{digits_trail, root_path_trail}
 use Rattle.bp_cow.proofs.RunsLaws.{laid-one}
 use Rattle.bp_cow.proofs.Values.{after-others, after-run}
 use Rattle.bp_calls.proofs.RunCommits.{IsRunOf, laid_inside, run_in, run_is}
-use Rattle.bp_rename.proofs.ContentWords.{same_word}
+use Rattle.bp_calls.proofs.TreeTrails.{same_word}
 use Rattle.bp_layout.specs.Thaw.{none_kept}
 
 -- ---- what is asked

@@ -14,7 +14,7 @@ use Rattle.bp_cow.specs.Touched.{IsTouched, NoneBegins, all_paths, job_of, leave
 use Rattle.bp_cow.specs.declared.touched.Touched.{Touched}
 use Rattle.bp_cow.proofs.CommitTaking.{turned_few}
 use Rattle.bp_cow.proofs.CoverOf.{cover_has, count_is}
-use Rattle.bp_cow.proofs.RunLaws.{way-short}
+use Rattle.bp_cow.proofs.RunsLaws.{way-short}
 use Rattle.bp_rename.specs.TouchesTwo.{AreTwo, TouchesTwo}
 use Rattle.bp_rename.proofs.ContentWords.{AreContent}
 

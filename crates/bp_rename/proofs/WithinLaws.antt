@@ -1,5 +1,5 @@
 -- A name is spelled anew: what is touched, and what that needs.
-use Rattle.std.proofs.Common.{◌≡◌, ℕ, zero, suc, ◌+◌, ◌-◌, ◌*◌, ◌/◌, ◌<◌, ◌≤◌, List, [], ◌∷◌, ◌++◌, length, map, None, Some, refl, sym, ◌∙◌, ap, ap₂, arith, inl}
+use Rattle.std.proofs.Common.{◌≡◌, ℕ, zero, suc, ◌+◌, ◌-◌, ◌*◌, ◌/◌, ◌<◌, ◌≤◌, List, [], ◌∷◌, ◌++◌, length, map, None, refl, sym, ◌∙◌, ap, ap₂, arith, inl}
 use Rattle.std.specs.List.{range_with_len}
 use Rattle.std.proofs.lemmas.List.{append-nil}
 use Rattle.bp_layout.specs.Directory.{EntryNames, IsName, Name, slot_named}
@@ -14,7 +14,7 @@ use Rattle.bp_layout.specs.WordPaths.{WordPath, digits, inode_path, is_pointed, 
 use Rattle.bp_layout.specs.Words.{Image, height_of}
 use Rattle.bp_tree.proofs.ExistingPaths.{AllThere, content_path-there}
 use Rattle.bp_cow.specs.Cover.{LeadsInside, commit_cover, copied_count, copied_paths}
-use Rattle.bp_cow.specs.Touched.{IsTouched, NoneBegins, all_paths, run_end, run_path, run_paths, word_paths}
+use Rattle.bp_cow.specs.Touched.{IsTouched, NoneBegins, all_paths, run_end, paths_of_run, run_path, run_paths, word_paths}
 use Rattle.bp_cow.specs.declared.touched.Touched.{Touched}
 use Rattle.bp_calls.proofs.RunCommits.{IsRunOf}
 use Rattle.bp_rename.specs.CanRename.{CanRename, moved_inode}
@@ -80,8 +80,9 @@ module _ (image : Image) (n s j : ℕ) (name : Name) (can : CanRespell image (su
       let first : is.run.off / 8 ≡ 32 * s + 1 = omega (arith, is.is.from) in
       let count : suc ((run_end is.run - 1) / 8 - is.run.off / 8) ≡ suc ((length name + 7) / 8) = omega (arith, name_end, first) in
       ap (λ r. run_paths r ++ word_paths touched) is.one
-      ∙ ap (λ (words : List WordPath). run_paths (Some is.run) ++ words) nothing
-      ∙ append-nil (run_paths (Some is.run))
+      ∙ ap (λ (words : List WordPath). run_paths (is.run ∷ []) ++ words) nothing
+      ∙ append-nil (run_paths (is.run ∷ []))
+      ∙ append-nil (paths_of_run is.run)
       ∙ ap₂ (λ from many. map (run_path is.run) (range_with_len from many)) first count
       ∙ map-shift (run_path is.run) (entry_path image (respells (suc n) s (length name)) (suc n) s) (32 * s) 1 (suc ((length name + 7) / 8)) same_path
     where

@@ -1,6 +1,6 @@
 //! A name is spelled anew, within its directory.
 
-ghost use Rattle.std.specs.Prelude.{◌≡◌, ◌≤◌, None, [], length};
+ghost use Rattle.std.specs.Prelude.{◌≡◌, ◌≤◌, None, length};
 ghost use Rattle.bp_free.specs.Set.{members};
 ghost use Rattle.bp_layout.specs.Need.{need};
 ghost use Rattle.bp_layout.specs.Need.Change.{respells};
@@ -13,7 +13,8 @@ ghost use Rattle.bp_commit.specs.Performs.{HasRoomFor, Performs};
 ghost use Rattle.pm_region.specs.Memory.{current_words};
 
 use crate::moving::Move;
-use bp_cow::{Run, Touched, commit, need_cover};
+use bp_calls::touched_by;
+use bp_cow::{Run, commit, need_cover};
 use bp_free::Parts;
 use bp_inodes::{root_path, tree_of};
 use bp_limits::{ENTRY_SIZE, MAX_NAME};
@@ -47,11 +48,7 @@ fn respelled(name: &[u8]) -> [u8; MAX_NAME + 8]
 }
 
 /// The words that get others: that of the length of the name, and those of the name to the end of the last.
-fn name_run<'a, R: Region>(
-    region: &R,
-    to_move: &Move<'_>,
-    bytes: &'a [u8; MAX_NAME + 8],
-) -> Run<'a>
+fn name_run<'a, R: Region>(region: &R, to_move: &Move<'_>, bytes: &'a [u8; MAX_NAME + 8]) -> Run<'a>
     requires can { CanRename (current_words (R.memory region.now)) to_move.now }
     requires bytes { IsRespelled to_move.now.name.now bytes.now }
     ensures { IsNameRun (current_words (R.memory region.now)) to_move.now.from_dir to_move.now.from_slot
@@ -66,12 +63,17 @@ fn name_run<'a, R: Region>(
     }
 }
 
-/// What is touched by a run alone.
-fn touched_by<'a>(runs: &'a [Run<'a>; 1]) -> Touched<'a>
-    ensures runs { result.runs.now ≡ runs.now }
-    ensures words { result.words.now ≡ [] }
+/// How many blocks a name needs that is spelled anew, by the bytes of its entry.
+fn need_spelled<R: Region>(region: &R, to_move: &Move<'_>, bytes: &[u8; MAX_NAME + 8]) -> u32
+    requires can { CanRename (current_words (R.memory region.now)) to_move.now }
+    requires new { to_move.now.to_slot ≡ None }
+    requires here { to_move.now.from_dir ≡ to_move.now.to_dir }
+    requires bytes { IsRespelled to_move.now.name.now bytes.now }
+    ensures { result ≡ need (current_words (R.memory region.now))
+        (respells to_move.now.from_dir to_move.now.from_slot (length to_move.now.name.now)) }
 {
-    Touched { words: &[], runs }
+    let runs = [name_run(region, to_move, bytes)];
+    need_cover(region, &touched_by(&runs))
 }
 
 /// How many blocks a name needs that is spelled anew.
@@ -83,8 +85,28 @@ pub(crate) fn need_within<R: Region>(region: &R, to_move: &Move<'_>) -> u32
         (respells to_move.now.from_dir to_move.now.from_slot (length to_move.now.name.now)) }
 {
     let bytes = respelled(to_move.name);
-    let runs = [name_run(region, to_move, &bytes)];
-    need_cover(region, &touched_by(&runs))
+    need_spelled(region, to_move, &bytes)
+}
+
+/// Spells a name anew, by one commit of its words, given the bytes of its entry.
+fn rename_spelled<R: Region>(parts: &mut Parts<R>, to_move: &Move<'_>, bytes: &[u8; MAX_NAME + 8])
+    requires can { CanRename (current_words (R.memory parts.old.region)) to_move.now }
+    requires new { to_move.now.to_slot ≡ None }
+    requires here { to_move.now.from_dir ≡ to_move.now.to_dir }
+    requires bytes { IsRespelled to_move.now.name.now bytes.now }
+    requires exact { IsExact (current_words (R.memory parts.old.region)) parts.old }
+    requires enough { need (current_words (R.memory parts.old.region))
+        (respells to_move.now.from_dir to_move.now.from_slot (length to_move.now.name.now))
+        ≤ length (members parts.old.blocks) }
+    requires room { HasRoomFor (R.memory parts.old.region) (kept_of parts.old)
+        (respells to_move.now.from_dir to_move.now.from_slot (length to_move.now.name.now)) }
+    ensures performs { Performs (kept_of parts.old) (R.memory parts.old.region) (R.memory parts.new.region)
+        (respells to_move.now.from_dir to_move.now.from_slot (length to_move.now.name.now)) (RenamesEntry to_move.now) }
+    ensures exact { IsExact (current_words (R.memory parts.new.region)) parts.new }
+{
+    let runs = [name_run(&parts.region, to_move, bytes)];
+    let touched = touched_by(&runs);
+    commit(parts, &touched);
 }
 
 /// Spells a name anew, by one commit of its words.
@@ -103,7 +125,5 @@ pub(crate) fn rename_within<R: Region>(parts: &mut Parts<R>, to_move: &Move<'_>)
     ensures exact { IsExact (current_words (R.memory parts.new.region)) parts.new }
 {
     let bytes = respelled(to_move.name);
-    let runs = [name_run(&parts.region, to_move, &bytes)];
-    let touched = touched_by(&runs);
-    commit(parts, &touched);
+    rename_spelled(parts, to_move, &bytes);
 }

@@ -26,16 +26,16 @@ loop-patch-preserved g c =
     let image = current_words (g.R.Region.memory c.args.region.now) in
     elim c.if-not-is_empty.branch [
       | then-not-is_empty w ↦
-      let some : length (get_or c.args.patches.now c.loop-patch.patch-index no_patch).bytes.now ≢ 0 = eqb-false _ _ (sym c.is_empty.ensures ∙ w.if-not-is_empty.true) in
-      rw w.runs-is
-      (record {
-        are = next_run image c.args.patches.now c.loop-patch.patch-index no_patch _ _ _ c.loop-patch-test.true c.loop-patch.invariant.are w.push.ensures.items (omega (arith, some)) w.run_of.ensures;
-        count = omega (arith, w.push.ensures.len, c.loop-patch.invariant.count);
-      })
+          let some : length (get_or c.args.patches.now c.loop-patch.patch-index no_patch).bytes.now ≢ 0 = eqb-false _ _ (sym c.is_empty.ensures ∙ w.if-not-is_empty.true) in
+          rw w.runs-is
+          (record {
+            are = next_run image c.args.patches.now c.loop-patch.patch-index no_patch _ _ _ c.loop-patch-test.true c.loop-patch.invariant.are w.push.ensures.items (omega (arith, some)) w.run_of.ensures;
+            count = omega (arith, w.push.ensures.len, c.loop-patch.invariant.count);
+          })
       | else-not-is_empty w ↦
-      rw w.runs-is
-      (record {
-        are = next_passes image c.args.patches.now c.loop-patch.patch-index no_patch _ c.loop-patch-test.true c.loop-patch.invariant.are (eqb-true _ _ (sym c.is_empty.ensures ∙ w.if-not-is_empty.false));
-        count = omega (arith, c.loop-patch.invariant.count);
-      })
+          rw w.runs-is
+          (record {
+            are = next_passes image c.args.patches.now c.loop-patch.patch-index no_patch _ c.loop-patch-test.true c.loop-patch.invariant.are (eqb-true _ _ (sym c.is_empty.ensures ∙ w.if-not-is_empty.false));
+            count = omega (arith, c.loop-patch.invariant.count);
+          })
     ]

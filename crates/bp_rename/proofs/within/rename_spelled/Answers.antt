@@ -6,7 +6,7 @@ use Rattle.bp_rename.specs.RenamesEntry.RenamesEntry.{within}
 use Rattle.bp_rename.proofs.KeptCounts.{exact_kept}
 use Rattle.bp_rename.proofs.WithinDone.{within_counts_at, within_exact_at, within_performs_at, within_ready_at, within_room_at, within_whole_at}
 use Rattle.bp_rename.proofs.WithinLaws.{respells_can, within_need_at}
-use Rattle.bp_rename.proofs.within.rename_within.Goals as goal
+use Rattle.bp_rename.proofs.within.rename_spelled.Goals as goal
 
 pub commit-requires : goal.commit-requires
 commit-requires g c κs inside =

@@ -2,7 +2,7 @@ use Rattle.std.proofs.Common.{◌∙◌}
 use Rattle.pm_region.specs.Memory.{current_words}
 use Rattle.bp_rename.specs.CanRename.{moved_inode}
 use Rattle.bp_rename.proofs.WithinLaws.{respells_can, within_apart_at, within_inside_at, within_need_at, within_shape_at}
-use Rattle.bp_rename.proofs.within.need_within.Goals as goal
+use Rattle.bp_rename.proofs.within.need_spelled.Goals as goal
 
 pub need_cover-requires-clause-touched : goal.need_cover-requires-clause-touched
 need_cover-requires-clause-touched g c =

@@ -1,14 +1,13 @@
 //! The replies of a run beside those of the plain, slow program.
 
 ghost use Rattle.bp_limits.specs.Limits.{max_line};
-ghost use Rattle.bp_plain.specs.Seen.{CanAsk};
 ghost use Rattle.bp_script.specs.Lines.{decoded_room};
 ghost use Rattle.bp_script.specs.Sayings.{FitsReply};
-ghost use Rattle.std.specs.Prelude.{true, ◌≡◌, ◌≤◌};
+ghost use Rattle.std.specs.Prelude.{◌≤◌};
 
 use crate::showing::put_short;
-use bp_limits::{MAX_LINE, MAX_READ, MAX_TEXT, Version};
-use bp_plain::{Answer, Call, Plain, Reply};
+use bp_limits::{MAX_LINE, MAX_TEXT, Version};
+use bp_plain::{Answer, Plain, Reply};
 use bp_script::{Decoded, Line, Said, Syntax, say};
 use std::alloc::{AllocError, Global};
 
@@ -122,7 +121,7 @@ impl<'a> Comparison<'a> {
             return Ok(true);
         }
         match self.decoded.line(line.as_bytes()) {
-            Ok(Line::Call(call)) if can_ask(&call) => {
+            Ok(Line::Call(call)) => {
                 self.tree.apply(alloc, &call, &mut self.reply)?;
                 put_answer(alloc, &self.reply, told)?;
             }
@@ -130,8 +129,7 @@ impl<'a> Comparison<'a> {
             Ok(Line::Space | Line::Log | Line::Crash(_) | Line::Storm(_) | Line::Cache(_)) => {
                 return Ok(false);
             }
-            // A read of more bytes than one call reads is no line of a script either.
-            Ok(Line::Call(_)) | Err(Syntax) => put_said(alloc, &Said::Syntax, told)?,
+            Err(Syntax) => put_said(alloc, &Said::Syntax, told)?,
         }
         Ok(true)
     }
@@ -139,18 +137,6 @@ impl<'a> Comparison<'a> {
 
 fn is_own(reply: &str) -> bool {
     OWN_REPLIES.iter().any(|front| reply.starts_with(*front))
-}
-
-/// Whether the plain program can be asked: a read is for no more bytes than one call reads. No line of a script is a batch.
-fn can_ask(call: &Call<'_>) -> bool
-    ensures { result ≡ true → CanAsk call.now }
-{
-    match *call {
-        Call::Read { len, .. } => len <= MAX_READ,
-        Call::SnapRead { len, .. } => len <= MAX_READ,
-        Call::Batch { .. } => false,
-        _ => true,
-    }
 }
 
 /// Writes an answer, each name of a listing on a line of its own.

@@ -14,12 +14,26 @@ use std::alloc::{AllocError, Global};
 /// The beginnings of replies that a volume gives for want of blocks or of memory. A plain tree lacks neither.
 const OWN_REPLIES: [&str; 2] = ["err 11 ", "err 12 "];
 
+/// A plain tree, and the answer of its last call.
+#[derive(Drop)]
+struct Asked {
+    tree: Plain,
+    reply: Reply,
+}
+
+impl Asked {
+    fn new(alloc: Global, version: Version) -> Result<Asked, AllocError> {
+        let reply = Reply::new(alloc)?;
+        let tree = Plain::of(alloc, version)?;
+        Ok(Asked { tree, reply })
+    }
+}
+
 /// A plain tree, what it takes to ask it, and the replies that were not compared yet.
 #[derive(Drop)]
 pub struct Comparison<'a> {
-    tree: Plain,
+    asked: Asked,
     decoded: Decoded,
-    reply: Reply,
     replies: &'a str,
     lines: u64,
     ghost decodes: { max_line ≤ decoded_room decoded },
@@ -35,12 +49,7 @@ pub fn compare(
     report: &mut String,
 ) -> Result<(), AllocError> {
     let mut comparison = Comparison::new(alloc, version, replies)?;
-    for line in script.lines() {
-        if !comparison.take(alloc, line, report)? {
-            return Ok(());
-        }
-    }
-    comparison.finish(report)
+    comparison.take_all(alloc, script, report)
 }
 
 /// The first line of a text, and what stands behind it.
@@ -55,13 +64,29 @@ impl<'a> Comparison<'a> {
         version: Version,
         replies: &'a str,
     ) -> Result<Comparison<'a>, AllocError> {
+        let decoded = Decoded::new(alloc, MAX_LINE)?;
+        let asked = Asked::new(alloc, version)?;
         Ok(Comparison {
-            tree: Plain::of(alloc, version)?,
-            decoded: Decoded::new(alloc, MAX_LINE)?,
-            reply: Reply::new(alloc)?,
+            asked,
+            decoded,
             replies,
             lines: 0,
         })
+    }
+
+    /// Compares line by line, up to the first one that differs.
+    fn take_all(
+        &mut self,
+        alloc: Global,
+        script: &str,
+        report: &mut String,
+    ) -> Result<(), AllocError> {
+        for line in script.lines() {
+            if !self.take(alloc, line, report)? {
+                return Ok(());
+            }
+        }
+        self.finish(report)
     }
 
     /// Does a line, and compares what it says with the first of the replies. False is the answer where they differ.
@@ -75,18 +100,31 @@ impl<'a> Comparison<'a> {
             return Ok(true);
         }
         let mut expected = String::new(alloc);
-        if !self.answer(alloc, line, &mut expected)? {
+        if self.answer(alloc, line, &mut expected)? {
+            self.pass(line, expected.as_str(), report)
+        } else {
             self.replies = rest;
-            return Ok(true);
+            Ok(true)
         }
-        match self.replies.strip_prefix(expected.as_str()) {
-            Some(rest) => self.replies = rest,
+    }
+
+    /// Goes on behind the reply to a line, where it is the one that was expected. False is the answer where it is another.
+    fn pass(
+        &mut self,
+        line: &str,
+        expected: &str,
+        report: &mut String,
+    ) -> Result<bool, AllocError> {
+        match self.replies.strip_prefix(expected) {
+            Some(rest) => {
+                self.replies = rest;
+                Ok(true)
+            }
             None => {
-                self.differ(line, expected.as_str(), report)?;
-                return Ok(false);
+                self.differ(line, expected, report)?;
+                Ok(false)
             }
         }
-        Ok(true)
     }
 
     /// Ends the comparison behind the last line.
@@ -122,8 +160,9 @@ impl<'a> Comparison<'a> {
         }
         match self.decoded.line(line.as_bytes()) {
             Ok(Line::Call(call)) => {
-                self.tree.apply(alloc, &call, &mut self.reply)?;
-                put_answer(alloc, &self.reply, told)?;
+                let asked = &mut self.asked;
+                asked.tree.apply(alloc, &call, &mut asked.reply)?;
+                put_answer(alloc, &asked.reply, told)?;
             }
             Ok(Line::Sync) => put_said(alloc, &Said::Synced, told)?,
             Ok(Line::Space | Line::Log | Line::Crash(_) | Line::Storm(_) | Line::Cache(_)) => {

@@ -66,26 +66,8 @@ pub fn cut_all_over(
     image: &[u8],
     report: &mut String,
 ) -> Result<(), AllocError> {
-    let mut cuts = Cuts {
-        alloc,
-        version: row.version,
-        image,
-        script: row.script.as_str(),
-        asks: row.asks.as_str(),
-        work: Work::new(alloc)?,
-        choice: Choice::new(alloc, LOG_EVENTS)?,
-        events: Vec::new(alloc),
-        kept: 0,
-    };
-    if !cuts.read_log()? {
-        return report.push_str("  the script can't be run\n");
-    }
-    for moment in 0..cuts.events.len() + 1 {
-        if is_tried(&cuts.events, moment) && !cuts.cut_at(moment, report)? {
-            return Ok(());
-        }
-    }
-    cuts.finish(report)
+    let mut cuts = Cuts::new(alloc, row, image)?;
+    cuts.cut_all(report)
 }
 
 /// Whether cuts at a moment are tried.
@@ -141,15 +123,45 @@ fn serve_over<K: Sink>(
     out: &mut K,
 ) -> Result<Option<Volume<RawRegion>>, AllocError> {
     let mut files = MemFiles::new(alloc, Some(image), &[])?;
-    let Ok(mut volume) = open(alloc, "f", &mut files) else {
-        return Ok(None);
-    };
-    let mut source = FairSource::new(script.as_bytes());
-    serve(alloc, &mut volume, work, &mut source, out, &mut files);
-    Ok(Some(volume))
+    Ok(serve_file(alloc, work, &mut files, script, out))
 }
 
-impl Cuts<'_> {
+/// Serves a script over a file.
+fn serve_file<K: Sink>(
+    alloc: Global,
+    work: &mut Work,
+    files: &mut MemFiles<'_>,
+    script: &str,
+    out: &mut K,
+) -> Option<Volume<RawRegion>> {
+    match open(alloc, "f", files) {
+        Ok(mut volume) => {
+            let mut source = FairSource::new(script.as_bytes());
+            serve(alloc, &mut volume, work, &mut source, out, files);
+            Some(volume)
+        }
+        Err(_) => None,
+    }
+}
+
+impl<'a> Cuts<'a> {
+    /// No cut yet.
+    fn new(alloc: Global, row: &'a Row, image: &'a [u8]) -> Result<Cuts<'a>, AllocError> {
+        let choice = Choice::new(alloc, LOG_EVENTS)?;
+        let work = Work::new(alloc)?;
+        Ok(Cuts {
+            alloc,
+            version: row.version,
+            image,
+            script: row.script.as_str(),
+            asks: row.asks.as_str(),
+            work,
+            choice,
+            events: Vec::new(alloc),
+            kept: 0,
+        })
+    }
+
     /// Runs the script, without its replies.
     fn run(&mut self) -> Result<Option<Volume<RawRegion>>, AllocError> {
         let mut sink = NullSink::new();
@@ -162,14 +174,39 @@ impl Cuts<'_> {
         )
     }
 
+    /// Tries all cuts of a run of the script.
+    fn cut_all(&mut self, report: &mut String) -> Result<(), AllocError> {
+        if !self.read_log()? {
+            return report.push_str("  the script can't be run\n");
+        }
+        if self.cut_at_all(report)? {
+            self.finish(report)?;
+        }
+        Ok(())
+    }
+
     /// Reads the log of a run of the script.
     fn read_log(&mut self) -> Result<bool, AllocError> {
-        let Some(volume) = self.run()? else {
-            return Ok(false);
-        };
-        let region = volume.region();
+        match self.run()? {
+            Some(volume) => self.take_events(volume.region()),
+            None => Ok(false),
+        }
+    }
+
+    /// Takes the events of a region's log.
+    fn take_events<R: Region>(&mut self, region: &R) -> Result<bool, AllocError> {
         for i in 0..region.event_count() {
             self.events.push(region.event(i))?;
+        }
+        Ok(true)
+    }
+
+    /// Tries the cuts at each moment that is tried. False is the answer where one is wrong.
+    fn cut_at_all(&mut self, report: &mut String) -> Result<bool, AllocError> {
+        for moment in 0..self.events.len().saturating_add(1) {
+            if is_tried(&self.events, moment) && !self.cut_at(moment, report)? {
+                return Ok(false);
+            }
         }
         Ok(true)
     }
@@ -201,17 +238,38 @@ impl Cuts<'_> {
 
     /// Cuts the power as was chosen. False is the answer where what is left is not the plain tree after the calls that are kept.
     fn cut(&mut self, report: &mut String) -> Result<bool, AllocError> {
-        let Some(mut volume) = self.run()? else {
-            return self.differ("the script can't be run", report);
-        };
-        let Ok(kept) = volume.crash(&self.choice) else {
-            return self.differ("the choice is refused", report);
-        };
-        let left = bytes_of(self.alloc, volume.region())?;
-        if !self.is_as_plain(&left, kept.c)? {
+        match self.run()? {
+            Some(mut volume) => self.crash(&mut volume, report),
+            None => self.differ("the script can't be run", report),
+        }
+    }
+
+    /// Cuts the power of a volume behind the script.
+    fn crash<R: Region>(
+        &mut self,
+        volume: &mut Volume<R>,
+        report: &mut String,
+    ) -> Result<bool, AllocError> {
+        match volume.crash(&self.choice) {
+            Ok(kept) => {
+                let left = bytes_of(self.alloc, volume.region())?;
+                self.judge(&left, kept.c, report)
+            }
+            Err(_) => self.differ("the choice is refused", report),
+        }
+    }
+
+    /// Compares the bytes that were left with the plain tree after the calls that are kept.
+    fn judge(
+        &mut self,
+        left: &[u8],
+        calls: usize,
+        report: &mut String,
+    ) -> Result<bool, AllocError> {
+        if !self.is_as_plain(left, calls)? {
             return self.differ("another tree", report);
         }
-        self.kept |= 1 << (kept.c % 64);
+        self.kept |= 1 << (calls % 64);
         Ok(true)
     }
 
@@ -225,24 +283,42 @@ impl Cuts<'_> {
     /// What is answered over the bytes that were left.
     fn asked(&mut self, left: &[u8]) -> Result<Vec<u8>, AllocError> {
         let mut sink = MemSink::new(self.alloc, ROOM, &[])?;
-        match serve_over(self.alloc, &mut self.work, left, self.asks, &mut sink)? {
-            Some(_) => Vec::from_slice(self.alloc, sink.bytes()),
-            None => Vec::from_slice(self.alloc, b"not mounted"),
+        if self.ask(left, &mut sink)? {
+            Vec::from_slice(self.alloc, sink.bytes())
+        } else {
+            Vec::from_slice(self.alloc, b"not mounted")
         }
+    }
+
+    /// Asks what is asked of the bytes that were left. False is the answer where they can't be opened.
+    fn ask(&mut self, left: &[u8], sink: &mut MemSink<'_>) -> Result<bool, AllocError> {
+        let volume = serve_over(self.alloc, &mut self.work, left, self.asks, sink)?;
+        Ok(volume.is_some())
     }
 
     /// What the plain tree answers after the first calls of the script.
     fn expected(&self, calls: usize) -> Result<String, AllocError> {
         let mut tree = Comparison::new(self.alloc, self.version, "")?;
-        let mut unused = String::new(self.alloc);
-        for line in self.script.lines().take(calls) {
-            tree.answer(self.alloc, line, &mut unused)?;
-        }
+        self.answers(calls, &mut tree)
+    }
+
+    /// What an empty plain tree answers after the first calls of the script.
+    fn answers(&self, calls: usize, tree: &mut Comparison<'_>) -> Result<String, AllocError> {
+        self.do_first(calls, tree)?;
         let mut told = String::new(self.alloc);
         for line in self.asks.lines() {
             tree.answer(self.alloc, line, &mut told)?;
         }
         Ok(told)
+    }
+
+    /// Does the first calls of the script in the plain tree.
+    fn do_first(&self, calls: usize, tree: &mut Comparison<'_>) -> Result<(), AllocError> {
+        let mut unused = String::new(self.alloc);
+        for line in self.script.lines().take(calls) {
+            tree.answer(self.alloc, line, &mut unused)?;
+        }
+        Ok(())
     }
 
     /// Writes what is wrong with a cut.

@@ -16,15 +16,12 @@ mod showing;
 mod side;
 mod stage;
 
-use rows::Rows;
+use rows::run_rows;
 use std::io;
 
 fn main(rt: HostRuntime) -> io::Result<()> {
     let text = io::read_to_string(rt.alloc(), rt.stdin())?;
-    let mut rows = Rows::new(rt.alloc())?;
-    for line in text.lines() {
-        rows.take(line)?;
-    }
-    let report = rows.report();
+    let mut report = String::new(rt.alloc());
+    run_rows(rt.alloc(), &text, &mut report)?;
     print!(rt; "{report}")
 }

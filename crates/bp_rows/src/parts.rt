@@ -4,7 +4,7 @@
 ghost use Rattle.bp_io.specs.Memory.{fair_view};
 ghost use Rattle.bp_limits.specs.Limits.{log_events};
 ghost use Rattle.bp_session.specs.Files.{IsReady};
-ghost use Rattle.std.specs.Prelude.{◌≤◌};
+ghost use Rattle.std.specs.Prelude.{◌≡◌, ◌≤◌};
 
 use crate::stage::{serve_bytes, serve_script};
 use bp_io::{FairFiles, FairSource, NullSink};
@@ -38,6 +38,43 @@ fn count(
 fn serve_scripts<R: Region>(
     alloc: Global,
     volume: &mut Volume<R>,
+    work: &mut Work,
+    files: &mut FairFiles,
+    report: &mut String,
+) -> Result<(), AllocError>
+    requires ready { IsReady volume.old.base (fair_view files.old) }
+    requires roomy { volume.old.capacity ≤ log_events }
+    ensures ready { IsReady volume.new.base (fair_view files.new) }
+    ensures capacity { volume.new.capacity ≡ volume.old.capacity }
+{
+    serve_script(alloc, volume, work, files, "create /a\nstat /", report)?;
+    serve_script(alloc, volume, work, files, "list /\nsync\n", report)?;
+    serve_script(alloc, volume, work, files, "", report)
+}
+
+/// Serves one line after another over the same memory, of which one is as long as a line may be, and one too long.
+fn serve_lines<R: Region>(
+    alloc: Global,
+    volume: &mut Volume<R>,
+    work: &mut Work,
+    files: &mut FairFiles,
+    report: &mut String,
+) -> Result<(), AllocError>
+    requires ready { IsReady volume.old.base (fair_view files.old) }
+    requires roomy { volume.old.capacity ≤ log_events }
+{
+    let long = vec![in alloc; b'x'; LONG]?;
+    serve_bytes(alloc, volume, work, files, b"stat /a", report)?;
+    serve_bytes(alloc, volume, work, files, b"", report)?;
+    serve_bytes(alloc, volume, work, files, &long[1..], report)?;
+    serve_bytes(alloc, volume, work, files, &long, report)?;
+    serve_script(alloc, volume, work, files, "space\n", report)
+}
+
+/// Serves scripts and lines over a volume, with one memory for all.
+fn serve_over<R: Region>(
+    alloc: Global,
+    volume: &mut Volume<R>,
     files: &mut FairFiles,
     report: &mut String,
 ) -> Result<(), AllocError>
@@ -45,25 +82,50 @@ fn serve_scripts<R: Region>(
     requires roomy { volume.old.capacity ≤ log_events }
 {
     let mut work = Work::new(alloc)?;
-    serve_script(alloc, volume, &mut work, files, "create /a\nstat /", report)?;
-    serve_script(alloc, volume, &mut work, files, "list /\nsync\n", report)?;
-    serve_script(alloc, volume, &mut work, files, "", report)?;
-    let long = vec![in alloc; b'x'; LONG]?;
-    serve_bytes(alloc, volume, &mut work, files, b"stat /a", report)?;
-    serve_bytes(alloc, volume, &mut work, files, b"", report)?;
-    serve_bytes(alloc, volume, &mut work, files, &long[1..], report)?;
-    serve_bytes(alloc, volume, &mut work, files, &long, report)?;
-    serve_script(alloc, volume, &mut work, files, "space\n", report)
+    serve_with(alloc, volume, &mut work, files, report)
+}
+
+/// Serves scripts and lines over a volume, by this memory.
+fn serve_with<R: Region>(
+    alloc: Global,
+    volume: &mut Volume<R>,
+    work: &mut Work,
+    files: &mut FairFiles,
+    report: &mut String,
+) -> Result<(), AllocError>
+    requires ready { IsReady volume.old.base (fair_view files.old) }
+    requires roomy { volume.old.capacity ≤ log_events }
+{
+    serve_scripts(alloc, volume, work, files, report)?;
+    serve_lines(alloc, volume, work, files, report)
+}
+
+/// Opens a file, and serves scripts and lines over it.
+fn serve_file(alloc: Global, files: &mut FairFiles, report: &mut String) -> Result<(), AllocError> {
+    match open(alloc, "f", files) {
+        Ok(mut volume) => serve_over(alloc, &mut volume, files, report),
+        Err(_) => report.push_str("not opened\n"),
+    }
+}
+
+/// Formats and checks a file, and between serves scripts and lines over it.
+fn serve_new_file(
+    alloc: Global,
+    files: &mut FairFiles,
+    report: &mut String,
+) -> Result<(), AllocError> {
+    count(
+        alloc,
+        &["bpfs", "format", "f", "--blocks", "8"],
+        files,
+        report,
+    )?;
+    serve_file(alloc, files, report)?;
+    count(alloc, &["bpfs", "check", "f"], files, report)
 }
 
 /// Formats and checks a file, and between serves lines and scripts over it. Writes what came of each.
 pub fn serve_parts(alloc: Global, report: &mut String) -> Result<(), AllocError> {
     let mut files = FairFiles::new(alloc, &[])?;
-    let words = ["bpfs", "format", "f", "--blocks", "8"];
-    count(alloc, &words, &mut files, report)?;
-    match open(alloc, "f", &mut files) {
-        Ok(mut volume) => serve_scripts(alloc, &mut volume, &mut files, report)?,
-        Err(_) => report.push_str("not opened\n")?,
-    }
-    count(alloc, &["bpfs", "check", "f"], &mut files, report)
+    serve_new_file(alloc, &mut files, report)
 }

@@ -1,7 +1,7 @@
 //! Runs over the devices in memory.
 
 use crate::row::Row;
-use bp_io::{FairSource, MemFiles, MemSink, MemSource};
+use bp_io::{FairSource, MemFiles, MemSink, MemSource, NullSink};
 use bp_limits::Version;
 use bp_shell::run;
 use std::alloc::{AllocError, Global};
@@ -46,25 +46,57 @@ pub fn formatted(
         number,
     ];
     let mut files = MemFiles::new(alloc, None, &[])?;
+    format_over(alloc, &words, &mut files)
+}
+
+/// Runs a format over these devices. The bytes are what it leaves, `None` where it refuses.
+fn format_over(
+    alloc: Global,
+    words: &[&str],
+    files: &mut MemFiles<'_>,
+) -> Result<Option<Vec<u8>>, AllocError> {
     let mut source = FairSource::new(b"");
-    let mut sink = MemSink::new(alloc, ROOM, &[])?;
-    if run(alloc, &words, &mut source, &mut sink, &mut files) != 0 {
-        return Ok(None);
+    let mut sink = NullSink::new();
+    match run(alloc, words, &mut source, &mut sink, files) {
+        0 => image_of(alloc, files),
+        _ => Ok(None),
     }
-    image_of(alloc, &files)
+}
+
+/// What a run leaves in these devices.
+fn left(
+    alloc: Global,
+    status: u8,
+    sink: &MemSink<'_>,
+    files: &MemFiles<'_>,
+) -> Result<Ran, AllocError> {
+    let told = Vec::from_slice(alloc, sink.bytes())?;
+    let file = image_of(alloc, files)?;
+    Ok(Ran { status, told, file })
+}
+
+/// Runs the words of a row over its devices, of which the file is this one.
+fn play_over(
+    alloc: Global,
+    row: &Row,
+    words: &[&str],
+    files: &mut MemFiles<'_>,
+) -> Result<Ran, AllocError> {
+    let failing = &row.failing;
+    let mut source = MemSource::new(row.script.as_bytes(), row.piece.max(1), &failing.source);
+    let mut sink = MemSink::new(alloc, ROOM, &failing.sink)?;
+    let status = run(alloc, words, &mut source, &mut sink, files);
+    left(alloc, status, &sink, files)
+}
+
+/// Runs these words over a row's devices.
+fn play_words(alloc: Global, row: &Row, words: &[&str]) -> Result<Ran, AllocError> {
+    let mut files = MemFiles::new(alloc, row.file.as_deref(), &row.failing.files)?;
+    play_over(alloc, row, words, &mut files)
 }
 
 /// Runs a row.
 pub fn play(alloc: Global, row: &Row) -> Result<Ran, AllocError> {
-    let failing = &row.failing;
-    let words: Vec<&str> = row.words.split_whitespace().collect(alloc)?;
-    let mut files = MemFiles::new(alloc, row.file.as_deref(), &failing.files)?;
-    let mut source = MemSource::new(row.script.as_bytes(), row.piece.max(1), &failing.source);
-    let mut sink = MemSink::new(alloc, ROOM, &failing.sink)?;
-    let status = run(alloc, &words, &mut source, &mut sink, &mut files);
-    Ok(Ran {
-        status,
-        told: Vec::from_slice(alloc, sink.bytes())?,
-        file: image_of(alloc, &files)?,
-    })
+    let words: Vec<&str> = row.words().split_whitespace().collect(alloc)?;
+    play_words(alloc, row, &words)
 }

@@ -49,7 +49,8 @@ pub struct Row {
     pub version: Version,
     /// FILE, where there is one.
     pub file: Option<Vec<u8>>,
-    pub words: String,
+    /// What is run, where a line says it.
+    words: Option<String>,
     pub script: String,
     /// What is asked behind each cut of the power.
     pub asks: String,
@@ -58,25 +59,39 @@ pub struct Row {
     pub failing: Failing,
 }
 
+/// Adds a line, whose copies are spelled out. False is the answer where it has no such form.
+fn add_line(text: &str, script: &mut String) -> Result<bool, AllocError> {
+    let is_whole = expand(text, script)?;
+    script.push_str("\n")?;
+    Ok(is_whole)
+}
+
 impl Row {
     /// `run` over a file that is missing, with no script, and no call fails.
-    pub fn new(alloc: Global, version: Version) -> Result<Row, AllocError> {
-        Ok(Row {
+    pub fn new(alloc: Global, version: Version) -> Row {
+        Row {
             version,
             file: None,
-            words: String::from_str(alloc, "bpfs run f")?,
+            words: None,
             script: String::new(alloc),
             asks: String::new(alloc),
             piece: PIECE,
             failing: Failing::none(alloc),
-        })
+        }
     }
 
     /// The next run of the row: over what FILE holds, with an empty script.
-    pub fn go_on(&mut self, alloc: Global, file: Option<Vec<u8>>) -> Result<(), AllocError> {
-        let fresh = Row::new(alloc, self.version)?;
-        *self = Row { file, ..fresh };
-        Ok(())
+    pub fn go_on(&mut self, alloc: Global, file: Option<Vec<u8>>) {
+        *self = Row::new(alloc, self.version);
+        self.file = file;
+    }
+
+    /// What is run.
+    pub fn words(&self) -> &str {
+        match &self.words {
+            Some(words) => words.as_str(),
+            None => "bpfs run f",
+        }
     }
 
     /// Sets what a line says. False is the answer where it can't be.
@@ -92,18 +107,10 @@ impl Row {
             InputLine::Fill { from, to, value } => return Ok(self.fill(from, to, value)),
             InputLine::Fail(device, calls) => return self.fail(device, calls),
             InputLine::Piece(most) => self.piece = most.min(PIECE as u64) as usize,
-            InputLine::Words(words) => self.words = String::from_str(alloc, words)?,
-            InputLine::Script(text) => {
-                let is_whole = expand(text, &mut self.script)?;
-                self.script.push_str("\n")?;
-                return Ok(is_whole);
-            }
+            InputLine::Words(words) => self.words = Some(String::from_str(alloc, words)?),
+            InputLine::Script(text) => return add_line(text, &mut self.script),
             InputLine::Part(text) => return expand(text, &mut self.script),
-            InputLine::Ask(text) => {
-                let is_whole = expand(text, &mut self.asks)?;
-                self.asks.push_str("\n")?;
-                return Ok(is_whole);
-            }
+            InputLine::Ask(text) => return add_line(text, &mut self.asks),
             _ => {}
         }
         Ok(true)

@@ -1,4 +1,4 @@
-//! Rows, one line after another, and the report on their runs.
+//! Rows, one line after another, and what is told of their runs.
 
 use crate::line::{InputLine, Versions, read};
 use crate::parts::serve_parts;
@@ -6,78 +6,99 @@ use crate::side::{Side, refuse};
 use bp_limits::Version;
 use std::alloc::{AllocError, Global};
 
-/// The row that is being read, in each version of the format, and the report on the runs so far.
+/// The row that is being read, in each version of the format.
 #[derive(Drop)]
-pub struct Rows {
+struct Rows {
     alloc: Global,
     versions: Versions,
     first: Side,
     second: Side,
-    report: String,
+}
+
+/// Does what each line of a text says, and writes what came of it.
+pub fn run_rows(alloc: Global, text: &str, report: &mut String) -> Result<(), AllocError> {
+    let mut rows = Rows::new(alloc);
+    rows.take_all(text, report)
 }
 
 impl Rows {
-    /// No row yet, and no report.
-    pub fn new(alloc: Global) -> Result<Rows, AllocError> {
-        Ok(Rows {
+    /// No row yet.
+    fn new(alloc: Global) -> Rows {
+        Rows {
             alloc,
             versions: Versions::First,
-            first: Side::new(alloc, Version::One)?,
-            second: Side::new(alloc, Version::Two)?,
-            report: String::new(alloc),
-        })
+            first: Side::new(alloc, Version::One),
+            second: Side::new(alloc, Version::Two),
+        }
     }
 
-    /// What is told of the runs.
-    pub fn report(&self) -> &str {
-        self.report.as_str()
+    fn take_all(&mut self, text: &str, report: &mut String) -> Result<(), AllocError> {
+        for line in text.lines() {
+            self.take(line, report)?;
+        }
+        Ok(())
     }
 
     /// Does what a line says. One that is no line of a row is told, and the next one is read.
-    pub fn take(&mut self, text: &str) -> Result<(), AllocError> {
+    fn take(&mut self, text: &str, report: &mut String) -> Result<(), AllocError> {
         let Some(line) = read(text) else {
-            return refuse(text, &mut self.report);
+            return refuse(text, report);
         };
         match line {
-            InputLine::Row(name) => self.begin(name),
+            InputLine::Row(name) => self.begin(name, report),
             InputLine::Versions(versions) => {
                 self.versions = versions;
                 Ok(())
             }
-            InputLine::Parts => serve_parts(self.alloc, &mut self.report),
-            _ => self.take_in_versions(text, line),
+            InputLine::Parts => serve_parts(self.alloc, report),
+            _ => self.take_in_versions(text, line, report),
         }
     }
 
-    fn begin(&mut self, name: &str) -> Result<(), AllocError> {
+    fn begin(&mut self, name: &str, report: &mut String) -> Result<(), AllocError> {
         self.versions = Versions::First;
-        self.first.begin()?;
-        self.second.begin()?;
-        writeln!(self.report, "== {name}")
+        self.first.begin();
+        self.second.begin();
+        writeln!(report, "== {name}")
     }
 
-    fn take_in_versions(&mut self, text: &str, line: InputLine<'_>) -> Result<(), AllocError> {
+    fn take_in_versions(
+        &mut self,
+        text: &str,
+        line: InputLine<'_>,
+        report: &mut String,
+    ) -> Result<(), AllocError> {
         match self.versions {
-            Versions::First => self.first.take(text, line, &mut self.report),
-            Versions::Second => self.second.take(text, line, &mut self.report),
-            Versions::Both => self.take_in_both(text, line),
+            Versions::First => self.first.take(text, line, report),
+            Versions::Second => self.second.take(text, line, report),
+            Versions::Both => self.take_in_both(text, line, report),
         }
     }
 
     /// Does what a line says in both versions. What is the same in both is told once.
-    fn take_in_both(&mut self, text: &str, line: InputLine<'_>) -> Result<(), AllocError> {
+    fn take_in_both(
+        &mut self,
+        text: &str,
+        line: InputLine<'_>,
+        report: &mut String,
+    ) -> Result<(), AllocError> {
         let mut first = String::new(self.alloc);
         self.first.take(text, line, &mut first)?;
         let mut second = String::new(self.alloc);
         self.second.take(text, line, &mut second)?;
-        self.report.push_str(first.as_str())?;
-        if first.as_str() != second.as_str() {
-            self.report.push_str("version 2\n")?;
-            self.report.push_str(second.as_str())
-        } else if second.is_empty() {
-            Ok(())
-        } else {
-            self.report.push_str("version 2 alike\n")
-        }
+        tell_both(first.as_str(), second.as_str(), report)
+    }
+}
+
+/// Writes what came of a line in the first version and in the second.
+fn tell_both(first: &str, second: &str, report: &mut String) -> Result<(), AllocError> {
+    report.push_str(first)?;
+    if first != second {
+        report.push_str("version 2\n")?;
+        report.push_str(second)
+    } else if second.is_empty() {
+        Ok(())
+    } else {
+        report.push_str("version 2 alike\n")
     }
 }

@@ -53,6 +53,10 @@ pub fn changed_words(before: &[u8], after: &[u8]) -> usize {
         .count()
 }
 
+fn show_word(report: &mut String, place: usize, value: u64) -> Result<(), AllocError> {
+    writeln!(report, "  {place} {value:#x}")
+}
+
 fn show_file(report: &mut String, before: Option<&[u8]>, after: &[u8]) -> Result<(), AllocError> {
     let old = before.unwrap_or(&[]);
     if before.is_some() && old == after {
@@ -64,7 +68,7 @@ fn show_file(report: &mut String, before: Option<&[u8]>, after: &[u8]) -> Result
     for place in 0..length / 8 {
         let value = word_at(after, place);
         if value != word_at(old, place) && left > 0 {
-            writeln!(report, "  {place} {value:#x}")?;
+            show_word(report, place, value)?;
             left -= 1;
         }
     }
@@ -80,16 +84,19 @@ pub fn show_short(report: &mut String, before: Option<&[u8]>, ran: &Ran) -> Resu
     let status = ran.status;
     let lines = ran.told.iter().filter(|byte| **byte == b'\n').count();
     write!(report, "status {status}, lines {lines}, ")?;
-    let old = before.unwrap_or(&[]);
     match &ran.file {
         None => report.push_str("file missing\n"),
-        Some(bytes) if before.is_some() && old == bytes.as_slice() => {
-            report.push_str("file same\n")
-        }
-        Some(bytes) => {
-            let length = bytes.len();
-            let words = changed_words(old, bytes);
-            writeln!(report, "file {length} bytes, words changed {words}")
-        }
+        Some(bytes) => show_change(report, before, bytes),
     }
+}
+
+/// Writes how many words of FILE changed.
+fn show_change(report: &mut String, before: Option<&[u8]>, after: &[u8]) -> Result<(), AllocError> {
+    let old = before.unwrap_or(&[]);
+    if before.is_some() && old == after {
+        return report.push_str("file same\n");
+    }
+    let length = after.len();
+    let words = changed_words(old, after);
+    writeln!(report, "file {length} bytes, words changed {words}")
 }

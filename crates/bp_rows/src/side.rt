@@ -31,18 +31,17 @@ pub fn refuse(text: &str, report: &mut String) -> Result<(), AllocError> {
 
 impl Side {
     /// No row yet, and no image.
-    pub fn new(alloc: Global, version: Version) -> Result<Side, AllocError> {
-        Ok(Side {
+    pub fn new(alloc: Global, version: Version) -> Side {
+        Side {
             alloc,
-            row: Row::new(alloc, version)?,
+            row: Row::new(alloc, version),
             kept: None,
-        })
+        }
     }
 
     /// Begins a row.
-    pub fn begin(&mut self) -> Result<(), AllocError> {
-        self.row = Row::new(self.alloc, self.row.version)?;
-        Ok(())
+    pub fn begin(&mut self) {
+        self.row = Row::new(self.alloc, self.row.version);
     }
 
     /// Does what a line of the row says, and writes what came of it.
@@ -78,19 +77,26 @@ impl Side {
     fn go(&mut self, report: &mut String) -> Result<(), AllocError> {
         let ran = play(self.alloc, &self.row)?;
         show(report, self.row.file.as_deref(), &ran)?;
-        self.row.go_on(self.alloc, ran.file)
+        self.row.go_on(self.alloc, ran.file);
+        Ok(())
     }
 
     fn plain(&mut self, text: &str, blocks: &str, report: &mut String) -> Result<(), AllocError> {
-        let version = self.row.version;
-        self.row.file = formatted(self.alloc, blocks, version)?;
+        self.row.file = formatted(self.alloc, blocks, self.row.version)?;
         if self.row.file.is_none() {
             return refuse(text, report);
         }
         let ran = play(self.alloc, &self.row)?;
-        let told = str::from_utf8(&ran.told).unwrap_or("");
-        compare(self.alloc, version, self.row.script.as_str(), told, report)?;
-        self.row.go_on(self.alloc, ran.file)
+        self.compare_told(&ran.told, report)?;
+        self.row.go_on(self.alloc, ran.file);
+        Ok(())
+    }
+
+    /// Compares what was told of the script with what the plain program tells.
+    fn compare_told(&self, told: &[u8], report: &mut String) -> Result<(), AllocError> {
+        let told = str::from_utf8(told).unwrap_or("");
+        let script = self.row.script.as_str();
+        compare(self.alloc, self.row.version, script, told, report)
     }
 
     fn cut(&mut self, text: &str, blocks: &str, report: &mut String) -> Result<(), AllocError> {
@@ -101,15 +107,25 @@ impl Side {
     }
 
     fn sweep(&mut self, device: Device, count: u64, report: &mut String) -> Result<(), AllocError> {
-        let name = device.name();
         for call in 0..count {
             self.row.failing = Failing::none(self.alloc);
             self.row.failing.add(device, call)?;
-            let ran = play(self.alloc, &self.row)?;
-            write!(report, "  {name} {call}: ")?;
-            show_short(report, self.row.file.as_deref(), &ran)?;
+            write_call(report, device, call)?;
+            self.go_short(report)?;
         }
         self.row.failing = Failing::none(self.alloc);
         Ok(())
     }
+
+    /// Runs the row, and writes on one line what came of it. The row stays.
+    fn go_short(&self, report: &mut String) -> Result<(), AllocError> {
+        let ran = play(self.alloc, &self.row)?;
+        show_short(report, self.row.file.as_deref(), &ran)
+    }
+}
+
+/// Writes which call of a device fails.
+fn write_call(report: &mut String, device: Device, call: u64) -> Result<(), AllocError> {
+    let name = device.name();
+    write!(report, "  {name} {call}: ")
 }

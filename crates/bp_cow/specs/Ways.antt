@@ -16,10 +16,10 @@ pub record IsShared (way : ℕ → WordPath) (count : ℕ) (path : WordPath) (de
   pub there : depth ≤ length (way which)
   pub same : trail_of path depth ≡ trail_of (way which) depth
 
--- A way of touched words, with its slots, the leaf to which it leads, and how many of its fronts begin an earlier way.
+-- A way of touched words, with its length, the leaf to which it leads, and how many of its fronts begin an earlier way.
 pub record IsWay (touched : Touched) (way : Way) : Type 0 where
   pub here : way.index < ways (job_of touched)
-  pub slots : way.slots.items ≡ (job_of touched).way way.index
+  pub len : way.len ≡ length ((job_of touched).way way.index)
   pub leaf : IfSome way.leaf (λ leaf.
       IsLeaf touched.runs.now touched.runs.now (word_paths touched) way.index leaf.run.now leaf.index)
   pub none : way.leaf ≡ None → leaves_of touched.runs.now ≤ way.index

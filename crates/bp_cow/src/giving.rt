@@ -39,7 +39,7 @@ fn give_step<R: Region>(
     ensures size { length blocks.new ≡ length blocks.old }
 {
     let _words = region.words();
-    let pointer = load_slot(region, block as u64, way.slot(depth) as u64);
+    let pointer = load_slot(region, block as u64, touched.slot(way, depth) as u64);
     let next = pm_words::block_of(pointer) as u32;
     if next != 0 && is_new(touched, way, from, depth + 1) {
         give(blocks, next);
@@ -64,7 +64,7 @@ fn give_way<R: Region>(
     ensures back { IsBack (planned plan touched.now) from (way.now.index + 1) from plan.free_after (has blocks.new) }
     ensures size { length blocks.new ≡ length blocks.old }
 {
-    let end = way.len();
+    let end = way.len;
     let mut block = top;
     for depth in from..end {
         block = give_step(region, blocks, touched, way, from, depth, block);

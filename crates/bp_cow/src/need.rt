@@ -21,7 +21,7 @@ fn turned_for(touched: &Touched<'_>, way: &Way<'_>, from: usize) -> u32
         (length ((job_of touched.now).way way.now.index)) }
     ensures few { result ≤ 11 }
 {
-    let end = way.len();
+    let end = way.len;
     if end < from {
         return 0;
     }

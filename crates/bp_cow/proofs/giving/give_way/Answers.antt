@@ -14,7 +14,7 @@ loop-depth-init g c =
 
 pub give_step-block-requires : goal.give_step-block-requires
 give_step-block-requires g c κs within =
-    let low : c.loop-depth.depth < (length ((job_of c.args.touched.now).way c.args.way.now.index)) = subst (λ n. c.loop-depth.depth < n) (c.len-end.ensures ∙ ap (λ (p : List ℕ). length p) c.requires.1.1.0.slots) c.loop-depth-test.true in
+    let low : c.loop-depth.depth < (length ((job_of c.args.touched.now).way c.args.way.now.index)) = subst (λ n. c.loop-depth.depth < n) c.requires.1.1.0.len c.loop-depth-test.true in
     let can : CanGive (planned g.plan c.args.touched.now) c.args.from c.args.way.now.index c.loop-depth.depth c.loop-depth.blocks (current_words (g.R.Region.memory c.args.region.now)) = record {
       left = c.requires.1.1.1.0.left;
       way = record { can = c.requires.1.1.1.0.way.can; here = c.requires.1.1.1.0.way.here; low = c.loop-depth.auto.depth; high = omega (arith, low) };
@@ -30,5 +30,5 @@ loop-depth-preserved g c =
 pub returns-clause-back : goal.returns-clause-back
 returns-clause-back g c =
     let high : c.args.from ≤ (length ((job_of c.args.touched.now).way c.args.way.now.index)) = c.requires.1.1.1.0.way.high in
-    let end : c.loop-depth.depth ≡ (length ((job_of c.args.touched.now).way c.args.way.now.index)) = omega (arith, high, (c.len-end.ensures ∙ ap (λ (p : List ℕ). length p) c.requires.1.1.0.slots), c.loop-depth.auto.depth-end (omega (arith, high, (c.len-end.ensures ∙ ap (λ (p : List ℕ). length p) c.requires.1.1.0.slots))), c.loop-depth-test.false) in
+    let end : c.loop-depth.depth ≡ (length ((job_of c.args.touched.now).way c.args.way.now.index)) = omega (arith, high, c.requires.1.1.0.len, c.loop-depth.auto.depth-end (omega (arith, high, c.requires.1.1.0.len)), c.loop-depth-test.false) in
     back_word (planned g.plan c.args.touched.now) c.args.from c.args.way.now.index c.loop-depth.depth g.plan.free_after (has c.loop-depth.blocks) c.requires.1.1.1.0.way.can c.requires.1.1.1.0.way.here end c.loop-depth.auto.depth c.loop-depth.invariant.back

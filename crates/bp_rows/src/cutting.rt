@@ -188,7 +188,11 @@ impl<'a> Cuts<'a> {
     /// Reads the log of a run of the script.
     fn read_log(&mut self) -> Result<bool, AllocError> {
         match self.run()? {
-            Some(volume) => self.take_events(volume.region()),
+            Some(volume) => {
+                let is_read = self.take_events(volume.region());
+                drop(volume);
+                is_read
+            }
             None => Ok(false),
         }
     }
@@ -239,7 +243,11 @@ impl<'a> Cuts<'a> {
     /// Cuts the power as was chosen. False is the answer where what is left is not the plain tree after the calls that are kept.
     fn cut(&mut self, report: &mut String) -> Result<bool, AllocError> {
         match self.run()? {
-            Some(mut volume) => self.crash(&mut volume, report),
+            Some(mut volume) => {
+                let is_right = self.crash(&mut volume, report);
+                drop(volume);
+                is_right
+            }
             None => self.differ("the script can't be run", report),
         }
     }
@@ -292,8 +300,13 @@ impl<'a> Cuts<'a> {
 
     /// Asks what is asked of the bytes that were left. False is the answer where they can't be opened.
     fn ask(&mut self, left: &[u8], sink: &mut MemSink<'_>) -> Result<bool, AllocError> {
-        let volume = serve_over(self.alloc, &mut self.work, left, self.asks, sink)?;
-        Ok(volume.is_some())
+        match serve_over(self.alloc, &mut self.work, left, self.asks, sink)? {
+            Some(volume) => {
+                drop(volume);
+                Ok(true)
+            }
+            None => Ok(false),
+        }
     }
 
     /// What the plain tree answers after the first calls of the script.

@@ -102,6 +102,28 @@ pub fn number(text: &str) -> Option<u64> {
     }
 }
 
+fn in_versions(text: &str) -> Option<InputLine<'_>> {
+    Some(InputLine::Versions(Versions::named(text)?))
+}
+
+fn zeros(text: &str) -> Option<InputLine<'_>> {
+    Some(InputLine::Zeros(number(text)?))
+}
+
+fn piece(text: &str) -> Option<InputLine<'_>> {
+    Some(InputLine::Piece(number(text)?))
+}
+
+fn fail(text: &str) -> Option<InputLine<'_>> {
+    let (device, calls) = text.split_once(' ')?;
+    Some(InputLine::Fail(Device::named(device)?, calls))
+}
+
+fn sweep(text: &str) -> Option<InputLine<'_>> {
+    let (device, count) = text.split_once(' ')?;
+    Some(InputLine::Sweep(Device::named(device)?, number(count)?))
+}
+
 fn fill(text: &str) -> Option<InputLine<'_>> {
     let mut words = text.split_whitespace();
     let from = number(words.next()?)?;
@@ -113,34 +135,49 @@ fn fill(text: &str) -> Option<InputLine<'_>> {
 /// Reads a line, `None` where it has no such form.
 pub fn read(line: &str) -> Option<InputLine<'_>> {
     let (word, rest) = line.split_once(' ').unwrap_or((line, ""));
-    Some(match word {
-        "" | "#" => InputLine::Nothing,
-        "row" => InputLine::Row(rest),
-        "versions" => InputLine::Versions(Versions::named(rest)?),
-        "format" => InputLine::Format(rest),
-        "zeros" => InputLine::Zeros(number(rest)?),
-        "missing" => InputLine::Missing,
-        "keep" => InputLine::Keep,
-        "kept" => InputLine::Kept,
-        "set" => InputLine::Set(rest),
-        "fill" => fill(rest)?,
-        "fail" => {
-            let (device, numbers) = rest.split_once(' ')?;
-            InputLine::Fail(Device::named(device)?, numbers)
-        }
-        "piece" => InputLine::Piece(number(rest)?),
-        "words" => InputLine::Words(rest),
-        ">" => InputLine::Script(rest),
-        ">|" => InputLine::Part(rest),
-        "go" => InputLine::Go,
-        "plain" => InputLine::Plain(rest),
-        "?" => InputLine::Ask(rest),
-        "cuts" => InputLine::Cuts(rest),
-        "parts" => InputLine::Parts,
-        "sweep" => {
-            let (device, count) = rest.split_once(' ')?;
-            InputLine::Sweep(Device::named(device)?, number(count)?)
-        }
-        _ => return None,
-    })
+    bare(word)
+        .or(with_text(word, rest))
+        .or(with_numbers(word, rest))
+}
+
+/// A line that is a word alone.
+fn bare(word: &str) -> Option<InputLine<'_>> {
+    match word {
+        "" | "#" => Some(InputLine::Nothing),
+        "missing" => Some(InputLine::Missing),
+        "keep" => Some(InputLine::Keep),
+        "kept" => Some(InputLine::Kept),
+        "go" => Some(InputLine::Go),
+        "parts" => Some(InputLine::Parts),
+        _ => None,
+    }
+}
+
+/// A line whose text is read where it is used.
+fn with_text<'a>(word: &str, text: &'a str) -> Option<InputLine<'a>> {
+    match word {
+        "row" => Some(InputLine::Row(text)),
+        "format" => Some(InputLine::Format(text)),
+        "set" => Some(InputLine::Set(text)),
+        "words" => Some(InputLine::Words(text)),
+        ">" => Some(InputLine::Script(text)),
+        ">|" => Some(InputLine::Part(text)),
+        "plain" => Some(InputLine::Plain(text)),
+        "?" => Some(InputLine::Ask(text)),
+        "cuts" => Some(InputLine::Cuts(text)),
+        _ => None,
+    }
+}
+
+/// A line whose text has one form alone.
+fn with_numbers<'a>(word: &str, text: &'a str) -> Option<InputLine<'a>> {
+    match word {
+        "versions" => in_versions(text),
+        "zeros" => zeros(text),
+        "fill" => fill(text),
+        "fail" => fail(text),
+        "piece" => piece(text),
+        "sweep" => sweep(text),
+        _ => None,
+    }
 }

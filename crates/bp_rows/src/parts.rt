@@ -103,7 +103,11 @@ fn serve_with<R: Region>(
 /// Opens a file, and serves scripts and lines over it.
 fn serve_file(alloc: Global, files: &mut FairFiles, report: &mut String) -> Result<(), AllocError> {
     match open(alloc, "f", files) {
-        Ok(mut volume) => serve_over(alloc, &mut volume, files, report),
+        Ok(mut volume) => {
+            let served = serve_over(alloc, &mut volume, files, report);
+            drop(volume);
+            served
+        }
         Err(_) => report.push_str("not opened\n"),
     }
 }

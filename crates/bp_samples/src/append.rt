@@ -5,13 +5,12 @@ use bp_append::need_prep;
 use bp_limits::MAX_SIZE;
 use bp_tree::Tree;
 use pm_region::ListRegion;
-use std::test::Fail;
 
 #[test]
 #[tactic(auto, using(bp_layout::proofs::SmallTrees::empty_sound))]
-fn needs_of_an_empty_tree(rt: HostRuntime) -> Result<(), Fail> {
-    let words = laid(rt.alloc(), &[])?;
-    let region = ListRegion::new(rt.alloc(), words, 0)?;
+fn needs_of_an_empty_tree(rt: HostRuntime) {
+    let words = laid(rt.alloc(), &[]).expect(&rt, "there is memory");
+    let region = ListRegion::new(rt.alloc(), words, 0).expect(&rt, "there is memory");
     let tree = Tree {
         root: 0xeeee,
         size: 0,
@@ -23,5 +22,5 @@ fn needs_of_an_empty_tree(rt: HostRuntime) -> Result<(), Fail> {
         assert_eq!(rt; need_prep(&region, tree, size - 1, size), nodes);
         assert_eq!(rt; need_prep(&region, tree, size, size), 0);
     }
-    Ok(())
+    drop(region);
 }

@@ -7,11 +7,10 @@ use bp_free::{Blocks, Counts, Inodes, Steps};
 use bp_limits::MAX_BLOCKS;
 use std::marker::Brand;
 use std::sync::ledger::{Blank, Ledger};
-use std::test::Fail;
 
 #[test]
-fn blocks_are_given_and_taken(rt: HostRuntime) -> Result<(), Fail> {
-    let mut blocks = Blocks::new(rt.alloc(), 200)?;
+fn blocks_are_given_and_taken(rt: HostRuntime) {
+    let mut blocks = Blocks::new(rt.alloc(), 200).expect(&rt, "there is memory");
     assert_eq!(rt; blocks.room(), 200);
     assert_eq!(rt; blocks.count(), 0);
     assert_eq!(rt; blocks.take(), None);
@@ -27,12 +26,12 @@ fn blocks_are_given_and_taken(rt: HostRuntime) -> Result<(), Fail> {
     for wanted in [Some(1), Some(63), Some(128), Some(199), None] {
         assert_eq!(rt; blocks.take(), wanted);
     }
-    Ok(())
+    drop(blocks);
 }
 
 #[test]
-fn inodes_are_filled_and_cleared(rt: HostRuntime) -> Result<(), Fail> {
-    let mut inodes = Inodes::new(rt.alloc(), 130)?;
+fn inodes_are_filled_and_cleared(rt: HostRuntime) {
+    let mut inodes = Inodes::new(rt.alloc(), 130).expect(&rt, "there is memory");
     inodes.fill(2, 130);
     assert_eq!(rt; inodes.count(), 128);
     assert!(rt; !inodes.is_free(1));
@@ -41,16 +40,15 @@ fn inodes_are_filled_and_cleared(rt: HostRuntime) -> Result<(), Fail> {
     inodes.clear();
     assert_eq!(rt; inodes.count(), 0);
     assert_eq!(rt; inodes.room(), 130);
-    Ok(())
+    drop(inodes);
 }
 
 #[test]
-fn names_are_counted(rt: HostRuntime) -> Result<(), Fail> {
-    let mut counts = Counts::new(rt.alloc(), 64)?;
+fn names_are_counted(rt: HostRuntime) {
+    let mut counts = Counts::new(rt.alloc(), 64).expect(&rt, "there is memory");
     counts.set(2, 3);
     assert_eq!(rt; [counts.names(1), counts.names(2)], [0, 3]);
     assert_eq!(rt; counts.names(63), 0);
-    Ok(())
 }
 
 /// A search of 65,536 numbers has seventeen steps at most.
@@ -72,8 +70,8 @@ fn take_counting<L: Ledger>(blocks: &mut Blocks, blank: Blank) -> Option<u32>
 }
 
 #[test]
-fn blocks_are_found_in_seventeen_steps(rt: HostRuntime) -> Result<(), Fail> {
-    let mut blocks = Blocks::new(rt.alloc(), MAX_BLOCKS)?;
+fn blocks_are_found_in_seventeen_steps(rt: HostRuntime) {
+    let mut blocks = Blocks::new(rt.alloc(), MAX_BLOCKS).expect(&rt, "there is memory");
     assert_eq!(rt; blocks.room(), MAX_BLOCKS);
     let none = take_counting::<Brand>(&mut blocks, Blank::new(1));
     assert_eq!(rt; none, None);
@@ -88,5 +86,5 @@ fn blocks_are_found_in_seventeen_steps(rt: HostRuntime) -> Result<(), Fail> {
     let first = take_counting::<Brand>(&mut blocks, Blank::new(1));
     assert_eq!(rt; first, Some(0));
     assert_eq!(rt; blocks.count(), 65_535);
-    Ok(())
+    drop(blocks);
 }

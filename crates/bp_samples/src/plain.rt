@@ -90,6 +90,7 @@ fn answers(rt: HostRuntime) {
         &mut reply,
         Listing::of(rt.alloc(), &[]).expect(&rt, "there is memory"),
     );
+    drop(reply);
 }
 
 /// A plain tree, and the answer of its last call.
@@ -151,6 +152,7 @@ fn a_plain_tree_tells_names(rt: HostRuntime) {
     assert!(rt; matches!(answer, Answer::Refused(FsError::NotDir)));
     let answer = asked.ask(&Call::List(b"/")).expect(&rt, "there is memory");
     assert!(rt; matches!(answer, Answer::Names(listing) if listing.len() == 1));
+    drop(asked);
 }
 
 #[test]
@@ -180,6 +182,7 @@ fn a_plain_tree_keeps_bytes(rt: HostRuntime) {
         assert_eq!(rt; asked.does(&call), Ok(true));
     }
     assert_eq!(rt; asked.has(b"/b", b"\0\0h"), Ok(true));
+    drop(asked);
 }
 
 #[test]
@@ -205,4 +208,5 @@ fn a_plain_tree_counts_names(rt: HostRuntime) {
     assert_eq!(rt; asked.has_names(b"/b", 2), Ok(true));
     assert_eq!(rt; asked.does(&Call::Unlink(b"/a")), Ok(true));
     assert_eq!(rt; asked.has_names(b"/b", 1), Ok(true));
+    drop(asked);
 }

@@ -34,4 +34,4 @@ pub mod RunThere
 pub mod RunWrites
 pub mod LeafCover
 pub mod Thawing
-pub mod LeafBefore
+pub mod SharedLaws

@@ -9,10 +9,11 @@ ghost use Rattle.bp_cow.specs.Job.{ways, front};
 ghost use Rattle.bp_cow.specs.Plan.{Plan, planned};
 ghost use Rattle.bp_cow.specs.Return.{IsLeft, IsBack, CanGive};
 ghost use Rattle.bp_cow.specs.Touched.{IsTouched, job_of};
+ghost use Rattle.bp_cow.specs.Ways.{IsWay};
 
 use crate::copies::give;
 use crate::touched::Touched;
-use crate::ways::is_new;
+use crate::ways::{Way, is_new};
 use bp_free::Blocks;
 use bp_tree::load_slot;
 use pm_region::Region;
@@ -22,24 +23,25 @@ fn give_step<R: Region>(
     region: &R,
     blocks: &mut Blocks,
     touched: &Touched<'_>,
-    i: usize,
+    way: &Way<'_>,
     from: usize,
     depth: usize,
     block: u32,
 ) -> u32
     ghost plan: { Plan }
     requires touched { IsTouched touched.now }
-    requires can { CanGive (planned plan touched.now) from i depth blocks.old (current_words (R.memory region.now)) }
-    requires more { depth < length ((job_of touched.now).way i) }
-    requires block { block ≡ block_on plan.old (front (job_of touched.now) i depth) }
-    ensures back { IsBack (planned plan touched.now) from i (depth + 1) plan.free_after (has blocks.new) }
-    ensures block { result ≡ block_on plan.old (front (job_of touched.now) i (depth + 1)) }
+    requires is_way { IsWay touched.now way.now }
+    requires can { CanGive (planned plan touched.now) from way.now.index depth blocks.old (current_words (R.memory region.now)) }
+    requires more { depth < length ((job_of touched.now).way way.now.index) }
+    requires block { block ≡ block_on plan.old (front (job_of touched.now) way.now.index depth) }
+    ensures back { IsBack (planned plan touched.now) from way.now.index (depth + 1) plan.free_after (has blocks.new) }
+    ensures block { result ≡ block_on plan.old (front (job_of touched.now) way.now.index (depth + 1)) }
     ensures size { length blocks.new ≡ length blocks.old }
 {
     let _words = region.words();
-    let pointer = load_slot(region, block as u64, touched.slot(i, depth) as u64);
+    let pointer = load_slot(region, block as u64, touched.slot(way, depth) as u64);
     let next = pm_words::block_of(pointer) as u32;
-    if next != 0 && is_new(touched, i, from, depth + 1) {
+    if next != 0 && is_new(touched, way, from, depth + 1) {
         give(blocks, next);
     }
     next
@@ -50,21 +52,22 @@ fn give_way<R: Region>(
     region: &R,
     blocks: &mut Blocks,
     touched: &Touched<'_>,
-    i: usize,
+    way: &Way<'_>,
     from: usize,
     top: u32,
 )
     ghost plan: { Plan }
     requires touched { IsTouched touched.now }
-    requires can { CanGive (planned plan touched.now) from i from blocks.old (current_words (R.memory region.now)) }
+    requires is_way { IsWay touched.now way.now }
+    requires can { CanGive (planned plan touched.now) from way.now.index from blocks.old (current_words (R.memory region.now)) }
     requires top { top ≡ block_on plan.old (front (job_of touched.now) 0 from) }
-    ensures back { IsBack (planned plan touched.now) from (i + 1) from plan.free_after (has blocks.new) }
+    ensures back { IsBack (planned plan touched.now) from (way.now.index + 1) from plan.free_after (has blocks.new) }
     ensures size { length blocks.new ≡ length blocks.old }
 {
-    let end = touched.way_len(i);
+    let end = way.len;
     let mut block = top;
     for depth in from..end {
-        block = give_step(region, blocks, touched, i, from, depth, block);
+        block = give_step(region, blocks, touched, way, from, depth, block);
     }
 }
 
@@ -90,6 +93,6 @@ pub(crate) fn give_back<R: Region>(
         give(blocks, top);
     }
     for i in 0..ways {
-        give_way(region, blocks, touched, i, from, top);
+        give_way(region, blocks, touched, &touched.way(i), from, top);
     }
 }

@@ -6,26 +6,28 @@ ghost use Rattle.pm_region.specs.Memory.{current_words};
 ghost use Rattle.bp_cow.specs.Cover.{LeadsInside, copied_count};
 ghost use Rattle.bp_cow.specs.Job.{ways, turned_for, copies_at};
 ghost use Rattle.bp_cow.specs.Touched.{IsTouched, NoneBegins, all_paths, job_of};
+ghost use Rattle.bp_cow.specs.Ways.{IsWay};
 
 use crate::covering::{FoundCover, find_cover};
 use crate::touched::Touched;
-use crate::ways::is_new;
+use crate::ways::{Way, is_new};
 use pm_region::Region;
 
 /// How many blocks on a way are copied for it and for no earlier one, below a number of slots.
-fn turned_for(touched: &Touched<'_>, i: usize, from: usize) -> u32
+fn turned_for(touched: &Touched<'_>, way: &Way<'_>, from: usize) -> u32
     requires touched { IsTouched touched.now }
-    requires i { i < ways (job_of touched.now) }
-    ensures result { result ≡ turned_for (job_of touched.now) from i (length ((job_of touched.now).way i)) }
+    requires way { IsWay touched.now way.now }
+    ensures result { result ≡ turned_for (job_of touched.now) from way.now.index
+        (length ((job_of touched.now).way way.now.index)) }
     ensures few { result ≤ 11 }
 {
-    let end = touched.way_len(i);
+    let end = way.len;
     if end < from {
         return 0;
     }
     let mut count = 0;
     for depth in from..end {
-        if is_new(touched, i, from, depth + 1) {
+        if is_new(touched, way, from, depth + 1) {
             count += 1;
         }
     }
@@ -44,7 +46,7 @@ pub fn copies_below(touched: &Touched<'_>, cover: FoundCover) -> u32
     let ways = touched.ways();
     let mut count = 1;
     for i in 0..ways {
-        count += turned_for(touched, i, from);
+        count += turned_for(touched, &touched.way(i), from);
     }
     count
 }

@@ -1,4 +1,4 @@
-use Rattle.std.proofs.Common.{◌≡◌, ℕ, List, ◌<◌, ◌∙◌, ap, sym, subst, arith, length, Bool}
+use Rattle.std.proofs.Common.{◌≡◌, ℕ, List, ◌+◌, ◌<◌, ◌∙◌, ap, sym, subst, arith, length, Bool}
 use Rattle.bp_free.specs.Set.{TakesNumber, has}
 use Rattle.pm_region.specs.Memory.{current_words}
 use Rattle.bp_layout.specs.Words.{block_count}
@@ -40,6 +40,9 @@ loop-i-init g c =
       }
     ]
 
+pub way-requires-clause-i : goal.way-requires-clause-i
+way-requires-clause-i g c = subst (λ n. c.loop-i.i < n) c.ways-ways.ensures c.loop-i-test.true
+
 pub give_way-requires : goal.give_way-requires
 give_way-requires g c κs within =
     let here : c.loop-i.i < ways (job_of c.args.touched.now) = subst (λ n. c.loop-i.i < n) c.ways-ways.ensures c.loop-i-test.true in
@@ -49,11 +52,11 @@ give_way-requires g c κs within =
       back = c.loop-i.invariant.back;
       fits = omega (arith, c.requires.1.1.1.1.1, c.loop-i.invariant.size);
     } in
-    (within, (c.requires.1.0, (can, c.requires.1.1.1.1.0)))
+    (within, (c.requires.1.0, (c.way.ensures.way, (subst (λ n. CanGive (planned g.plan c.args.touched.now) c.args.from n c.args.from c.loop-i.blocks (current_words (g.R.Region.memory c.args.region.now))) (sym c.way.ensures.index) can, c.requires.1.1.1.1.0))))
 
 pub loop-i-preserved : goal.loop-i-preserved
 loop-i-preserved g c =
-    record { back = c.give_way.ensures.back; size = c.give_way.ensures.size ∙ c.loop-i.invariant.size }
+    record { back = subst (λ n. IsBack (planned g.plan c.args.touched.now) c.args.from (n + 1) c.args.from g.plan.free_after (has c.give_way.new.blocks)) c.way.ensures.index c.give_way.ensures.back; size = c.give_way.ensures.size ∙ c.loop-i.invariant.size }
 
 pub returns-clause-back : goal.returns-clause-back
 returns-clause-back g c =

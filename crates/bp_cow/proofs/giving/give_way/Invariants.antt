@@ -12,7 +12,7 @@ ghost-give_step g a = g.plan
 
 abbrev pub invariant-loop-depth : goal.invariant-loop-depth
 invariant-loop-depth g l = record {
-  back : IsBack (planned g.plan l.touched) l.from l.i l.depth g.plan.free_after (has l.blocks);
-  block : l.block ≡ block_on g.plan.old (front (job_of l.touched) l.i l.depth);
+  back : IsBack (planned g.plan l.touched) l.from l.way.index l.depth g.plan.free_after (has l.blocks);
+  block : l.block ≡ block_on g.plan.old (front (job_of l.touched) l.way.index l.depth);
   size : length l.blocks ≡ length l.fn.blocks;
 }

@@ -1,6 +1,6 @@
 use Rattle.std.proofs.Common.{◌≡◌, ◌+◌, ◌<◌, ◌≤◌, length, ◌∙◌, sym, ap, subst, arith}
 use Rattle.bp_cow.specs.Touched.{job_of}
-use Rattle.bp_cow.specs.Job.{ways, turned_upto}
+use Rattle.bp_cow.specs.Job.{ways, turned_for, turned_upto}
 use Rattle.bp_cow.proofs.CommitEnd.{copied-some, copied-none}
 use Rattle.bp_cow.proofs.NeedLaws.{upto-next}
 use Rattle.bp_cow.proofs.RunsLaws.{leaves-few}
@@ -12,8 +12,8 @@ way_len-requires-clause-i c = c.requires.some
 pub returns-then-way_len-from : goal.returns-then-way_len-from
 returns-then-way_len-from c = sym (copied-none (job_of c.args.touched.now) c.args.cover.len (omega (arith, c.way_len.ensures, c.if-way_len-from.true)))
 
-pub turned_for-count-requires-clause-i : goal.turned_for-count-requires-clause-i
-turned_for-count-requires-clause-i c = subst (λ n. c.loop-i.i < n) c.ways-ways.ensures c.loop-i-test.true
+pub way-requires-clause-i : goal.way-requires-clause-i
+way-requires-clause-i c = subst (λ n. c.loop-i.i < n) c.ways-ways.ensures c.loop-i-test.true
 
 pub overflow_add-count : goal.overflow_add-count
 overflow_add-count c =
@@ -21,7 +21,7 @@ overflow_add-count c =
 
 pub loop-i-preserved : goal.loop-i-preserved
 loop-i-preserved c = record {
-  count = omega (arith, c.loop-i.invariant.count, c.turned_for-count.ensures.result, upto-next (job_of c.args.touched.now) c.args.cover.len c.loop-i.i);
+  count = omega (arith, c.loop-i.invariant.count, c.turned_for-count.ensures.result ∙ ap (λ n. turned_for (job_of c.args.touched.now) c.args.cover.len n (length ((job_of c.args.touched.now).way n))) c.way.ensures.index, upto-next (job_of c.args.touched.now) c.args.cover.len c.loop-i.i);
   few = omega (arith, c.loop-i.invariant.few, c.turned_for-count.ensures.few);
 }
 

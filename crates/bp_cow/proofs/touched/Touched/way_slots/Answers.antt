@@ -1,0 +1,18 @@
+use Rattle.std.proofs.Common.{◌-◌, sym, ◌∙◌, ap, subst}
+use Rattle.std.specs.Prelude.{IfSome, Option}
+use Rattle.bp_cow.specs.declared.ways.Leaf.{Leaf}
+use Rattle.bp_cow.specs.Leaves.{IsLeaf}
+use Rattle.bp_cow.specs.Touched.{above, path_of, word_paths}
+use Rattle.bp_cow.proofs.RunsLaws.{way-word}
+use Rattle.bp_cow.proofs.touched.Touched.way_slots.Goals as goal
+
+pub returns-in-Some : goal.returns-in-Some
+returns-in-Some c =
+    let is : IsLeaf c.args.self.now.runs.now c.args.self.now.runs.now (word_paths c.args.self.now) c.args.i c.in-Some.leaf.run.now c.in-Some.leaf.index = subst (λ (o : Option Leaf). IfSome o (λ leaf. IsLeaf c.args.self.now.runs.now c.args.self.now.runs.now (word_paths c.args.self.now) c.args.i leaf.run.now leaf.index)) c.in-Some.is c.requires.leaf in
+    c.slots.ensures ∙ sym is.way
+
+pub returns-in-None : goal.returns-in-None
+returns-in-None c =
+    let runs = c.args.self.now.runs.now in
+    let paths = word_paths c.args.self.now in
+    c.word_slots.ensures ∙ ap (λ n. above (path_of paths (c.args.i - n))) c.leaves.ensures ∙ sym (way-word runs paths c.args.i (c.requires.none c.in-None.is))

@@ -1,0 +1,26 @@
+-- A way as code holds it, and how much of it earlier ways share.
+use Rattle.std.specs.Prelude.{◌≡◌, ℕ, ◌<◌, ◌≤◌, ◌↔◌, IfSome, None, length}
+use Rattle.bp_layout.specs.WordPaths.{WordPath}
+use Rattle.bp_shapes.specs.Trail.{trail_of}
+use Rattle.bp_cow.specs.Job.{ways}
+use Rattle.bp_cow.specs.Leaves.{IsLeaf}
+use Rattle.bp_cow.specs.Touched.{job_of, leaves_of, word_paths}
+use Rattle.bp_cow.specs.declared.touched.Touched.{Touched}
+use Rattle.bp_cow.specs.declared.ways.Way.{Way}
+
+-- one of the first ways, so many, begins with the first slots of a path
+pub record IsShared (way : ℕ → WordPath) (count : ℕ) (path : WordPath) (depth : ℕ) : Type 0 where
+  pub which : ℕ
+  pub early : which < count
+  pub here : depth ≤ length path
+  pub there : depth ≤ length (way which)
+  pub same : trail_of path depth ≡ trail_of (way which) depth
+
+-- A way of touched words, with its length, the leaf to which it leads, and how many of its fronts begin an earlier way.
+pub record IsWay (touched : Touched) (way : Way) : Type 0 where
+  pub here : way.index < ways (job_of touched)
+  pub len : way.len ≡ length ((job_of touched).way way.index)
+  pub leaf : IfSome way.leaf (λ leaf.
+      IsLeaf touched.runs.now touched.runs.now (word_paths touched) way.index leaf.run.now leaf.index)
+  pub none : way.leaf ≡ None → leaves_of touched.runs.now ≤ way.index
+  pub shared : (d : ℕ) → (d < way.shared) ↔ IsShared (job_of touched).way way.index ((job_of touched).way way.index) d

@@ -177,6 +177,7 @@ module _ (old middle : Memory) (blocks inodes after : Set) (n off : ℕ) (bytes 
       root = root_path_trail (height_of (root_of mid 0)) n across.touches.run.root.items (across.touches.is.root ∙ ap (λ r. inode_path (height_of r) (suc n) 1) (sym root_stays));
       height = across.touches.is.height ∙ sym prepared.ready.height;
       below = omega (arith, across_end old blocks inodes n off bytes touched across, bound_here, across.past);
+      counts = omega (arith, bound_here, across.touches.is.size);
     });
     apart = λ i k low few same. omega (arith, low, few, across_words old blocks inodes n off bytes touched across);
     beside = λ r i k has low first last.

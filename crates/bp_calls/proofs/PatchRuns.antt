@@ -48,6 +48,7 @@ module _ (image : Image) where
           some = omega (arith, some, count);
           few = omega (arith, short, count);
           below = subst (λ i. run.off + length run.bytes.now ≤ size_of image i) e (omega (arith, for_it.from, count, is.within));
+          counts = subst (λ i. size_of image i ≤ run.size) e (omega (arith, for_it.size));
         };
       }
 

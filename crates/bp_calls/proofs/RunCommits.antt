@@ -51,6 +51,7 @@ pub record IsRunOf (image : Image) (i : ℕ) (run : Run) : Type 0 where
   pub some : 0 < length run.bytes.now
   pub few : length run.bytes.now ≤ max_write
   pub below : run_end run ≤ size_of image i
+  pub counts : size_of image i ≤ run.size
 
 module _ (image : Image) (wf : IsWellFormed image) (n : ℕ) (reached : IsReached image (suc n)) (run : Run) (is : IsRunOf image (suc n) run) where
   sound : IsSound image (root_of image (suc n)) (size_of image (suc n))
@@ -73,7 +74,7 @@ module _ (image : Image) (wf : IsWellFormed image) (n : ℕ) (reached : IsReache
       }
 
   pub run_in : IsRunIn image (size_of image) run
-  run_in = record { inode = n; reached = reached; root = root_path_trail (height_of (root_of image 0)) n run.root.items is.root; height = is.height; below = is.below }
+  run_in = record { inode = n; reached = reached; root = root_path_trail (height_of (root_of image 0)) n run.root.items is.root; height = is.height; below = is.below; counts = is.counts }
 
   -- the pointers on the path of its first word
   run_live : (d : ℕ) → d < length (run_path run (run.off / 8)) → IsTreePointer image (size_of image) (trail_of (run_path run (run.off / 8)) d)

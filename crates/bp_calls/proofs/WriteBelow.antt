@@ -177,6 +177,7 @@ module _ (old : Memory) (blocks inodes : Set) (i off : ℕ) (bytes : List ℕ) (
       some = omega (arith, asks.some);
       few = asks.short;
       below = of_run (λ o bs. o + length bs ≤ size_of (current_words old) i) write.below;
+      counts = omega (arith, write.touches.is.size);
     };
   }
 

@@ -21,6 +21,7 @@ pub record IsSizeWord (image : Image) (i end : ℕ) (words : List (ArrayVec ℕ 
 pub record IsRunAcross (image : Image) (i off end : ℕ) (bytes : List ℕ) (run : Run) : Type 0 where
   pub root : run.root.items ≡ inode_path (height_of (root_of image 0)) i 1
   pub height : run.height ≡ height_with (root_of image i) (size_of image i) end
+  pub size : run.size ≡ end
   pub from : run.off ≡ off
   pub bytes_are : run.bytes.now ≡ bytes
 

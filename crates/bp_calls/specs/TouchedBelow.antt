@@ -13,6 +13,7 @@ use Rattle.pm_region.specs.Memory.{Memory, current_words}
 pub record IsRunFor (image : Image) (i off : ℕ) (bytes : List ℕ) (run : Run) : Type 0 where
   pub root : run.root.items ≡ inode_path (height_of (root_of image 0)) i 1
   pub height : run.height ≡ height_of (root_of image i)
+  pub size : run.size ≡ size_of image i
   pub from : run.off ≡ off
   pub bytes_are : run.bytes.now ≡ bytes
   -- each byte is one

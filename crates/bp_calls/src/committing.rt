@@ -27,11 +27,13 @@ pub(crate) fn run_for<'a, R: Region>(
 ) -> Run<'a>
     requires some { 4 ≤ length (current_words (R.memory region.now)) }
     requires root { tree.root ≡ root_of (current_words (R.memory region.now)) i }
+    requires size { tree.size ≡ size_of (current_words (R.memory region.now)) i }
     ensures { IsRunFor (current_words (R.memory region.now)) i off bytes.now result }
 {
     Run {
         root: root_path(region, i),
         height: tree.height(),
+        size: tree.size,
         off,
         bytes,
     }

@@ -25,7 +25,7 @@ building_same old words place pointer cover Pointer anew other value laid free t
         skeleton = stage.skeleton;
         superblock = stage.superblock;
         kept = λ p live n. stage.kept p live (λ a. n (to p a));
-        words = λ p slot live n low m. stage.words p slot live (from p n) low (λ a. m (to (slot ∷ p) a));
+        words = λ p slot live n low m content. stage.words p slot live (from p n) low (λ a. m (to (slot ∷ p) a)) content;
         still = λ p slot live n low m. stage.still p slot live (λ a. n (to p a)) low (λ a. m (to (slot ∷ p) a));
         bits = stage.bits;
         fresh = λ p live n. stage.fresh p live (from p n);

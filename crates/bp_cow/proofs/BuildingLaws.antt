@@ -62,8 +62,8 @@ module _ (old words : Image) (place pointer : ℕ) (cover : Trail) (Pointer : Tr
         ∙ word-placed (set words place pointer) Pointer (slot ∷ p) (in_block slot p live present low)
 
     module _ (after : Image) (copy : ℕ) (free_after : ℕ → Bool) (patch : Patch) (pointed : Pointer (slot ∷ p)) (first : anew (slot ∷ p) → ⊥)
-        (plain : (s w : ℕ) → Pointer (s ∷ slot ∷ p) → patch s w ≡ w) (lays : (s : ℕ) → s < 512 → patch s (word_on old (s ∷ slot ∷ p)) ≡ laid (s ∷ slot ∷ p))
-        (turned : TurnsTo patch words after (512 * block_on (set words place pointer) p + slot) copy) (takes : TakesNumber free free_after copy) where
+        (count : ℕ) (counts : (s : ℕ) → s < 512 → Pointer (s ∷ slot ∷ p) ⊎ (Pointer (0 ∷ slot ∷ p) → ⊥) → s < count) (plain : (s w : ℕ) → Pointer (s ∷ slot ∷ p) → patch s w ≡ w) (lays : (s : ℕ) → s < 512 → patch s (word_on old (s ∷ slot ∷ p)) ≡ laid (s ∷ slot ∷ p))
+        (turned : TurnsTo patch count words after (512 * block_on (set words place pointer) p + slot) copy) (takes : TakesNumber free free_after copy) where
       clash : (b : ℕ) → free b ≡ true → free b ≡ false → ⊥
       clash b one two = absurd (cc)
 
@@ -93,10 +93,10 @@ module _ (old words : Image) (place pointer : ℕ) (cover : Trail) (Pointer : Tr
           ∙ ap (λ w. set (set turned.mid place pointer) (512 * block_on (set words place pointer) p + slot) (pointing_to w copy)) pointer_now
 
       -- the words of the copy
-      copy_slot : (s : ℕ) → s < 512 → slot_word (set turned.mid place pointer) copy s ≡ patch s (slot_word (set words place pointer) (block_on (set words place pointer) (slot ∷ p)) s)
-      copy_slot s few =
+      copy_slot : (s : ℕ) → s < 512 → s < count → slot_word (set turned.mid place pointer) copy s ≡ patch s (slot_word (set words place pointer) (block_on (set words place pointer) (slot ∷ p)) s)
+      copy_slot s few counted =
           slot_word-same turned.mid (set turned.mid place pointer) copy s (λ _. get_or-set_other turned.mid place (512 * copy + s) pointer 0 (λ e. not_here cover building.placed (e ∙ sym building.at)))
-          ∙ turned.copied s few
+          ∙ turned.copied s few counted
           ∙ ap (λ w. patch s (slot_word words (block_of w) s)) pointer_now
           ∙ ap (patch s) (source (cases_eq (block_on (set words place pointer) (slot ∷ p)) 0))
         where
@@ -117,12 +117,12 @@ module _ (old words : Image) (place pointer : ℕ) (cover : Trail) (Pointer : Tr
       leads : block_of (pointing_to (word_on (set words place pointer) (slot ∷ p)) copy) ≡ copy
       leads = omega arith
 
-      stored_slot : (s : ℕ) → s < 512 →
+      stored_slot : (s : ℕ) → s < 512 → s < count →
           slot_word (set (set turned.mid place pointer) (512 * block_on (set words place pointer) p + slot) (pointing_to (word_on (set words place pointer) (slot ∷ p)) copy)) copy s
           ≡ patch s (word_on (set words place pointer) (s ∷ slot ∷ p))
-      stored_slot s few =
+      stored_slot s few counted =
           copy-kept (set words place pointer) (set turned.mid place pointer) Pointer pointers building.stage.skeleton some_seen copy equal not_null unnamed (slot ∷ p) (pointing_to (word_on (set words place pointer) (slot ∷ p)) copy) s (in_block slot p live present low) few
-          ∙ copy_slot s few
+          ∙ copy_slot s few counted
           ∙ ap (patch s) (sym (word_on-slot (set words place pointer) s (slot ∷ p)))
 
       turns_after : Turns (set words place pointer) (set after place pointer) Pointer (slot ∷ p) (pointing_to (word_on (set words place pointer) (slot ∷ p)) copy)
@@ -132,7 +132,7 @@ module _ (old words : Image) (place pointer : ℕ) (cover : Trail) (Pointer : Tr
           (in_block slot p live present low)
           (λ _ s l.
           ap (λ b. slot_word (set (set turned.mid place pointer) (512 * block_on (set words place pointer) p + slot) (pointing_to (word_on (set words place pointer) (slot ∷ p)) copy)) b s) leads
-          ∙ stored_slot s (pointers.slots s (slot ∷ p) l)
+          ∙ stored_slot s (pointers.slots s (slot ∷ p) l) (counts s (pointers.slots s (slot ∷ p) l) (inl l))
           ∙ plain s (word_on (set words place pointer) (s ∷ slot ∷ p)) l))
 
       pub building_block : block_on (set after place pointer) (slot ∷ p) ≡ copy
@@ -146,8 +146,8 @@ module _ (old words : Image) (place pointer : ℕ) (cover : Trail) (Pointer : Tr
             some = building.some;
             stage = stage_copy old (set words place pointer) (set after place pointer) Pointer pointers anew value laid free building.stage (slot ∷ p) (pointing_to (word_on (set words place pointer) (slot ∷ p)) copy) copy free_after
                 pointed first turns_after (omega arith) leads takes.was takes.gone takes.others
-                (λ s few kept.
-                ap (λ ws. slot_word ws copy s) after_is ∙ stored_slot s few ∙ ap (patch s) (building.stage.still (slot ∷ p) s pointed first few kept) ∙ lays s few);
+                (λ s few kept content.
+                ap (λ ws. slot_word ws copy s) after_is ∙ stored_slot s few (counts s few (inr content)) ∙ ap (patch s) (building.stage.still (slot ∷ p) s pointed first few kept) ∙ lays s few);
             placed = still.0;
             at = still.1 ∙ building.at;
             below = λ q n. below q n;
@@ -186,10 +186,10 @@ module _ (old words : Image) (place pointer : ℕ) (cover : Trail) (Pointer : Tr
 
 -- the cover's pointer, and a copy of its block that holds its words
 module _ (old mid : Image) (cover : Trail) (Pointer : Trail → Type 0) (pointers : ArePointers Pointer) (value : Trail → Option ℕ) (laid : Trail → ℕ) (free free_after : ℕ → Bool) (copy : ℕ) (patch : Patch)
-    (plain : (s w : ℕ) → Pointer (s ∷ cover) → patch s w ≡ w) (lays : (s : ℕ) → s < 512 → patch s (word_on old (s ∷ cover)) ≡ laid (s ∷ cover))
+    (count : ℕ) (counts : (s : ℕ) → s < 512 → Pointer (s ∷ cover) ⊎ (Pointer (0 ∷ cover) → ⊥) → s < count) (plain : (s w : ℕ) → Pointer (s ∷ cover) → patch s w ≡ w) (lays : (s : ℕ) → s < 512 → patch s (word_on old (s ∷ cover)) ≡ laid (s ∷ cover))
     (some : 0 < block_count old) (skeleton : IsSkeleton old Pointer) (exact : IsExactSet old Pointer none_kept free) (no_value : (p : Trail) → value p ≡ None)
     (pointed : Pointer cover) (placed : IsPlaced old Pointer cover) (takes : TakesNumber free free_after copy) (equal : EqualBut copy old mid)
-    (copied : (slot : ℕ) → slot < 512 → slot_word mid copy slot ≡ patch slot (slot_word old (block_on old cover) slot)) where
+    (copied : (slot : ℕ) → slot < 512 → slot < count → slot_word mid copy slot ≡ patch slot (slot_word old (block_on old cover) slot)) where
   first_clash : (b : ℕ) → free b ≡ true → free b ≡ false → ⊥
   first_clash b one two = absurd (cc)
 
@@ -202,16 +202,16 @@ module _ (old mid : Image) (cover : Trail) (Pointer : Trail → Type 0) (pointer
   first_leads : block_of (pointing_to (word_on old cover) copy) ≡ copy
   first_leads = omega arith
 
-  first_stored_slot : (s : ℕ) → s < 512 → slot_word (set mid (place_on old cover) (pointing_to (word_on old cover) copy)) copy s ≡ patch s (word_on old (s ∷ cover))
-  first_stored_slot s few =
+  first_stored_slot : (s : ℕ) → s < 512 → s < count → slot_word (set mid (place_on old cover) (pointing_to (word_on old cover) copy)) copy s ≡ patch s (word_on old (s ∷ cover))
+  first_stored_slot s few counted =
       copy-kept old mid Pointer pointers skeleton some copy equal first_not_null first_unnamed cover (pointing_to (word_on old cover) copy) s placed few
-      ∙ copied s few
+      ∙ copied s few counted
       ∙ ap (patch s) (sym (word_on-slot old s cover))
 
   turns_first : Turns old (set mid (place_on old cover) (pointing_to (word_on old cover) copy)) Pointer cover (pointing_to (word_on old cover) copy)
   turns_first =
       store_turns old mid Pointer pointers skeleton some copy equal first_not_null first_unnamed cover (pointing_to (word_on old cover) copy) placed
-      (λ _ s l. ap (λ b. slot_word (set mid (place_on old cover) (pointing_to (word_on old cover) copy)) b s) first_leads ∙ first_stored_slot s (pointers.slots s cover l) ∙ plain s (word_on old (s ∷ cover)) l)
+      (λ _ s l. ap (λ b. slot_word (set mid (place_on old cover) (pointing_to (word_on old cover) copy)) b s) first_leads ∙ first_stored_slot s (pointers.slots s cover l) (counts s (pointers.slots s cover l) (inl l)) ∙ plain s (word_on old (s ∷ cover)) l)
 
   pub building_start : IsBuilding old mid (place_on old cover) (pointing_to (word_on old cover) copy) cover Pointer (λ q. ⊥ ⊎ (q ≡ cover)) value laid free_after
   building_start =
@@ -221,7 +221,7 @@ module _ (old mid : Image) (cover : Trail) (Pointer : Trail → Type 0) (pointer
         stage = stage_copy old old (set mid (place_on old cover) (pointing_to (word_on old cover) copy)) Pointer pointers (λ q. ⊥) value laid free
             (stage_start old Pointer (λ q. ⊥) value laid free skeleton exact (λ p n. n) no_value)
             cover (pointing_to (word_on old cover) copy) copy free_after pointed (λ n. n) turns_first (omega arith) first_leads takes.was takes.gone takes.others
-            (λ s few kept. first_stored_slot s few ∙ lays s few);
+            (λ s few kept content. first_stored_slot s few (counts s few (inr content)) ∙ lays s few);
         placed = still.0;
         at = still.1;
         below = λ q n. below q n;

@@ -53,7 +53,7 @@ committed_same old new Pointer turned other after to from stage = record {
   kept = λ p l none. stage.kept p l (λ t. none (to p t));
   bits = stage.bits;
   fresh = λ p l t. stage.fresh p l (from p t);
-  words = λ p slot l low none. stage.words p slot l low (λ t. none (to (slot ∷ p) t));
+  words = λ p slot l low none content. stage.words p slot l low (λ t. none (to (slot ∷ p) t)) content;
   decide = λ p. decide p (stage.decide p);
   pointers = λ p t. stage.pointers p (from p t);
 }

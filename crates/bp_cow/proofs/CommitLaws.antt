@@ -1,5 +1,5 @@
 -- What a copy on write has made, told on content words: a commit.
-use Rattle.std.proofs.Common.{◌≡◌, ◌≢◌, ◌⊎◌, ℕ, zero, suc, ◌+◌, ◌*◌, ◌/◌, ◌%◌, ◌<◌, ◌≤◌, max, [], refl, sym, ◌∙◌, ap, subst, arith, inl, inr, lt_of_lt_of_le, le_trans, zero-mul}
+use Rattle.std.proofs.Common.{◌≡◌, ◌≢◌, ◌⊎◌, ℕ, zero, suc, ◌+◌, ◌*◌, ◌/◌, ◌%◌, ◌<◌, ◌≤◌, max, [], ◌∷◌, refl, sym, ◌∙◌, ap, subst, arith, inl, inr, lt_of_lt_of_le, le_trans, zero-mul}
 use Rattle.std.proofs.lemmas.Bool.{cases_eq}
 use Rattle.bp_limits.specs.Limits.{greatest_height}
 use Rattle.bp_layout.specs.Formatted.{version_of}
@@ -16,7 +16,7 @@ use Rattle.bp_shapes.specs.Forest.{root_trail, tree_trail, IsForest, IsTreePoint
 use Rattle.bp_cow.specs.Job.{Job}
 use Rattle.bp_cow.specs.Committed.{after_commit, changes_of, IsCommitted}
 use Rattle.bp_shapes.proofs.TrailLaws.{word_on-top}
-use Rattle.bp_shapes.proofs.ForestLaws.{word-root, word-tree, same_trail, same_pointer, pointers, short}
+use Rattle.bp_shapes.proofs.ForestLaws.{HasFewDigits, word-root, word-tree, same_trail, same_pointer, pointers, short}
 
 module _ (old now : Image) (bound : ℕ → ℕ) (forest : IsForest old bound) (turned : Trail → Type 0) (job : Job) (stage : IsCommitted old now (IsTreePointer old bound) turned (after_commit old job)) where
   low_bits : (t d k : ℕ) → IsReached old t → IsLivePointer (root_of old t) (bound t) d k →
@@ -55,15 +55,26 @@ module _ (old now : Image) (bound : ℕ → ℕ) (forest : IsForest old bound) (
       ap (λ h. word_at now (root_of now t) (suc h) k) (root_height t r some)
       ∙ sym (word-now t (suc (height_of (root_of old t))) k)
       ∙ stage.words (tree_trail (height_of (word old 2)) t (height_of (root_of old t)) (k / 512)) (k % 512)
-      (record { tree = t; depth = height_of (root_of old t); index = k / 512; reached = r; live = above; named = refl }) (omega arith) (λ n. no_pointer above (stage.pointers _ n))
+      (record { tree = t; depth = height_of (root_of old t); index = k / 512; reached = r; live = above; named = refl }) (omega arith) (λ n. no_pointer k refl no_root above (stage.pointers _ n))
+      (λ one. no_pointer (512 * (k / 512)) (omega arith) (λ _ e. omega (arith, e)) above (subst (IsTreePointer old bound) (first_word (k / 512)) one))
     where
-      no_pointer : IsLivePointer (root_of old t) (bound t) (height_of (root_of old t)) (k / 512) → IsTreePointer old bound (tree_trail (height_of (word old 2)) t (suc (height_of (root_of old t))) k) → ⊥
-      no_pointer above one =
+      first_word : (leaf : ℕ) → 0 ∷ tree_trail (height_of (word old 2)) t (height_of (root_of old t)) leaf ≡ tree_trail (height_of (word old 2)) t (suc (height_of (root_of old t))) (512 * leaf)
+      first_word leaf =
+          let slot : 0 ≡ 512 * leaf % 512 = omega arith in
+          let up : leaf ≡ 512 * leaf / 512 = omega arith in
+          cons slot (ap (tree_trail (height_of (word old 2)) t (height_of (root_of old t))) up)
+        where
+          cons : {s u : ℕ} {p q : Trail} → s ≡ u → p ≡ q → s ∷ p ≡ u ∷ q
+          cons e f = cc
+
+      no_pointer : (m : ℕ) → m / 512 ≡ k / 512 → (t ≡ 0 → m % 8 ≢ 1) → IsLivePointer (root_of old t) (bound t) (height_of (root_of old t)) (k / 512) →
+          IsTreePointer old bound (tree_trail (height_of (word old 2)) t (suc (height_of (root_of old t))) m) → ⊥
+      no_pointer m up plain above one =
           let deep : one.depth ≤ height_of (root_of old one.tree) = omega (arith, one.live.height) in
-          let all : (one.tree ≡ t) × (one.depth ≡ suc (height_of (root_of old t))) × (one.index ≡ k) =
-          same_trail old bound forest one.tree one.depth one.index t (suc (height_of (root_of old t))) k one.reached r
-          (short old bound forest one.tree one.depth one.index one.reached one.live) (short old bound forest t (height_of (root_of old t)) (k / 512) r above)
-          (omega (arith, deep)) (omega arith) (λ _ f _. absurd (omega (arith, deep, f))) (λ z _. no_root z) one.named in
+          let all : (one.tree ≡ t) × (one.depth ≡ suc (height_of (root_of old t))) × (one.index ≡ m) =
+          same_trail old bound forest one.tree one.depth one.index t (suc (height_of (root_of old t))) m one.reached r
+          (short old bound forest one.tree one.depth one.index one.reached one.live) (subst (HasFewDigits (height_of (root_of old t))) (sym up) (short old bound forest t (height_of (root_of old t)) (k / 512) r above))
+          (omega (arith, deep)) (omega arith) (λ _ f _. absurd (omega (arith, deep, f))) (λ z _. plain z) one.named in
           let height : height_of (root_of old one.tree) ≡ height_of (root_of old t) = ap (λ (x : ℕ). height_of (root_of old x)) all.0 in
           omega (arith, deep, all.1, height)
 

@@ -20,7 +20,7 @@ use Rattle.bp_shapes.proofs.PathTrails.{trail_of-next, front-trail_of, length-tr
 use Rattle.bp_cow.specs.declared.touched.Run.{Run}
 use Rattle.bp_cow.specs.declared.touched.Touched.{Touched}
 use Rattle.bp_cow.specs.Leaves.{IsLeaf}
-use Rattle.bp_cow.specs.Touched.{IsRun, run_path, run_way, run_end, run_leaves, leaves_of, way_of, above, path_of, word_paths, last_slot, job_of, only_of, only_value, run_word, laid_word}
+use Rattle.bp_cow.specs.Touched.{IsRun, run_path, run_way, run_end, run_leaves, run_live, leaves_of, live_of, way_of, above, path_of, word_paths, last_slot, job_of, only_of, only_value, run_word, laid_word}
 use Rattle.bp_cow.specs.Job.{ways, end_of, word_trail, value_upto, laid_on}
 use Rattle.bp_cow.specs.Committed.{IsCommitted, after_commit}
 use Rattle.bp_shapes.proofs.TrailLaws.{Turns, cases_trail, pointer-turned, word-turned, skeleton-turned}
@@ -31,9 +31,10 @@ use Rattle.bp_cow.specs.CanCommit.{IsRunIn, CanCommit}
 use Rattle.bp_cow.specs.Plan.{IsFeasible}
 use Rattle.bp_cow.proofs.Distinct.{same-take}
 use Rattle.bp_cow.proofs.RunLaws.{length-run_path, length-run_way, slot-run_way, run_word-outside}
-use Rattle.bp_cow.proofs.RunsLaws.{HasEnd, HasLeaf, end-first, end-last, end-of-word, ends-count, laid-kept, leaf-here, leaf-of, length-above, way-leaf, way-short, way-word, ways-by}
+use Rattle.bp_cow.proofs.RunsLaws.{HasEnd, HasLeaf, end-first, end-last, end-of-word, ends-count, laid-kept, leaf-here, leaf-of, length-above, live-word, way-leaf, way-short, way-word, ways-by}
 use Rattle.bp_cow.proofs.RunFronts.{trail_of-take, first-trail, front-run_way, end-run_way, between-run, same-run_path}
 use Rattle.bp_cow.proofs.CoverLaws.{run-slots, end-slots, some-ends}
+use Rattle.bp_cow.proofs.LiveLaws.{run-counts}
 use Rattle.bp_layout.specs.Thaw.{none_kept}
 
 -- ---- a run
@@ -65,6 +66,14 @@ module _ (old : Image) (bound : ℕ → ℕ) (forest : IsForest old bound) (run 
   leaf-apart j l low small same =
       let all = same_pointer old bound forest t run.height (run.off / 4096 + j) t run.height (run.off / 4096 + l) at.reached at.reached (leaf-live j low) (leaf-live l small) (sym (leaf-trail j) ∙ same ∙ leaf-trail l) in
       omega (arith, all.2)
+
+  -- the words that count
+  pub leaf-counts : (j depth slot : ℕ) → j < run_leaves run → slot < 512 → IsTreePointer old bound (slot ∷ trail_of (run_way run j) depth) ⊎ (IsTreePointer old bound (0 ∷ trail_of (run_way run j) depth) → ⊥) →
+      slot < run_live run j depth
+  leaf-counts j depth slot low small any =
+      let below : run_end run ≤ bound t = at.below in
+      let some : 0 < length run.bytes.now = is.some in
+      run-counts old bound forest run at j (omega (arith, below, some, low)) depth slot small any
 
   -- no word of a leaf is a pointer
   pub leaf-plain : (j slot : ℕ) → j < run_leaves run → IsTreePointer old bound (slot ∷ trail_of (run_way run j) (length (run_way run j))) → ⊥
@@ -182,6 +191,19 @@ module _ (old : Image) (bound : ℕ → ℕ) (touched : Touched) (free : ℕ →
 
   pub leaf-at : (i : ℕ) → i < (job_of touched).leaves → HasLeaf touched.runs.now touched.runs.now paths i
   leaf-at i low = leaf-of touched.runs.now touched.runs.now paths i low
+
+  -- the words of blocks on the ways that count
+  ways-count : (i depth slot : ℕ) → slot < 512 → IsTreePointer old bound (slot ∷ trail_of ((job_of touched).way i) depth) ⊎ (IsTreePointer old bound (0 ∷ trail_of ((job_of touched).way i) depth) → ⊥) →
+      slot < (job_of touched).live i depth
+  ways-count i depth slot small any = go (cases_lt i (leaves_of touched.runs.now))
+    where
+      go : (i < leaves_of touched.runs.now) ⊎ (leaves_of touched.runs.now ≤ i) → slot < live_of touched.runs.now i depth
+      go (inr past) = rw (live-word touched.runs.now i depth past) small
+      go (inl low) =
+          let one = leaf-at i low in
+          rw (one.is.live depth)
+          (leaf-counts old bound can.forest one.run (is-run one.run one.is.has) (run-in one.run one.is.has) one.leaf depth slot one.is.low small
+          (subst (λ (p : List ℕ). IsTreePointer old bound (slot ∷ trail_of p depth) ⊎ (IsTreePointer old bound (0 ∷ trail_of p depth) → ⊥)) one.is.way any))
 
   -- the leaves have no pointers
   leaves-bare : (i slot : ℕ) → i < (job_of touched).leaves → IsTreePointer old bound (slot ∷ end_of (job_of touched) i) → ⊥
@@ -330,6 +352,7 @@ module _ (old : Image) (bound : ℕ → ℕ) (touched : Touched) (free : ℕ →
       contents = λ i here one. can.contents i here (subst (IsTreePointer old bound) (word-trail i here) one);
       bare = λ j slot low one. leaves-bare j slot low one;
       agree = λ j l low small same slot w. leaves-agree j l low small same slot w;
+      live = λ i d slot here low small any. ways-count i d slot small any;
       placed = subst (IsPlaced old (IsTreePointer old bound)) (sym (first-front n short)) (placed-first n (omega arith) exists);
       at = ap (place_on old) (first-front n short) ∙ at;
     }
@@ -643,7 +666,7 @@ module _ (old : Image) (bound : ℕ → ℕ) (touched : Touched) (free : ℕ →
             kept = λ p l _. same p l;
             bits = λ p l. ap (λ w. w % 4096) (same p l);
             fresh = λ p l none. absurd none;
-            words = λ p s l low _. words p s l low (cases_trail (s ∷ p) here);
+            words = λ p s l low _ _. words p s l low (cases_trail (s ∷ p) here);
             decide = λ p. inr (λ none. none);
             pointers = λ p none. absurd none;
           }

@@ -35,3 +35,4 @@ pub mod RunWrites
 pub mod LeafCover
 pub mod Thawing
 pub mod SharedLaws
+pub mod LiveLaws

@@ -13,7 +13,7 @@ use Rattle.bp_cow.specs.declared.touched.Touched.{Touched}
 use Rattle.bp_cow.specs.Cover.{end_path_of, ends_of}
 use Rattle.bp_cow.specs.Job.{ways}
 use Rattle.bp_cow.specs.Leaves.{IsLeaf}
-use Rattle.bp_cow.specs.Touched.{IsRun, IsTouched, above, job_of, laid_word, leaves_of, path_of, run_end, run_leaves, run_path, run_way, run_word, way_of, word_paths}
+use Rattle.bp_cow.specs.Touched.{IsRun, IsTouched, above, job_of, laid_word, leaves_of, live_of, path_of, run_end, run_leaves, run_path, run_way, run_word, way_of, word_paths}
 use Rattle.bp_cow.proofs.RunLaws.{length-run_way}
 
 pub leaves-few : (runs : List Run) → ((run : Run) → Has runs run → IsRun run) → leaves_of runs ≤ 257 * length runs
@@ -74,6 +74,11 @@ way-word (run ∷ runs) paths i past =
     let rest : i - run_leaves run - leaves_of runs ≡ i - (run_leaves run + leaves_of runs) = omega arith in
     way-behind run runs paths i (omega (arith, past)) ∙ way-word runs paths (i - run_leaves run) (omega (arith, past)) ∙ ap (λ k. above (path_of paths k)) rest
 
+-- of a block on the way to a word all words count
+pub live-word : (runs : List Run) (i depth : ℕ) → leaves_of runs ≤ i → live_of runs i depth ≡ 512
+live-word [] i depth past = refl
+live-word (run ∷ runs) i depth past = let test : nat_lt i (run_leaves run) ≡ false = not-less i (run_leaves run) (omega (arith, past)) in rw test (live-word runs (i - run_leaves run) depth (omega (arith, past)))
+
 -- ---- the leaves, by their ways
 
 pub leaf-here : (all : List Run) (run : Run) (runs : List Run) (paths : List WordPath) (i : ℕ) → i < run_leaves run → IsLeaf all (run ∷ runs) paths i run i
@@ -83,6 +88,7 @@ leaf-here all run runs paths i low = record {
   here = omega (arith, low);
   way = way-leaf run runs paths i low;
   patch = λ slot old. let test : nat_lt i (run_leaves run) ≡ true = lt-ltb i (run_leaves run) low in rw test refl;
+  live = λ depth. let test : nat_lt i (run_leaves run) ≡ true = lt-ltb i (run_leaves run) low in rw test refl;
 }
 
 pub leaf-behind : (all : List Run) (first : Run) (runs : List Run) (paths : List WordPath) (i : ℕ) (run : Run) (leaf : ℕ) → run_leaves first ≤ i → IsLeaf all runs paths (i - run_leaves first) run leaf →
@@ -93,6 +99,7 @@ leaf-behind all first runs paths i run leaf past is = record {
   here = omega (arith, is.here, past);
   way = way-behind first runs paths i past ∙ is.way;
   patch = λ slot old. let test : nat_lt i (run_leaves first) ≡ false = not-less i (run_leaves first) past in rw test (is.patch slot old);
+  live = λ depth. let test : nat_lt i (run_leaves first) ≡ false = not-less i (run_leaves first) past in rw test (is.live depth);
 }
 
 -- each way that is none to a word leads to a leaf

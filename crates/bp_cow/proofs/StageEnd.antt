@@ -21,7 +21,7 @@ stage_committed plan from now free can stage = record {
   kept = stage.kept;
   bits = stage.bits;
   fresh = stage.fresh;
-  words = λ p slot live low none. words p slot live low none (decide_anew plan.job from (ways plan.job) p);
+  words = λ p slot live low none content. words p slot live low none content (decide_anew plan.job from (ways plan.job) p);
   decide = decide_anew plan.job from (ways plan.job);
   pointers = anew_pointer plan from can;
 }
@@ -30,10 +30,10 @@ stage_committed plan from now free can stage = record {
     no_leaf : (p : Trail) → (IsAnew plan.job from (ways plan.job) from p → ⊥) → (j : ℕ) → j < plan.job.leaves → p ≢ end_of plan.job j
     no_leaf p still j low e = still (is_begun (record { which = j; depth = length (plan.job.way j); early = omega (arith, low); low = can.below j (omega (arith, low)); high = omega arith; same = e }))
 
-    words : (p : Trail) (slot : ℕ) → IsTreePointer plan.old plan.bound p → slot < 512 → (IsAnew plan.job from (ways plan.job) from (slot ∷ p) → ⊥) →
+    words : (p : Trail) (slot : ℕ) → IsTreePointer plan.old plan.bound p → slot < 512 → (IsAnew plan.job from (ways plan.job) from (slot ∷ p) → ⊥) → (IsTreePointer plan.old plan.bound (0 ∷ p) → ⊥) →
         IsAnew plan.job from (ways plan.job) from p ⊎ (IsAnew plan.job from (ways plan.job) from p → ⊥) → word_on now (slot ∷ p) ≡ after_commit plan.old plan.job (slot ∷ p)
-    words p slot live low none (inl copied) = stage.words p slot live copied low none
-    words p slot live low none (inr still) =
+    words p slot live low none content (inl copied) = stage.words p slot live copied low none content
+    words p slot live low none content (inr still) =
         stage.still p slot live still low none
         ∙ sym (laid-other plan.old plan.job slot p (no_leaf p still))
         ∙ ap (λ v. unwrap_or v (laid_on plan.old plan.job (slot ∷ p))) (sym (stage.early p slot live still))

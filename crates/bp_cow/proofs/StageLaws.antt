@@ -17,7 +17,7 @@ stage_start old Pointer anew value laid free skeleton exact none no_value = reco
   skeleton = skeleton;
   superblock = λ place low other. refl;
   kept = λ p live n. refl;
-  words = λ p slot live made low n. absurd (none p made);
+  words = λ p slot live made low n _. absurd (none p made);
   still = λ p slot live n low m. refl;
   bits = λ p live. refl;
   fresh = λ p live new. absurd (none p new);
@@ -48,14 +48,14 @@ module _ (old now next : Image) (Pointer : Trail → Type 0) (pointers : ArePoin
       free copy ≡ true →
       free_after copy ≡ false →
       ((b : ℕ) → b ≢ copy → free_after b ≡ free b) →
-      ((slot : ℕ) → slot < 512 → (anew (slot ∷ here) → ⊥) → slot_word next copy slot ≡ laid (slot ∷ here)) →
+      ((slot : ℕ) → slot < 512 → (anew (slot ∷ here) → ⊥) → (Pointer (0 ∷ here) → ⊥) → slot_word next copy slot ≡ laid (slot ∷ here)) →
       IsStage old next Pointer (λ p. anew p ⊎ (p ≡ here)) value laid free_after
   stage_copy here pointer copy free_after live first turns bits leads was_free not_free others slots = record {
     whole = turns.whole ∙ stage.whole;
     skeleton = skeleton-turned now next Pointer pointers here pointer turns stage.skeleton (λ l. (rw leads in_range, unnamed));
     superblock = λ place low other. turns.superblock place low other ∙ stage.superblock place low other;
     kept = λ p l none. pointer-turned now next Pointer pointers here pointer turns p l (λ e. none (inr e)) ∙ stage.kept p l (λ n. none (inl n));
-    words = λ p slot l made low none. words p slot l made low none (cases_trail p here);
+    words = λ p slot l made low none content. words p slot l made low none content (cases_trail p here);
     still = λ p slot l unmade low none.
         word-turned now next Pointer pointers here pointer turns p slot l low (λ e. unmade (inr e)) (λ e. none (inr e))
         ∙ stage.still p slot l (λ n. unmade (inl n)) low (λ n. none (inl n));
@@ -85,18 +85,18 @@ module _ (old now next : Image) (Pointer : Trail → Type 0) (pointers : ArePoin
       not_old : LeadsTo old Pointer copy → ⊥
       not_old has = clash copy was_free (stage.taken copy (inl has))
 
-      words : (p : Trail) (slot : ℕ) → Pointer p → anew p ⊎ (p ≡ here) → slot < 512 → (anew (slot ∷ p) ⊎ (slot ∷ p ≡ here) → ⊥) → (p ≡ here) ⊎ (p ≢ here) →
+      words : (p : Trail) (slot : ℕ) → Pointer p → anew p ⊎ (p ≡ here) → slot < 512 → (anew (slot ∷ p) ⊎ (slot ∷ p ≡ here) → ⊥) → (Pointer (0 ∷ p) → ⊥) → (p ≡ here) ⊎ (p ≢ here) →
           word_on next (slot ∷ p) ≡ unwrap_or (value (slot ∷ p)) (laid (slot ∷ p))
-      words p slot l made low none (inl e) =
+      words p slot l made low none content (inl e) =
           subst (λ x. word_on next (slot ∷ x) ≡ unwrap_or (value (slot ∷ x)) (laid (slot ∷ x))) (sym e)
           (slot-turned now next Pointer pointers here pointer turns slot
           ∙ ap (λ b. slot_word next b slot) leads
-          ∙ slots slot low (λ n. none (inl (subst (λ x. anew (slot ∷ x)) (sym e) n)))
+          ∙ slots slot low (λ n. none (inl (subst (λ x. anew (slot ∷ x)) (sym e) n))) (λ one. content (subst (λ x. Pointer (0 ∷ x)) (sym e) one))
           ∙ ap (λ v. unwrap_or v (laid (slot ∷ here))) (sym (stage.early here slot live first)))
-      words p slot l (inr e) low none (inr apart) = absurd (apart e)
-      words p slot l (inl made) low none (inr apart) =
+      words p slot l (inr e) low none content (inr apart) = absurd (apart e)
+      words p slot l (inl made) low none content (inr apart) =
           word-turned now next Pointer pointers here pointer turns p slot l low apart (λ e. none (inr e))
-          ∙ stage.words p slot l made low (λ n. none (inl n))
+          ∙ stage.words p slot l made low (λ n. none (inl n)) content
 
       low_bits : (p : Trail) → Pointer p → (p ≡ here) ⊎ (p ≢ here) → word_on next p % 4096 ≡ word_on old p % 4096
       low_bits p l (inl e) = ap (λ x. word_on next x % 4096) e ∙ ap (λ w. w % 4096) turns.turned ∙ bits ∙ stage.bits here live ∙ ap (λ x. word_on old x % 4096) (sym e)
@@ -166,7 +166,7 @@ module _ (old now next : Image) (Pointer : Trail → Type 0) (pointers : ArePoin
     skeleton = skeleton-turned now next Pointer pointers (slot ∷ p) given turns stage.skeleton (λ l. absurd (content l));
     superblock = λ place low other. turns.superblock place low other ∙ stage.superblock place low other;
     kept = λ q l none. same q l ∙ stage.kept q l none;
-    words = λ q s l one small none. words q s l one small none (cases_trail (s ∷ q) (slot ∷ p));
+    words = λ q s l one small none plain. words q s l one small none plain (cases_trail (s ∷ q) (slot ∷ p));
     still = λ q s l unmade small none.
         word-turned now next Pointer pointers (slot ∷ p) given turns q s l small (λ e. content (subst Pointer e l)) (λ e. unmade (subst anew (sym (tail_same e)) made))
         ∙ stage.still q s l unmade small none;
@@ -192,13 +192,13 @@ module _ (old now next : Image) (Pointer : Trail → Type 0) (pointers : ArePoin
       block_same : (q : Trail) → Pointer q → block_on next q ≡ block_on now q
       block_same q l = ap block_of (same q l)
 
-      words : (q : Trail) (s : ℕ) → Pointer q → anew q → s < 512 → (anew (s ∷ q) → ⊥) → (s ∷ q ≡ slot ∷ p) ⊎ (s ∷ q ≢ slot ∷ p) →
+      words : (q : Trail) (s : ℕ) → Pointer q → anew q → s < 512 → (anew (s ∷ q) → ⊥) → (Pointer (0 ∷ q) → ⊥) → (s ∷ q ≡ slot ∷ p) ⊎ (s ∷ q ≢ slot ∷ p) →
           word_on next (s ∷ q) ≡ unwrap_or (value_after (s ∷ q)) (laid (s ∷ q))
-      words q s l one small none (inl e) =
+      words q s l one small none plain (inl e) =
           ap (word_on next) e ∙ turns.turned ∙ ap (λ v. unwrap_or v (laid (s ∷ q))) (sym (ap value_after e ∙ here))
-      words q s l one small none (inr apart) =
+      words q s l one small none plain (inr apart) =
           word-turned now next Pointer pointers (slot ∷ p) given turns q s l small (λ e. content (subst Pointer e l)) apart
-          ∙ stage.words q s l one small none
+          ∙ stage.words q s l one small none plain
           ∙ ap (λ v. unwrap_or v (laid (s ∷ q))) (sym (values (s ∷ q) apart))
 
       taken : (b : ℕ) → LeadsTo old Pointer b ⊎ LeadsTo next Pointer b → free b ≡ false

@@ -46,14 +46,15 @@ module _ (plan : Plan) (from : ℕ) (can : CanMake plan from) where
     pub start_taken : (place : ℕ) → place / 512 ≡ copy → IsTakenWord plan.free free_after place
     start_taken place e = record { block = copy; inside = e; was = takes.was; gone = takes.gone }
 
-    pub start_made : (mid : Image) → EqualBut copy plan.old mid → ((slot : ℕ) → slot < 512 → slot_word mid copy slot ≡ patch_at plan.job 0 from slot (slot_word plan.old (block_of (word plan.old plan.place)) slot)) →
+    pub start_made : (mid : Image) → EqualBut copy plan.old mid → ((slot : ℕ) → slot < 512 → slot < plan.job.live 0 from → slot_word mid copy slot ≡ patch_at plan.job 0 from slot (slot_word plan.old (block_of (word plan.old plan.place)) slot)) →
         IsMade (record plan { top = copy }) from 0 from mid free_after
     start_made mid equal copied =
         let begun = building_start plan.old mid cover Pointer (pointers plan.old plan.bound can.forest) (value_upto plan.job 0) (laid_on plan.old plan.job) plan.free free_after copy (patch_at plan.job 0 from)
+        (plan.job.live 0 from) (λ s few any. can.live 0 from s can.some (can.below 0 can.some) few any)
         (λ s w l. lay_plain plan from 0 from can can.some (omega arith) (can.below 0 can.some) s w l)
         (λ s few. lay_laid plan from 0 from can can.some (omega arith) (can.below 0 can.some) (λ b. absurd (omega (arith, b.early))) s)
         can.some_blocks bones can.exact (λ p. refl) pointed can.placed takes equal
-        (λ slot low. copied slot low ∙ ap (λ w. patch_at plan.job 0 from slot (slot_word plan.old (block_of w) slot)) start_word) in
+        (λ slot low counted. copied slot low counted ∙ ap (λ w. patch_at plan.job 0 from slot (slot_word plan.old (block_of w) slot)) start_word) in
         let none : 0 - plan.job.leaves ≡ 0 = omega arith in
         building_same plan.old mid plan.place (pointing_to (word plan.old plan.place) copy) cover Pointer (λ q. ⊥ ⊎ (q ≡ cover)) (IsAnew plan.job from 0 from) (value_upto plan.job (0 - plan.job.leaves)) (laid_on plan.old plan.job) free_after
         (anew_start plan.job from 0) (anew_start_back plan.job from 0)

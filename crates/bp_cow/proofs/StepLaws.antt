@@ -93,9 +93,14 @@ module _ (plan : Plan) (from i depth : ℕ) (now : Image) (free : ℕ → Bool) 
           back q (inr e) = is_begun (subst (IsBegun plan.job from i) (sym e) begun)
 
       module _ (after : Image) (copy : ℕ) (free_after : ℕ → Bool) (none : IsBegun plan.job from i (front plan.job i (depth + 1)) → ⊥)
-          (turned : TurnsTo (patch_at plan.job i (depth + 1)) now after (512 * block + slot) copy) (takes : TakesNumber free free_after copy) where
+          (turned : TurnsTo (patch_at plan.job i (depth + 1)) (plan.job.live i (depth + 1)) now after (512 * block + slot) copy) (takes : TakesNumber free free_after copy) where
         first : IsAnew plan.job from i depth (slot ∷ way) → ⊥
         first n = not_anew plan.job from i depth low none (subst (IsAnew plan.job from i depth) (sym (trail_of-next (plan.job.way i) depth)) n)
+
+        counts : (s : ℕ) → s < 512 → Pointer (s ∷ slot ∷ way) ⊎ (Pointer (0 ∷ slot ∷ way) → ⊥) → s < plan.job.live i (depth + 1)
+        counts s few any =
+            can.live i (depth + 1) s here (omega (arith, more)) few
+            (subst (λ (q : Trail). IsTreePointer plan.old plan.bound (s ∷ q) ⊎ (IsTreePointer plan.old plan.bound (0 ∷ q) → ⊥)) (sym (trail_of-next (plan.job.way i) depth)) any)
 
         plain : (s w : ℕ) → Pointer (s ∷ slot ∷ way) → patch_at plan.job i (depth + 1) s w ≡ w
         plain s w l = lay_plain plan from i (depth + 1) can here (omega (arith, low)) (omega (arith, more)) s w (subst (λ (q : Trail). Pointer (s ∷ q)) (sym (trail_of-next (plan.job.way i) depth)) l)
@@ -109,7 +114,7 @@ module _ (plan : Plan) (from i depth : ℕ) (now : Image) (free : ℕ → Bool) 
         made_copy =
             building_same plan.old after plan.place _ _ Pointer (λ q. IsAnew plan.job from i depth q ⊎ (q ≡ slot ∷ way)) (IsAnew plan.job from i (depth + 1)) _ _ free_after
             (λ q n. anew_more plan.job from i depth q (to q n) low) (λ q n. back q (anew_more_back plan.job from i depth q n))
-            (building_turn plan.old now plan.place _ _ Pointer (pointers plan.old plan.bound can.forest) (IsAnew plan.job from i depth) _ _ free made way slot live anew_here slot_low after copy free_after (patch_at plan.job i (depth + 1)) pointed first plain lays (rw is at turned) takes)
+            (building_turn plan.old now plan.place _ _ Pointer (pointers plan.old plan.bound can.forest) (IsAnew plan.job from i depth) _ _ free made way slot live anew_here slot_low after copy free_after (patch_at plan.job i (depth + 1)) pointed first (plan.job.live i (depth + 1)) counts plain lays (rw is at turned) takes)
           where
             to : (q : Trail) → IsAnew plan.job from i depth q ⊎ (q ≡ slot ∷ way) → IsAnew plan.job from i depth q ⊎ (q ≡ front plan.job i (depth + 1))
             to q (inl n) = inl n
@@ -121,7 +126,7 @@ module _ (plan : Plan) (from i depth : ℕ) (now : Image) (free : ℕ → Bool) 
 
         pub copy_reached : copy ≡ reached plan i (depth + 1) after
         copy_reached =
-            sym (building_block plan.old now plan.place _ _ Pointer (pointers plan.old plan.bound can.forest) (IsAnew plan.job from i depth) _ _ free made way slot live anew_here slot_low after copy free_after (patch_at plan.job i (depth + 1)) pointed first plain lays (rw is at turned) takes)
+            sym (building_block plan.old now plan.place _ _ Pointer (pointers plan.old plan.bound can.forest) (IsAnew plan.job from i depth) _ _ free made way slot live anew_here slot_low after copy free_after (patch_at plan.job i (depth + 1)) pointed first (plan.job.live i (depth + 1)) counts plain lays (rw is at turned) takes)
             ∙ ap (block_on (seen plan after)) (sym (trail_of-next (plan.job.way i) depth))
 
         pub stored_taken : (place : ℕ) → (place / 512 ≡ copy) ⊎ (place ≡ 512 * block + slot) → IsTakenWord plan.free free_after place

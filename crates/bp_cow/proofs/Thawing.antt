@@ -128,7 +128,7 @@ module _ (old now : Image) (Pointer : Trail → Type 0) (copy : Trail → Option
     kept = λ p pointer other. unturned p other (shape p (words_now p pointer));
     bits = λ p pointer. bits p (words_now p pointer) (is_turned copy stored p) refl (copy p) refl;
     fresh = λ p pointer t. fresh p t (shape p (words_now p pointer));
-    words = λ p slot pointer low other. unturned (slot ∷ p) other (shape (slot ∷ p) (content_now slot p pointer low));
+    words = λ p slot pointer low other _. unturned (slot ∷ p) other (shape (slot ∷ p) (content_now slot p pointer low));
     decide = λ p. decide (is_turned copy stored p);
     pointers = λ p t. let has : (c : ℕ) × (copy p ≡ Some c) = has_copy p t in copies.pointer p has.0 has.1;
   }

@@ -12,13 +12,14 @@ use Rattle.bp_cow.specs.declared.touched.Run.{Run}
 use Rattle.bp_cow.specs.declared.touched.Touched.{Touched}
 use Rattle.bp_layout.specs.Thaw.{none_kept}
 
--- a run lies in the tree of a reached inode, which has that height, below the size that counts
+-- a run lies in the tree of a reached inode, which has that height, below the size that counts, and knows of all that do
 pub record IsRunIn (old : Image) (bound : ℕ → ℕ) (run : Run) : Type 0 where
   pub inode : ℕ
   pub reached : IsReached old (suc inode)
   pub root : trail_of run.root.items (length run.root.items) ≡ root_trail (height_of (word old 2)) (suc inode)
   pub height : run.height ≡ height_of (root_of old (suc inode))
   pub below : run_end run ≤ bound (suc inode)
+  pub counts : bound (suc inode) ≤ run.size
 
 -- `bound`: of each tree the greater of its size and the size that it is given. Under these sizes the reached trees
 -- are sound, no block is in two, and the free blocks are just those that none of them has. Each proper front of a

@@ -6,7 +6,7 @@ use Rattle.bp_cow.specs.Copies.{Patch}
 
 -- The ways to the touched words: the paths of the pointers to the blocks that hold them, first those to the leaves of
 -- the runs, and then those to the words. Several may lead to one block. Of each leaf what is laid over it, and of each
--- word its slot and its value.
+-- word its slot and its value. Of the block at a depth of a way how many words count.
 pub record Job : Type 0 where
   pub way : ℕ → List ℕ
   pub leaves : ℕ
@@ -14,6 +14,7 @@ pub record Job : Type 0 where
   pub patch : ℕ → Patch
   pub slot : ℕ → ℕ
   pub value : ℕ → ℕ
+  pub live : ℕ → ℕ → ℕ
 
 abbrev pub ways : Job → ℕ
 ways job = job.leaves + job.words

@@ -1,5 +1,5 @@
 -- What the making of copies is about, what it asks, and how far it has come.
-use Rattle.std.specs.Prelude.{◌≡◌, ℕ, ◌+◌, ◌*◌, ◌-◌, ◌<◌, ◌≤◌, ◌∷◌, length, slice_index, slice_set, Bool}
+use Rattle.std.specs.Prelude.{◌≡◌, ◌⊎◌, ℕ, ◌+◌, ◌*◌, ◌-◌, ◌<◌, ◌≤◌, ◌∷◌, length, slice_index, slice_set, Bool}
 use Rattle.pm_region.specs.Memory.{Memory, current_words}
 use Rattle.bp_limits.specs.Limits.{block_words}
 use Rattle.bp_free.specs.Set.{Set, has, members}
@@ -33,6 +33,10 @@ pub record IsFeasible (old : Image) (bound : ℕ → ℕ) (job : Job) (from plac
   -- the same is laid over one leaf, whichever way leads there
   pub agree : (j l : ℕ) → j < job.leaves → l < job.leaves → end_of job j ≡ end_of job l
       → (slot old_word : ℕ) → job.patch j slot old_word ≡ job.patch l slot old_word
+  -- of a block on a way the words that count are the pointers, and where it is no node all words
+  pub live : (i d slot : ℕ) → i < ways job → d ≤ length (job.way i) → slot < block_words
+      → IsTreePointer old bound (slot ∷ front job i d) ⊎ ¬ IsTreePointer old bound (0 ∷ front job i d)
+      → slot < job.live i d
   -- the cover exists
   pub placed : IsPlaced old (IsTreePointer old bound) (front job 0 from)
   pub at : place_on old (front job 0 from) ≡ place

@@ -13,9 +13,9 @@ pub record IsStage (old now : Image) (Pointer anew : Trail → Type 0) (value : 
   pub superblock : (place : ℕ) → place < block_words → place ≢ super_root → word now place ≡ word old place
   -- a pointer that was not turned
   pub kept : (p : Trail) → Pointer p → (anew p → ⊥) → word_on now p ≡ word_on old p
-  -- the other words of a copied block, and of one that was not copied
+  -- the other words of a copied block of content, whose first word is no pointer, and of one that was not copied
   pub words : (p : Trail) (slot : ℕ) → Pointer p → anew p → slot < block_words → (anew (slot ∷ p) → ⊥)
-      → word_on now (slot ∷ p) ≡ unwrap_or (value (slot ∷ p)) (laid (slot ∷ p))
+      → ¬ Pointer (0 ∷ p) → word_on now (slot ∷ p) ≡ unwrap_or (value (slot ∷ p)) (laid (slot ∷ p))
   pub still : (p : Trail) (slot : ℕ) → Pointer p → (anew p → ⊥) → slot < block_words → (anew (slot ∷ p) → ⊥)
       → word_on now (slot ∷ p) ≡ word_on old (slot ∷ p)
   pub bits : (p : Trail) → Pointer p → word_on now p % block_size ≡ word_on old p % block_size

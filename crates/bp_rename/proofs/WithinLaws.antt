@@ -55,6 +55,7 @@ module _ (image : Image) (n s j : ℕ) (name : Name) (can : CanRespell image (su
     some = omega (arith, is.is.count);
     few = omega (arith, is.is.count, few_words);
     below = omega (arith, name_end, few_words, can.names.in_size);
+    counts = omega (arith, is.is.size);
   }
 
   pub no_words : length touched.words.now ≡ 0

@@ -3,7 +3,7 @@ use Rattle.std.specs.Prelude.{◌≡◌, ℕ, ◌+◌, ◌-◌, ◌*◌, ◌/◌
 use Rattle.bp_cow.specs.declared.touched.Run.{Run}
 use Rattle.bp_cow.specs.declared.touched.Touched.{Touched}
 use Rattle.bp_layout.specs.Directory.{Name}
-use Rattle.bp_layout.specs.Inode.{root_of}
+use Rattle.bp_layout.specs.Inode.{root_of, size_of}
 use Rattle.bp_layout.specs.WordPaths.{inode_path}
 use Rattle.bp_layout.specs.Words.{Image, byte_of, height_of}
 use Rattle.bp_limits.specs.Limits.{entry_size, max_name}
@@ -23,6 +23,7 @@ respelled_length name = 8 + 8 * ((length name + 7) / 8)
 pub record IsNameRun (image : Image) (i slot : ℕ) (name : Name) (run : Run) : Type 0 where
   pub root : run.root.items ≡ inode_path (height_of (root_of image 0)) i 1
   pub height : run.height ≡ height_of (root_of image i)
+  pub size : run.size ≡ size_of image i
   pub from : run.off ≡ entry_size * slot + 8
   pub count : length run.bytes.now ≡ respelled_length name
   pub bytes_are : (at : ℕ) → at < respelled_length name → slice_index run.bytes.now at ≡ respelled_byte name at

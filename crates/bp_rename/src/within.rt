@@ -58,6 +58,7 @@ fn name_run<'a, R: Region>(region: &R, to_move: &Move<'_>, bytes: &'a [u8; MAX_N
     Run {
         root: root_path(region, to_move.from_dir),
         height: tree.height(),
+        size: tree.size,
         off: to_move.from_slot * ENTRY_SIZE + 8,
         bytes: &bytes[..8 + 8 * to_move.name.len().div_ceil(8)],
     }

@@ -36,6 +36,7 @@ fn run_across<'a, R: Region>(
     Run {
         root: root_path(region, i),
         height: height_with(tree, end),
+        size: end,
         off,
         bytes: below,
     }

@@ -69,18 +69,18 @@ overflow_cast-result g c =
 
 pub returns-then-is_new-clause-made : goal.returns-then-is_new-clause-made
 returns-then-is_new-clause-made g c =
-    made_copy (planned g.plan c.args.touched.now) c.args.from c.args.way.now.index c.args.depth (current_words (g.R.Region.memory c.args.region.now)) (has c.args.blocks.now) c.requires.1.1.1.0.can c.requires.1.1.1.0.here c.requires.1.1.1.0.low c.requires.1.1.1.0.high c.requires.1.1.1.1.1.0 c.args.block c.requires.1.1.1.1.1.1.0 c.requires.1.1.1.1.0 (current_words (g.R.Region.memory c.turn.new.region)) c.turn.result (has c.turn.new.blocks) (c.is_new.ensures.first c.if-is_new.true) (subst (λ s. TurnsTo (patch_at (job_of c.args.touched.now) c.args.way.now.index (c.args.depth + 1)) (current_words (g.R.Region.memory c.args.region.now)) (current_words (g.R.Region.memory c.turn.new.region)) (512 * c.args.block + s) c.turn.result) c.slot.ensures c.turn.ensures.words) c.turn.ensures.taken
+    made_copy (planned g.plan c.args.touched.now) c.args.from c.args.way.now.index c.args.depth (current_words (g.R.Region.memory c.args.region.now)) (has c.args.blocks.now) c.requires.1.1.1.0.can c.requires.1.1.1.0.here c.requires.1.1.1.0.low c.requires.1.1.1.0.high c.requires.1.1.1.1.1.0 c.args.block c.requires.1.1.1.1.1.1.0 c.requires.1.1.1.1.0 (current_words (g.R.Region.memory c.turn.new.region)) c.turn.result (has c.turn.new.blocks) (c.is_new.ensures.first c.if-is_new.true) (subst (λ s. TurnsTo (patch_at (job_of c.args.touched.now) c.args.way.now.index (c.args.depth + 1)) ((job_of c.args.touched.now).live c.args.way.now.index (c.args.depth + 1)) (current_words (g.R.Region.memory c.args.region.now)) (current_words (g.R.Region.memory c.turn.new.region)) (512 * c.args.block + s) c.turn.result) c.slot.ensures c.turn.ensures.words) c.turn.ensures.taken
 
 pub returns-then-is_new-clause-block : goal.returns-then-is_new-clause-block
 returns-then-is_new-clause-block g c =
-    copy_reached (planned g.plan c.args.touched.now) c.args.from c.args.way.now.index c.args.depth (current_words (g.R.Region.memory c.args.region.now)) (has c.args.blocks.now) c.requires.1.1.1.0.can c.requires.1.1.1.0.here c.requires.1.1.1.0.low c.requires.1.1.1.0.high c.requires.1.1.1.1.1.0 c.args.block c.requires.1.1.1.1.1.1.0 c.requires.1.1.1.1.0 (current_words (g.R.Region.memory c.turn.new.region)) c.turn.result (has c.turn.new.blocks) (c.is_new.ensures.first c.if-is_new.true) (subst (λ s. TurnsTo (patch_at (job_of c.args.touched.now) c.args.way.now.index (c.args.depth + 1)) (current_words (g.R.Region.memory c.args.region.now)) (current_words (g.R.Region.memory c.turn.new.region)) (512 * c.args.block + s) c.turn.result) c.slot.ensures c.turn.ensures.words) c.turn.ensures.taken
+    copy_reached (planned g.plan c.args.touched.now) c.args.from c.args.way.now.index c.args.depth (current_words (g.R.Region.memory c.args.region.now)) (has c.args.blocks.now) c.requires.1.1.1.0.can c.requires.1.1.1.0.here c.requires.1.1.1.0.low c.requires.1.1.1.0.high c.requires.1.1.1.1.1.0 c.args.block c.requires.1.1.1.1.1.1.0 c.requires.1.1.1.1.0 (current_words (g.R.Region.memory c.turn.new.region)) c.turn.result (has c.turn.new.blocks) (c.is_new.ensures.first c.if-is_new.true) (subst (λ s. TurnsTo (patch_at (job_of c.args.touched.now) c.args.way.now.index (c.args.depth + 1)) ((job_of c.args.touched.now).live c.args.way.now.index (c.args.depth + 1)) (current_words (g.R.Region.memory c.args.region.now)) (current_words (g.R.Region.memory c.turn.new.region)) (512 * c.args.block + s) c.turn.result) c.slot.ensures c.turn.ensures.words) c.turn.ensures.taken
 
 pub returns-then-is_new-clause-makes : goal.returns-then-is_new-clause-makes
 returns-then-is_new-clause-makes g c = record {
   stores =
       copies_as g.plan.free (has c.args.blocks.now) (has c.turn.new.blocks) 513 (513 * turns_at (job_of c.args.touched.now) c.args.from c.args.way.now.index (c.args.depth + 1)) (g.R.Region.memory c.args.region.now) (g.R.Region.memory c.turn.new.region) (omega (arith, turns_one (job_of c.args.touched.now) c.args.from c.args.way.now.index (c.args.depth + 1) (c.is_new.ensures.first c.if-is_new.true)))
       (copies_into g.plan.free (has c.args.blocks.now) (has c.turn.new.blocks) (λ word. (word / 512 ≡ c.turn.result) ⊎ (word ≡ 512 * c.args.block + c.slot.result)) c.turn.result 513 (g.R.Region.memory c.args.region.now) (g.R.Region.memory c.turn.new.region)
-      (λ place either. stored_taken (planned g.plan c.args.touched.now) c.args.from c.args.way.now.index c.args.depth (current_words (g.R.Region.memory c.args.region.now)) (has c.args.blocks.now) c.requires.1.1.1.0.can c.requires.1.1.1.0.here c.requires.1.1.1.0.low c.requires.1.1.1.0.high c.requires.1.1.1.1.1.0 c.args.block c.requires.1.1.1.1.1.1.0 c.requires.1.1.1.1.0 (current_words (g.R.Region.memory c.turn.new.region)) c.turn.result (has c.turn.new.blocks) (c.is_new.ensures.first c.if-is_new.true) (subst (λ s. TurnsTo (patch_at (job_of c.args.touched.now) c.args.way.now.index (c.args.depth + 1)) (current_words (g.R.Region.memory c.args.region.now)) (current_words (g.R.Region.memory c.turn.new.region)) (512 * c.args.block + s) c.turn.result) c.slot.ensures c.turn.ensures.words) c.turn.ensures.taken place (subst (λ s. (place / 512 ≡ c.turn.result) ⊎ (place ≡ 512 * c.args.block + s)) c.slot.ensures either)) c.turn.ensures.taken c.turn.ensures.stores);
+      (λ place either. stored_taken (planned g.plan c.args.touched.now) c.args.from c.args.way.now.index c.args.depth (current_words (g.R.Region.memory c.args.region.now)) (has c.args.blocks.now) c.requires.1.1.1.0.can c.requires.1.1.1.0.here c.requires.1.1.1.0.low c.requires.1.1.1.0.high c.requires.1.1.1.1.1.0 c.args.block c.requires.1.1.1.1.1.1.0 c.requires.1.1.1.1.0 (current_words (g.R.Region.memory c.turn.new.region)) c.turn.result (has c.turn.new.blocks) (c.is_new.ensures.first c.if-is_new.true) (subst (λ s. TurnsTo (patch_at (job_of c.args.touched.now) c.args.way.now.index (c.args.depth + 1)) ((job_of c.args.touched.now).live c.args.way.now.index (c.args.depth + 1)) (current_words (g.R.Region.memory c.args.region.now)) (current_words (g.R.Region.memory c.turn.new.region)) (512 * c.args.block + s) c.turn.result) c.slot.ensures c.turn.ensures.words) c.turn.ensures.taken place (subst (λ s. (place / 512 ≡ c.turn.result) ⊎ (place ≡ 512 * c.args.block + s)) c.slot.ensures either)) c.turn.ensures.taken c.turn.ensures.stores);
   count = omega (arith, c.turn.ensures.count, turns_one (job_of c.args.touched.now) c.args.from c.args.way.now.index (c.args.depth + 1) (c.is_new.ensures.first c.if-is_new.true));
   size = c.turn.ensures.size;
   base = c.turn.ensures.base;

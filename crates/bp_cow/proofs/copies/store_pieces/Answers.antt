@@ -62,11 +62,11 @@ returns-clause-fills g c =
     let old = g.R.Region.memory c.args.region.now in
     let new = g.R.Region.memory c.loop-piece.region in
     let end : 8 * c.loop-piece.piece ≡ 512 = omega (arith, c.loop-piece-test.false, c.loop-piece.auto.piece-end) in
-    filled c.args.to _ old new (subst (λ n. HoldsFront c.args.to (λ slot. get_or c.args.words.now slot 0) n old new) end c.loop-piece.invariant.front)
+    filled c.args.to _ 512 old new (subst (λ n. HoldsFront c.args.to (λ slot. get_or c.args.words.now slot 0) n old new) end c.loop-piece.invariant.front) (omega arith) (omega arith)
 
 pub returns-clause-words : goal.returns-clause-words
 returns-clause-words g c slot low =
     let old = g.R.Region.memory c.args.region.now in
     let new = g.R.Region.memory c.loop-piece.region in
     let end : 8 * c.loop-piece.piece ≡ 512 = omega (arith, c.loop-piece-test.false, c.loop-piece.auto.piece-end) in
-    stored_words c.args.to _ old new (subst (λ n. HoldsFront c.args.to (λ slot. get_or c.args.words.now slot 0) n old new) end c.loop-piece.invariant.front) c.requires.not_null slot low
+    stored_words c.args.to _ 512 old new (subst (λ n. HoldsFront c.args.to (λ slot. get_or c.args.words.now slot 0) n old new) end c.loop-piece.invariant.front) c.requires.not_null slot low

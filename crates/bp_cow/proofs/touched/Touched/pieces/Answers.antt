@@ -1,0 +1,38 @@
+use Rattle.std.proofs.Common.{◌≡◌, ℕ, ◌+◌, ◌-◌, ◌/◌, ◌<◌, List, length, ◌∙◌, ap, subst, arith}
+use Rattle.std.specs.Prelude.{IfSome, Option, Some}
+use Rattle.bp_cow.specs.declared.touched.Touched.{Touched}
+use Rattle.bp_cow.specs.declared.ways.Leaf.{Leaf}
+use Rattle.bp_cow.specs.declared.ways.Way.{Way}
+use Rattle.bp_cow.specs.Leaves.{IsLeaf}
+use Rattle.bp_cow.specs.Touched.{node_live, word_paths}
+use Rattle.bp_cow.specs.Ways.{IsWay}
+use Rattle.bp_cow.proofs.LiveLaws.{live-node}
+use Rattle.bp_cow.proofs.RunLaws.{length-run_way}
+use Rattle.bp_cow.proofs.RunsLaws.{way-short}
+use Rattle.bp_cow.proofs.touched.Touched.pieces.Goals as goal
+
+-- the length of a way to a leaf
+way_long : (touched : Touched) (way : Way) (leaf : Leaf) → IsWay touched way → IsLeaf touched.runs.now touched.runs.now (word_paths touched) way.index leaf.run.now leaf.index → way.len ≡ length leaf.run.now.root.items + leaf.run.now.height
+way_long touched way leaf is at = is.len ∙ ap (λ (p : List ℕ). length p) at.way ∙ length-run_way leaf.run.now leaf.index
+
+leaf_of : (touched : Touched) (way : Way) (leaf : Leaf) → IsWay touched way → way.leaf ≡ Some leaf → IsLeaf touched.runs.now touched.runs.now (word_paths touched) way.index leaf.run.now leaf.index
+leaf_of touched way leaf is e = subst (λ (o : Option Leaf). IfSome o (λ one. IsLeaf touched.runs.now touched.runs.now (word_paths touched) way.index one.run.now one.index)) e is.leaf
+
+pub overflow_cast-end : goal.overflow_cast-end
+overflow_cast-end c = omega (arith, c.requires.way.len, way-short c.args.self.now c.requires.touched c.args.way.now.index c.requires.way.here)
+
+pub node_pieces-requires-clause-level : goal.node_pieces-requires-clause-level
+node_pieces-requires-clause-level c =
+    let at = leaf_of c.args.self.now c.args.way.now c.in-Some.leaf c.requires.way c.in-Some.is in
+    let low = (c.requires.touched.runs c.in-Some.leaf.run.now at.has).low in
+    omega (arith, low, way_long c.args.self.now c.args.way.now c.in-Some.leaf c.requires.way at, c.len.ensures.value, c.if-len-depth.true)
+
+pub returns-in-Some-clause-live : goal.returns-in-Some-clause-live
+returns-in-Some-clause-live c slot small counted =
+    let run = c.in-Some.leaf.run.now in
+    let at = leaf_of c.args.self.now c.args.way.now c.in-Some.leaf c.requires.way c.in-Some.is in
+    let long = way_long c.args.self.now c.args.way.now c.in-Some.leaf c.requires.way at in
+    let up : length run.root.items + run.height - c.args.depth ≡ c.args.way.now.len - c.args.depth = omega (arith, long) in
+    let is = live-node run c.in-Some.leaf.index c.args.depth (omega (arith, c.len.ensures.value, c.if-len-depth.true)) (omega (arith, long, c.if-depth-end.true)) in
+    c.node_pieces.ensures.live slot small
+    (subst (λ l. slot < node_live run.size l (run.off / 4096 + c.in-Some.leaf.index)) up (subst (λ n. slot < n) (at.live c.args.depth ∙ is) counted))

@@ -22,14 +22,14 @@ not_file image (suc i) kind = omega arith
 
 -- the work with other directories to do
 abbrev pub to_do : Scan → Set → Scan
-to_do work todo = record { blocks = work.blocks; inodes = work.inodes; todo = todo; counts = work.counts; entries = work.entries }
+to_do work todo = record { blocks = work.blocks; inodes = work.inodes; todo = todo; counts = work.counts; entries = work.entries; numbers = work.numbers }
 
 -- a directory that was to do is at hand
 taken_up : (image : Image) (work : Scan) (current : ℕ) → current < length work.todo → has work.todo current ≡ true → IsReading image work 0 0 → IsAtHand image (to_do work (without work.todo current)) current 0
 taken_up image work current low there reading = record {
   reading = record {
     ready = reading.ready;
-    room = record { blocks = reading.room.blocks; inodes = reading.room.inodes; todo = length_without work.todo current ∙ reading.room.todo; counts = reading.room.counts; entries = reading.room.entries };
+    room = record { blocks = reading.room.blocks; inodes = reading.room.inodes; todo = length_without work.todo current ∙ reading.room.todo; counts = reading.room.counts; entries = reading.room.entries; numbers = reading.room.numbers };
     range = reading.range;
     root_kind = reading.root_kind;
     midway = record {

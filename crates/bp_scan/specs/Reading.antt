@@ -1,11 +1,11 @@
 -- What holds while the trees of an image are read.
-use Rattle.std.specs.Prelude.{length, replicate, true, false, ◌≡◌, ◌⊎◌, ℕ, ◌+◌, ◌*◌, ◌%◌, ◌<◌, ◌≤◌}
+use Rattle.std.specs.Prelude.{length, replicate, true, false, ◌≡◌, ◌⊎◌, ℕ, ◌+◌, ◌*◌, ◌/◌, ◌%◌, ◌<◌, ◌≤◌, vec_len}
 use Rattle.bp_free.specs.Set.{Set, has, members, empty}
-use Rattle.bp_limits.specs.Limits.{block_size, block_inodes, root_inumber}
+use Rattle.bp_limits.specs.Limits.{block_size, block_inodes, entry_size, root_inumber}
 use Rattle.bp_layout.specs.Words.{Image, block_count}
 use Rattle.bp_layout.specs.Inode.{IsDirectory, inode_count, root_of, size_of}
 use Rattle.bp_layout.specs.Formatted.{IsFormatted}
-use Rattle.bp_spelling.specs.Names.{AreNames}
+use Rattle.bp_spelling.specs.Names.{AreNames, AreNumbers}
 use Rattle.bp_scan.specs.Scanned.{IsScanned}
 use Rattle.bp_scan.specs.Progress.{IsDone, IsEntered, IsMidway}
 use Rattle.bp_scan.specs.Named.{CountsAmong}
@@ -47,12 +47,14 @@ pub record IsAtHand (image : Image) (work : Scan) (current slot : ℕ) : Type 0 
   pub kind : IsDirectory image current
   pub out : has work.todo current ≡ false
 
--- the same of one whose names are right
+-- the same of one whose names are right, and the numbers of the inodes that its entries name are written down
 pub record IsInside (image : Image) (work : Scan) (directory : Directory) (slot : ℕ) : Type 0 where
   pub at : IsAtHand image work directory.inode slot
   pub root : root_of image directory.inode ≡ directory.tree.root
   pub size : size_of image directory.inode ≡ directory.tree.size
   pub names : AreNames image directory.tree.root directory.tree.size
+  pub numbers : AreNumbers image directory.tree.root (directory.tree.size / entry_size) work.numbers.items
+  pub few : directory.tree.size / entry_size ≤ vec_len work.numbers
 
 -- how many steps are left at most: each takes an inode, which may be a directory, or a directory
 abbrev pub steps : Scan → ℕ

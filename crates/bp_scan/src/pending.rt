@@ -38,6 +38,7 @@ impl Pending {
             todo: Inodes::new(alloc, inodes)?,
             counts: Counts::new(alloc, 0)?,
             entries: Vec::with_capacity(alloc, 3 * (inodes as usize / 4) + SPARE)?,
+            numbers: Vec::with_capacity(alloc, inodes as usize / 4)?,
         };
         Ok(Pending { work, inodes })
     }

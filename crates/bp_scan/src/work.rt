@@ -23,6 +23,8 @@ pub(crate) struct Scan {
     pub counts: Counts,
     /// Memory for the entries of the directory at hand.
     pub entries: Vec<Spelled>,
+    /// The numbers of the inodes that the entries of the directory at hand name, slot by slot.
+    pub numbers: Vec<u32>,
 }
 
 impl Scan {
@@ -33,6 +35,7 @@ impl Scan {
         ensures todo { self.new.todo ≡ empty (length self.old.todo) }
         ensures counts { self.new.counts ≡ replicate (length self.old.counts) 0 }
         ensures entries { self.new.entries ≡ self.old.entries }
+        ensures numbers { self.new.numbers ≡ self.old.numbers }
     {
         self.blocks.clear();
         self.inodes.clear();
@@ -52,6 +55,21 @@ pub(crate) fn make_room(entries: &mut Vec<Spelled>, names: usize)
     let wanted = wanted.min(entries.capacity());
     if entries.len() < wanted {
         match entries.resize(wanted, Spelled::default()) {
+            Ok(()) => {}
+            Err(_) => unreachable!(),
+        }
+    }
+}
+
+/// Makes memory for the numbers of so many entries out of what is reserved. Here too memory that no directory needs is never
+/// written.
+pub(crate) fn make_numbers(numbers: &mut Vec<u32>, count: usize)
+    requires { count ≤ vec_capacity numbers.old }
+    ensures room { count ≤ vec_len numbers.new }
+    ensures capacity { vec_capacity numbers.old ≤ vec_capacity numbers.new }
+{
+    if numbers.len() < count {
+        match numbers.resize(count, 0) {
             Ok(()) => {}
             Err(_) => unreachable!(),
         }

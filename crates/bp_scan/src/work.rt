@@ -1,8 +1,10 @@
 //! What a scan works with.
 
-ghost use Rattle.std.specs.Prelude.{◌≡◌, ◌≤◌, length, replicate, vec_capacity, vec_len};
-ghost use Rattle.bp_free.specs.Set.{empty};
+ghost use Rattle.std.specs.Prelude.{◌≡◌, ◌+◌, ◌<◌, ◌≤◌, length, replicate, vec_capacity, vec_len};
+ghost use Rattle.bp_free.specs.Set.{empty, members};
+ghost use Rattle.bp_scan.specs.Counted.{no_totals};
 
+use crate::totals::Totals;
 use bp_free::{Blocks, Counts, Inodes};
 use bp_spelling::Spelled;
 
@@ -25,10 +27,12 @@ pub(crate) struct Scan {
     pub entries: Vec<Spelled>,
     /// The numbers of the inodes that the entries of the directory at hand name, slot by slot.
     pub numbers: Vec<u32>,
+    /// What the inodes that were entered hold in all. Their live blocks are not counted.
+    pub totals: Totals,
 }
 
 impl Scan {
-    /// Empties the sets, and sets the counts to 0.
+    /// Empties the sets, and sets the counts and the totals to 0.
     pub fn clear(&mut self)
         ensures blocks { self.new.blocks ≡ empty (length self.old.blocks) }
         ensures inodes { self.new.inodes ≡ empty (length self.old.inodes) }
@@ -36,11 +40,27 @@ impl Scan {
         ensures counts { self.new.counts ≡ replicate (length self.old.counts) 0 }
         ensures entries { self.new.entries ≡ self.old.entries }
         ensures numbers { self.new.numbers ≡ self.old.numbers }
+        ensures totals { self.new.totals ≡ no_totals }
     {
         self.blocks.clear();
         self.inodes.clear();
         self.todo.clear();
         self.counts.clear();
+        self.totals = Totals::none();
+    }
+
+    /// What the inodes that were entered hold in all, and how many blocks left the set of all but the first.
+    pub fn all_totals(&self) -> Totals
+        requires { length (members self.now.blocks) < length self.now.blocks }
+        ensures files { result.files ≡ self.now.totals.files }
+        ensures dirs { result.dirs ≡ self.now.totals.dirs }
+        ensures bytes { result.bytes ≡ self.now.totals.bytes }
+        ensures live { result.live + length (members self.now.blocks) + 1 ≡ length self.now.blocks }
+    {
+        Totals {
+            live: self.blocks.room() - 1 - self.blocks.count(),
+            ..self.totals
+        }
     }
 }
 

@@ -3,7 +3,7 @@ use Rattle.pm_region.specs.Memory.{current_words}
 use Rattle.bp_walk.proofs.Pointers.{on_ok_then}
 use Rattle.bp_scan.proofs.InodeFaults.{err_then}
 use Rattle.bp_scan.proofs.Inside.{inodes_sound, inodes_full}
-use Rattle.bp_scan.proofs.EntryLaws.{in_room, fails_in_inode, now_inside, now_less}
+use Rattle.bp_scan.proofs.EntryLaws.{in_room, fails_in_inode, now_inside, now_less, totals_few}
 use Rattle.bp_scan.proofs.directories.read_named.Goals as goal
 
 pub is_free-requires : goal.is_free-requires
@@ -22,6 +22,9 @@ enter-requires-clause-sound g c =
 pub enter-requires-clause-full : goal.enter-requires-clause-full
 enter-requires-clause-full g c =
     inodes_full (current_words (g.R.Region.memory c.args.region.now)) c.args.work.now c.args.directory.inode c.args.slot.number c.requires.inside.at.reading
+
+pub enter-requires-clause-few : goal.enter-requires-clause-few
+enter-requires-clause-few g c = totals_few (current_words (g.R.Region.memory c.args.region.now)) c.args.work.now c.args.directory c.args.slot.number c.requires.inside
 
 pub returns-clause-inside : goal.returns-clause-inside
 returns-clause-inside g c =

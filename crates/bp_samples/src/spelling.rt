@@ -35,7 +35,8 @@ fn checked(
 ) -> Result<Result<(), NameFault>, AllocError> {
     let region = sample(alloc, first, second)?;
     let mut entries = [Spelled::default(); 160];
-    Ok(check_names(&region, TREE, &mut entries))
+    let mut numbers = [0; 2];
+    Ok(check_names(&region, TREE, &mut entries, &mut numbers))
 }
 
 /// where there is no memory for a table
@@ -46,7 +47,8 @@ fn checked_by_order(
 ) -> Result<Result<(), NameFault>, AllocError> {
     let region = sample(alloc, first, second)?;
     let mut entries = [Spelled::default(); 2];
-    Ok(check_names(&region, TREE, &mut entries))
+    let mut numbers = [0; 2];
+    Ok(check_names(&region, TREE, &mut entries, &mut numbers))
 }
 
 /// "ab" and "ac", whatever stands in their dead bytes; "..." is a name

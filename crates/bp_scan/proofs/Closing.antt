@@ -1,6 +1,5 @@
 -- No directory is left to be read.
-use Rattle.std.proofs.Common.{◌≡◌, ℕ, ◌<◌, false, Result, Ok, Err}
-use Rattle.std.specs.Result.{OnOk}
+use Rattle.std.proofs.Common.{◌≡◌, ℕ, ◌<◌, false}
 use Rattle.bp_free.specs.Set.{has}
 use Rattle.bp_layout.specs.Words.{Image}
 use Rattle.bp_layout.specs.Inode.{inode_count}
@@ -13,11 +12,6 @@ use Rattle.bp_scan.specs.Reading.{IsReading}
 use Rattle.bp_scan.specs.declared.work.Scan.{Scan}
 use Rattle.bp_scan.proofs.Ending.{end_well_formed, end_blocks, end_inodes, end_counts}
 use Rattle.bp_layout.specs.Thaw.{none_kept}
-
--- what follows from two clauses of an answer
-pub on_ok_both : {T E : Type 0} {A B C : Type 0} (r : Result T E) → (A → B → C) → OnOk r A → OnOk r B → OnOk r C
-on_ok_both (Ok v) f a b = f a b
-on_ok_both (Err e) f a b = a
 
 module _ (image : Image) (work : Scan) (reading : IsReading image work 0 0) (none : (i : ℕ) → has work.todo i ≡ false) where
   pub all_well_formed : IsWellFormed image

@@ -1,45 +1,29 @@
 -- Inodes are counted one after another, and the count of all is the totals.
-use Rattle.std.proofs.Common.{◌≡◌, ℕ, suc, ◌+◌, ◌-◌, ◌^◌, ◌<◌, ◌≤◌, [], ◌∷◌, ◌++◌, Bool, true, false, not, cond, length, refl, sym, ◌∙◌, ap, subst, arith, ◌⊎◌, inl, inr}
+use Rattle.std.proofs.Common.{◌≡◌, ◌≢◌, ℕ, suc, ◌+◌, ◌-◌, ◌^◌, ◌<◌, ◌≤◌, List, [], ◌∷◌, ◌++◌, Bool, true, false, not, cond, length, refl, sym, ◌∙◌, ap, ap₂, subst, arith, ◌⊎◌, inl, inr}
 use Rattle.std.specs.Prelude.{◌==◌, if◌then◌else◌}
 use Rattle.std.specs.List.{filter, range_with_len, sum_by, Contains}
 use Rattle.std.specs.List.Sorted.{IsStrictlyIncreasing}
 use Rattle.std.proofs.lemmas.Bool.{not-true, not_from_false, not_from_true}
-use Rattle.std.proofs.lemmas.List.{append-nil}
 use Rattle.std.proofs.lemmas.List.Elements.{filter-append, filter_passes, All-contains, All-contains_itself, All-filter, Contains-append_right}
 use Rattle.std.proofs.lemmas.List.Kept.{IsStrictlyIncreasing-filter}
-use Rattle.std.proofs.lemmas.List.Sums.{sum_by_push}
+use Rattle.std.proofs.lemmas.List.Filters.{length-filter_both}
+use Rattle.std.proofs.lemmas.List.Sums.{sum_by-append, sum_by-cons}
 use Rattle.std.proofs.lemmas.List.FromFn.{length-range_with_len, get_or-range_with_len}
-use Rattle.bp_free.specs.Set.{Set, has, members}
-use Rattle.bp_free.proofs.Members.{range_split, filter_same, count_less}
+use Rattle.bp_free.specs.Set.{Set, has, members, without}
+use Rattle.bp_free.proofs.Members.{range_split, filter_same, filter_none, count_less}
 use Rattle.bp_layout.specs.Words.{Image, block_count}
 use Rattle.bp_layout.specs.Free.{AreFreeBlocks, AreFreeInodes}
 use Rattle.bp_layout.specs.Inode.{kind_of, size_of, inode_count}
 use Rattle.bp_layout.specs.Reached.{IsReached}
 use Rattle.bp_layout.specs.WellFormed.{IsWellFormed}
 use Rattle.bp_layout.proofs.Reached.{reached-in_file}
-use Rattle.bp_walk.proofs.TakenLaws.{clash, known}
-use Rattle.bp_scan.specs.Counted.{HasCounted, used_below}
+use Rattle.bp_walk.proofs.TakenLaws.{clash, known, has_other, has_without}
+use Rattle.bp_scan.specs.Counted.{CountsOne, HasCounted, IsCountable, no_totals, used_below}
 use Rattle.bp_scan.specs.Totals.{AreReached, HasLive, HasTotals, of_kind, file_bytes}
 use Rattle.bp_scan.specs.declared.totals.Totals.{Totals}
 use Rattle.bp_layout.specs.Thaw.{none_kept}
 
 -- ---- one inode more
-
-used_more : (free : Set) (i : ℕ) → 1 ≤ i → used_below free (i + 1) ≡ used_below free i ++ filter (λ k. not (has free k)) (i ∷ [])
-used_more free i some =
-    let more : i + 1 - 1 ≡ i - 1 + 1 = omega (arith, some) in
-    let here : 1 + (i - 1) ≡ i = omega (arith, some) in
-    let parts : range_with_len 1 (i - 1 + 1) ≡ range_with_len 1 (i - 1) ++ range_with_len (1 + (i - 1)) 1 = range_split 1 (i - 1) 1 in
-    ap (λ n. filter (λ k. not (has free k)) (range_with_len 1 n)) more
-    ∙ ap (filter (λ k. not (has free k))) (parts ∙ ap (λ a. range_with_len 1 (i - 1) ++ range_with_len a 1) here)
-    ∙ filter-append (λ k. not (has free k)) (range_with_len 1 (i - 1)) (i ∷ [])
-
-used_free : (free : Set) (i : ℕ) → 1 ≤ i → has free i ≡ true → used_below free (i + 1) ≡ used_below free i
-used_free free i some is =
-    used_more free i some ∙ ap (λ b. used_below free i ++ cond b (i ∷ []) []) (not_from_true (has free i) is) ∙ append-nil (used_below free i)
-
-used_taken : (free : Set) (i : ℕ) → 1 ≤ i → has free i ≡ false → used_below free (i + 1) ≡ used_below free i ++ i ∷ []
-used_taken free i some is = used_more free i some ∙ ap (λ b. used_below free i ++ cond b (i ∷ []) []) (not_from_false (has free i) is)
 
 of_kind-few : (image : Image) (kind i : ℕ) → of_kind image kind i ≤ 1
 of_kind-few image kind i = go (kind_of image i == kind)
@@ -48,41 +32,99 @@ of_kind-few image kind i = go (kind_of image i == kind)
     go true = omega arith
     go false = omega arith
 
-pub count_free : (image : Image) (free : Set) (i : ℕ) (totals : Totals) → 1 ≤ i → has free i ≡ true → HasCounted image free i totals → HasCounted image free (i + 1) totals
-count_free image free i totals some is counted =
-    let same : used_below free i ≡ used_below free (i + 1) = sym (used_free free i some is) in
+-- the inode that leaves the set is one more of those that are used
+module _ (free : Set) (i to : ℕ) (some : 1 ≤ i) (low : i < to) (room : i < length free) (is : has free i ≡ true) where
+  abbrev before : ℕ
+  before = i - 1
+
+  abbrev behind : ℕ
+  behind = to - 1 - i
+
+  abbrev used : Set → ℕ → Bool
+  used set k = not (has set k)
+
+  parts : range_with_len 1 (to - 1) ≡ range_with_len 1 before ++ i ∷ range_with_len (i + 1) behind
+  parts =
+      let whole : to - 1 ≡ before + suc behind = omega (arith, some, low) in
+      let place : 1 + before ≡ i = omega (arith, some) in
+      ap (range_with_len 1) whole ∙ range_split 1 before (suc behind) ∙ ap (λ b. range_with_len 1 before ++ range_with_len b (suc behind)) place
+
+  kept : (p : ℕ → Bool) → filter p (range_with_len 1 (to - 1)) ≡ filter p (range_with_len 1 before) ++ filter p (i ∷ range_with_len (i + 1) behind)
+  kept p = ap (filter p) parts ∙ filter-append p (range_with_len 1 before) (i ∷ range_with_len (i + 1) behind)
+
+  abbrev lower : List ℕ
+  lower = filter (used free) (range_with_len 1 before)
+
+  abbrev higher : List ℕ
+  higher = filter (used free) (range_with_len (i + 1) behind)
+
+  old_parts : used_below free to ≡ lower ++ higher
+  old_parts = kept (used free) ∙ ap (λ b. lower ++ cond b (i ∷ higher) higher) (not_from_true (has free i) is)
+
+  same_else : (k : ℕ) → k ≢ i → used (without free i) k ≡ used free k
+  same_else k other = ap not (has_other free i k other)
+
+  new_parts : used_below (without free i) to ≡ lower ++ i ∷ higher
+  new_parts =
+      let first : filter (used (without free i)) (range_with_len 1 before) ≡ lower = filter_same _ _ 1 before (λ k from high. same_else k (λ same. omega (arith, same, high, some))) in
+      let last : filter (used (without free i)) (range_with_len (i + 1) behind) ≡ higher = filter_same _ _ (i + 1) behind (λ k from high. same_else k (λ same. omega (arith, same, from))) in
+      let head : used (without free i) i ≡ true = not_from_false (has (without free i) i) (has_without free i room) in
+      kept (used (without free i))
+      ∙ ap₂ (λ xs ys. xs ++ cond (used (without free i) i) (i ∷ ys) ys) first last
+      ∙ ap (λ b. lower ++ cond b (i ∷ higher) higher) head
+
+  sum_more : (f : ℕ → ℕ) → sum_by f (used_below (without free i) to) ≡ sum_by f (used_below free to) + f i
+  sum_more f =
+      let new : sum_by f (used_below (without free i) to) ≡ sum_by f lower + (f i + sum_by f higher) =
+      ap (sum_by f) new_parts ∙ sum_by-append f lower (i ∷ higher) ∙ ap (λ n. sum_by f lower + n) (sum_by-cons f i higher) in
+      let old : sum_by f (used_below free to) ≡ sum_by f lower + sum_by f higher = ap (sum_by f) old_parts ∙ sum_by-append f lower higher in
+      omega (arith, new, old)
+
+pub one_counted : (image : Image) (free : Set) (i to : ℕ) (old new : Totals) → 1 ≤ i → i < to → i < length free → has free i ≡ true → HasCounted image free to old →
+    CountsOne (kind_of image i) (size_of image i) old new → HasCounted image (without free i) to new
+one_counted image free i to old new some low room is counted one = record {
+  files = one.files ∙ ap (λ n. n + of_kind image 1 i) counted.files ∙ sym (sum_more free i to some low room is (of_kind image 1));
+  dirs = one.dirs ∙ ap (λ n. n + of_kind image 2 i) counted.dirs ∙ sym (sum_more free i to some low room is (of_kind image 2));
+  bytes = one.bytes ∙ ap (λ n. n + file_bytes image i) counted.bytes ∙ sym (sum_more free i to some low room is (file_bytes image));
+  few_bytes = omega (arith, one.files, one.bytes, one.fits, counted.few_bytes);
+}
+
+-- where inode 1 alone was entered it alone is counted
+pub first_counted : (image : Image) (free : Set) (to : ℕ) (old new : Totals) → 2 ≤ to → ((t : ℕ) → 2 ≤ t → t < to → has free t ≡ true) → has free 1 ≡ false → old ≡ no_totals →
+    CountsOne (kind_of image 1) (size_of image 1) old new → HasCounted image free to new
+first_counted image free to old new low rest out none one = record {
+  files = omega (arith, one.files, ap (λ (t : Totals). t.files) none, alone (of_kind image 1));
+  dirs = omega (arith, one.dirs, ap (λ (t : Totals). t.dirs) none, alone (of_kind image 2));
+  bytes = omega (arith, one.bytes, ap (λ (t : Totals). t.bytes) none, alone (file_bytes image));
+  few_bytes = omega (arith, one.files, one.bytes, one.fits, ap (λ (t : Totals). t.bytes) none);
+}
+  where
+    root : used_below free to ≡ 1 ∷ []
+    root =
+        let whole : to - 1 ≡ suc (to - 2) = omega (arith, low) in
+        let empty : filter (λ k. not (has free k)) (range_with_len 2 (to - 2)) ≡ [] =
+        filter_none _ 2 (to - 2) (λ k from high. not_from_true (has free k) (rest k from (omega (arith, high, low)))) in
+        ap (λ n. filter (λ k. not (has free k)) (range_with_len 1 n)) whole
+        ∙ ap (λ xs. cond (not (has free 1)) (1 ∷ xs) xs) empty
+        ∙ ap (λ b. cond b (1 ∷ []) []) (not_from_false (has free 1) out)
+
+    alone : (f : ℕ → ℕ) → sum_by f (used_below free to) ≡ f 1
+    alone f = let one : 0 + f 1 ≡ f 1 = omega arith in ap (sum_by f) root ∙ one
+
+-- each inode counts once at most
+sum_few : (image : Image) (kind : ℕ) (xs : List ℕ) → sum_by (of_kind image kind) xs ≤ length xs
+sum_few image kind [] = omega arith
+sum_few image kind (x ∷ xs) = omega (arith, sum_by-cons (of_kind image kind) x xs, of_kind-few image kind x, sum_few image kind xs)
+
+pub countable : (image : Image) (free : Set) (to : ℕ) (totals : Totals) → to < 2 ^ 32 → HasCounted image free to totals → IsCountable totals
+countable image free to totals low counted =
+    let all = length-filter_both (λ k. not (has free k)) (λ k. not (not (has free k))) (λ k. refl) (range_with_len 1 (to - 1)) in
+    let long = length-range_with_len 1 (to - 1) in
     record {
-      files = counted.files ∙ ap (sum_by (of_kind image 1)) same;
-      dirs = counted.dirs ∙ ap (sum_by (of_kind image 2)) same;
-      bytes = counted.bytes ∙ ap (sum_by (file_bytes image)) same;
-      few_files = omega (arith, counted.few_files);
-      few_dirs = omega (arith, counted.few_dirs);
-      few_bytes = omega (arith, counted.few_bytes);
+      few_files = omega (arith, counted.files, sum_few image 1 (used_below free to), all, long, low);
+      few_dirs = omega (arith, counted.dirs, sum_few image 2 (used_below free to), all, long, low);
+      few_bytes = counted.few_bytes;
     }
-
-pub count_used : (image : Image) (free : Set) (i : ℕ) (old new : Totals) → 1 ≤ i → has free i ≡ false → HasCounted image free i old →
-    new.files ≡ old.files + of_kind image 1 i → new.dirs ≡ old.dirs + of_kind image 2 i → new.bytes ≡ old.bytes + file_bytes image i → file_bytes image i < 2 ^ 64 →
-    HasCounted image free (i + 1) new
-count_used image free i old new some is counted files dirs bytes fits =
-    let same : used_below free i ++ i ∷ [] ≡ used_below free (i + 1) = sym (used_taken free i some is) in
-    let one_file : of_kind image 1 i ≤ 1 = of_kind-few image 1 i in
-    let one_dir : of_kind image 2 i ≤ 1 = of_kind-few image 2 i in
-    record {
-      files = files ∙ ap (λ n. n + of_kind image 1 i) counted.files ∙ sym (sum_by_push (of_kind image 1) (used_below free i) i) ∙ ap (sum_by (of_kind image 1)) same;
-      dirs = dirs ∙ ap (λ n. n + of_kind image 2 i) counted.dirs ∙ sym (sum_by_push (of_kind image 2) (used_below free i) i) ∙ ap (sum_by (of_kind image 2)) same;
-      bytes = bytes ∙ ap (λ n. n + file_bytes image i) counted.bytes ∙ sym (sum_by_push (file_bytes image) (used_below free i) i) ∙ ap (sum_by (file_bytes image)) same;
-      few_files = omega (arith, files, one_file, counted.few_files);
-      few_dirs = omega (arith, dirs, one_dir, counted.few_dirs);
-      few_bytes = omega (arith, bytes, fits, counted.few_bytes);
-    }
-
-pub file_counts : (image : Image) (i : ℕ) → kind_of image i ≡ 1 → (of_kind image 1 i ≡ 1) × (of_kind image 2 i ≡ 0) × (file_bytes image i ≡ size_of image i)
-file_counts image i is =
-    (ap (λ k. if k == 1 then 1 else 0) is, ap (λ k. if k == 2 then 1 else 0) is, ap (λ k. if k == 1 then size_of image i else 0) is)
-
-pub dir_counts : (image : Image) (i : ℕ) → kind_of image i ≡ 2 → (of_kind image 1 i ≡ 0) × (of_kind image 2 i ≡ 1) × (file_bytes image i ≡ 0)
-dir_counts image i is =
-    (ap (λ k. if k == 1 then 1 else 0) is, ap (λ k. if k == 2 then 1 else 0) is, ap (λ k. if k == 1 then size_of image i else 0) is)
 
 -- ---- all inodes
 
@@ -168,14 +210,14 @@ has_live image free live are room sum count other =
     ap length (filter_same (has free) other.set 0 (block_count image) (λ b _ _. same_blocks image (has free) other.set are other.are b)) in
     omega (arith, sum, here, same, other.number)
 
-pub has_totals : (image : Image) (blocks inodes : Set) (totals : Totals) → IsWellFormed image → AreFreeBlocks image none_kept (has blocks) → AreFreeInodes image (has inodes) →
-    ((i : ℕ) → 1 ≤ i → i < inode_count image → has inodes i ≡ false → IsReached image i) → length blocks ≡ block_count image → totals.live + length (members blocks) + 1 ≡ block_count image →
-    HasCounted image inodes (inode_count image) totals → HasTotals image totals
-has_totals image blocks inodes totals wf free_blocks free_inodes reached room live counted = record {
+pub has_totals : (image : Image) (blocks inodes : Set) (seen totals : Totals) → IsWellFormed image → AreFreeBlocks image none_kept (has blocks) → AreFreeInodes image (has inodes) →
+    ((i : ℕ) → i < inode_count image → has inodes i ≡ false → IsReached image i) → length blocks ≡ block_count image → totals.live + length (members blocks) + 1 ≡ block_count image →
+    HasCounted image inodes (inode_count image) seen → totals.files ≡ seen.files → totals.dirs ≡ seen.dirs → totals.bytes ≡ seen.bytes → HasTotals image totals
+has_totals image blocks inodes seen totals wf free_blocks free_inodes reached room live counted files dirs bytes = record {
   inodes = used_below inodes (inode_count image);
-  are = are_reached image inodes wf free_inodes reached;
-  files = counted.files;
-  dirs = counted.dirs;
-  bytes = counted.bytes;
+  are = are_reached image inodes wf free_inodes (λ i some low gone. reached i low gone);
+  files = files ∙ counted.files;
+  dirs = dirs ∙ counted.dirs;
+  bytes = bytes ∙ counted.bytes;
   live = has_live image blocks totals.live free_blocks room live;
 }

@@ -22,14 +22,14 @@ not_file image (suc i) kind = omega arith
 
 -- the work with other directories to do
 abbrev pub to_do : Scan → Set → Scan
-to_do work todo = record { blocks = work.blocks; inodes = work.inodes; todo = todo; counts = work.counts; entries = work.entries }
+to_do work todo = record { blocks = work.blocks; inodes = work.inodes; todo = todo; counts = work.counts; entries = work.entries; numbers = work.numbers; totals = work.totals }
 
 -- a directory that was to do is at hand
 taken_up : (image : Image) (work : Scan) (current : ℕ) → current < length work.todo → has work.todo current ≡ true → IsReading image work 0 0 → IsAtHand image (to_do work (without work.todo current)) current 0
 taken_up image work current low there reading = record {
   reading = record {
     ready = reading.ready;
-    room = record { blocks = reading.room.blocks; inodes = reading.room.inodes; todo = length_without work.todo current ∙ reading.room.todo; counts = reading.room.counts; entries = reading.room.entries };
+    room = record { blocks = reading.room.blocks; inodes = reading.room.inodes; todo = length_without work.todo current ∙ reading.room.todo; counts = reading.room.counts; entries = reading.room.entries; numbers = reading.room.numbers };
     range = reading.range;
     root_kind = reading.root_kind;
     midway = record {
@@ -38,6 +38,7 @@ taken_up image work current low there reading = record {
       under_way = begin image work.inodes work.todo current low there reading.midway.all work.blocks reading.midway.under_way;
     };
     counts = begin_counts image work.inodes work.todo current low there work.counts reading.counts;
+    counted = reading.counted;
   };
   entered = (reading.midway.under_way.todo_entered current there).0;
   kind = (reading.midway.under_way.todo_entered current there).1;
@@ -79,6 +80,7 @@ finished image work directory inside = record {
   counts =
       finish_counts image work.inodes work.todo directory.inode (directory.tree.size / 256) (ap (λ (x : ℕ). x / 256) (sym inside.size)) inside.at.entered inside.at.kind inside.at.out
       work.counts inside.at.reading.counts;
+  counted = inside.at.reading.counted;
 }
 
 -- a directory less

@@ -1,5 +1,5 @@
 -- The entry at hand.
-use Rattle.std.proofs.Common.{◌≡◌, ◌≢◌, ◌⊎◌, ℕ, ◌+◌, ◌*◌, ◌/◌, ◌%◌, ◌<◌, ◌≤◌, List, true, false, length, set, sym, ◌∙◌, ap, subst, arith, inl, inr}
+use Rattle.std.proofs.Common.{◌≡◌, ◌≢◌, ◌⊎◌, ℕ, ◌+◌, ◌*◌, ◌/◌, ◌%◌, ◌<◌, ◌≤◌, List, true, false, length, set, vec_len, sym, ◌∙◌, ap, subst, arith, inl, inr}
 use Rattle.std.proofs.lemmas.Bool.{cases_eq}
 use Rattle.std.proofs.lemmas.List.{length-set}
 use Rattle.std.specs.List.{slice_index}
@@ -12,8 +12,9 @@ use Rattle.bp_layout.specs.Directory.{EntryNames, inumber_at, inumber_in}
 use Rattle.bp_layout.specs.Checks.{Fails, entry_place}
 use Rattle.bp_layout.specs.declared.check.Check.{Check}
 use Rattle.bp_layout.specs.declared.check.Check.TheVariants.{InodeTwice, Inumber}
-use Rattle.bp_spelling.specs.Names.{AreNames, IsUsed}
+use Rattle.bp_spelling.specs.Names.{AreNames, AreNumbers, IsUsed, in_32_bits}
 use Rattle.bp_walk.proofs.TakenLaws.{known, clash, has_less}
+use Rattle.bp_scan.specs.Counted.{HasCounted, IsCountable}
 use Rattle.bp_scan.specs.Named.{CountsAmong}
 use Rattle.bp_scan.specs.Progress.{IsDone, IsEntered, IsUnderWay}
 use Rattle.bp_scan.specs.Inodes.{EntersInode, FailsInode}
@@ -21,6 +22,7 @@ use Rattle.bp_scan.specs.Reading.{IsReading, IsInside, steps}
 use Rattle.bp_scan.specs.Room.{HasScanMemory}
 use Rattle.bp_scan.specs.declared.directories.Directory.{Directory}
 use Rattle.bp_scan.specs.declared.work.Scan.{Scan}
+use Rattle.bp_scan.proofs.Counting.{countable, one_counted}
 use Rattle.bp_scan.proofs.Named.{among_few}
 use Rattle.bp_scan.proofs.ProgressLaws.{empty_counts, empty_step, entered_more}
 use Rattle.bp_scan.proofs.EntryStep.{AddsDirectory, again_counts, again_step, entry_counts, entry_step}
@@ -32,7 +34,7 @@ along P a b x y e f h = subst (λ (v : ℕ). P x v) f (subst (λ (u : ℕ). P u 
 
 -- the work with other counts
 abbrev pub counting : Scan → List ℕ → Scan
-counting work counts = record { blocks = work.blocks; inodes = work.inodes; todo = work.todo; counts = counts; entries = work.entries }
+counting work counts = record { blocks = work.blocks; inodes = work.inodes; todo = work.todo; counts = counts; entries = work.entries; numbers = work.numbers; totals = work.totals }
 
 module _ (image : Image) (work : Scan) (directory : Directory) (slot : ℕ) (inside : IsInside image work directory slot) where
   abbrev d : ℕ
@@ -49,6 +51,12 @@ module _ (image : Image) (work : Scan) (directory : Directory) (slot : ℕ) (ins
 
   names : AreNames image (root_of image d) (size_of image d)
   names = along (AreNames image) _ _ _ _ (sym inside.root) (sym inside.size) inside.names
+
+  -- one inode more can be counted
+  pub totals_few : IsCountable work.totals
+  totals_few =
+      let few : inode_count image ≤ length work.inodes = inodes_few image work d slot reading in
+      countable image work.inodes (inode_count image) work.totals (omega (arith, few, reading.room.inodes, reading.ready.formatted.sized.at_most)) reading.counted
 
   module _ (live : slot < directory.tree.size / 256) (j : ℕ) (named : j ≡ inumber_in image directory.tree.root slot) where
     here : inumber_at image d slot ≡ j
@@ -73,6 +81,7 @@ module _ (image : Image) (work : Scan) (directory : Directory) (slot : ℕ) (ins
           root_kind = reading.root_kind;
           midway = record { all = reading.midway.all; whole = reading.midway.whole; under_way = empty_step image work.inodes work.todo d slot (here ∙ none) reading.midway.all work.blocks reading.midway.under_way };
           counts = empty_counts image work.inodes work.todo d slot (here ∙ none) work.counts reading.counts;
+          counted = reading.counted;
         };
         entered = inside.at.entered;
         kind = inside.at.kind;
@@ -81,7 +90,15 @@ module _ (image : Image) (work : Scan) (directory : Directory) (slot : ℕ) (ins
       root = inside.root;
       size = inside.size;
       names = inside.names;
+      numbers = inside.numbers;
+      few = inside.few;
     }
+
+    -- what is written down of it where that is a number below the count of inodes
+    pub number_is : (number : ℕ) → number ≡ in_32_bits j → number < inode_count image → number ≡ j
+    number_is number is low =
+        let few : inode_count image ≤ length work.inodes = inodes_few image work d slot reading in
+        omega (arith, is, low, few, reading.room.inodes, reading.ready.formatted.sized.at_most)
 
     module _ (some : j ≢ 0) where
       pub fails_high : (p : ℕ) → p ≡ 512 * node image directory.tree.root (height_of directory.tree.root) ((32 * slot + 0) / 512) + (32 * slot + 0) % 512 → inode_count image ≤ j → Fails image Inumber p
@@ -123,6 +140,7 @@ module _ (image : Image) (work : Scan) (directory : Directory) (slot : ℕ) (ins
                 todo = reading.room.todo;
                 counts = ap (λ (ns : List ℕ). length ns) later_is ∙ length-set work.counts j (slice_index work.counts j + 1) ∙ reading.room.counts;
                 entries = reading.room.entries;
+                numbers = reading.room.numbers;
               };
               range = reading.range;
               root_kind = reading.root_kind;
@@ -135,6 +153,7 @@ module _ (image : Image) (work : Scan) (directory : Directory) (slot : ℕ) (ins
               counts = subst (CountsAmong image (IsDone image work.inodes work.todo d (slot + 1))) (sym later_is)
                   (again_counts image reading.midway.all work.blocks work.inodes work.todo d slot j reading.midway.under_way (entry_names some) (low, gone) two file (names.forms slot (used slot j (entry_names some)))
                   (λ r k before n same. names.differ slot r (used slot j (entry_names some)) (used r k n) same) work.counts reading.counts);
+              counted = reading.counted;
             };
             entered = inside.at.entered;
             kind = inside.at.kind;
@@ -143,6 +162,8 @@ module _ (image : Image) (work : Scan) (directory : Directory) (slot : ℕ) (ins
           root = inside.root;
           size = inside.size;
           names = inside.names;
+          numbers = inside.numbers;
+          few = inside.few;
         }
           where
             no_root : j ≢ 1
@@ -159,7 +180,7 @@ module _ (image : Image) (work : Scan) (directory : Directory) (slot : ℕ) (ins
             inode_fails image work d slot reading j c p (omega (arith, some)) (here_found image work d slot reading inside.at.entered inside.at.kind slot j (entry_names some) low) new fails
 
         module _ (new : has work.inodes j ≡ true) (rest : Set) (claimed : rest ≡ without work.inodes j) (marked : List ℕ) (first_name : marked ≡ set work.counts j 1) (after : Scan) (room : HasScanMemory image after)
-            (enters : EntersInode image j (record { blocks = work.blocks; inodes = rest; todo = work.todo; counts = marked; entries = work.entries }) after) where
+            (enters : EntersInode image j (record { blocks = work.blocks; inodes = rest; todo = work.todo; counts = marked; entries = work.entries; numbers = work.numbers; totals = work.totals }) after) where
           now_is : after.inodes ≡ without work.inodes j
           now_is = enters.inodes ∙ claimed
 
@@ -226,6 +247,8 @@ module _ (image : Image) (work : Scan) (directory : Directory) (slot : ℕ) (ins
                 };
                 counts = subst (CountsAmong image (IsDone image after.inodes after.todo d (slot + 1))) (sym (enters.counts ∙ first_name))
                     (subst (λ (s : Set). CountsAmong image (IsDone image s after.todo d (slot + 1)) (set work.counts j 1)) (sym now_is) counts_step);
+                counted = subst (λ (s : Set). HasCounted image s (inode_count image) after.totals) (sym now_is)
+                    (one_counted image work.inodes j (inode_count image) work.totals after.totals (omega (arith, some)) low in_room new reading.counted enters.totals);
               };
               entered = subst (λ (s : Set). IsEntered image s d) (sym now_is) (entered_more image work.inodes j d in_room low (inl inside.at.entered));
               kind = inside.at.kind;
@@ -234,6 +257,8 @@ module _ (image : Image) (work : Scan) (directory : Directory) (slot : ℕ) (ins
             root = inside.root;
             size = inside.size;
             names = inside.names;
+            numbers = subst (λ ns. AreNumbers image directory.tree.root (directory.tree.size / 256) ns.items) (sym enters.numbers) inside.numbers;
+            few = subst (λ ns. directory.tree.size / 256 ≤ vec_len ns) (sym enters.numbers) inside.few;
           }
 
           -- one inode less, and one directory more at most

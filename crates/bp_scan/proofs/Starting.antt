@@ -17,11 +17,13 @@ use Rattle.bp_walk.specs.Walk.{TakesTree, FailsTree}
 use Rattle.bp_walk.proofs.TakenLaws.{clash}
 use Rattle.bp_scan.specs.Scanned.{HasAllBlocks}
 use Rattle.bp_scan.specs.Inodes.{EntersInode, FailsInode}
+use Rattle.bp_scan.specs.Counted.{HasCounted, no_totals}
 use Rattle.bp_scan.specs.Named.{CountsAmong}
 use Rattle.bp_scan.specs.Progress.{IsDone, IsUnderWay}
 use Rattle.bp_scan.specs.Reading.{HasWholeInodes, HasInodeFile, IsReading}
 use Rattle.bp_scan.specs.Room.{HasScanMemory}
 use Rattle.bp_scan.specs.declared.work.Scan.{Scan}
+use Rattle.bp_scan.proofs.Counting.{first_counted}
 use Rattle.bp_scan.proofs.Entering.{enter, fails_tree, nothing_seen}
 use Rattle.bp_scan.proofs.Readable.{is_sound, is_full, content_followed}
 use Rattle.bp_scan.proofs.ProgressLaws.{started, started_counts}
@@ -79,8 +81,8 @@ module _ (image : Image) (ready : HasWholeInodes image) (all left : Set) (whole 
   root_fails c p fails = fails_inode image File NoEntry all left whole ready.some_inodes (inr refl) file 1 (omega arith) root_found not_root c p fails
 
   pub reading_starts : (none : Set) (before after : Scan) → HasScanMemory image after → none ≡ empty (64 * block_count image) → Fills 2 (inode_count image) none before.inodes →
-      before.todo ≡ empty (64 * block_count image) → before.counts ≡ replicate (64 * block_count image) 0 → left ≡ before.blocks → EntersInode image 1 before after → IsReading image after 0 0
-  reading_starts none before after room none_is fills todo_is counts_are left_is enters = record {
+      before.todo ≡ empty (64 * block_count image) → before.counts ≡ replicate (64 * block_count image) 0 → before.totals ≡ no_totals → left ≡ before.blocks → EntersInode image 1 before after → IsReading image after 0 0
+  reading_starts none before after room none_is fills todo_is counts_are totals_are left_is enters = record {
     ready = ready;
     room = room;
     range = λ i there. in_range i (ap (λ (s : Set). has s i) (sym enters.inodes) ∙ there) (cases_lt i 2) (cases_lt i (inode_count image));
@@ -95,6 +97,8 @@ module _ (image : Image) (ready : HasWholeInodes image) (all left : Set) (whole 
     counts = subst (CountsAmong image (IsDone image after.inodes after.todo 0 0)) (sym (enters.counts ∙ counts_are))
         (subst (λ (s : Set). CountsAmong image (IsDone image s after.todo 0 0) (replicate (64 * block_count image) 0)) (sym enters.inodes)
         (started_counts image before.inodes after.todo (64 * block_count image) (λ t two low. fills.inside t two low) listed));
+    counted = subst (λ (s : Set). HasCounted image s (inode_count image) after.totals) (sym enters.inodes)
+        (first_counted image before.inodes (inode_count image) before.totals after.totals (omega (arith, ready.some_inodes)) (λ t two low. fills.inside t two low) (fills.below 1 (omega arith) ∙ none_has 1) totals_are enters.totals);
   }
     where
       kind : kind_of image 1 ≡ 2

@@ -7,6 +7,7 @@ use Rattle.bp_layout.specs.Inode.{IsDirectory, kind_of, root_of, size_of}
 use Rattle.bp_layout.specs.Checks.{inode_place, root_place, size_place}
 use Rattle.bp_layout.specs.declared.check.Check.{Check}
 use Rattle.bp_layout.specs.declared.check.Check.TheVariants.{DirectorySize, Kind}
+use Rattle.bp_scan.specs.Counted.{CountsOne}
 use Rattle.bp_walk.specs.Walk.{TakesTree, FailsTree}
 use Rattle.bp_scan.specs.declared.trees.InodeWords.{InodeWords}
 use Rattle.bp_scan.specs.declared.work.Scan.{Scan}
@@ -36,7 +37,7 @@ pub data IsWrong (i kind size place : ℕ) : Check → ℕ → Type 0 where
   root_file : i ≡ root_inumber → kind ≢ directory_kind → IsWrong i kind size place Kind place
   part_of_entry : kind ≡ directory_kind → size % entry_size ≢ 0 → IsWrong i kind size place DirectorySize (place + 2)
 
--- inode i is right, its blocks left the set, and it is to do where it is a directory
+-- inode i is right, its blocks left the set, it is counted, and it is to do where it is a directory
 pub record EntersInode (image : Image) (i : ℕ) (old new : Scan) : Type 0 where
   pub right : IsRightInode i (kind_of image i) (size_of image i)
   pub holes : Bool
@@ -44,6 +45,8 @@ pub record EntersInode (image : Image) (i : ℕ) (old new : Scan) : Type 0 where
   pub tree : TakesTree image (root_place image i) (root_of image i) (size_of image i) holes old.blocks new.blocks
   pub inodes : new.inodes ≡ old.inodes
   pub counts : new.counts ≡ old.counts
+  pub numbers : new.numbers ≡ old.numbers
+  pub totals : CountsOne (kind_of image i) (size_of image i) old.totals new.totals
   pub directory : IsDirectory image i → new.todo ≡ with old.todo i
   pub file : kind_of image i ≢ directory_kind → new.todo ≡ old.todo
 

@@ -1,14 +1,15 @@
 -- What holds while the trees of an image are read.
-use Rattle.std.specs.Prelude.{length, replicate, true, false, ◌≡◌, ◌⊎◌, ℕ, ◌+◌, ◌*◌, ◌%◌, ◌<◌, ◌≤◌}
+use Rattle.std.specs.Prelude.{length, replicate, true, false, ◌≡◌, ◌⊎◌, ℕ, ◌+◌, ◌*◌, ◌/◌, ◌%◌, ◌<◌, ◌≤◌, vec_len}
 use Rattle.bp_free.specs.Set.{Set, has, members, empty}
-use Rattle.bp_limits.specs.Limits.{block_size, block_inodes, root_inumber}
+use Rattle.bp_limits.specs.Limits.{block_size, block_inodes, entry_size, root_inumber}
 use Rattle.bp_layout.specs.Words.{Image, block_count}
 use Rattle.bp_layout.specs.Inode.{IsDirectory, inode_count, root_of, size_of}
 use Rattle.bp_layout.specs.Formatted.{IsFormatted}
-use Rattle.bp_spelling.specs.Names.{AreNames}
+use Rattle.bp_spelling.specs.Names.{AreNames, AreNumbers}
 use Rattle.bp_scan.specs.Scanned.{IsScanned}
 use Rattle.bp_scan.specs.Progress.{IsDone, IsEntered, IsMidway}
 use Rattle.bp_scan.specs.Named.{CountsAmong}
+use Rattle.bp_scan.specs.Counted.{HasCounted, no_totals}
 use Rattle.bp_scan.specs.Room.{HasScanMemory}
 use Rattle.bp_scan.specs.declared.directories.Directory.{Directory}
 use Rattle.bp_scan.specs.declared.work.Scan.{Scan}
@@ -23,13 +24,14 @@ pub record HasWholeInodes (image : Image) : Type 0 where
 abbrev pub HasInodeFile : Image → Set → Set → Type 0
 HasInodeFile image all left = IsScanned image (λ t. ⊥ ⊎ (t ≡ 0)) (λ i s. ⊥) all left
 
--- nothing was entered: the sets are empty, and no name is counted
+-- nothing was entered: the sets are empty, and no name and no inode is counted
 pub record IsUnread (image : Image) (work : Scan) : Type 0 where
   pub room : HasScanMemory image work
   pub blocks : work.blocks ≡ empty (block_count image)
   pub inodes : work.inodes ≡ empty (block_inodes * block_count image)
   pub todo : work.todo ≡ empty (block_inodes * block_count image)
   pub counts : work.counts ≡ replicate (block_inodes * block_count image) 0
+  pub totals : work.totals ≡ no_totals
 
 -- the work in the middle of a scan; the directory at hand is 0 between directories
 pub record IsReading (image : Image) (work : Scan) (current slot : ℕ) : Type 0 where
@@ -39,6 +41,7 @@ pub record IsReading (image : Image) (work : Scan) (current slot : ℕ) : Type 0
   pub root_kind : IsDirectory image root_inumber
   pub midway : IsMidway image work.blocks work.inodes work.todo current slot
   pub counts : CountsAmong image (IsDone image work.inodes work.todo current slot) work.counts
+  pub counted : HasCounted image work.inodes (inode_count image) work.totals
 
 -- a directory is at hand
 pub record IsAtHand (image : Image) (work : Scan) (current slot : ℕ) : Type 0 where
@@ -47,12 +50,14 @@ pub record IsAtHand (image : Image) (work : Scan) (current slot : ℕ) : Type 0 
   pub kind : IsDirectory image current
   pub out : has work.todo current ≡ false
 
--- the same of one whose names are right
+-- the same of one whose names are right, and the numbers of the inodes that its entries name are written down
 pub record IsInside (image : Image) (work : Scan) (directory : Directory) (slot : ℕ) : Type 0 where
   pub at : IsAtHand image work directory.inode slot
   pub root : root_of image directory.inode ≡ directory.tree.root
   pub size : size_of image directory.inode ≡ directory.tree.size
   pub names : AreNames image directory.tree.root directory.tree.size
+  pub numbers : AreNumbers image directory.tree.root (directory.tree.size / entry_size) work.numbers.items
+  pub few : directory.tree.size / entry_size ≤ vec_len work.numbers
 
 -- how many steps are left at most: each takes an inode, which may be a directory, or a directory
 abbrev pub steps : Scan → ℕ

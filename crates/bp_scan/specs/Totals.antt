@@ -16,13 +16,21 @@ pub record AreReached (image : Image) (inodes : List ℕ) : Type 0 where
   pub reached : (i : ℕ) → Contains inodes i → IsReached image i × (1 ≤ i)
   pub all : (i : ℕ) → IsReached image i → 1 ≤ i → Contains inodes i
 
+-- 1 where a kind is the wanted one
+abbrev pub one_if : ℕ → ℕ → ℕ
+one_if kind wanted = if kind == wanted then 1 else 0
+
 -- an inode of this kind counts
 abbrev pub of_kind : Image → ℕ → ℕ → ℕ
-of_kind image kind i = if kind_of image i == kind then 1 else 0
+of_kind image kind i = one_if (kind_of image i) kind
+
+-- the size, where the kind is that of a file
+abbrev pub bytes_if : ℕ → ℕ → ℕ
+bytes_if kind size = if kind == file_kind then size else 0
 
 -- the size of a file
 abbrev pub file_bytes : Image → ℕ → ℕ
-file_bytes image i = if kind_of image i == file_kind then size_of image i else 0
+file_bytes image i = bytes_if (kind_of image i) (size_of image i)
 
 -- so many blocks are live: all but the first and the free ones
 abbrev pub HasLive : Image → ℕ → Type 0

@@ -1,25 +1,25 @@
 //! The directories of an image, one after the other.
 
-ghost use Rattle.std.specs.Prelude.{◌≡◌, ◌≢◌, false, ◌+◌, ◌*◌, ◌/◌, ◌%◌, ◌<◌, ◌≤◌, min, vec_capacity, OnOk, IfErr};
+ghost use Rattle.std.specs.Prelude.{◌≡◌, ◌≢◌, false, ◌+◌, ◌*◌, ◌/◌, ◌%◌, ◌<◌, ◌≤◌, vec_capacity, vec_len, OnOk, IfErr};
 ghost use Rattle.bp_free.specs.Set.{has};
 ghost use Rattle.bp_layout.specs.Checks.{Fails};
 ghost use Rattle.bp_layout.specs.Inode.{inode_count};
 ghost use Rattle.bp_layout.specs.Directory.{inumber_in};
 ghost use Rattle.bp_layout.specs.Tree.{IsFull, IsSound};
-ghost use Rattle.bp_limits.specs.Limits.{block_entries, entry_size};
+ghost use Rattle.bp_limits.specs.Limits.{entry_size};
 ghost use Rattle.bp_scan.specs.Reading.{IsReading, IsAtHand, IsInside, steps};
 ghost use Rattle.bp_scan.specs.Room.{HasScanMemory};
 ghost use Rattle.bp_scan.specs.Misspelled.{FailsNames};
-ghost use Rattle.bp_spelling.specs.Names.{AreNames, entry_place_in};
+ghost use Rattle.bp_spelling.specs.Names.{AreNames, AreNumbers, entry_place_in};
 ghost use Rattle.pm_region.specs.Memory.{current_words};
 
 use crate::trees::enter;
-use crate::work::{Scan, make_room};
+use crate::work::{Scan, make_numbers, make_room};
 use bp_dirs::entry_place;
 use bp_inodes::{get, inode_file};
 use bp_layout::{Check, Kind};
-use bp_limits::{BLOCK_ENTRIES, ENTRY_SIZE, ENTRY_WORDS, INODE_SIZE};
-use bp_spelling::{NameFault, Spelled, check_names, named_in_row};
+use bp_limits::{ENTRY_SIZE, INODE_SIZE};
+use bp_spelling::{NameFault, Spelled, check_names};
 use bp_tree::Tree;
 use bp_walk::CheckFault;
 use pm_region::Region;
@@ -33,15 +33,27 @@ pub(crate) struct Directory {
     pub tree: Tree,
 }
 
-/// An entry of a directory: its slot, where it stands, and what it names.
+/// An entry of a directory: its slot, and what it names.
 #[derive(Clone, Copy)]
 pub(crate) struct Slot {
     /// The slot's number.
     pub number: u64,
-    /// The word of the region at which the entry begins.
-    pub place: u32,
-    /// The number of the inode that it names, 0 where it is empty.
-    pub named: u64,
+    /// The number of the inode that it names.
+    pub named: u32,
+}
+
+/// A check that fails at an entry of a directory, told at the entry's first word.
+fn entry_fault<R: Region>(region: &R, directory: Directory, slot: u64, check: Check) -> CheckFault
+    requires sound { IsSound (current_words (R.memory region.now)) directory.tree.root directory.tree.size }
+    requires full { IsFull (current_words (R.memory region.now)) directory.tree.root directory.tree.size }
+    requires live { slot < directory.tree.size / entry_size }
+    ensures check { result.check ≡ check }
+    ensures place { result.place ≡ entry_place_in (current_words (R.memory region.now)) directory.tree.root slot }
+{
+    CheckFault {
+        check,
+        place: entry_place(region, directory.tree, slot, 0),
+    }
 }
 
 /// Reads an entry that names an inode which was entered before: a file may have more names than one.
@@ -53,7 +65,6 @@ fn read_again<R: Region>(
 ) -> Result<(), CheckFault>
     requires inside { IsInside (current_words (R.memory region.now)) work.old directory slot.number }
     requires live { slot.number < directory.tree.size / entry_size }
-    requires place { slot.place ≡ entry_place_in (current_words (R.memory region.now)) directory.tree.root slot.number }
     requires named { slot.named ≡ inumber_in (current_words (R.memory region.now)) directory.tree.root slot.number }
     requires some { slot.named ≢ 0 }
     requires there { slot.named < inode_count (current_words (R.memory region.now)) }
@@ -63,22 +74,18 @@ fn read_again<R: Region>(
     ensures fault { IfErr result (λ f. Fails (current_words (R.memory region.now)) f.check f.place) }
     ensures room { HasScanMemory (current_words (R.memory region.now)) work.new }
 {
-    let inode = slot.named as u32;
-    match get(region, inode).kind {
+    match get(region, slot.named).kind {
         Kind::File => {
-            let names = work.counts.names(inode);
-            work.counts.set(inode, names + 1);
+            let names = work.counts.names(slot.named);
+            work.counts.set(slot.named, names + 1);
             Ok(())
         }
-        Kind::Dir => Err(CheckFault {
-            check: Check::InodeTwice,
-            place: slot.place,
-        }),
+        Kind::Dir => Err(entry_fault(region, directory, slot.number, Check::InodeTwice)),
     }
 }
 
-/// Reads an entry, and enters the inode that it names.
-fn read_entry<R: Region>(
+/// Reads an entry that names an inode, and enters the inode where no entry named it before.
+fn read_named<R: Region>(
     region: &R,
     directory: Directory,
     slot: Slot,
@@ -86,62 +93,44 @@ fn read_entry<R: Region>(
 ) -> Result<(), CheckFault>
     requires inside { IsInside (current_words (R.memory region.now)) work.old directory slot.number }
     requires live { slot.number < directory.tree.size / entry_size }
-    requires place { slot.place ≡ entry_place_in (current_words (R.memory region.now)) directory.tree.root slot.number }
     requires named { slot.named ≡ inumber_in (current_words (R.memory region.now)) directory.tree.root slot.number }
+    requires some { slot.named ≢ 0 }
+    requires there { slot.named < inode_count (current_words (R.memory region.now)) }
     ensures inside { OnOk result (IsInside (current_words (R.memory region.now)) work.new directory (slot.number + 1)) }
     ensures steps { OnOk result (steps work.new ≤ steps work.old) }
     ensures fault { IfErr result (λ f. Fails (current_words (R.memory region.now)) f.check f.place) }
     ensures room { HasScanMemory (current_words (R.memory region.now)) work.new }
 {
-    let named = slot.named;
-    if named == 0 {
-        return Ok(());
-    }
-    let place = slot.place;
-    if named >= inode_file(region).size / INODE_SIZE {
-        return Err(CheckFault {
-            check: Check::Inumber,
-            place,
-        });
-    }
-    let inode = named as u32;
-    if !work.inodes.is_free(inode) {
+    if !work.inodes.is_free(slot.named) {
         return read_again(region, directory, slot, work);
     }
-    work.inodes.claim(inode);
-    work.counts.set(inode, 1);
-    enter(region, inode, work)
+    work.inodes.claim(slot.named);
+    work.counts.set(slot.named, 1);
+    enter(region, slot.named, work)
 }
 
-/// Reads the entries of a leaf of a directory whose names are right: those from a slot on.
-fn read_leaf<R: Region>(
+/// Reads the entry in a slot of a directory, by the number that was written down of it.
+fn read_entry<R: Region>(
     region: &R,
     directory: Directory,
-    first: u64,
+    number: u64,
     work: &mut Scan,
 ) -> Result<(), CheckFault>
-    requires inside { IsInside (current_words (R.memory region.now)) work.old directory first }
-    requires starts { first % block_entries ≡ 0 }
-    requires live { first < directory.tree.size / entry_size }
-    ensures inside { let words = current_words (R.memory region.now) in
-        let end = min (first + block_entries) (directory.tree.size / entry_size) in
-        OnOk result (IsInside words work.new directory end) }
+    requires inside { IsInside (current_words (R.memory region.now)) work.old directory number }
+    requires live { number < directory.tree.size / entry_size }
+    ensures inside { OnOk result (IsInside (current_words (R.memory region.now)) work.new directory (number + 1)) }
     ensures steps { OnOk result (steps work.new ≤ steps work.old) }
     ensures fault { IfErr result (λ f. Fails (current_words (R.memory region.now)) f.check f.place) }
     ensures room { HasScanMemory (current_words (R.memory region.now)) work.new }
 {
-    let place = entry_place(region, directory.tree, first, 0);
-    let count = (directory.tree.size / ENTRY_SIZE - first).min(BLOCK_ENTRIES) as u32;
-    let named = named_in_row(region, place, count);
-    for k in 0..count {
-        let slot = Slot {
-            number: first + k as u64,
-            place: place + ENTRY_WORDS * k,
-            named: named[k as usize],
-        };
-        read_entry(region, directory, slot, work)?;
+    let named = work.numbers[number as usize];
+    if named == 0 {
+        return Ok(());
     }
-    Ok(())
+    if u64::from(named) >= inode_file(region).size / INODE_SIZE {
+        return Err(entry_fault(region, directory, number, Check::Inumber));
+    }
+    read_named(region, directory, Slot { number, named }, work)
 }
 
 /// Reads the entries of a directory whose names are right.
@@ -157,28 +146,36 @@ fn read_entries<R: Region>(
     ensures fault { IfErr result (λ f. Fails (current_words (R.memory region.now)) f.check f.place) }
     ensures room { HasScanMemory (current_words (R.memory region.now)) work.new }
 {
-    for leaf in 0..(directory.tree.size / ENTRY_SIZE).div_ceil(BLOCK_ENTRIES) {
-        read_leaf(region, directory, BLOCK_ENTRIES * leaf, work)?;
+    for slot in 0..directory.tree.size / ENTRY_SIZE {
+        read_entry(region, directory, slot, work)?;
     }
     Ok(())
 }
 
-/// Checks the names of a directory. `entries` has memory reserved for as many as it has.
+/// Checks the names of a directory, and puts the number of the inode that each entry names into `numbers`. Both vectors have
+/// memory reserved for as many entries as the directory has.
 fn read_names<R: Region>(
     region: &R,
     tree: Tree,
     entries: &mut Vec<Spelled>,
+    numbers: &mut Vec<u32>,
 ) -> Result<(), CheckFault>
     requires sound { IsSound (current_words (R.memory region.now)) tree.root tree.size }
     requires full { IsFull (current_words (R.memory region.now)) tree.root tree.size }
     requires room { tree.size / entry_size ≤ vec_capacity entries.old }
+    requires number_room { tree.size / entry_size ≤ vec_capacity numbers.old }
     ensures ok { OnOk result (AreNames (current_words (R.memory region.now)) tree.root tree.size) }
     ensures err { let words = current_words (R.memory region.now) in
         IfErr result (λ f. FailsNames words tree.root tree.size f.check f.place) }
+    ensures numbers { let words = current_words (R.memory region.now) in
+        OnOk result (AreNumbers words tree.root (tree.size / entry_size) numbers.new.items) }
+    ensures few { OnOk result (tree.size / entry_size ≤ vec_len numbers.new) }
     ensures room { vec_capacity entries.old ≤ vec_capacity entries.new }
+    ensures number_room { vec_capacity numbers.old ≤ vec_capacity numbers.new }
 {
     make_room(entries, (tree.size / ENTRY_SIZE) as usize);
-    match check_names(region, tree, &mut entries[..]) {
+    make_numbers(numbers, (tree.size / ENTRY_SIZE) as usize);
+    match check_names(region, tree, &mut entries[..], &mut numbers[..]) {
         Ok(()) => Ok(()),
         Err(NameFault::Form { place }) => Err(CheckFault {
             check: Check::NameForm,
@@ -205,6 +202,6 @@ pub(crate) fn read_directory<R: Region>(
 {
     let words = get(region, inode);
     let tree = Tree::of(&words);
-    read_names(region, tree, &mut work.entries)?;
+    read_names(region, tree, &mut work.entries, &mut work.numbers)?;
     read_entries(region, Directory { inode, tree }, work)
 }

@@ -2,6 +2,7 @@
 
 ghost use Rattle.std.specs.Prelude.{◌≡◌, IfOk};
 
+use crate::totals::Totals;
 use crate::work::{SPARE, Scan};
 use bp_free::{Blocks, Counts, Inodes};
 use std::alloc::{AllocError, Global};
@@ -38,6 +39,8 @@ impl Pending {
             todo: Inodes::new(alloc, inodes)?,
             counts: Counts::new(alloc, 0)?,
             entries: Vec::with_capacity(alloc, 3 * (inodes as usize / 4) + SPARE)?,
+            numbers: Vec::with_capacity(alloc, inodes as usize / 4)?,
+            totals: Totals::none(),
         };
         Ok(Pending { work, inodes })
     }

@@ -17,7 +17,6 @@ ghost use Rattle.bp_layout.specs.Thaw.{none_kept};
 use crate::fault::MountFault;
 use crate::pending::Pending;
 use crate::reading::read_trees;
-use crate::totalling::all_totals;
 use crate::totals::Totals;
 use crate::work::Scan;
 use bp_free::{Blocks, Counts, Inodes};
@@ -88,7 +87,7 @@ fn scan_with<R: Region>(region: &R, work: &mut Scan) -> Result<Totals, MountFaul
     work.clear();
     check_superblock(region)?;
     match read_trees(region, work) {
-        Ok(()) => Ok(all_totals(region, &work.blocks, &work.inodes)),
+        Ok(totals) => Ok(totals),
         Err(fault) => {
             work.clear();
             Err(MountFault::Damaged {

@@ -1,5 +1,8 @@
 //! What an image holds in all.
 
+ghost use Rattle.std.specs.Prelude.{◌≡◌};
+ghost use Rattle.bp_scan.specs.Counted.{no_totals};
+
 /// What an image holds in all.
 #[derive(Clone, Copy, Debug, PartialEq, Eq)]
 pub struct Totals {
@@ -11,4 +14,18 @@ pub struct Totals {
     pub bytes: u128,
     /// The blocks in use, the superblock not among them.
     pub live: u32,
+}
+
+impl Totals {
+    /// Nothing was counted yet.
+    pub(crate) fn none() -> Totals
+        ensures { result ≡ no_totals }
+    {
+        Totals {
+            files: 0,
+            dirs: 0,
+            bytes: 0,
+            live: 0,
+        }
+    }
 }

@@ -9,12 +9,14 @@ ghost use Rattle.bp_layout.specs.Inode.{inode_count, root_of, size_of};
 ghost use Rattle.bp_layout.specs.Tree.{IsFull, IsSound};
 ghost use Rattle.bp_layout.specs.Whole.{FailsWhole, HasNoSecond};
 ghost use Rattle.bp_layout.specs.Words.{word};
+ghost use Rattle.bp_scan.specs.Counted.{IsCountable};
 ghost use Rattle.bp_scan.specs.Inodes.{AreWords, IsRightInode, IsWrong, EntersInode, FailsInode};
 ghost use Rattle.bp_scan.specs.Reading.{HasWholeInodes, HasInodeFile};
 ghost use Rattle.bp_scan.specs.Room.{HasScanMemory};
 ghost use Rattle.bp_scan.specs.Scanned.{HasAllBlocks};
 ghost use Rattle.pm_region.specs.Memory.{current_words};
 
+use crate::totalling::count_inode;
 use crate::work::Scan;
 use bp_free::Blocks;
 use bp_inodes::{inode_file, place};
@@ -131,8 +133,8 @@ fn check_words(inode: u32, words: InodeWords) -> Result<(), CheckFault>
     }
 }
 
-/// Enters the tree of an inode: takes its blocks out of the set, and puts the inode among those to do where it is a
-/// directory.
+/// Enters the tree of an inode: takes its blocks out of the set, counts the inode, and puts it among those to do where it is
+/// a directory.
 pub(crate) fn enter<R: Region>(region: &R, inode: u32, work: &mut Scan) -> Result<(), CheckFault>
     requires formatted { IsFormatted (current_words (R.memory region.now)) }
     requires sound { let words = current_words (R.memory region.now) in
@@ -145,6 +147,7 @@ pub(crate) fn enter<R: Region>(region: &R, inode: u32, work: &mut Scan) -> Resul
     requires not_first { has work.old.blocks 0 ≡ false }
     requires new { has work.old.todo inode ≡ false }
     requires todo { inode < length work.old.todo }
+    requires few { IsCountable work.old.totals }
     ensures ok { OnOk result (EntersInode (current_words (R.memory region.now)) inode work.old work.new) }
     ensures err { let words = current_words (R.memory region.now) in
         IfErr result (λ f. FailsInode words inode work.old.blocks f.check f.place) }
@@ -154,6 +157,7 @@ pub(crate) fn enter<R: Region>(region: &R, inode: u32, work: &mut Scan) -> Resul
     check_words(inode, words)?;
     let holes = words.kind != DIRECTORY_KIND;
     take_tree(region, words.place + 1, words.tree, holes, &mut work.blocks)?;
+    work.totals = count_inode(work.totals, words.kind, words.tree.size);
     if !holes {
         work.todo.give(inode);
     }

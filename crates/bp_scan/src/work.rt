@@ -1,8 +1,10 @@
 //! What a scan works with.
 
-ghost use Rattle.std.specs.Prelude.{◌≡◌, ◌≤◌, length, replicate, vec_capacity, vec_len};
-ghost use Rattle.bp_free.specs.Set.{empty};
+ghost use Rattle.std.specs.Prelude.{◌≡◌, ◌+◌, ◌<◌, ◌≤◌, length, replicate, vec_capacity, vec_len};
+ghost use Rattle.bp_free.specs.Set.{empty, members};
+ghost use Rattle.bp_scan.specs.Counted.{no_totals};
 
+use crate::totals::Totals;
 use bp_free::{Blocks, Counts, Inodes};
 use bp_spelling::Spelled;
 
@@ -23,21 +25,42 @@ pub(crate) struct Scan {
     pub counts: Counts,
     /// Memory for the entries of the directory at hand.
     pub entries: Vec<Spelled>,
+    /// The numbers of the inodes that the entries of the directory at hand name, slot by slot.
+    pub numbers: Vec<u32>,
+    /// What the inodes that were entered hold in all. Their live blocks are not counted.
+    pub totals: Totals,
 }
 
 impl Scan {
-    /// Empties the sets, and sets the counts to 0.
+    /// Empties the sets, and sets the counts and the totals to 0.
     pub fn clear(&mut self)
         ensures blocks { self.new.blocks ≡ empty (length self.old.blocks) }
         ensures inodes { self.new.inodes ≡ empty (length self.old.inodes) }
         ensures todo { self.new.todo ≡ empty (length self.old.todo) }
         ensures counts { self.new.counts ≡ replicate (length self.old.counts) 0 }
         ensures entries { self.new.entries ≡ self.old.entries }
+        ensures numbers { self.new.numbers ≡ self.old.numbers }
+        ensures totals { self.new.totals ≡ no_totals }
     {
         self.blocks.clear();
         self.inodes.clear();
         self.todo.clear();
         self.counts.clear();
+        self.totals = Totals::none();
+    }
+
+    /// What the inodes that were entered hold in all, and how many blocks left the set of all but the first.
+    pub fn all_totals(&self) -> Totals
+        requires { length (members self.now.blocks) < length self.now.blocks }
+        ensures files { result.files ≡ self.now.totals.files }
+        ensures dirs { result.dirs ≡ self.now.totals.dirs }
+        ensures bytes { result.bytes ≡ self.now.totals.bytes }
+        ensures live { result.live + length (members self.now.blocks) + 1 ≡ length self.now.blocks }
+    {
+        Totals {
+            live: self.blocks.room() - 1 - self.blocks.count(),
+            ..self.totals
+        }
     }
 }
 
@@ -52,6 +75,21 @@ pub(crate) fn make_room(entries: &mut Vec<Spelled>, names: usize)
     let wanted = wanted.min(entries.capacity());
     if entries.len() < wanted {
         match entries.resize(wanted, Spelled::default()) {
+            Ok(()) => {}
+            Err(_) => unreachable!(),
+        }
+    }
+}
+
+/// Makes memory for the numbers of so many entries out of what is reserved. Here too memory that no directory needs is never
+/// written.
+pub(crate) fn make_numbers(numbers: &mut Vec<u32>, count: usize)
+    requires { count ≤ vec_capacity numbers.old }
+    ensures room { count ≤ vec_len numbers.new }
+    ensures capacity { vec_capacity numbers.old ≤ vec_capacity numbers.new }
+{
+    if numbers.len() < count {
+        match numbers.resize(count, 0) {
             Ok(()) => {}
             Err(_) => unreachable!(),
         }

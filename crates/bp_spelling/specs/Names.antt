@@ -1,5 +1,5 @@
 -- Whether the names of a directory's entries are right.
-use Rattle.std.specs.Prelude.{◌≡◌, ◌≢◌, ℕ, ◌+◌, ◌*◌, ◌/◌, ◌%◌, ◌<◌}
+use Rattle.std.specs.Prelude.{◌≡◌, ◌≢◌, ℕ, ◌+◌, ◌-◌, ◌*◌, ◌/◌, ◌%◌, ◌^◌, ◌<◌, min, List, slice_index}
 use Rattle.bp_limits.specs.Limits.{block_words, entry_size, entry_words}
 use Rattle.bp_layout.specs.Words.{Image, height_of}
 use Rattle.bp_layout.specs.Tree.{node}
@@ -17,6 +17,14 @@ abbrev pub entry_place_in : Image → ℕ → ℕ → ℕ
 entry_place_in image root slot =
     block_words * node image root (height_of root) ((entry_words * slot + 0) / block_words)
     + (entry_words * slot + 0) % block_words
+
+-- an inode's number in 32 bits, of which the greatest stands for all that do not fit
+abbrev pub in_32_bits : ℕ → ℕ
+in_32_bits number = min number (2 ^ 32 - 1)
+
+-- the numbers of the inodes that the entries before a slot name
+abbrev pub AreNumbers : Image → ℕ → ℕ → List ℕ → Type 0
+AreNumbers image root to numbers = (slot : ℕ) → slot < to → slice_index numbers slot ≡ in_32_bits (inumber_in image root slot)
 
 -- each name has the form of one, and no two are equal
 pub record AreNames (image : Image) (root size : ℕ) : Type 0 where

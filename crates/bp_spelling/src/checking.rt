@@ -4,7 +4,7 @@ ghost use Rattle.std.specs.Prelude.{◌≡◌, ◌/◌, ◌≤◌, length, take,
 ghost use Rattle.bp_layout.specs.Tree.{IsSound, IsFull};
 ghost use Rattle.bp_limits.specs.Limits.{entry_size};
 ghost use Rattle.bp_spelling.specs.Hashes.{IsSpelled, places_of};
-ghost use Rattle.bp_spelling.specs.Names.{AreNames, AreWrong};
+ghost use Rattle.bp_spelling.specs.Names.{AreNames, AreNumbers, AreWrong};
 ghost use Rattle.bp_spelling.specs.Places.{HaveOwnNames};
 ghost use Rattle.bp_spelling.specs.Tables.{IsPresent, IsTableError};
 ghost use Rattle.pm_region.specs.Memory.{current_words};
@@ -37,8 +37,9 @@ fn try_table<R: Region>(region: &R, entries: &mut [Spelled], count: usize) -> Re
     check_by_table(region, found, &mut table[..2 * count + REACH + 1])
 }
 
-/// Checks the names of a directory's entries that name an inode. `entries` is memory for as many as the directory has.
-/// It takes time linear in them where that has room for three times as many and some more, and few hashes fall together;
+/// Checks the names of a directory's entries that name an inode, and puts the number of that inode into `numbers`, at the
+/// entry's slot: 0 where it names none, and `u32::MAX` where the number is no less. `entries` and `numbers` are memory for as
+/// many as the directory has. It takes time linear in them where that has room for three times as many and some more, and few hashes fall together;
 /// else it sorts them.
 ///
 /// # Errors
@@ -48,15 +49,20 @@ pub fn check_names<R: Region>(
     region: &R,
     tree: Tree,
     entries: &mut [Spelled],
+    numbers: &mut [u32],
 ) -> Result<(), NameFault>
     requires sound { IsSound (current_words (R.memory region.now)) tree.root tree.size }
     requires full { IsFull (current_words (R.memory region.now)) tree.root tree.size }
     requires room { tree.size / entry_size ≤ length entries.old }
+    requires number_room { tree.size / entry_size ≤ length numbers.old }
     ensures ok { OnOk result (AreNames (current_words (R.memory region.now)) tree.root tree.size) }
+    ensures numbers { let words = current_words (R.memory region.now) in
+        OnOk result (AreNumbers words tree.root (tree.size / entry_size) numbers.new) }
     ensures err { IfErr result (AreWrong (current_words (R.memory region.now)) tree.root tree.size) }
     ensures room { length entries.new ≡ length entries.old }
+    ensures number_room { length numbers.new ≡ length numbers.old }
 {
-    let count = match gather(region, tree, entries) {
+    let count = match gather(region, tree, entries, numbers) {
         Ok(count) => count,
         Err(place) => return Err(NameFault::Form { place }),
     };

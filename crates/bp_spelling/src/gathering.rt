@@ -6,6 +6,7 @@ ghost use Rattle.bp_layout.specs.Tree.{IsSound, IsFull};
 ghost use Rattle.bp_limits.specs.Limits.{block_entries, entry_size};
 ghost use Rattle.bp_spelling.specs.Gathered.{IsGathered};
 ghost use Rattle.bp_spelling.specs.Hashes.{IsSpelled, places_of};
+ghost use Rattle.bp_spelling.specs.Names.{AreNumbers};
 ghost use Rattle.bp_spelling.specs.Places.{used_places, HaveForms, IsMisspelled};
 ghost use Rattle.bp_spelling.specs.Tables.{IsPresent};
 ghost use Rattle.pm_region.specs.Memory.{current_words};
@@ -13,38 +14,45 @@ ghost use Rattle.pm_region.specs.Memory.{current_words};
 use crate::entry::Spelled;
 use crate::form::is_name;
 use crate::hashing::hash_name;
-use crate::rows::named_in_row;
+use crate::rows::{keep_numbers, named_in_row};
 use bp_dirs::entry_place;
 use bp_limits::{BLOCK_ENTRIES, ENTRY_SIZE, ENTRY_WORDS};
 use bp_tree::Tree;
 use pm_region::Region;
 
 /// Writes down the entries of a leaf, those from a slot on, behind so many that were written down before, and says how
-/// many there are then.
+/// many there are then. The numbers of the inodes that the leaf's entries name are written down behind those of the slots before.
 fn gather_leaf<R: Region>(
     region: &R,
     tree: Tree,
     first: u64,
     entries: &mut [Spelled],
     before: usize,
+    numbers: &mut [u32],
 ) -> Result<usize, u32>
     requires sound { IsSound (current_words (R.memory region.now)) tree.root tree.size }
     requires full { IsFull (current_words (R.memory region.now)) tree.root tree.size }
     requires starts { first % block_entries ≡ 0 }
     requires live { first < tree.size / entry_size }
     requires room { tree.size / entry_size ≤ length entries.old }
+    requires number_room { tree.size / entry_size ≤ length numbers.old }
+    requires numbers { AreNumbers (current_words (R.memory region.now)) tree.root first numbers.old }
     requires before { let words = current_words (R.memory region.now) in
         IsGathered words tree.root (tree.size / entry_size) first entries.old before }
     ensures gathered { let words = current_words (R.memory region.now) in
         let end = tree.size / entry_size in
         IfOk result (λ count. IsGathered words tree.root end (min (first + block_entries) end) entries.new count) }
+    ensures numbers { let words = current_words (R.memory region.now) in
+        OnOk result (AreNumbers words tree.root (min (first + block_entries) (tree.size / entry_size)) numbers.new) }
     ensures err { IfErr result (IsMisspelled (current_words (R.memory region.now)) tree.root tree.size) }
     ensures room { length entries.new ≡ length entries.old }
+    ensures number_room { length numbers.new ≡ length numbers.old }
 {
     let _words = region.words();
     let row = entry_place(region, tree, first, 0);
     let slots = (tree.size / ENTRY_SIZE - first).min(BLOCK_ENTRIES) as u32;
     let named = named_in_row(region, row, slots);
+    keep_numbers(&named, slots as usize, numbers, first as usize);
     let mut count = before;
     for k in 0..slots {
         let place = row + ENTRY_WORDS * k;
@@ -62,7 +70,8 @@ fn gather_leaf<R: Region>(
     Ok(count)
 }
 
-/// Writes down the entries that name an inode, with the hashes of their names, and says how many there are.
+/// Writes down the entries that name an inode, with the hashes of their names, and says how many there are; and for each
+/// slot the number of the inode that its entry names.
 ///
 /// # Errors
 ///
@@ -71,10 +80,12 @@ pub(crate) fn gather<R: Region>(
     region: &R,
     tree: Tree,
     entries: &mut [Spelled],
+    numbers: &mut [u32],
 ) -> Result<usize, u32>
     requires sound { IsSound (current_words (R.memory region.now)) tree.root tree.size }
     requires full { IsFull (current_words (R.memory region.now)) tree.root tree.size }
     requires room { tree.size / entry_size ≤ length entries.old }
+    requires number_room { tree.size / entry_size ≤ length numbers.old }
     ensures places { let words = current_words (R.memory region.now) in
         IfOk result (λ count. places_of (take count entries.new) ≡ used_places words tree.root (slots tree.size)) }
     ensures hashes { let words = current_words (R.memory region.now) in
@@ -82,12 +93,15 @@ pub(crate) fn gather<R: Region>(
     ensures present { IfOk result (λ count. All IsPresent (take count entries.new)) }
     ensures count { IfOk result (λ count. count ≤ length entries.new) }
     ensures forms { OnOk result (HaveForms (current_words (R.memory region.now)) tree.root tree.size) }
+    ensures numbers { let words = current_words (R.memory region.now) in
+        OnOk result (AreNumbers words tree.root (tree.size / entry_size) numbers.new) }
     ensures err { IfErr result (IsMisspelled (current_words (R.memory region.now)) tree.root tree.size) }
     ensures room { length entries.new ≡ length entries.old }
+    ensures number_room { length numbers.new ≡ length numbers.old }
 {
     let mut count = 0;
     for leaf in 0..(tree.size / ENTRY_SIZE).div_ceil(BLOCK_ENTRIES) {
-        count = gather_leaf(region, tree, BLOCK_ENTRIES * leaf, entries, count)?;
+        count = gather_leaf(region, tree, BLOCK_ENTRIES * leaf, entries, count, numbers)?;
     }
     Ok(count)
 }

@@ -1,20 +1,11 @@
-use Rattle.std.proofs.Common.{◌≡◌, rules, length, set, ◌+◌, ◌<◌, ◌≤◌, sym, ◌∙◌, ap, arith}
+use Rattle.std.proofs.Common.{◌≡◌, length, set, ◌+◌, ◌≤◌, sym, ◌∙◌, ap, arith}
 use Rattle.std.specs.List.{slice_index}
 use Rattle.bp_layout.specs.Fields.{kind_word}
 use Rattle.bp_layout.specs.Inode.{kind_of}
 use Rattle.pm_region.specs.Memory.{current_words}
 use Rattle.bp_scan.proofs.Inside.{inodes_sound}
-use Rattle.bp_scan.proofs.EntryLaws.{fails_again, in_counts, in_room, names_few, passes_again, right_kind}
+use Rattle.bp_scan.proofs.EntryLaws.{fails_again, in_counts, names_few, passes_again, right_kind, tree_full, tree_sound}
 use Rattle.bp_scan.proofs.directories.read_again.Goals as goal
-
-pub overflow_cast-inode : goal.overflow_cast-inode
-overflow_cast-inode g c =
-    let image = current_words (g.R.Region.memory c.args.region.now) in
-    let low : c.args.slot.named < length c.args.work.now.inodes =
-    in_room image c.args.work.now c.args.directory c.args.slot.number c.requires.inside c.requires.live c.args.slot.named c.requires.named c.requires.some c.requires.there in
-    let rooms : length c.args.work.now.inodes ≤ 4194304 = omega (arith, c.requires.inside.at.reading.room.inodes, c.requires.inside.at.reading.ready.formatted.sized.at_most) in
-    let small : c.args.slot.named < 4294967296 = omega (arith, low, rooms) in
-    search (rules, small)
 
 pub get-requires-clause-sound : goal.get-requires-clause-sound
 get-requires-clause-sound g c = inodes_sound (current_words (g.R.Region.memory c.args.region.now)) c.args.work.now c.args.directory.inode c.args.slot.number c.requires.inside.at.reading
@@ -52,8 +43,16 @@ returns-in-File-clause-inside g c =
     passes_again image c.args.work.now c.args.directory c.args.slot.number c.requires.inside c.requires.live c.args.slot.named c.requires.named c.requires.some c.requires.there c.requires.entered file c.set.new.self
     (c.set.ensures ∙ ap (λ n. set c.args.work.now.counts c.args.slot.named (n + 1)) c.names-names.ensures)
 
+pub entry_fault-requires-clause-sound : goal.entry_fault-requires-clause-sound
+entry_fault-requires-clause-sound g c = tree_sound (current_words (g.R.Region.memory c.args.region.now)) c.args.work.now c.args.directory c.args.slot.number c.requires.inside
+
+pub entry_fault-requires-clause-full : goal.entry_fault-requires-clause-full
+entry_fault-requires-clause-full g c = tree_full (current_words (g.R.Region.memory c.args.region.now)) c.args.work.now c.args.directory c.args.slot.number c.requires.inside
+
 pub returns-in-Dir-clause-fault : goal.returns-in-Dir-clause-fault
 returns-in-Dir-clause-fault g c =
     let image = current_words (g.R.Region.memory c.args.region.now) in
     let directory : kind_of image c.args.slot.named ≡ 2 = sym c.get.ensures.kind ∙ ap kind_word c.in-Dir.is in
-    fails_again image c.args.work.now c.args.directory c.args.slot.number c.requires.inside c.requires.live c.args.slot.named c.requires.named c.requires.some c.requires.there c.args.slot.place c.requires.place c.requires.entered directory
+    rw c.entry_fault.ensures.check
+    (fails_again image c.args.work.now c.args.directory c.args.slot.number c.requires.inside c.requires.live c.args.slot.named c.requires.named c.requires.some c.requires.there
+    c.entry_fault.result.place c.entry_fault.ensures.place c.requires.entered directory)

@@ -29,6 +29,14 @@ read_names-requires-clause-room g c =
     (record { inode = c.args.inode; tree = c.of-tree.result }) c.requires (c.of-tree.ensures.root ∙ c.get-words.ensures.root) (c.of-tree.ensures.size ∙ c.get-words.ensures.size) in
     omega (arith, few, c.requires.reading.room.entries)
 
+pub read_names-requires-clause-number_room : goal.read_names-requires-clause-number_room
+read_names-requires-clause-number_room g c =
+    let image = current_words (g.R.Region.memory c.args.region.now) in
+    let few : c.of-tree.result.size / 256 ≤ 16 * block_count image =
+    begun_few image c.args.work.now
+    (record { inode = c.args.inode; tree = c.of-tree.result }) c.requires (c.of-tree.ensures.root ∙ c.get-words.ensures.root) (c.of-tree.ensures.size ∙ c.get-words.ensures.size) in
+    omega (arith, few, c.requires.reading.room.numbers)
+
 pub returns-in_err-read_names-clause-fault : goal.returns-in_err-read_names-clause-fault
 returns-in_err-read_names-clause-fault g c =
     let p = err_from_is_err_and c.from_residual.result c.from_residual.ensures.1 in

@@ -1,22 +1,9 @@
-use Rattle.std.proofs.Common.{rules, ◌≡◌, ℕ, ◌+◌, ◌*◌, ◌/◌, min, subst, arith}
+use Rattle.std.proofs.Common.{◌≡◌, ℕ, ◌/◌, subst, arith}
 use Rattle.pm_region.specs.Memory.{current_words}
 use Rattle.bp_scan.specs.Reading.{IsInside}
 use Rattle.bp_scan.proofs.directories.read_entries.Goals as goal
 
-pub loop-leaf-preserved : goal.loop-leaf-preserved
-loop-leaf-preserved g c =
-    let next : min (16 * c.loop-leaf.leaf + 16) (c.args.directory.tree.size / 256) ≡ min (16 * (c.loop-leaf.leaf + 1)) (c.args.directory.tree.size / 256) = omega arith in
-    record {
-      inside = subst (λ (n : ℕ). IsInside (current_words (g.R.Region.memory c.args.region.now)) c.read_leaf.new.work c.args.directory n) next c.in_ok-read_leaf.ensures.inside;
-      less = search rules;
-    }
-
-pub read_leaf-requires-clause-inside : goal.read_leaf-requires-clause-inside
-read_leaf-requires-clause-inside g c =
-    let here : min (16 * c.loop-leaf.leaf) (c.args.directory.tree.size / 256) ≡ 16 * c.loop-leaf.leaf = omega (arith, c.loop-leaf-test.true, c.loop-leaf.auto.leaf-end, c.div_ceil-leaf-end.ensures) in
-    subst (λ (n : ℕ). IsInside (current_words (g.R.Region.memory c.args.region.now)) c.loop-leaf.work c.args.directory n) here c.loop-leaf.invariant.inside
-
 pub returns-clause-inside : goal.returns-clause-inside
 returns-clause-inside g c =
-    let end : min (16 * c.loop-leaf.leaf) (c.args.directory.tree.size / 256) ≡ c.args.directory.tree.size / 256 = omega (arith, c.loop-leaf-test.false, c.loop-leaf.auto.leaf-end, c.div_ceil-leaf-end.ensures) in
-    subst (λ (n : ℕ). IsInside (current_words (g.R.Region.memory c.args.region.now)) c.loop-leaf.work c.args.directory n) end c.loop-leaf.invariant.inside
+    let end : c.loop-slot.slot ≡ c.args.directory.tree.size / 256 = omega (arith, c.loop-slot-test.false, c.loop-slot.auto.slot-end) in
+    subst (λ (n : ℕ). IsInside (current_words (g.R.Region.memory c.args.region.now)) c.loop-slot.work c.args.directory n) end c.loop-slot.invariant.inside

@@ -56,7 +56,7 @@ returns-clause-started g c =
     on_ok_then c.enter.result (λ enters.
     reading_starts image c.in_ok-enter_inode_file.ensures.ready c.fill.new.self c.enter_inode_file.new.blocks whole c.in_ok-enter_inode_file.ensures.entered
     c.args.work.now.inodes _ c.enter.new.work c.enter.ensures.room c.requires.unread.inodes
-    (filled_inodes image c.inode_file-count.result.size c.args.work.now.inodes c.fill-2.new.self c.inode_file-count.ensures.size c.fill-2.ensures) c.requires.unread.todo c.requires.unread.counts refl enters) c.enter.ensures.ok
+    (filled_inodes image c.inode_file-count.result.size c.args.work.now.inodes c.fill-2.new.self c.inode_file-count.ensures.size c.fill-2.ensures) c.requires.unread.todo c.requires.unread.counts c.requires.unread.totals refl enters) c.enter.ensures.ok
 
 pub returns-clause-fault : goal.returns-clause-fault
 returns-clause-fault g c =

@@ -221,6 +221,14 @@ laid-under run runs root k old test = rw test refl
 pub laid-beside : (run : Run) (runs : List Run) (root : WordPath) (k old : ℕ) → bytes_eq run.root.items root ≡ false → laid_word (run ∷ runs) root k old ≡ laid_word runs root k old
 laid-beside run runs root k old test = rw test refl
 
+-- a run that leaves the word as it was
+pub laid-past : (run : Run) (runs : List Run) (root : WordPath) (k old : ℕ) → run_word run k old ≡ old → laid_word (run ∷ runs) root k old ≡ laid_word runs root k old
+laid-past run runs root k old same = go (bytes_eq run.root.items root) refl
+  where
+    go : (x : Bool) → bytes_eq run.root.items root ≡ x → laid_word (run ∷ runs) root k old ≡ laid_word runs root k old
+    go false e = laid-beside run runs root k old e
+    go true e = laid-under run runs root k old e ∙ ap (laid_word runs root k) same
+
 -- one run alone
 pub laid-one : (run : Run) (k old : ℕ) → laid_word (run ∷ []) run.root.items k old ≡ run_word run k old
 laid-one run k old = laid-under run [] run.root.items k old ((bytes_eq-Decides run.root.items run.root.items).1 refl)
@@ -233,3 +241,12 @@ laid-kept (run ∷ runs) root k old kept = go (bytes_eq run.root.items root) ref
     go : (x : Bool) → bytes_eq run.root.items root ≡ x → laid_word runs root k old ≡ old → laid_word (run ∷ runs) root k old ≡ old
     go false e rest = rw e rest
     go true e rest = rw e (ap (laid_word runs root k) (kept run (inl refl) ((bytes_eq-Decides run.root.items root).0 e)) ∙ rest)
+
+-- a word that one of the runs gives anew keeps nothing of what it had
+pub laid-covered : (runs : List Run) (run : Run) (k one other : ℕ) → Has runs run → ((old new : ℕ) → run_word run k old ≡ run_word run k new) → laid_word runs run.root.items k one ≡ laid_word runs run.root.items k other
+laid-covered [] run k one other has same = absurd has
+laid-covered (first ∷ runs) run k one other (inl e) same =
+    let here : bytes_eq first.root.items run.root.items ≡ true = (bytes_eq-Decides first.root.items run.root.items).1 (ap (λ (r : Run). r.root.items) e) in
+    let word : run_word first k one ≡ run_word first k other = subst (λ (r : Run). run_word r k one ≡ run_word r k other) (sym e) (same one other) in
+    laid-under first runs run.root.items k one here ∙ ap (laid_word runs run.root.items k) word ∙ sym (laid-under first runs run.root.items k other here)
+laid-covered (first ∷ runs) run k one other (inr more) same = laid-covered runs run k _ _ more same

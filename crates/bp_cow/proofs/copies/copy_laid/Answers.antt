@@ -5,8 +5,8 @@ use Rattle.bp_cow.specs.Touched.{laid_word}
 use Rattle.bp_cow.proofs.RunsLaws.{laid-one, one-run}
 use Rattle.bp_cow.proofs.copies.copy_laid.Goals as goal
 
-pub returns-then-covers-clause-copied : goal.returns-then-covers-clause-copied
-returns-then-covers-clause-copied g c slot low =
+pub returns-then-touched-eq1-clause-copied : goal.returns-then-touched-eq1-clause-copied
+returns-then-touched-eq1-clause-copied g c slot low =
     let run = c.args.run.now in
     let old = slot_word (current_words (g.R.Region.memory c.args.region.now)) c.args.from slot in
     c.store_covered.ensures.words slot old low

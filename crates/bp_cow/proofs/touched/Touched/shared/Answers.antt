@@ -19,6 +19,16 @@ loop-run-init c = record {
     any_of d (inl none) = absurd (omega (arith, none))
     any_of d (inr s) = s
 
+-- no way is left
+pub returns-then-rest-eq0 : goal.returns-then-rest-eq0
+returns-then-rest-eq0 c d =
+    let before = c.loop-run.invariant.all d in
+    (λ low. before.0 (inl low), λ s. found (before.1 s))
+  where
+    found : (d < c.loop-run.shared) ⊎ IsShared (way_of (drop c.loop-run.run-index c.args.self.now.runs.now) (word_paths c.args.self.now)) c.loop-run.rest c.args.slots.now.items d → d < c.loop-run.shared
+    found (inl low) = low
+    found (inr s) = absurd (omega (arith, s.early, c.if-rest-eq0.true))
+
 pub leaves-requires : goal.leaves-requires
 leaves-requires c = c.requires.touched.runs c.run-item.result (has-item c.args.self.now.runs.now c.loop-run.run-index c.run-item.result c.loop-run-test.true c.run-item.is)
 

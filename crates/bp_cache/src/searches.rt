@@ -1,7 +1,8 @@
 //! Counts of the searches of directories.
 
-/// How many searches of a large directory come before an index is made of it, which takes about as long as so many.
-const SEARCHES: u32 = 32;
+/// How many searches of a large directory come before an index is made of it. To make one takes about as long as 16 to 22
+/// of them where the directory's blocks come from memory, and as 30 to 47 where they are in the processor's caches.
+const SEARCHES: u32 = 16;
 
 /// Of how many directories searches are counted at most.
 const COUNTED: usize = 256;

@@ -1,0 +1,4 @@
+pub mod Handles
+mod Keeping
+mod Telling
+mod PatchLaws

@@ -1,0 +1,55 @@
+-- The numbers under which C is told how a call ended, and what else it is told. Each takes what stood before in what the
+-- caller lends, then the number, and then what stands there now.
+use Rattle.std.specs.Prelude.{◌≡◌, ◌≤◌, ℕ, List, Result, Ok, Err, true, false, drop, length, take}
+use Rattle.bp_plain.specs.declared.errors.FsError.{FsError}
+use Rattle.bp_plain.specs.Calls.{Answer, Refusal}
+use Rattle.bp_plain.specs.Calls.Answer.{done, bytes, file_of, dir_of, names, links_of, refused}
+use Rattle.bp_plain.specs.Calls.Refusal.{no_space}
+use Rattle.bp_plain.specs.Refusals.{refusal_number}
+use Rattle.bp_plain.specs.Seen.{refusal_of}
+use Rattle.bpfs_c.specs.declared.asking.Found.{Found}
+use Rattle.bpfs_c.specs.declared.codes.Lack.{Lack}
+
+-- where space lacks, it is told how much; else nothing is
+abbrev pub HasLack : Refusal → Lack → Lack → Type 0
+HasLack (no_space need free) old new = new ≡ record { need = need; free = free }
+HasLack why old new = new ≡ old
+
+-- a call that has nothing to tell ended so
+abbrev pub IsEndedAs : Answer → Lack → ℕ → Lack → Type 0
+IsEndedAs done old code new = (code ≡ 0) × (new ≡ old)
+IsEndedAs (refused why) old code new = (code ≡ refusal_number why) × HasLack why old new
+IsEndedAs answer old code new = ⊥
+
+-- a number is told, or a refusal
+abbrev pub IsCounted : Result ℕ FsError → ℕ → ℕ → ℕ → Type 0
+IsCounted (Ok count) old code new = (code ≡ 0) × (new ≡ count)
+IsCounted (Err error) old code new = (code ≡ refusal_number (refusal_of error)) × (new ≡ old)
+
+-- bytes were read: they stand in front, and how many they are is told
+abbrev pub IsRead : Answer → List ℕ → ℕ → ℕ → List ℕ → ℕ → Type 0
+IsRead (bytes content) into count code new_into new_count =
+    (code ≡ 0) × (take new_count new_into ≡ content) × (new_count ≤ length new_into)
+    × (drop new_count new_into ≡ drop new_count into)
+IsRead (refused why) into count code new_into new_count =
+    (code ≡ refusal_number why) × (new_into ≡ into) × (new_count ≡ count)
+IsRead answer into count code new_into new_count = ⊥
+
+-- what stands at a path is told
+abbrev pub IsFound : Answer → Found → ℕ → Found → Type 0
+IsFound (file_of size) old code new = (code ≡ 0) × (new ≡ record { size = size; is_dir = false })
+IsFound (dir_of count) old code new = (code ≡ 0) × (new ≡ record { size = count; is_dir = true })
+IsFound (refused why) old code new = (code ≡ refusal_number why) × (new ≡ old)
+IsFound answer old code new = ⊥
+
+-- how many names a file has is told
+abbrev pub IsLinked : Answer → ℕ → ℕ → ℕ → Type 0
+IsLinked (links_of count) old code new = (code ≡ 0) × (new ≡ count)
+IsLinked (refused why) old code new = (code ≡ refusal_number why) × (new ≡ old)
+IsLinked answer old code new = ⊥
+
+-- how many names a directory has is told
+abbrev pub IsListed : Answer → ℕ → ℕ → ℕ → Type 0
+IsListed (names listing) old code new = (code ≡ 0) × (new ≡ length listing)
+IsListed (refused why) old code new = (code ≡ refusal_number why) × (new ≡ old)
+IsListed answer old code new = ⊥

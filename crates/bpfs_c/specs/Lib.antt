@@ -1,0 +1,13 @@
+pub mod Ownership
+pub mod Held
+pub mod Codes
+pub mod Kinds
+pub mod Listings
+pub mod Serves
+pub mod Sums
+pub mod Events
+pub mod Runs
+pub mod Words
+pub mod Formats
+pub mod Opens
+pub mod Patches

@@ -1,0 +1,19 @@
+-- The pieces of a batch as C gives them.
+use Rattle.std.specs.List.{All}
+use Rattle.std.specs.Prelude.{◌≤◌, ℕ, List, length, map}
+use Rattle.bp_limits.specs.Limits.{max_pieces}
+use Rattle.bp_plain.specs.Seen.{LiesIn}
+use Rattle.bp_plain.specs.declared.calls.Piece.{Piece}
+use Rattle.bpfs_c.specs.declared.batching.Patch.{Patch}
+
+abbrev pub piece_of : Patch → Piece
+piece_of patch = record {
+  path = record { at = patch.path_at; len = patch.path_length };
+  off = patch.offset;
+  bytes = record { at = patch.bytes_at; len = patch.bytes_length };
+}
+
+-- they are few, and their parts lie in the text
+pub record AreFit (text : List ℕ) (patches : List Patch) : Type 0 where
+  pub few : length patches ≤ max_pieces
+  pub lie : All (LiesIn text) (map piece_of patches)

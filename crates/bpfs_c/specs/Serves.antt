@@ -1,0 +1,30 @@
+-- What an export does to a handle.
+use Rattle.std.specs.Prelude.{◌≡◌, ◌≤◌, ◌<◌, ℕ, Option, Some, None}
+use Rattle.pm_region.specs.Memory.{Memory, room_in}
+use Rattle.bp_limits.specs.Limits.{call_room}
+use Rattle.bp_plain.specs.Calls.{Call, Answer}
+use Rattle.bp_volume.specs.FileCall.{FileCall}
+use Rattle.bpfs_c.specs.Listings.{listing_after}
+use Rattle.bpfs_c.specs.declared.mounted.Mounted.{Mounted}
+
+-- The call was made on the volume that is held, with an answer that is told.
+pub record Serves (old : Mounted) (call : Call) (Told : Answer → Type 0) (new : Option Mounted) : Type 0 where
+  pub answer : Answer
+  pub volume : Memory
+  pub is_call : FileCall old.volume call answer volume
+  pub held : new ≡ Some (record { volume = volume; listing = listing_after answer old.listing })
+  pub told : Told answer
+
+-- What an export does that makes a call: nothing where the handle holds no volume, or where the log has no room for a
+-- call, so that no event is ever let go; and else the call. Where it does nothing, what the caller lends is the same.
+pub data Exported (old : Option Mounted) (call : Call) (Told : Answer → Type 0) (Same : Type 0) (code : ℕ) (new : Option Mounted) : Type 0 where
+  closed : old ≡ None → code ≡ 32 → new ≡ None → Same → Exported old call Told Same code new
+  full : (held : Mounted) → old ≡ Some held → room_in held.volume < call_room → code ≡ 34 → new ≡ old → Same →
+      Exported old call Told Same code new
+  served : (held : Mounted) → old ≡ Some held → call_room ≤ room_in held.volume → Serves held call Told new →
+      Exported old call Told Same code new
+
+-- What an export does that looks at what a handle holds: that stays as it is.
+pub data Looked (old : Option Mounted) (Told : Mounted → Type 0) (Same : Type 0) (code : ℕ) (new : Option Mounted) : Type 0 where
+  closed : old ≡ None → code ≡ 32 → new ≡ None → Same → Looked old Told Same code new
+  looked : (held : Mounted) → old ≡ Some held → new ≡ Some held → Told held → Looked old Told Same code new

@@ -1,0 +1,24 @@
+-- What a volume has in all, as C sees it.
+use Rattle.std.specs.Prelude.{◌≡◌, ◌^◌, ◌%◌, ◌/◌}
+use Rattle.pm_region.specs.Memory.{Memory, current_words}
+use Rattle.bp_layout.specs.Whole.{HasSpace}
+use Rattle.bp_scan.specs.Totals.{HasLive, HasTotals}
+use Rattle.bp_scan.specs.declared.totals.Totals.{Totals}
+use Rattle.bpfs_c.specs.declared.space.Blocks.{Blocks}
+use Rattle.bpfs_c.specs.declared.space.Sums.{Sums}
+
+abbrev pub HasBlocks : Memory → Blocks → Type 0
+HasBlocks memory blocks = HasSpace (current_words memory) blocks.free × HasLive (current_words memory) blocks.live
+
+-- the bytes are above 2^64 only in sum: so many times, and the rest
+abbrev pub sums_of : Totals → Sums
+sums_of totals = record {
+  files = totals.files;
+  dirs = totals.dirs;
+  bytes = totals.bytes % 2 ^ 64;
+  bytes_above = totals.bytes / 2 ^ 64;
+  live = totals.live;
+}
+
+abbrev pub HasSums : Memory → Sums → Type 0
+HasSums memory sums = (totals : Totals) × HasTotals (current_words memory) totals × (sums ≡ sums_of totals)

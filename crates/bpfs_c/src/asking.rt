@@ -1,0 +1,143 @@
+//! The calls that tell what stands at a path.
+
+ghost use Rattle.std.specs.Prelude.{◌≡◌, length};
+ghost use Rattle.bp_plain.specs.Calls.Call.{links, read, stat};
+ghost use Rattle.bp_volume.specs.Seen.{links_answer, stat_answer_of};
+ghost use Rattle.bpfs_c.specs.Codes.{IsCounted, IsFound, IsLinked, IsRead};
+ghost use Rattle.bpfs_c.specs.Serves.{Exported};
+
+use crate::codes::{CLOSED, LOG_FULL, OK, number_of};
+use crate::handle::Handle;
+use crate::mounted::has_room;
+use bp_layout::Stat;
+use bp_plain::FsError;
+use std::alloc::Global;
+
+/// What stands at a path: a file and its size in bytes, or a directory and how many names it has.
+#[repr(C)]
+#[derive(Clone, Copy, Drop)]
+pub struct Found {
+    pub size: u64,
+    pub is_dir: bool,
+}
+
+/// Tells how many bytes were read.
+fn tell_count(ending: Result<usize, FsError>, count: &mut usize) -> u32
+    ensures { IsCounted ending count.old result count.new }
+{
+    match ending {
+        Ok(read) => {
+            *count = read;
+            OK
+        }
+        Err(error) => number_of(error),
+    }
+}
+
+/// Reads bytes of a file.
+#[unsafe(no_mangle)]
+pub extern "C" fn bpfs_read(
+    alloc: Global,
+    handle: &mut Handle,
+    path: &[u8],
+    off: u64,
+    into: &mut [u8],
+    count: &mut usize,
+) -> u32
+    ensures { Exported handle.old.held (read path.now off (length into.old))
+        (λ answer. IsRead answer into.old count.old result into.new count.new)
+        ((into.new ≡ into.old) × (count.new ≡ count.old)) result handle.new.held }
+{
+    let Some(mut mounted) = handle.take(alloc) else {
+        return CLOSED;
+    };
+    let code = if has_room(&mounted) {
+        tell_count(mounted.volume.read(path, off, into), count)
+    } else {
+        LOG_FULL
+    };
+    handle.put(alloc, mounted);
+    code
+}
+
+/// Tells what stands at a path.
+fn tell_found(ending: Result<Stat, FsError>, found: &mut Found) -> u32
+    ensures { IsFound (stat_answer_of ending) found.old result found.new }
+{
+    match ending {
+        Ok(Stat::File { size }) => {
+            *found = Found {
+                size,
+                is_dir: false,
+            };
+            OK
+        }
+        Ok(Stat::Dir { count }) => {
+            *found = Found {
+                size: count,
+                is_dir: true,
+            };
+            OK
+        }
+        Err(error) => number_of(error),
+    }
+}
+
+/// Says what stands at a path.
+#[unsafe(no_mangle)]
+pub extern "C" fn bpfs_stat(
+    alloc: Global,
+    handle: &mut Handle,
+    path: &[u8],
+    found: &mut Found,
+) -> u32
+    ensures { Exported handle.old.held (stat path.now) (λ answer. IsFound answer found.old result found.new)
+        (found.new ≡ found.old) result handle.new.held }
+{
+    let Some(mut mounted) = handle.take(alloc) else {
+        return CLOSED;
+    };
+    let code = if has_room(&mounted) {
+        tell_found(mounted.volume.stat(path), found)
+    } else {
+        LOG_FULL
+    };
+    handle.put(alloc, mounted);
+    code
+}
+
+/// Tells how many names a file has.
+fn tell_links(ending: Result<u32, FsError>, count: &mut u32) -> u32
+    ensures { IsLinked (links_answer ending) count.old result count.new }
+{
+    match ending {
+        Ok(links) => {
+            *count = links;
+            OK
+        }
+        Err(error) => number_of(error),
+    }
+}
+
+/// Says how many names the file at a path has.
+#[unsafe(no_mangle)]
+pub extern "C" fn bpfs_links(
+    alloc: Global,
+    handle: &mut Handle,
+    path: &[u8],
+    count: &mut u32,
+) -> u32
+    ensures { Exported handle.old.held (links path.now) (λ answer. IsLinked answer count.old result count.new)
+        (count.new ≡ count.old) result handle.new.held }
+{
+    let Some(mut mounted) = handle.take(alloc) else {
+        return CLOSED;
+    };
+    let code = if has_room(&mounted) {
+        tell_links(mounted.volume.links(path), count)
+    } else {
+        LOG_FULL
+    };
+    handle.put(alloc, mounted);
+    code
+}

@@ -1,0 +1,34 @@
+//! The events of a format.
+
+ghost use Rattle.std.specs.Prelude.{◌≡◌};
+ghost use Rattle.bpfs_c.specs.Formats.{TellsFormat};
+
+use crate::codes::{NO_MEMORY, OK, OUT_OF_RANGE};
+use crate::logging::{Logged, copy_events};
+use bp_limits::{BLOCK_WORDS, MAX_BLOCKS, MIN_BLOCKS, Version};
+use bp_volume::lay_front;
+use pm_raw::RawRegion;
+use std::alloc::Global;
+
+/// The events that make an empty file system of a version and of so many blocks, whatever the words hold.
+#[unsafe(no_mangle)]
+pub extern "C" fn bpfs_format_events(
+    alloc: Global,
+    blocks: u32,
+    version: u32,
+    into: &mut [Logged],
+    count: &mut usize,
+) -> u32
+    ensures { TellsFormat blocks version into.old count.old result into.new count.new }
+{
+    if blocks < MIN_BLOCKS || MAX_BLOCKS < blocks || version < 1 || 2 < version {
+        return OUT_OF_RANGE;
+    }
+    let mut region = match RawRegion::new(alloc, 2 * BLOCK_WORDS, 16) {
+        Ok(region) => region,
+        Err(_) => return NO_MEMORY,
+    };
+    lay_front(&mut region, Version::numbered(version as u8), blocks);
+    *count = copy_events(&region, 0, into);
+    OK
+}

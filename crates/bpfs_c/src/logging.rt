@@ -1,0 +1,144 @@
+//! The log, which is the caller's to carry, event by event; and the words.
+
+ghost use Rattle.std.specs.Prelude.{◌≡◌, length};
+ghost use Rattle.pm_region.specs.Memory.{current_words};
+ghost use Rattle.bpfs_c.specs.Events.{HasEvents, IsDrained, events_of, seen_event};
+ghost use Rattle.bpfs_c.specs.Serves.{Looked};
+ghost use Rattle.bpfs_c.specs.Words.{TellsWords};
+
+use crate::codes::{CLOSED, OK, OUT_OF_RANGE};
+use crate::handle::Handle;
+use pm_epochs::Event;
+use pm_raw::RawRegion;
+use pm_region::Region;
+use std::alloc::Global;
+
+/// The kind of a store of a word.
+pub const STORE: u32 = 0;
+
+/// The kind of a barrier.
+pub const BARRIER: u32 = 1;
+
+/// The kind of the end of a call.
+pub const MARK: u32 = 2;
+
+/// An event: 0 a store of a word, 1 a barrier, 2 the end of a call.
+#[repr(C)]
+#[derive(Clone, Copy, Drop)]
+pub struct Logged {
+    pub kind: u32,
+    pub word: u32,
+    pub value: u64,
+}
+
+/// The event as C sees it.
+fn seen(event: Event) -> Logged
+    ensures { result ≡ seen_event event }
+{
+    match event {
+        Event::Store { word, value } => Logged {
+            kind: STORE,
+            word,
+            value,
+        },
+        Event::Barrier => Logged {
+            kind: BARRIER,
+            word: 0,
+            value: 0,
+        },
+        Event::Mark => Logged {
+            kind: MARK,
+            word: 0,
+            value: 0,
+        },
+    }
+}
+
+/// Copies events of a region's log from this one on, as many as there are and as there is room for.
+pub(crate) fn copy_events(region: &RawRegion, first: usize, into: &mut [Logged]) -> usize
+    ensures { HasEvents region.now.events first into.old result into.new }
+{
+    let count = region.event_count().saturating_sub(first).min(into.len());
+    for i in 0..count {
+        into[i] = seen(region.event(first + i));
+    }
+    count
+}
+
+/// How many events the log has.
+#[unsafe(no_mangle)]
+pub extern "C" fn bpfs_event_count(alloc: Global, handle: &mut Handle) -> usize
+    ensures count { result ≡ length (events_of handle.old.held) }
+    ensures same { handle.new.held ≡ handle.old.held }
+{
+    let Some(mounted) = handle.take(alloc) else {
+        return 0;
+    };
+    let count = mounted.volume.region().event_count();
+    handle.put(alloc, mounted);
+    count
+}
+
+/// Copies events of the log.
+#[unsafe(no_mangle)]
+pub extern "C" fn bpfs_events(
+    alloc: Global,
+    handle: &mut Handle,
+    first: usize,
+    into: &mut [Logged],
+) -> usize
+    ensures events { HasEvents (events_of handle.old.held) first into.old result into.new }
+    ensures same { handle.new.held ≡ handle.old.held }
+{
+    let Some(mounted) = handle.take(alloc) else {
+        return 0;
+    };
+    let count = copy_events(mounted.volume.region(), first, into);
+    handle.put(alloc, mounted);
+    count
+}
+
+/// Empties the log, all of which was carried.
+#[unsafe(no_mangle)]
+pub extern "C" fn bpfs_drain(alloc: Global, handle: &mut Handle) -> u32
+    ensures { IsDrained handle.old.held result handle.new.held }
+{
+    let Some(mut mounted) = handle.take(alloc) else {
+        return CLOSED;
+    };
+    mounted.volume.sync();
+    handle.put(alloc, mounted);
+    OK
+}
+
+/// Copies a region's words from this one on, where there are so many.
+fn copy_words(region: &RawRegion, first: u32, into: &mut [u64]) -> u32
+    ensures { TellsWords (current_words region.now) first into.old result into.new }
+{
+    let words = region.words();
+    if words < first || ((words - first) as usize) < into.len() {
+        return OUT_OF_RANGE;
+    }
+    let count = into.len() as u32;
+    into.copy_from_slice(region.load_words(first, count));
+    OK
+}
+
+/// Copies words as they are now.
+#[unsafe(no_mangle)]
+pub extern "C" fn bpfs_words(
+    alloc: Global,
+    handle: &mut Handle,
+    first: u32,
+    into: &mut [u64],
+) -> u32
+    ensures { Looked handle.old.held (λ held. TellsWords (current_words held.volume) first into.old result into.new)
+        (into.new ≡ into.old) result handle.new.held }
+{
+    let Some(mounted) = handle.take(alloc) else {
+        return CLOSED;
+    };
+    let code = copy_words(mounted.volume.region(), first, into);
+    handle.put(alloc, mounted);
+    code
+}

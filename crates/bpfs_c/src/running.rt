@@ -1,0 +1,78 @@
+//! The log as runs: stores to words in a row, which a carrier copies at once.
+
+ghost use Rattle.std.specs.Prelude.{◌≡◌};
+ghost use Rattle.pm_runs.specs.Runs.{run_length};
+ghost use Rattle.bpfs_c.specs.Events.{events_of};
+ghost use Rattle.bpfs_c.specs.Runs.{HasPiece, seen_run};
+
+use crate::handle::Handle;
+use crate::logging::{BARRIER, MARK, STORE};
+use pm_raw::RawRegion;
+use pm_region::Region;
+use pm_runs::{Run, run_at};
+use std::alloc::Global;
+
+/// A piece of the log: 0 stores to words in a row, from this one on; 1 a barrier; 2 the end of a call.
+#[repr(C)]
+#[derive(Clone, Copy, Drop)]
+pub struct Told {
+    pub kind: u32,
+    pub word: u32,
+}
+
+/// Tells a run, and how many events it has.
+fn tell_run(run: Run, told: &mut Told) -> usize
+    ensures told { told.new ≡ seen_run run }
+    ensures count { result ≡ run_length run }
+{
+    match run {
+        Run::Stores { word, count } => {
+            *told = Told { kind: STORE, word };
+            count
+        }
+        Run::Barrier => {
+            *told = Told {
+                kind: BARRIER,
+                word: 0,
+            };
+            1
+        }
+        Run::Mark => {
+            *told = Told {
+                kind: MARK,
+                word: 0,
+            };
+            1
+        }
+    }
+}
+
+/// Tells the piece of a region's log that begins with this event.
+fn copy_run(region: &RawRegion, first: usize, told: &mut Told, values: &mut [u64]) -> usize
+    ensures { HasPiece region.now.events first told.old values.old result told.new values.new }
+{
+    if region.event_count() <= first {
+        return 0;
+    }
+    tell_run(run_at(region, first, values), told)
+}
+
+/// Tells the piece of the log that begins with this event, and how many events it has.
+#[unsafe(no_mangle)]
+pub extern "C" fn bpfs_run_at(
+    alloc: Global,
+    handle: &mut Handle,
+    first: usize,
+    told: &mut Told,
+    values: &mut [u64],
+) -> usize
+    ensures run { HasPiece (events_of handle.old.held) first told.old values.old result told.new values.new }
+    ensures same { handle.new.held ≡ handle.old.held }
+{
+    let Some(mounted) = handle.take(alloc) else {
+        return 0;
+    };
+    let count = copy_run(mounted.volume.region(), first, told, values);
+    handle.put(alloc, mounted);
+    count
+}

@@ -1,0 +1,2 @@
+mod CopyLaws
+pub mod PieceLaws

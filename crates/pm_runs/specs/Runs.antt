@@ -1,0 +1,63 @@
+-- Pieces of a log: stores to words in a row, a barrier, or a mark.
+use Rattle.std.specs.Prelude.{◌≡◌, ◌≤◌, ◌<◌, ◌+◌, ℕ, List, [], ◌∷◌, ◌++◌, Option, None, Some, drop, length, slice_get, take}
+use Rattle.pm_epochs.specs.declared.event.Event.{Event}
+use Rattle.pm_epochs.specs.declared.event.Event.TheVariants.{Barrier, Mark, Store}
+use Rattle.pm_region.specs.Memory.{stores_from, with_values}
+use Rattle.pm_runs.specs.declared.pieces.Run.{Run}
+use Rattle.pm_runs.specs.declared.pieces.Run.TheVariants as run
+
+-- the value that an event stores to the word that is so far behind the first one
+abbrev pub IsValueAt : Event → ℕ → ℕ → Option ℕ → Type 0
+IsValueAt done first distance None = (value : ℕ) → done ≡ Store (first + distance) value → ⊥
+IsValueAt done first distance (Some value) = done ≡ Store (first + distance) value
+
+-- So many events of a log, from one on, store to words in a row, from a word on, and their values stand in front: at
+-- least one where the first of them stores to that word, and there is room.
+pub record HasStores (events : List Event) (first word : ℕ) (old : List ℕ) (count : ℕ) (new : List ℕ) : Type 0 where
+  pub within : first + count ≤ length events
+  pub fits : count ≤ length old
+  pub stores : take count (drop first events) ≡ stores_from word (take count new)
+  pub begun : (value : ℕ) → slice_get events first ≡ Some (Store word value) → 0 < length old → 0 < count
+  pub rest : drop count new ≡ drop count old
+
+-- how many events a run tells, and how many values it has
+abbrev pub run_length : Run → ℕ
+run_length (run.Stores word count) = count
+run_length run.Barrier = 1
+run_length run.Mark = 1
+
+abbrev pub value_count : Run → ℕ
+value_count (run.Stores word count) = count
+value_count run.Barrier = 0
+value_count run.Mark = 0
+
+-- the events that it tells, with its values in front of these
+abbrev pub run_events : Run → List ℕ → List Event
+run_events (run.Stores word count) values = stores_from word (take count values)
+run_events run.Barrier values = Barrier ∷ []
+run_events run.Mark values = Mark ∷ []
+
+-- The run tells just the events of a log from one on, as many as it has: at least one where there is room for a value.
+-- No other value has changed.
+pub record TellsRun (events : List Event) (first : ℕ) (old : List ℕ) (run : Run) (new : List ℕ) : Type 0 where
+  pub told : take (run_length run) (drop first events) ≡ run_events run new
+  pub within : first + run_length run ≤ length events
+  pub begun : 0 < length old → 0 < run_length run
+  pub fits : value_count run ≤ length old
+  pub rest : drop (value_count run) new ≡ drop (value_count run) old
+
+-- the events of runs, in order
+abbrev pub runs_events : List (Run × List ℕ) → List Event
+runs_events [] = []
+runs_events (told ∷ runs) = run_events told.0 told.1 ++ runs_events runs
+
+-- the words with the values of a run copied to their place
+abbrev pub copied_run : List ℕ → Run → List ℕ → List ℕ
+copied_run words (run.Stores word count) values = with_values words word (take count values)
+copied_run words run.Barrier values = words
+copied_run words run.Mark values = words
+
+-- and those of runs, one after the other
+abbrev pub copied : List ℕ → List (Run × List ℕ) → List ℕ
+copied words [] = words
+copied words (told ∷ runs) = copied (copied_run words told.0 told.1) runs

@@ -36,8 +36,8 @@ for seed in 1 2 3; do
     passed=$((passed + 1))
 done
 run out/san-follow_test "$folder" "$rounds" 1
-if [ -x out/san-redis ]; then
-    run sh redis_test.sh "$folder"
+if [ "${HAS_REDIS:-}" = yes ]; then
+    run out/san-redis_test "$folder" $((rounds / 4 + 1)) 1
 fi
 [ -n "$checker" ] || echo "left out: bpfs check of each image (the program is not built)"
 echo "$passed passed, 0 failed"

@@ -145,7 +145,7 @@ kill_under_load() {
     last=$(told)
     found=$(sqlite3 "$at/base" "pragma integrity_check; select count(*) from t; select max(n) from t; select n from s;" | tr '\n' ' ')
     set -- $found
-    [ "$1" = ok ] && [ "$2" = "$3" ] && [ "$3" = "$4" ] && [ "$3" -ge "${last:-0}" ] || fail "after a kill: $found, and ${last:-none} was told"
+    [ $# = 4 ] && [ "$1" = ok ] && [ "$2" = "$3" ] && [ "$3" = "$4" ] && [ "$3" -ge "${last:-0}" ] || fail "after a kill: $found, and ${last:-none} was told"
     [ -z "$(find "$at" -name '.fuse_hidden*')" ] || fail "hidden files are left"
     unmounts
     transactions_in_all=$3

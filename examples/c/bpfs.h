@@ -6,27 +6,26 @@
  *   carry.h beside this header has the loop, and file.c, pmem.c and stream.c are carriers of some sixty lines.
  *
  * A PROGRAM
- *       #include "file.h"
- *       #include <fcntl.h>
- *       #include <stdio.h>
+ *     #include "file.h"
+ *     #include <stdio.h>
+ *     #define PATH(text) (const uint8_t *)(text), sizeof(text) - 1
  *
- *       #define PATH(text) (const uint8_t *)(text), sizeof(text) - 1
- *
- *       int main(void) {
- *           bpfs fs = BPFS_CLOSED;
- *           bpfs_lack lack;
- *           uint8_t bytes[64];
- *           size_t count = 0;
- *           bpfs_file file = bpfs_file_of(open("image", O_RDWR | O_CREAT, 0644), BPFS_FILE_WAITS);
- *           if (bpfs_format(&file.carrier, 64, 1) || bpfs_file_mount(&fs, &file)) return 1;
- *           bpfs_create(&fs, PATH("/greeting"), &lack);
- *           bpfs_write(&fs, PATH("/greeting"), 0, PATH("hello"), &lack);
- *           if (bpfs_carry(&fs, &file.carrier)) return 1;             // both calls are durable from here on
- *           bpfs_read(&fs, PATH("/greeting"), 0, bytes, sizeof bytes, &count);
- *           printf("%.*s\n", (int)count, bytes);
- *           return (int)bpfs_close(&fs);
- *       }
- *   It forgets to look at three answers, so as to fit here; a program of yours looks at each.
+ *     int main(void) {
+ *         bpfs fs = BPFS_CLOSED;
+ *         bpfs_file file;
+ *         bpfs_fault fault;
+ *         bpfs_lack lack;
+ *         uint8_t bytes[64];
+ *         size_t count;
+ *         if (bpfs_file_open(&file, "image", BPFS_FILE_WAITS)) return 1;
+ *         if (bpfs_file_format(&file, 64, 1) || bpfs_file_mount(&fs, &file, &fault)) return 1;
+ *         if (bpfs_create(&fs, PATH("/greeting"), &lack)) return 1;
+ *         if (bpfs_write(&fs, PATH("/greeting"), 0, PATH("hello"), &lack)) return 1;
+ *         if (bpfs_carry(&fs, &file.carrier)) return 1; // both calls are certain from here on
+ *         if (bpfs_read(&fs, PATH("/greeting"), 0, bytes, sizeof bytes, &count)) return 1;
+ *         printf("%.*s\n", (int)count, (const char *)bytes);
+ *         return (int)bpfs_close(&fs);
+ *     }
  *
  * UNITS
  *   Words are uint64_t, counted from the start of the image; 512 of them are a block of 4,096 bytes. An image has 8 to 65,536 blocks. Sizes
@@ -73,7 +72,7 @@
  *   calls. Each call that was durable is in the prefix. Many calls may be carried at once (a group commit): their order is what matters.
  *
  *   Carry before you drain: bpfs_drain forgets the events, and no other call does. An image that is changed otherwise than by its events, by
- *   a second volume for one, is no image any more.
+ *   a second volume for one, is no image any more. (BPFS_NOTE_WORD of carry.h is a word that no image uses.)
  *
  * A FULL LOG
  *   A call that finds room for fewer than 262,144 events answers BPFS_LOG_FULL and does nothing, whatever it would need. Carry, drain, and

@@ -17,6 +17,12 @@ run() {
 
 out/san-example "$folder/image" > "$folder/told" && diff example.expected "$folder/told" || fail example
 passed=$((passed + 1))
+for program in header documented; do
+    here=$PWD
+    [ "$(cd "$folder" && "$here/out/san-$program")" = hello ] || fail "the program of $program"
+    rm "$folder/image"
+    passed=$((passed + 1))
+done
 run out/san-calls_test
 for order in ordered shuffled; do
     for group in 1 20 200; do

@@ -94,7 +94,7 @@ static void by_transaction(uint64_t at, uint32_t size) {
         pmemobj_tx_add_range_direct(root + 64 + at, size);
         memcpy(root + 64 + at, bytes, size);
     }
-    TX_ONABORT { MUST(!"a transaction"); }
+    TX_ONABORT { MUST(false); }
     TX_END
 }
 
@@ -106,7 +106,7 @@ static void by_transaction_appended(uint64_t at, uint32_t size) {
         memcpy(root + 64 + at, bytes, size);
         *(uint64_t *)(void *)root = at + size;
     }
-    TX_ONABORT { MUST(!"a transaction"); }
+    TX_ONABORT { MUST(false); }
     TX_END
 }
 

@@ -231,6 +231,23 @@ static void lists(void) {
     IS(BPFS_OUT_OF_RANGE, bpfs_listed(&fs, 0, NULL, 0, &length, &is_dir));
 }
 
+/* The medium has what the volume has. */
+static void are_carried(void) {
+    static uint64_t now[WORDS];
+    IS(BPFS_OK, bpfs_words(&fs, 0, now, WORDS));
+    IS(0, memcmp(now, words, sizeof words));
+}
+
+static int fail_or_not(bpfs_carrier *it) {
+    static int turn;
+    (void)it;
+    return ++turn % 3 ? -1 : 0;
+}
+
+static int fail_or_put(bpfs_carrier *it, uint32_t word, const uint64_t *values, size_t count) {
+    return fail_or_not(it) ? -1 : put(it, word, values, count);
+}
+
 /* Runs and single events tell the same, with room for any number of values; and both make the words what they are. */
 static void runs(void) {
     static bpfs_event events[4096];
@@ -241,10 +258,15 @@ static void runs(void) {
         for (size_t at = 0, n; at < count; at += n) {
             bpfs_run run;
             n = bpfs_run_at(&fs, at, &run, values, room);
-            if (n == 0 || n > count - at) return IS(1, n);
+            if (n == 0 || n > count - at) {
+                IS(1, n);
+                return;
+            }
             if (run.kind != BPFS_STORE) IS(true, n == 1 && events[at].kind == run.kind);
+            bool same = true;
             for (size_t i = 0; run.kind == BPFS_STORE && i < n; i++)
-                if (events[at + i].word != run.word + i || events[at + i].value != values[i] || events[at + i].kind) return IS(at, 0);
+                same = same && events[at + i].kind == BPFS_STORE && events[at + i].word == run.word + i && events[at + i].value == values[i];
+            if (!same) IS(at, count);
         }
     bpfs_run run;
     IS(0, bpfs_run_at(&fs, count, &run, values, 1));
@@ -252,10 +274,20 @@ static void runs(void) {
     IS(0, bpfs_events(&fs, 0, NULL, 0));
     IS(0, bpfs_carry(&fs, &carrier));
     IS(0, bpfs_event_count(&fs));
-    for (uint32_t i = 0; i < WORDS; i++) {
-        uint64_t word;
-        if (bpfs_words(&fs, i, &word, 1) || word != words[i]) return IS(i, WORDS);
-    }
+    are_carried();
+}
+
+/* A carrier that fails two times in three, and is called again, carries all the same. */
+static void failing_carriers(void) {
+    static uint8_t bytes[10000];
+    bpfs_carrier failing = {fail_or_put, fail_or_not, fail_or_not, 0};
+    int failures = 0;
+    IS(BPFS_OK, bpfs_write(&fs, PATH("/d/a"), 3, bytes, sizeof bytes, &lack));
+    IS(BPFS_OK, bpfs_create(&fs, PATH("/d/b"), &lack));
+    while (bpfs_carry(&fs, &failing) && failures < 1000) failures++;
+    IS(true, failures > 10 && failures < 1000);
+    IS(0, bpfs_event_count(&fs));
+    are_carried();
 }
 
 static void full_logs(void) {
@@ -286,6 +318,7 @@ int main(void) {
     reads();
     lists();
     runs();
+    failing_carriers();
     full_logs();
     printf("%d answers\n", checks);
     return wrong;

@@ -127,7 +127,7 @@ static bool checker_takes_it(const test *t, int round) {
         execl(t->checker, t->checker, "check", t->image, (char *)NULL);
         _exit(BROKEN);
     }
-    int status;
+    int status = 0;
     if (pid < 0 || waitpid(pid, &status, 0) != pid) stop("no checker");
     if (status) fprintf(stderr, "round %d: %s refuses it\n", round, t->checker);
     return status == 0;

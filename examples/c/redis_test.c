@@ -195,7 +195,7 @@ int main(int argc, char **argv) {
     for (int round = 0; round < rounds && right; round++) {
         redisFree(connect_redis());
         kill_a_leader(&tree, round == 0);
-        if (draw(&state, 4) == 0) {
+        if (round % 3 == 1) {
             kill_redis();
             start_redis();
             kills++;

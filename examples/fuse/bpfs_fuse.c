@@ -191,8 +191,8 @@ static int do_rename(const char *from, const char *to, unsigned flags) {
     int code = begin();
     if (!code && flags && bpfs_stat(&fs, P(to), &found) == BPFS_OK) code = -EEXIST;
     if (!code) code = number(bpfs_rename(&fs, P(from), P(to), &lack), bad_path(from) == -ENAMETOOLONG ? from : to);
-    if (code || !strcmp(from, to)) return code;
-    if (bpfs_stat(&fs, P(from), &found) == BPFS_NOT_FOUND) times_move(from, to); /* two names of one file stay both */
+    if (code || bpfs_stat(&fs, P(from), &found) == BPFS_OK) return code; /* two names of one file stay both */
+    times_move(from, to, bpfs_stat(&fs, P(to), &found) == BPFS_OK && found.is_dir);
     times_touch_parent(from);
     return named(code, to);
 }

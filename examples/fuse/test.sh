@@ -122,14 +122,26 @@ transactions() {
     }' | sqlite3 -bail "$at/base" > "$work/transactions" 2> /dev/null
 }
 
+# Endless new bytes for one file, each by a rename and without a sync.
+replacements() {
+    n=0
+    while yes "$n" 2> /dev/null | head -c 20000 > "$at/new" && mv "$at/new" "$at/current"; do n=$((n + 1)); done 2> /dev/null
+}
+
+is_whole() {
+    [ ! -e "$at/current" ] || { [ "$(stat -c %s "$at/current")" = 20000 ] && [ "$(head -c 19980 "$at/current" | sort -u | wc -l)" -le 2 ]; }
+}
+
 told() {
     grep -o '^told|[0-9]*$' "$work/transactions" | tail -1 | cut -d'|' -f2
 }
 
 kill_under_load() {
-    mounts bpfs_fuse cached,quiet
+    mounts bpfs_fuse quiet
     transactions "$1" &
     load=$!
+    replacements &
+    other=$!
     for _ in $(seq 100); do
         [ -s "$work/transactions" ] && break
         sleep 0.02
@@ -139,9 +151,10 @@ kill_under_load() {
     wait $daemon 2> /dev/null
     daemon=
     umount -l "$at"
-    wait $load
+    wait $load $other
     check
-    mounts bpfs_fuse cached,quiet
+    mounts bpfs_fuse quiet
+    is_whole || fail "a renamed file is neither the old nor the new one"
     last=$(told)
     found=$(sqlite3 "$at/base" "pragma integrity_check; select count(*) from t; select max(n) from t; select n from s;" | tr '\n' ' ')
     set -- $found
@@ -180,10 +193,16 @@ exec 3<&-
 umount -l "$at"
 mounts san-bpfs_fuse cached
 step "what was open goes at the next mount" test -z "$(find "$at" -name '.fuse_hidden*' -o -name bytes)"
+echo told > "$at/last"
+kill -TERM $daemon
+wait $daemon || fail "bpfs_fuse ended with $? at a SIGTERM"
+check
+mounts san-bpfs_fuse cached
+step "a SIGTERM unmounts" grep -q told "$at/last"
 unmounts
 rm -f "$image"
 if [ -x "$(command -v sqlite3)" ]; then
-    mounts bpfs_fuse cached,quiet,format=16384
+    mounts bpfs_fuse quiet,format=16384
     sqlite3 "$at/base" "create table t(n integer primary key, b blob); create table s(n); insert into s values(0);"
     unmounts
     for i in $(seq "$kills"); do

@@ -1,7 +1,7 @@
 #define _GNU_SOURCE
 #include "times.h"
-#include <stdbool.h>
 #include <stdint.h>
+#include <stdio.h>
 #include <stdlib.h>
 #include <string.h>
 
@@ -67,18 +67,23 @@ void times_touch_parent(const char *path) {
     free(parent);
 }
 
-static bool is_at_or_below(const char *path, const char *of, size_t length) {
-    return strncmp(path, of, length) == 0 && (path[length] == 0 || path[length] == '/');
+/* Takes the entry of a path out of the table. */
+static entry *take(const char *path) {
+    entry **at = chain_of(path);
+    while (*at && strcmp((*at)->path, path)) at = &(*at)->next;
+    entry *it = *at;
+    if (it) *at = it->next;
+    return it;
 }
 
-/* Takes the entries of a path, and of all below it, out of the table. */
-static entry *take(const char *path) {
+/* Takes the entries of all below a path out of the table: a chain. */
+static entry *take_below(const char *path) {
     size_t length = strlen(path);
     entry *taken = NULL;
     for (size_t i = 0; i < PLACES; i++)
         for (entry **at = &chains[i]; *at;) {
             entry *it = *at;
-            if (!is_at_or_below(it->path, path, length)) {
+            if (strncmp(it->path, path, length) || it->path[length] != '/') {
                 at = &it->next;
                 continue;
             }
@@ -89,29 +94,26 @@ static entry *take(const char *path) {
     return taken;
 }
 
-static void move(const entry *it, size_t from_length, const char *to) {
-    const char *rest = it->path + from_length;
-    char *path = malloc(strlen(to) + strlen(rest) + 1);
-    if (!path) return;
-    strcpy(path, to);
-    strcat(path, rest);
+/* Puts the time of an entry below `from` to the path that is as far below `to`. */
+static void move_below(const entry *it, const char *from, const char *to) {
+    char *path;
+    if (asprintf(&path, "%s%s", to, it->path + strlen(from)) < 0) return;
     times_set(path, it->when);
     free(path);
 }
 
-void times_move(const char *from, const char *to) {
-    size_t length = strlen(from);
+void times_move(const char *from, const char *to, bool is_dir) {
+    entry *it = take(from), *next;
     times_forget(to);
-    for (entry *it = take(from), *next; it; it = next) {
+    if (it) times_set(to, it->when);
+    free(it);
+    for (it = is_dir ? take_below(from) : NULL; it; it = next) {
         next = it->next;
-        move(it, length, to);
+        move_below(it, from, to);
         free(it);
     }
 }
 
 void times_forget(const char *path) {
-    for (entry *it = take(path), *next; it; it = next) {
-        next = it->next;
-        free(it);
-    }
+    free(take(path));
 }

@@ -84,7 +84,7 @@ long bpfs_follow_fd(bpfs_follower *follower, int fd) {
     do n = read(fd, bytes, sizeof bytes);
     while (n < 0 && errno == EINTR);
     if (n > 0 && bpfs_follow(follower, bytes, (size_t)n)) return -1;
-    return n;
+    return n < 0 && errno == ECONNRESET ? 0 : n; /* a leader that was killed has left answers unread */
 }
 
 void bpfs_follower_of(bpfs_follower *follower, bpfs_carrier *target, uint32_t blocks, uint64_t noted) {

@@ -4,6 +4,7 @@
  *
  *         format=N    makes IMAGE an empty file system of N blocks of 4 KiB (version 2) where it is empty or not there
  *         cached      barriers do not wait for the disk: what was synced outlives a kill of this process, not of the machine
+ *         follower=C  runs the shell's command C and leads it: an epoch goes to IMAGE and to C, which answers it (../c/follower.c)
  *         quiet       changes of modes and owners, which are not kept, are answered with success
  *
  * A FUSE call is one call of the volume: it happened, or it did not. Calls gather in the log, and are carried to IMAGE at each fsync, after a
@@ -13,15 +14,18 @@
 #define FUSE_USE_VERSION 31
 #define _GNU_SOURCE
 #include "../c/file.h"
+#include "../c/stream.h"
 #include "times.h"
 #include <errno.h>
 #include <fcntl.h>
 #include <fuse3/fuse.h>
 #include <fuse3/fuse_lowlevel.h>
 #include <poll.h>
+#include <signal.h>
 #include <stdio.h>
 #include <stdlib.h>
 #include <string.h>
+#include <sys/socket.h>
 #include <unistd.h>
 
 enum { IDLE = 1000, MAGIC_2 = 0x32 };
@@ -30,11 +34,15 @@ enum { IDLE = 1000, MAGIC_2 = 0x32 };
 
 static struct options {
     unsigned blocks;
+    char *follower;
     int cached, quiet;
 } options;
 
 static bpfs fs;
 static bpfs_file file;
+static bpfs_stream stream;
+static bpfs_carrier *carriers[2] = {&file.carrier, &stream.carrier};
+static size_t carrier_count = 1;
 static bpfs_lack lack;
 static uid_t owner;
 static gid_t group;
@@ -71,7 +79,7 @@ static int number(uint32_t code, const char *path) {
 }
 
 static int carry(void) {
-    return bpfs_carry(&fs, &file.carrier) ? -EIO : 0;
+    return bpfs_carry_all(&fs, carriers, carrier_count) ? -EIO : 0;
 }
 
 /* Before each call: sees that the log has room for it. Where the image can't be carried to any more, nothing is changed any more. */
@@ -339,6 +347,25 @@ static void serve(struct fuse_session *session) {
     free(buffer.mem);
 }
 
+/* Starts the follower, and gives it a copy of the image. */
+static int begin_to_lead(void) {
+    int ends[2];
+    if (socketpair(AF_UNIX, SOCK_STREAM | SOCK_CLOEXEC, 0, ends)) return -1;
+    signal(SIGPIPE, SIG_IGN);
+    pid_t pid = fork();
+    if (pid == 0) {
+        dup2(ends[1], STDIN_FILENO);
+        dup2(ends[1], STDOUT_FILENO);
+        execl("/bin/sh", "sh", "-c", options.follower, (char *)NULL);
+        _exit(127);
+    }
+    close(ends[1]);
+    if (pid < 0) return -1;
+    bpfs_stream_of(&stream, ends[0], ends[0], 0);
+    carrier_count = 2;
+    return bpfs_copy_image(&fs, &stream.carrier);
+}
+
 static int open_image(const char *path) {
     bpfs_fault fault = {0};
     uint64_t magic;
@@ -352,7 +379,8 @@ static int open_image(const char *path) {
     most = magic >> 56 == MAGIC_2 ? BPFS_MAX_WRITE_2 : BPFS_MAX_WRITE;
     remove_hidden("/");
     times_begin();
-    return carry() ? -1 : 0;
+    if (carry()) return -1;
+    return options.follower ? begin_to_lead() : 0;
 }
 
 static int serve_at(struct fuse_args *args, const char *mountpoint, bool foreground) {
@@ -369,8 +397,9 @@ static int serve_at(struct fuse_args *args, const char *mountpoint, bool foregro
 
 int main(int argc, char **argv) {
     static const struct fuse_opt known[] = {
-        {"format=%u", offsetof(struct options, blocks), 0}, {"cached", offsetof(struct options, cached), 1}, {"quiet", offsetof(struct options, quiet), 1}, FUSE_OPT_END};
-    if (argc < 3) return fprintf(stderr, "usage: bpfs_fuse IMAGE MOUNTPOINT [-f] [-o format=N,cached,quiet,..]\n"), 2;
+        {"format=%u", offsetof(struct options, blocks), 0}, {"cached", offsetof(struct options, cached), 1},
+        {"follower=%s", offsetof(struct options, follower), 0}, {"quiet", offsetof(struct options, quiet), 1}, FUSE_OPT_END};
+    if (argc < 3) return fprintf(stderr, "usage: bpfs_fuse IMAGE MOUNTPOINT [-f] [-o format=N,cached,follower=C,quiet,..]\n"), 2;
     const char *image = argv[1];
     argv[1] = argv[0];
     struct fuse_args args = FUSE_ARGS_INIT(argc - 1, argv + 1);
@@ -385,7 +414,9 @@ int main(int argc, char **argv) {
     if (carry()) code = 1;
     bpfs_close(&fs);
     bpfs_file_close(&file);
+    bpfs_stream_close(&stream);
     free(line.mountpoint);
+    free(options.follower);
     fuse_opt_free_args(&args);
     return code;
 }

@@ -4,6 +4,7 @@ set -u
 kills=$2 checker=${3:-}
 work=$(mktemp -d "$1/bpfs-fuse-XXXXXX") here=$(cd "$(dirname "$0")" && pwd)
 image=$work/image at=$work/mount own=$work/own
+load_at=$at/load # there is no such folder once the volume is gone
 mkdir "$at" "$own"
 passed=0 daemon=
 
@@ -112,24 +113,25 @@ database() {
 
 # ---- kills
 
-# Endless transactions on a database: each row has its number told once its commit has come back.
+# Endless transactions on a database: each row has its number told once its commit has come back. In mode delete a commit is an unlink, which
+# sqlite3 syncs with synchronous=extra alone.
 transactions() {
-    first=$(($(sqlite3 "$at/base" "select coalesce(max(n),0) from t" 2> /dev/null) + 1))
+    first=$(($(sqlite3 "$load_at/base" "select coalesce(max(n),0) from t" 2> /dev/null) + 1))
     awk -v first="$first" -v journal="$1" 'BEGIN {
-        print "pragma journal_mode=" journal "; pragma synchronous=full;"
+        print "pragma journal_mode=" journal "; pragma synchronous=extra;"
         for (n = first; ; n++)
             print "begin; insert into t values(" n ", randomblob(" (n * 37) % 3000 ")); update s set n=" n "; commit; select \"told\", " n ";"
-    }' | sqlite3 -bail "$at/base" > "$work/transactions" 2> /dev/null
+    }' | sqlite3 -bail "$load_at/base" > "$work/transactions" 2> /dev/null
 }
 
 # Endless new bytes for one file, each by a rename and without a sync.
 replacements() {
     n=0
-    while yes "$n" 2> /dev/null | head -c 20000 > "$at/new" && mv "$at/new" "$at/current"; do n=$((n + 1)); done 2> /dev/null
+    while yes "$n" 2> /dev/null | head -c 20000 > "$load_at/new" && mv "$load_at/new" "$load_at/current"; do n=$((n + 1)); done 2> /dev/null
 }
 
 is_whole() {
-    [ ! -e "$at/current" ] || { [ "$(stat -c %s "$at/current")" = 20000 ] && [ "$(head -c 19980 "$at/current" | sort -u | wc -l)" -le 2 ]; }
+    [ ! -e "$load_at/current" ] || { [ "$(stat -c %s "$load_at/current")" = 20000 ] && [ "$(head -c 19980 "$load_at/current" | sort -u | wc -l)" -le 2 ]; }
 }
 
 told() {
@@ -151,17 +153,50 @@ kill_under_load() {
     wait $daemon 2> /dev/null
     daemon=
     umount -l "$at"
-    wait $load $other
+    wait $load
+    kill $other 2> /dev/null
+    wait $other 2> /dev/null
     check
     mounts bpfs_fuse quiet
     is_whole || fail "a renamed file is neither the old nor the new one"
     last=$(told)
-    found=$(sqlite3 "$at/base" "pragma integrity_check; select count(*) from t; select max(n) from t; select n from s;" | tr '\n' ' ')
+    found=$(sqlite3 "$load_at/base" "pragma integrity_check; select count(*) from t; select max(n) from t; select n from s;" | tr '\n' ' ')
     set -- $found
     [ $# = 4 ] && [ "$1" = ok ] && [ "$2" = "$3" ] && [ "$3" = "$4" ] && [ "$3" -ge "${last:-0}" ] || fail "after a kill: $found, and ${last:-none} was told"
     [ -z "$(find "$at" -name '.fuse_hidden*')" ] || fail "hidden files are left"
     unmounts
     transactions_in_all=$3
+}
+
+# The leader is killed under load, and its image is thrown away: the follower's has all that was told.
+lead_and_lose() {
+    mounts bpfs_fuse "quiet,follower=exec '$here/out/san-follower' '$work/followed' 16384 cached 2> '$work/follower'"
+    transactions delete &
+    load=$!
+    for _ in $(seq 100); do
+        [ -s "$work/transactions" ] && break
+        sleep 0.02
+    done
+    sleep 1
+    kill -9 $daemon
+    wait $daemon 2> /dev/null
+    daemon=
+    umount -l "$at"
+    wait $load
+    for _ in $(seq 100); do
+        grep -q epoch "$work/follower" && break
+        sleep 0.05
+    done
+    cat "$work/follower"
+    flock "$work/followed" mv "$work/followed" "$image" # once the follower has let go of it
+    check
+    mounts bpfs_fuse quiet
+    last=$(told)
+    set -- $(sqlite3 "$load_at/base" "pragma integrity_check; select count(*) from t; select max(n) from t; select n from s;")
+    [ $# = 4 ] && [ "$1" = ok ] && [ "$2" = "$3" ] && [ "$3" = "$4" ] && [ "$3" -ge "${last:-0}" ] || fail "at the follower: $*, and ${last:-none} was told"
+    unmounts
+    echo "the follower of a killed leader: ok, ${last:-0} were told, $3 are there"
+    passed=$((passed + 1))
 }
 
 # ---- all of it
@@ -203,11 +238,13 @@ unmounts
 rm -f "$image"
 if [ -x "$(command -v sqlite3)" ]; then
     mounts bpfs_fuse quiet,format=16384
-    sqlite3 "$at/base" "create table t(n integer primary key, b blob); create table s(n); insert into s values(0);"
+    mkdir "$load_at"
+    sqlite3 "$load_at/base" "create table t(n integer primary key, b blob); create table s(n); insert into s values(0);"
     unmounts
     for i in $(seq "$kills"); do
         if [ $((i % 2)) = 0 ]; then kill_under_load delete; else kill_under_load truncate; fi
     done
+    lead_and_lose
     echo "killed $kills times under load: $transactions_in_all transactions, all that were told are there, integrity_check is ok"
     passed=$((passed + 1))
 fi

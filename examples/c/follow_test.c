@@ -33,6 +33,9 @@ static struct {
     size_t count, capacity, behind[CALLS + 1];
 } kept;
 
+/* The words that the leader of that stream had at its end. */
+static uint64_t last_words[IMAGE_BYTES / 8];
+
 /* What a leader process tells: how many calls it has begun, and how many the follower has answered. */
 static struct told {
     volatile uint32_t begun, durable;
@@ -221,6 +224,7 @@ static void make_stream(model *tree) {
         kept.behind[i] = kept.count;
         if (i < CALLS) must(model_call(tree, &fs), "the model gives another answer");
     }
+    must(bpfs_words(&fs, 0, last_words, IMAGE_BYTES / 8) == BPFS_OK, "no words");
     bpfs_close(&fs);
     bpfs_stream_close(&stream);
     free(words);
@@ -280,6 +284,12 @@ static bool flip_a_bit(const model *first, long *refused) {
     return right;
 }
 
+/* Whether a follower that has all of the stream has the leader's words, but for its note. */
+static bool has_last_words(follower *it) {
+    last_words[BPFS_NOTE_WORD] = it->words[BPFS_NOTE_WORD];
+    return memcmp(it->words, last_words, IMAGE_BYTES) == 0 || complain("gone on: the follower has other words than the leader");
+}
+
 /* Stops a follower between two stores of an epoch, which come in any order; looks; and lets another one go on from the note. */
 static bool stop_and_go_on(const model *first) {
     static model tree;
@@ -293,7 +303,7 @@ static bool stop_and_go_on(const model *first) {
     end_follower(&it);
     begin_follower(&it, false, false);
     must(give(&it, kept.bytes, kept.count), "the follower refused a stream that it had begun with");
-    right = right && has_prefix(&it, &tree, &made, CALLS, CALLS, "gone on");
+    right = right && has_prefix(&it, &tree, &made, CALLS, CALLS, "gone on") && has_last_words(&it);
     end_follower(&it);
     return right;
 }

@@ -22,7 +22,7 @@
 #include <sys/wait.h>
 #include <unistd.h>
 
-enum { CALLS = 3000, LONGEST_WAIT = 30000, MOST_STORES = 60000, PATIENCE = 100000, BROKEN = 2 };
+enum { CALLS = 3000, LONGEST_WAIT = 30000, MOST_STORES = 60000, PATIENCE = 100000, WRONG = 1, BROKEN = 2 };
 
 typedef enum order { ORDERED, SHUFFLED, MAPPED, CARELESS } order;
 
@@ -41,9 +41,13 @@ typedef struct test {
     long killed, ended, open, lost, calls;
 } test;
 
-static void stop(const char *what) {
+static void end(int status, const char *what) {
     fprintf(stderr, "kill_test: %s\n", what);
-    exit(BROKEN);
+    exit(status);
+}
+
+static void stop(const char *what) {
+    end(BROKEN, what);
 }
 
 static void die(void) {
@@ -96,7 +100,7 @@ static void kill_a_writer(test *t) {
         kill(pid, SIGKILL);
     }
     if (waitpid(pid, &status, 0) != pid) stop("no child");
-    if (WIFEXITED(status) && WEXITSTATUS(status)) stop("the writer met an answer that its model does not give");
+    if (WIFEXITED(status) && WEXITSTATUS(status)) end(WRONG, "the writer met an answer that its model does not give");
     if (WIFEXITED(status)) t->ended++;
     else t->killed++;
 }
@@ -164,7 +168,7 @@ int main(int argc, char **argv) {
     int rounds = atoi(argv[2]);
     for (int round = 0; round < rounds; round++) {
         kill_a_writer(&t);
-        if (!look(&t, round) || !checker_takes_it(&t, round)) return 1;
+        if (!look(&t, round) || !checker_takes_it(&t, round)) return WRONG;
     }
     unlink(t.image);
     printf("%s, by %u: %ld killed, %ld ended; %ld with calls open, of which %ld lost some; %ld calls\n", argv[4], t.group, t.killed, t.ended, t.open, t.lost, t.calls);

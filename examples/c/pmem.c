@@ -25,7 +25,7 @@ static void put_in_line(bpfs_pmem *pmem, uint64_t *to, const uint64_t *values, s
 
 /* A whole cache line: past the caches where that can be, which takes half of the time, word for word. */
 static void put_line(bpfs_pmem *pmem, uint64_t *to, const uint64_t *values) {
-#if defined(__SSE2__) && defined(__x86_64__)
+#if defined(__SSE2__) && defined(__x86_64__) && !defined(BPFS_NO_STREAM)
     if (to == pmem->line) flush_line(pmem); /* an earlier store to it stays the earlier one */
     for (size_t i = 0; i < LINE_WORDS; i++) _mm_stream_si64((long long *)to + i, (long long)values[i]);
 #else

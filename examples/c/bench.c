@@ -2,8 +2,8 @@
  *
  *     PMEM_IS_PMEM_FORCE=1 bench FOLDER SECONDS        a table; FOLDER should be in memory (/dev/shm)
  *
- * Times are processor time of the process, so that a busy machine matters less. Each case runs SECONDS, three times, by turns with the others
- * of its row; the best of three counts. All but pwrite write past power failures, if FOLDER were persistent memory.
+ * Times are processor time of the process, so that a busy machine matters less. Each case runs SECONDS, fifteen times, by turns with the others
+ * of its row; the best counts. All but pwrite write past power failures, if FOLDER were persistent memory.
  */
 #define _GNU_SOURCE
 #include "file.h"
@@ -16,7 +16,10 @@
 #include <time.h>
 #include <unistd.h>
 
-enum { BLOCKS = 1024, FILE_SIZE = 1 << 20, POOL_SIZE = 16 << 20, STEPS = 256, TIMES = 15, GROUP = 100 };
+enum { BLOCKS = 1024, FILE_SIZE = 1 << 20, POOL_SIZE = 16 << 20, STEPS = 256, TIMES = 15, WAYS = 6, GROUP = 100 };
+
+/* The ways are: a carry to mapped memory after each update, after each hundred, none (the log is thrown away), a carry by pwrite without a sync;
+ * a transaction of libpmemobj; and pwrite alone, which is not atomic. */
 
 #define FILE_PATH (const uint8_t *)"/file", 5
 #define MUST(it) must((it), #it, __LINE__)
@@ -153,11 +156,12 @@ static double best(double a, double b) {
 
 static void print_row(const row *of) {
     way *const ways[] = {by_pmem, by_hundreds, not_carried, by_file, of->appends ? by_transaction_appended : by_transaction, by_pwrite};
-    double found[6] = {0};
+    double found[WAYS] = {0};
     for (int time = 0; time < TIMES; time++)
-        for (int i = 0; i < 6; i++) found[i] = best(found[i], speed(ways[i], of));
-    printf("| %-19s | %9.0f | %9.0f | %9.0f | %9.0f | %9.0f | %9.0f | %5.2f |\n", of->name, found[0], found[1], found[2], found[3], found[4], found[5],
-           found[0] / found[4]);
+        for (int i = 0; i < WAYS; i++) found[i] = best(found[i], speed(ways[i], of));
+    printf("| %-19s ", of->name);
+    for (int i = 0; i < WAYS; i++) printf("| %9.0f ", found[i]);
+    printf("| %5.2f |\n", found[0] / found[4]);
     fflush(stdout);
 }
 
@@ -210,8 +214,8 @@ int main(int argc, char **argv) {
     folder = argv[1], seconds = atof(argv[2]);
     begin();
     printf("Updates a second of processor time, in a file of 1 MiB:\n\n");
-    printf("| update              | bpfs, libpmem | the same, by hundreds | bpfs, not carried | bpfs, pwrite | libpmemobj | pwrite alone | bpfs : libpmemobj |\n");
-    printf("|---|---|---|---|---|---|---|---|\n");
+    printf("| update | bpfs, libpmem | the same, by hundreds | bpfs, not carried | bpfs, pwrite ");
+    printf("| libpmemobj | pwrite alone | bpfs, libpmem : libpmemobj |\n|---|---|---|---|---|---|---|---|\n");
     for (size_t i = 0; i < sizeof rows / sizeof *rows; i++) print_row(&rows[i]);
     end();
     return 0;

@@ -325,7 +325,8 @@ static inline uint32_t bpfs_link_any(bpfs *fs, const uint8_t *from, size_t from_
     return bpfs_link(fs, BPFS_BYTES(from, from_length), from_length, BPFS_BYTES(to, to_length), to_length, lack);
 }
 
-static inline uint32_t bpfs_write_any(bpfs *fs, const uint8_t *path, size_t length, uint64_t offset, const uint8_t *bytes, size_t count, bpfs_lack *lack) {
+static inline uint32_t bpfs_write_any(bpfs *fs, const uint8_t *path, size_t length, uint64_t offset, const uint8_t *bytes, size_t count,
+                                      bpfs_lack *lack) {
     return bpfs_write(fs, BPFS_BYTES(path, length), length, offset, BPFS_BYTES(bytes, count), count, lack);
 }
 

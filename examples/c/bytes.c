@@ -97,7 +97,8 @@ static void row(const char *name, uint32_t (*call)(int)) {
         events += bpfs_event_count(&fs);
         MUST(bpfs_carry(&fs, &stream.carrier) == 0);
     }
-    printf("| %s | %.1f | %.1f | %.0f |\n", name, (double)(stream.number - number) / TIMES, (double)events / TIMES, (double)(stream.bytes - sent) / TIMES);
+    printf("| %s | %.1f | %.1f | %.0f |\n", name, (double)(stream.number - number) / TIMES, (double)events / TIMES,
+           (double)(stream.bytes - sent) / TIMES);
 }
 
 static void begin(void) {
@@ -108,7 +109,8 @@ static void begin(void) {
     for (size_t i = 0; i < count; i++)
         if (events[i].kind == BPFS_STORE) words[events[i].word] = events[i].value;
     MUST(bpfs_mount(&fs, words, BLOCKS * BPFS_BLOCK_WORDS, &fault) == BPFS_OK);
-    MUST(bpfs_mkdir(&fs, PATH("/d"), &lack) == BPFS_OK && bpfs_create(&fs, PATH("/file"), &lack) == BPFS_OK && bpfs_create(&fs, PATH("/log"), &lack) == BPFS_OK);
+    MUST(bpfs_mkdir(&fs, PATH("/d"), &lack) == BPFS_OK && bpfs_create(&fs, PATH("/file"), &lack) == BPFS_OK);
+    MUST(bpfs_create(&fs, PATH("/log"), &lack) == BPFS_OK);
     MUST(write_at(0, FILE_SIZE) == BPFS_OK);
     bpfs_drain(&fs);
     bpfs_stream_to(&stream, let_go, NULL, 0);

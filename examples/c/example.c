@@ -62,8 +62,8 @@ static void tell_sums(void) {
     bpfs_blocks blocks;
     MUST(bpfs_totals(&fs, &sums));
     MUST(bpfs_space(&fs, &blocks));
-    printf("files %llu dirs %llu bytes %llu live %u free %u\n", (unsigned long long)sums.files, (unsigned long long)sums.dirs, (unsigned long long)sums.bytes,
-           blocks.live, blocks.free);
+    printf("files %llu dirs %llu bytes %llu live %u free %u\n", (unsigned long long)sums.files, (unsigned long long)sums.dirs,
+           (unsigned long long)sums.bytes, blocks.live, blocks.free);
 }
 
 int main(int argc, char **argv) {

@@ -22,7 +22,8 @@
 #include <sys/wait.h>
 #include <unistd.h>
 
-enum { CALLS = 300, LIVE_CALLS = 2000, SHORT_WAIT = 1000, LONG_WAIT = 30000, GROUP = 7, PATIENCE = 100000, BROKEN = 2, BLOCKS = MODEL_BLOCKS, IMAGE_BYTES = BLOCKS * 8 * BPFS_BLOCK_WORDS };
+enum { CALLS = 300, LIVE_CALLS = 2000, GROUP = 7, BLOCKS = MODEL_BLOCKS, IMAGE_BYTES = BLOCKS * 8 * BPFS_BLOCK_WORDS };
+enum { SHORT_WAIT = 1000, LONG_WAIT = 30000, PATIENCE = 100000, BROKEN = 2 };
 
 static uint64_t state;
 static char path[1024];
@@ -346,7 +347,7 @@ int main(int argc, char **argv) {
     }
     unlink(path);
     free(kept.bytes);
-    printf("%d leaders killed, %ld looks while they led, %ld calls lost; %d streams cut, %d flipped (%ld refused), %d stopped, %d with a gap\n", rounds, looks, lost,
-           rounds, rounds, refused, rounds, rounds);
+    printf("%d leaders killed, %ld looks while they led, %ld with calls lost; ", rounds, looks, lost);
+    printf("%d streams cut, %d flipped (%ld refused), %d stopped, %d with a gap\n", rounds, rounds, refused, rounds, rounds);
     return 0;
 }

@@ -51,8 +51,8 @@ static void tell(void) {
     bpfs_fault fault;
     bpfs_sums sums;
     if (bpfs_file_mount(&fs, &file, &fault) || bpfs_totals(&fs, &sums)) return;
-    fprintf(stderr, "follower: epoch %llu, %llu files, %llu directories, %llu bytes\n", (unsigned long long)follower.number, (unsigned long long)sums.files,
-            (unsigned long long)sums.dirs, (unsigned long long)sums.bytes);
+    fprintf(stderr, "follower: epoch %llu, %llu files, %llu directories, %llu bytes\n", (unsigned long long)follower.number,
+            (unsigned long long)sums.files, (unsigned long long)sums.dirs, (unsigned long long)sums.bytes);
     bpfs_close(&fs);
 }
 

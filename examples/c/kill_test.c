@@ -4,8 +4,10 @@
  *
  * A child mounts IMAGE, makes random calls, and carries the log after each GROUP of them. It is killed: by its parent after some time, or by
  * itself between two stores. It carries by the file's carrier (ordered), by that with the stores of each epoch in any order (shuffled), by
- * libpmem to the mapped file (mapped), or by one that takes barriers for nothing, which has to be found out (careless). The tree that is left is compared with a plain model (model.h). CHECKER is the program bpfs, which checks the
- * image too. The status is 0 where each tree is right, 1 where one is not, and 2 where the test itself could not go on.
+ * libpmem to the mapped file (mapped), or by one that takes barriers for nothing, which has to be found out (careless).
+ *
+ * The tree that is left is compared with a plain model (model.h). CHECKER is the program bpfs, which checks the image too. The status is 0 where
+ * each tree is right, 1 where one is not, and 2 where the test itself could not go on.
  */
 #define _GNU_SOURCE
 #include "file.h"
@@ -113,7 +115,10 @@ static bool look(test *t, int round) {
     uint32_t begun = t->told->begun, durable = t->told->durable, made = 0;
     if (bpfs_file_open(&file, t->image, BPFS_FILE_CACHED)) stop("no file");
     int code = bpfs_file_mount(&fs, &file, &fault);
-    if (code) return fprintf(stderr, "round %d: what is left does not mount: %d, check %u at word %u\n", round, code, fault.check, fault.place), false;
+    if (code) {
+        fprintf(stderr, "round %d: what is left does not mount: %d, check %u at word %u\n", round, code, fault.check, fault.place);
+        return false;
+    }
     for (; made < durable; made++) model_call(&t->tree, NULL);
     bool found = model_finds(&t->tree, &fs, &made, begun);
     if (!found) fprintf(stderr, "round %d: no prefix of %u to %u calls\n", round, durable, begun);
@@ -171,6 +176,7 @@ int main(int argc, char **argv) {
         if (!look(&t, round) || !checker_takes_it(&t, round)) return WRONG;
     }
     unlink(t.image);
-    printf("%s, by %u: %ld killed, %ld ended; %ld with calls open, of which %ld lost some; %ld calls\n", argv[4], t.group, t.killed, t.ended, t.open, t.lost, t.calls);
+    printf("%s, by %u: %ld killed, %ld ended; ", argv[4], t.group, t.killed, t.ended);
+    printf("%ld with calls open, of which %ld lost some; %ld calls\n", t.open, t.lost, t.calls);
     return 0;
 }

@@ -32,16 +32,23 @@ plant() {
     found=$((found + 1))
 }
 
-plant 'a carrier forgets barriers' carry.c 's/if (run.kind == BPFS_BARRIER) return carrier->barrier(carrier);//' kill_test "$folder/planted" 300 1 shuffled 20
-plant 'a carrier passes over the second word of a run' carry.c 's/carrier->put(carrier, run.word, values, count)/carrier->put(carrier, run.word, values, count < 2 ? count : 1)/' kill_test "$folder/planted" 300 1 ordered 20
-plant 'a carrier goes on one event too far' carry.c 's/carrier->at += count;/carrier->at += count + (count > 1);/' kill_test "$folder/planted" 300 1 ordered 20
-plant 'a call is told before it is carried' kill_test.c 's/t->told->begun = i + 1;/t->told->begun = t->told->durable = i + 1;/' kill_test "$folder/planted" 300 1 ordered 20
+plant 'a carrier forgets barriers' carry.c 's/if (run.kind == BPFS_BARRIER) return carrier->barrier(carrier);//' \
+    kill_test "$folder/planted" 300 1 shuffled 20
+plant 'a carrier passes over the second word of a run' carry.c 's/carrier->put(carrier, run.word, values, count)/carrier->put(carrier, run.word, values, count < 2 ? count : 1)/' \
+    kill_test "$folder/planted" 300 1 ordered 20
+plant 'a carrier goes on one event too far' carry.c 's/carrier->at += count;/carrier->at += count + (count > 1);/' \
+    kill_test "$folder/planted" 300 1 ordered 20
+plant 'a call is told before it is carried' kill_test.c 's/t->told->begun = i + 1;/t->told->begun = t->told->durable = i + 1;/' \
+    kill_test "$folder/planted" 300 1 ordered 20
 plant 'a line is not flushed at a barrier' pmem.c 's/^    flush_line(pmem);//' pmem_test 2000 1
 plant 'a line is not flushed where the next one begins' pmem.c 's/if (line_of(to) != pmem->line) flush_line(pmem);//' pmem_test 2000 1
 plant 'a barrier of persistent memory waits for nothing' pmem.c 's/^    pmem_drain();//' pmem_test 2000 1
-plant 'two epochs are one frame' stream.c 's/    if (!payload) return 0;/    static int odd; if (!payload || (odd = !odd)) return 0;/' follow_test "$folder" 100 1
+plant 'two epochs are one frame' stream.c 's/    if (!payload) return 0;/    static int odd; if (!payload || (odd = !odd)) return 0;/' \
+    follow_test "$folder" 100 1
 plant 'the sum of a frame is not looked at' follow.c 's/words\[2\] != bpfs_frame_sum(words, payload) || //' follow_test "$folder" 100 1
-plant 'the number of a frame is not looked at' follow.c 's/ || words\[1\] > follower->number + 1//; s/if (words\[1\] == follower->number + 1)/if (true)/' follow_test "$folder" 100 1
-plant 'the note is ahead' follow.c 's/BPFS_NOTE_WORD, &follower->number, 1/BPFS_NOTE_WORD, \&(uint64_t){follower->number + 1}, 1/' follow_test "$folder" 100 1
+plant 'the number of a frame is not looked at' follow.c 's/ || words\[1\] > follower->number + 1//; s/if (words\[1\] == follower->number + 1)/if (true)/' \
+    follow_test "$folder" 100 1
+plant 'the note is ahead' follow.c 's/BPFS_NOTE_WORD, &follower->number, 1/BPFS_NOTE_WORD, \&(uint64_t){follower->number + 1}, 1/' \
+    follow_test "$folder" 100 1
 rm -f "$folder/planted" "$folder/follower"
 echo "$found faults planted, all found"

@@ -55,8 +55,8 @@ static void start_redis(void) {
     if (server == 0) {
         prctl(PR_SET_PDEATHSIG, SIGKILL);
         if (!freopen("/dev/null", "w", stdout)) _exit(BROKEN);
-        execlp("redis-server", "redis-server", "--port", "0", "--unixsocket", in_folder("socket"), "--dir", folder, "--save", "", "--appendonly", "yes",
-               "--appendfsync", "always", (char *)NULL);
+        execlp("redis-server", "redis-server", "--port", "0", "--unixsocket", in_folder("socket"), "--dir", folder, "--save", "",
+               "--appendonly", "yes", "--appendfsync", "always", (char *)NULL);
         _exit(BROKEN);
     }
 }
@@ -205,6 +205,8 @@ int main(int argc, char **argv) {
         redisFree(redis.at);
     }
     kill_redis();
-    if (right) printf("%d leaders over a Redis stream killed, %ld of them with calls lost; Redis killed %ld times; old leaders refused\n", rounds, lost, kills);
-    return !right;
+    if (!right) return 1;
+    printf("%d leaders over a Redis stream killed, %ld of them with calls lost; ", rounds, lost);
+    printf("Redis killed %ld times; old leaders refused\n", kills);
+    return 0;
 }

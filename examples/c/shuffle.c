@@ -18,7 +18,8 @@ static int reserve(bpfs_shuffle *shuffle, size_t count) {
 static int put(bpfs_carrier *carrier, uint32_t word, const uint64_t *values, size_t count) {
     bpfs_shuffle *shuffle = (bpfs_shuffle *)carrier;
     if (reserve(shuffle, count)) return -1;
-    for (size_t i = 0; i < count; i++, shuffle->count++) shuffle->stores[shuffle->count] = (bpfs_event){(uint32_t)shuffle->count, word + (uint32_t)i, values[i]};
+    for (size_t i = 0; i < count; i++, shuffle->count++)
+        shuffle->stores[shuffle->count] = (bpfs_event){(uint32_t)shuffle->count, word + (uint32_t)i, values[i]};
     return 0;
 }
 

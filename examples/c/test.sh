@@ -15,6 +15,7 @@ run() {
     passed=$((passed + 1))
 }
 
+if [ -x "$(command -v c++)" ]; then run c++ -std=c++11 -Wall -Wextra -Wpedantic -Werror -fsyntax-only -x c++ bpfs.h; fi
 out/san-example "$folder/image" > "$folder/told" && diff example.expected "$folder/told" || fail example
 passed=$((passed + 1))
 for program in header documented; do

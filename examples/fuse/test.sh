@@ -1,5 +1,5 @@
 #!/bin/bash
-# Uses mounted volumes by programs, and kills a mount under load. test.sh FOLDER KILLS [CHECKER]
+# Uses mounted volumes by programs, and kills a mount under load. test.sh FOLDER KILLS [CHECKER]: images and mounts in FOLDER; the program bpfs.
 set -u
 kills=$2 checker=${3:-}
 work=$(mktemp -d "$1/bpfs-fuse-XXXXXX") here=$(cd "$(dirname "$0")" && pwd)
@@ -62,7 +62,8 @@ copies() {
 }
 
 moves() {
-    mv "$at/tree/docs" "$at/docs" && diff -r "$own/tree/docs" "$at/docs" && mv "$at/docs" "$at/tree/docs" && mv "$at/tree" "$at/moved" && diff -r "$own/tree" "$at/moved"
+    mv "$at/tree/docs" "$at/docs" && diff -r "$own/tree/docs" "$at/docs" && mv "$at/docs" "$at/tree/docs" || return 1
+    mv "$at/tree" "$at/moved" && diff -r "$own/tree" "$at/moved"
 }
 
 pieces() {
@@ -98,7 +99,8 @@ commits() {
 }
 
 writes_at_random() {
-    fio --name=job --directory="$at" --size=8m --rw=randwrite --bs=4k --fsync=64 --verify=crc32c --verify_fatal=1 --ioengine=psync --runtime=20 --minimal > /dev/null
+    fio --name=job --directory="$at" --size=8m --rw=randwrite --bs=4k --fsync=64 --verify=crc32c --verify_fatal=1 --ioengine=psync \
+        --runtime=20 --minimal > /dev/null
 }
 
 # database JOURNAL: transactions, one rolled back, and a look at all of it
@@ -120,7 +122,8 @@ transactions() {
     awk -v first="$first" -v journal="$1" 'BEGIN {
         print "pragma journal_mode=" journal "; pragma synchronous=extra;"
         for (n = first; ; n++)
-            print "begin; insert into t values(" n ", randomblob(" (n * 37) % 3000 ")); update s set n=" n "; commit; select \"told\", " n ";"
+            print "begin; insert into t values(" n ", randomblob(" (n * 37) % 3000 ")); update s set n=" n "; commit;",
+                "select \"told\", " n ";"
     }' | sqlite3 -bail "$load_at/base" > "$work/transactions" 2> /dev/null
 }
 
@@ -132,6 +135,11 @@ replacements() {
 
 is_whole() {
     [ ! -e "$load_at/current" ] || { [ "$(stat -c %s "$load_at/current")" = 20000 ] && [ "$(head -c 19980 "$load_at/current" | sort -u | wc -l)" -le 2 ]; }
+}
+
+# ok, how many rows there are, the last one, and the number that was changed with it
+look() {
+    sqlite3 "$load_at/base" "pragma integrity_check; select count(*) from t; select max(n) from t; select n from s;" | tr '\n' ' '
 }
 
 told() {
@@ -160,7 +168,7 @@ kill_under_load() {
     mounts bpfs_fuse quiet
     is_whole || fail "a renamed file is neither the old nor the new one"
     last=$(told)
-    found=$(sqlite3 "$load_at/base" "pragma integrity_check; select count(*) from t; select max(n) from t; select n from s;" | tr '\n' ' ')
+    found=$(look)
     set -- $found
     [ $# = 4 ] && [ "$1" = ok ] && [ "$2" = "$3" ] && [ "$3" = "$4" ] && [ "$3" -ge "${last:-0}" ] || fail "after a kill: $found, and ${last:-none} was told"
     [ -z "$(find "$at" -name '.fuse_hidden*')" ] || fail "hidden files are left"
@@ -192,7 +200,7 @@ lead_and_lose() {
     check
     mounts bpfs_fuse quiet
     last=$(told)
-    set -- $(sqlite3 "$load_at/base" "pragma integrity_check; select count(*) from t; select max(n) from t; select n from s;")
+    set -- $(look)
     [ $# = 4 ] && [ "$1" = ok ] && [ "$2" = "$3" ] && [ "$3" = "$4" ] && [ "$3" -ge "${last:-0}" ] || fail "at the follower: $*, and ${last:-none} was told"
     unmounts
     echo "the follower of a killed leader: ok, ${last:-0} were told, $3 are there"

@@ -124,7 +124,7 @@ transactions() {
         for (n = first; ; n++)
             print "begin; insert into t values(" n ", randomblob(" (n * 37) % 3000 ")); update s set n=" n "; commit;",
                 "select \"told\", " n ";"
-    }' | sqlite3 -bail "$load_at/base" > "$work/transactions" 2> /dev/null
+    }' | stdbuf -oL sqlite3 -bail "$load_at/base" > "$work/transactions" 2> /dev/null
 }
 
 # Endless new bytes for one file, each by a rename and without a sync.
@@ -220,7 +220,7 @@ step "tar" archives
 if [ -x "$(command -v git)" ]; then step "git" commits; else echo "left out: git"; fi
 if [ -x "$(command -v fio)" ]; then step "fio" writes_at_random; else echo "left out: fio"; fi
 if [ -x "$(command -v sqlite3)" ]; then
-    for journal in delete truncate off; do step "sqlite3, journal $journal" database $journal; done
+    for journal in delete truncate wal off; do step "sqlite3, journal $journal" database $journal; done
 else
     echo "left out: sqlite3"
 fi

@@ -19,7 +19,7 @@ struct bpfs_carrier {
     int (*barrier)(bpfs_carrier *carrier);
     /* Waits until all that was put persists. */
     int (*settle)(bpfs_carrier *carrier);
-    /* How many events of the log it has carried. Begin with 0. */
+    /* How many events of the log it has carried. Begin with 0, and again with each volume. */
     size_t at;
 };
 

@@ -57,6 +57,7 @@ int bpfs_file_mount(bpfs *fs, bpfs_file *file, bpfs_fault *fault) {
     if (words == MAP_FAILED) return -1;
     int code = (int)bpfs_mount(fs, words, length / 8, fault);
     munmap(words, length);
+    file->carrier.at = 0;
     return code;
 }
 

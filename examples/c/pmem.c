@@ -72,6 +72,7 @@ int bpfs_pmem_open(bpfs_pmem *pmem, const char *path, uint32_t blocks) {
 }
 
 int bpfs_pmem_mount(bpfs *fs, bpfs_pmem *pmem, bpfs_fault *fault) {
+    pmem->carrier.at = 0;
     return (int)bpfs_mount(fs, pmem->words, pmem->count, fault);
 }
 

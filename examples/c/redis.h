@@ -7,7 +7,8 @@
  *
  * What it trusts: that Redis has an entry for good once it has answered. How good that is says its configuration: with `appendonly yes` and
  * `appendfsync always` an answered epoch outlives a power failure of that machine; with `everysec` up to a second of them goes; and behind a
- * failover the new server may lack what the old one had answered, unless WAIT is used. A follower that has such a lost epoch has to begin anew.
+ * failover the new server may lack what the old one had answered, which WAIT makes rarer and not impossible. A follower that has such a lost
+ * epoch has to begin anew.
  */
 #ifndef BPFS_REDIS_H
 #define BPFS_REDIS_H

@@ -36,7 +36,7 @@ typedef struct bpfs_stream {
 /* The sum of a frame's first two words and payload. */
 uint64_t bpfs_frame_sum(const uint64_t *frame, size_t payload);
 
-/* A stream whose last epoch had this number (0: none yet), and that goes to fd. */
+/* A stream whose last epoch had this number (0: none yet), and that goes to fd. It is for one volume: another one begins another stream. */
 void bpfs_stream_of(bpfs_stream *stream, int fd, int answers, uint64_t number);
 
 /* The same to what a function of yours takes: a message of a queue, an entry of a log, a row of a table. */

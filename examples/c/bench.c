@@ -2,7 +2,7 @@
  *
  *     PMEM_IS_PMEM_FORCE=1 bench FOLDER SECONDS        a table; FOLDER should be in memory (/dev/shm)
  *
- * Times are processor time of the process, so that a busy machine matters less. Each case runs SECONDS, fifteen times, by turns with the others
+ * Times are processor time of the process, so that a busy machine matters less. Each case runs SECONDS, forty times, by turns with the others
  * of its row; the best counts. All but pwrite write past power failures, if FOLDER were persistent memory.
  */
 #define _GNU_SOURCE
@@ -16,7 +16,7 @@
 #include <time.h>
 #include <unistd.h>
 
-enum { BLOCKS = 1024, FILE_SIZE = 1 << 20, POOL_SIZE = 16 << 20, STEPS = 256, TIMES = 15, WAYS = 6, GROUP = 100 };
+enum { BLOCKS = 1024, FILE_SIZE = 1 << 20, POOL_SIZE = 16 << 20, STEPS = 256, TIMES = 40, WAYS = 6, GROUP = 100 };
 
 /* The ways are: a carry to mapped memory after each update, after each hundred, none (the log is thrown away), a carry by pwrite without a sync;
  * a transaction of libpmemobj; and pwrite alone, which is not atomic. */

@@ -9,7 +9,7 @@ found=0
 build() {
     name=$1
     shift
-    ${CC:-cc} -std=c11 -O1 -g -DBPFS_NO_STREAM "$name.c" model.c shuffle.c carry.c file.c stream.c follow.c "$@" "$library" "$kit" -o "$name"
+    ${CC:-cc} -std=c11 -O1 -g "$name.c" model.c shuffle.c carry.c file.c stream.c follow.c "$@" "$library" "$kit" -o "$name"
 }
 
 # plant FAULT FILE EDIT TEST WORDS..: the edit of the file (by sed) has to make the test fail
@@ -22,7 +22,7 @@ plant() {
         sed -i "$edit" "$file"
         cmp -s "$file" "$OLDPWD/$file" && echo "$fault: nothing is planted" && exit 3
         case $test in
-        pmem_test) build pmem_test pmem.c ;;
+        lossy_test) build lossy_test pmem.c -DBPFS_NO_STREAM -Dpwrite=lossy_pwrite -Dfdatasync=lossy_fdatasync ;;
         *) build "$test" ;;
         esac || exit 3
         "./$test" "$@" > told 2>&1
@@ -40,9 +40,15 @@ plant 'a carrier goes on one event too far' carry.c 's/carrier->at += count;/car
     kill_test "$folder/planted" 300 1 ordered 20
 plant 'a call is told before it is carried' kill_test.c 's/t->told->begun = i + 1;/t->told->begun = t->told->durable = i + 1;/' \
     kill_test "$folder/planted" 300 1 ordered 20
-plant 'a line is not flushed at a barrier' pmem.c 's/^    flush_line(pmem);//' pmem_test 2000 1
-plant 'a line is not flushed where the next one begins' pmem.c 's/if (line_of(to) != pmem->line) flush_line(pmem);//' pmem_test 2000 1
-plant 'a barrier of persistent memory waits for nothing' pmem.c 's/^    pmem_drain();//' pmem_test 2000 1
+plant 'a line is not flushed at a barrier' pmem.c 's/^    flush_line(pmem);//' lossy_test pmem 2000 1
+plant 'a line is not flushed where the next one begins' pmem.c 's/if (line_of(to) != pmem->line) flush_line(pmem);//' lossy_test pmem 2000 1
+plant 'a barrier of persistent memory waits for nothing' pmem.c 's/^    pmem_drain();//' lossy_test pmem 2000 1
+plant 'a barrier of a file waits for nothing' file.c 's/{put, settle, settle, 0}/{put, nothing, settle, 0}/; s/^int bpfs_file_open/static int nothing(bpfs_carrier *carrier) { (void)carrier; return 0; }\n&/' \
+    lossy_test file 3000 1
+plant 'a file is never synced' file.c 's/|| !file->owes/|| true/' \
+    lossy_test file 3000 1
+plant 'a file forgets that it owes a sync' file.c 's/^    file->owes = true;/    if (count > 1) file->owes = true;/' \
+    lossy_test file 3000 1
 plant 'two epochs are one frame' stream.c 's/    if (!payload) return 0;/    static int odd; if (!payload || (odd = !odd)) return 0;/' \
     follow_test "$folder" 100 1
 plant 'the sum of a frame is not looked at' follow.c 's/words\[2\] != bpfs_frame_sum(words, payload) || //' follow_test "$folder" 100 1

@@ -34,7 +34,8 @@ if [ "${HAS_PMEM:-}" = yes ]; then
     PMEM_IS_PMEM_FORCE=1
     export PMEM_IS_PMEM_FORCE
     run out/san-kill_test "$folder/image" "$rounds" 5 mapped 20 $checker
-    run out/san-pmem_test 3000 1
+    run out/san-lossy_test file 3000 1
+    run out/san-lossy_test pmem 3000 1
 fi
 # A carrier that takes barriers for nothing has to be found out, with each of three seeds.
 for seed in 1 2 3; do

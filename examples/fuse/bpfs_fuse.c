@@ -407,7 +407,7 @@ int main(int argc, char **argv) {
     if (fuse_opt_parse(&args, &options, known, NULL) || fuse_parse_cmdline(&args, &line) || !line.mountpoint) return 2;
     owner = getuid(), group = getgid();
     int code = open_image(image);
-    if (code < 0) return fprintf(stderr, "bpfs_fuse: %s: %s\n", image, strerror(errno)), 7;
+    if (code < 0) return fprintf(stderr, "bpfs_fuse: %s: %s\n", image, errno == EWOULDBLOCK ? "in use by another process" : strerror(errno)), 7;
     if (code) return fprintf(stderr, "bpfs_fuse: %s: no image (%d)\n", image, code), 7;
     code = serve_at(&args, line.mountpoint, line.foreground);
     remove_hidden("/");

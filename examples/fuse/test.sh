@@ -99,7 +99,7 @@ commits() {
 }
 
 writes_at_random() {
-    fio --name=job --directory="$at" --size=8m --rw=randwrite --bs=4k --fsync=64 --verify=crc32c --verify_fatal=1 --ioengine=psync \
+    fio --name=job --directory="$at" --size=8m --rw=randwrite --bs=4k --fsync=64 --verify=crc32c --verify_fatal=1 --verify_state_save=0 --ioengine=psync \
         --runtime=20 --minimal > /dev/null
 }
 

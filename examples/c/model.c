@@ -1,0 +1,204 @@
+#include "model.h"
+#include <stdio.h>
+#include <string.h>
+
+enum { LONG_WRITE = 20000, SHORT_WRITE = 200 };
+
+/* What a call is made of: the model, the volume or NULL, the answer of the volume and that of the model. */
+typedef struct turn {
+    model *m;
+    bpfs *fs;
+    uint32_t code, wanted;
+    bpfs_lack lack;
+} turn;
+
+typedef struct path {
+    uint8_t text[16];
+    size_t length;
+} path;
+
+static const path empty_dir = {"/d0/empty", 9};
+
+uint32_t draw(uint64_t *state, uint32_t below) {
+    *state = *state * 6364136223846793005u + 1442695040888963407u;
+    return (uint32_t)((*state >> 33) % below);
+}
+
+static path path_of(int name) {
+    path it;
+    it.length = (size_t)snprintf((char *)it.text, sizeof it.text, "/d%d/f%d", name % MODEL_DIRS, name / MODEL_DIRS);
+    return it;
+}
+
+void model_clear(model *m, uint64_t state) {
+    memset(m, 0, sizeof *m);
+    m->state = state;
+    for (int i = 0; i < MODEL_NAMES; i++) m->file_of[i] = -1;
+}
+
+uint32_t model_begin(bpfs *fs) {
+    bpfs_lack lack;
+    uint32_t code = bpfs_mkdir(fs, (const uint8_t *)"/d0", 3, &lack);
+    return code ? code : bpfs_mkdir(fs, (const uint8_t *)"/d1", 3, &lack);
+}
+
+/* The file of a name, or NULL. */
+static model_file *file_of(model *m, int name) {
+    return m->file_of[name] < 0 ? NULL : &m->files[m->file_of[name]];
+}
+
+static void name_goes(model *m, int name) {
+    model_file *file = file_of(m, name);
+    if (file && --file->names == 0) memset(file, 0, sizeof *file);
+    m->file_of[name] = -1;
+}
+
+static void name_comes(model *m, int name, int file) {
+    m->file_of[name] = file;
+    m->files[file].names++;
+}
+
+static int free_file(const model *m) {
+    for (int i = 0; i < MODEL_FILES; i++)
+        if (m->files[i].names == 0) return i;
+    return -1;
+}
+
+static void create(turn *t, int name) {
+    path at = path_of(name);
+    if (t->fs) t->code = bpfs_create(t->fs, at.text, at.length, &t->lack);
+    t->wanted = file_of(t->m, name) ? BPFS_EXISTS : BPFS_OK;
+    if (!t->wanted) name_comes(t->m, name, free_file(t->m));
+}
+
+static void unlink_name(turn *t, int name) {
+    path at = path_of(name);
+    if (t->fs) t->code = bpfs_unlink(t->fs, at.text, at.length, &t->lack);
+    t->wanted = file_of(t->m, name) ? BPFS_OK : BPFS_NOT_FOUND;
+    name_goes(t->m, name);
+}
+
+static void rename_name(turn *t, int name, int to) {
+    path at = path_of(name), other = path_of(to);
+    if (t->fs) t->code = bpfs_rename(t->fs, at.text, at.length, other.text, other.length, &t->lack);
+    int file = t->m->file_of[name];
+    t->wanted = file < 0 ? BPFS_NOT_FOUND : BPFS_OK;
+    if (file < 0 || file == t->m->file_of[to]) return; /* two names of one file stay both */
+    name_goes(t->m, to);
+    name_comes(t->m, to, file);
+    name_goes(t->m, name);
+}
+
+static void link_name(turn *t, int name, int to) {
+    path at = path_of(name), other = path_of(to);
+    if (t->fs) t->code = bpfs_link(t->fs, at.text, at.length, other.text, other.length, &t->lack);
+    int file = t->m->file_of[name];
+    t->wanted = file < 0 ? BPFS_NOT_FOUND : t->m->file_of[to] < 0 ? BPFS_OK : BPFS_EXISTS;
+    if (!t->wanted) name_comes(t->m, to, file);
+}
+
+static void truncate_file(turn *t, int name, uint32_t size) {
+    path at = path_of(name);
+    if (t->fs) t->code = bpfs_truncate(t->fs, at.text, at.length, size, &t->lack);
+    model_file *file = file_of(t->m, name);
+    t->wanted = file ? BPFS_OK : BPFS_NOT_FOUND;
+    if (!file) return;
+    if (size < file->size) memset(file->bytes + size, 0, file->size - size);
+    file->size = size;
+}
+
+static void make_or_remove_dir(turn *t) {
+    bool has = t->m->has_dir;
+    if (t->fs && has) t->code = bpfs_rmdir(t->fs, empty_dir.text, empty_dir.length, &t->lack);
+    if (t->fs && !has) t->code = bpfs_mkdir(t->fs, empty_dir.text, empty_dir.length, &t->lack);
+    t->m->has_dir = !has;
+}
+
+static void fill(uint64_t *state, uint8_t *bytes, uint32_t count) {
+    for (uint32_t i = 0; i < count; i++) bytes[i] = (uint8_t)draw(state, 256);
+}
+
+static void write_file(turn *t, int name) {
+    static uint8_t bytes[LONG_WRITE];
+    path at = path_of(name);
+    uint32_t count = 1 + draw(&t->m->state, draw(&t->m->state, 3) ? SHORT_WRITE : LONG_WRITE), offset = draw(&t->m->state, MODEL_SIZE - count);
+    fill(&t->m->state, bytes, count);
+    if (t->fs) t->code = bpfs_write(t->fs, at.text, at.length, offset, bytes, count, &t->lack);
+    model_file *file = file_of(t->m, name);
+    t->wanted = file ? BPFS_OK : BPFS_NOT_FOUND;
+    if (!file) return;
+    memcpy(file->bytes + offset, bytes, count);
+    if (file->size < offset + count) file->size = offset + count;
+}
+
+/* Two pieces for two names: both are there after it, or none. */
+static void write_batch(turn *t, int name, int other) {
+    uint8_t text[2 * (sizeof(path) + SHORT_WRITE)];
+    bpfs_piece pieces[2];
+    int names[2] = {name, other};
+    uint32_t length = 0;
+    for (int i = 0; i < 2; i++) {
+        path at = path_of(names[i]);
+        uint32_t count = draw(&t->m->state, SHORT_WRITE), offset = draw(&t->m->state, MODEL_SIZE / 4);
+        pieces[i] = (bpfs_piece){length, (uint32_t)at.length, offset, length + (uint32_t)at.length, count};
+        memcpy(text + length, at.text, at.length);
+        length += (uint32_t)at.length;
+        fill(&t->m->state, text + length, count);
+        length += count;
+    }
+    if (t->fs) t->code = bpfs_batch(t->fs, text, length, pieces, 2, &t->lack);
+    uint32_t in_all = pieces[0].bytes_length + pieces[1].bytes_length;
+    for (int i = 0; i < 2 && !t->wanted; i++) {
+        model_file *file = file_of(t->m, names[i]);
+        if (!file) t->wanted = BPFS_NOT_FOUND;
+        else if (pieces[i].offset + pieces[i].bytes_length > file->size) t->wanted = BPFS_PAST_END;
+    }
+    if (t->wanted || !in_all) return;
+    for (int i = 0; i < 2; i++) memcpy(file_of(t->m, names[i])->bytes + pieces[i].offset, text + pieces[i].bytes_at, pieces[i].bytes_length);
+}
+
+bool model_call(model *m, bpfs *fs) {
+    turn t = {.m = m, .fs = fs};
+    int name = (int)draw(&m->state, MODEL_NAMES), other = (int)draw(&m->state, MODEL_NAMES);
+    switch (draw(&m->state, 16)) {
+    case 0: case 1: create(&t, name); break;
+    case 2: unlink_name(&t, name); break;
+    case 3: rename_name(&t, name, other); break;
+    case 4: link_name(&t, name, other); break;
+    case 5: truncate_file(&t, name, draw(&m->state, MODEL_SIZE)); break;
+    case 6: make_or_remove_dir(&t); break;
+    case 7: case 8: write_batch(&t, name, other); break;
+    default: write_file(&t, name);
+    }
+    return !fs || t.code == t.wanted;
+}
+
+static bool file_is_shown(const model_file *file, bpfs *fs, path at) {
+    static uint8_t bytes[MODEL_SIZE];
+    bpfs_found found;
+    size_t count = 0;
+    uint32_t names = 0;
+    uint32_t code = bpfs_stat(fs, at.text, at.length, &found);
+    if (!file) return code == BPFS_NOT_FOUND;
+    if (code || found.is_dir || found.size != file->size) return false;
+    if (bpfs_links(fs, at.text, at.length, &names) || names != (uint32_t)file->names) return false;
+    if (bpfs_read(fs, at.text, at.length, 0, bytes, sizeof bytes, &count) || count != file->size) return false;
+    return memcmp(bytes, file->bytes, count) == 0;
+}
+
+bool model_is_shown(const model *m, bpfs *fs) {
+    bpfs_found found;
+    if (bpfs_stat(fs, empty_dir.text, empty_dir.length, &found) != (m->has_dir ? BPFS_OK : BPFS_NOT_FOUND)) return false;
+    for (int i = 0; i < MODEL_NAMES; i++)
+        if (!file_is_shown(m->file_of[i] < 0 ? NULL : &m->files[m->file_of[i]], fs, path_of(i))) return false;
+    return true;
+}
+
+bool model_finds(model *m, bpfs *fs, uint32_t *made, uint32_t most) {
+    while (!model_is_shown(m, fs)) {
+        if (*made >= most) return false;
+        model_call(m, NULL);
+        ++*made;
+    }
+    return true;
+}

@@ -1,0 +1,212 @@
+/* redis_test.c - leaders over a Redis stream are killed, and so is Redis; whoever follows has the tree after a prefix of the calls.
+ *
+ *     redis_test FOLDER ROUNDS SEED
+ *
+ * It starts a redis-server of its own in FOLDER, on a socket there, which syncs each entry. In each round a leader process catches up with the
+ * stream, has to find the tree at which the last round ended, makes calls, and is killed. Then a follower goes on from its note. In some rounds
+ * Redis is killed before that. The status is 0 where all is right, 1 where a tree is not, and 2 where the test itself could not go on.
+ */
+#define _GNU_SOURCE
+#include "file.h"
+#include "model.h"
+#include "redis.h"
+#include <errno.h>
+#include <signal.h>
+#include <stdio.h>
+#include <stdlib.h>
+#include <string.h>
+#include <sys/mman.h>
+#include <sys/prctl.h>
+#include <sys/wait.h>
+#include <unistd.h>
+
+enum { CALLS = 400, GROUP = 3, BLOCKS = MODEL_BLOCKS, LONGEST_WAIT = 100000, PATIENCE = 100, BROKEN = 2 };
+
+static const char *folder;
+static uint64_t state;
+static pid_t server;
+static bpfs_redis redis = {.key = "bpfs"};
+
+static struct told {
+    volatile uint32_t begun, durable;
+} *told;
+
+static void stop(const char *what) {
+    fprintf(stderr, "redis_test: %s\n", what);
+    if (server > 0) kill(server, SIGKILL);
+    exit(BROKEN);
+}
+
+static void must(bool it, const char *what) {
+    if (!it) stop(what);
+}
+
+static const char *in_folder(const char *name) {
+    static char path[1100];
+    snprintf(path, sizeof path, "%s/%s", folder, name);
+    return path;
+}
+
+/* ---- Redis */
+
+static void start_redis(void) {
+    server = fork();
+    must(server >= 0, "no fork");
+    if (server == 0) {
+        prctl(PR_SET_PDEATHSIG, SIGKILL);
+        if (!freopen("/dev/null", "w", stdout)) _exit(BROKEN);
+        execlp("redis-server", "redis-server", "--port", "0", "--unixsocket", in_folder("socket"), "--dir", folder, "--save", "",
+               "--appendonly", "yes", "--appendfsync", "always", (char *)NULL);
+        _exit(BROKEN);
+    }
+}
+
+/* A connection, once Redis has read what it kept. */
+static redisContext *connect_redis(void) {
+    for (int i = 0; i < PATIENCE; i++) {
+        redisContext *at = redisConnectUnix(in_folder("socket"));
+        redisReply *reply = at && !at->err ? redisCommand(at, "PING") : NULL;
+        bool ready = reply && reply->type == REDIS_REPLY_STATUS;
+        freeReplyObject(reply);
+        if (ready) return at;
+        redisFree(at);
+        usleep(50000);
+    }
+    stop("no Redis");
+    return NULL;
+}
+
+static void kill_redis(void) {
+    kill(server, SIGKILL);
+    must(waitpid(server, NULL, 0) == server, "no server");
+}
+
+/* ---- a medium that follows the stream */
+
+typedef struct medium {
+    bpfs_file file;
+    bpfs_follower follower;
+} medium;
+
+static void open_medium(medium *it, const char *name) {
+    uint64_t noted = 0;
+    must(bpfs_file_open(&it->file, in_folder(name), BPFS_FILE_CACHED) == 0, "no file");
+    must(ftruncate(it->file.fd, (off_t)BLOCKS * 8 * BPFS_BLOCK_WORDS) == 0, "no room");
+    must(pread(it->file.fd, &noted, sizeof noted, 8 * BPFS_NOTE_WORD) == sizeof noted, "no note");
+    bpfs_follower_of(&it->follower, &it->file.carrier, BLOCKS, noted);
+}
+
+static void catch_up(medium *it) {
+    long n;
+    while ((n = bpfs_redis_follow(&redis, &it->follower)) > 0) {}
+    must(n == 0, "the stream is refused");
+}
+
+static void close_medium(medium *it) {
+    bpfs_follower_close(&it->follower);
+    bpfs_file_close(&it->file);
+}
+
+/* ---- rounds */
+
+static void lead(model *tree, bool first) {
+    medium own;
+    bpfs_stream stream;
+    bpfs fs = BPFS_CLOSED;
+    bpfs_fault fault;
+    redis.at = connect_redis();
+    open_medium(&own, "leader");
+    catch_up(&own);
+    redis.own = &own.follower;
+    bpfs_stream_to(&stream, bpfs_redis_send, &redis, own.follower.number);
+    if (first && bpfs_format(&stream.carrier, BLOCKS, 2)) _exit(3);
+    if (bpfs_file_mount(&fs, &own.file, &fault)) _exit(3);
+    if (first && (model_begin(&fs) || bpfs_carry(&fs, &stream.carrier))) _exit(3);
+    if (!model_is_shown(tree, &fs)) _exit(6);
+    bpfs_carry(&fs, &stream.carrier);
+    for (uint32_t i = 0; i < CALLS; i++) {
+        told->begun = i + 1;
+        if (!model_call(tree, &fs)) _exit(4);
+        if ((i + 1) % GROUP && i + 1 < CALLS) continue;
+        if (bpfs_carry(&fs, &stream.carrier)) _exit(5);
+        told->durable = i + 1;
+    }
+    _exit(0);
+}
+
+static void kill_a_leader(model *tree, bool first) {
+    told->begun = told->durable = 0;
+    pid_t leader = fork();
+    must(leader >= 0, "no fork");
+    if (leader == 0) lead(tree, first);
+    for (int i = 0; !told->begun && i < 100 * PATIENCE; i++) usleep(1000);
+    usleep(draw(&state, LONGEST_WAIT));
+    kill(leader, SIGKILL);
+    int status;
+    must(waitpid(leader, &status, 0) == leader, "no child");
+    if (WIFEXITED(status) && WEXITSTATUS(status)) fprintf(stderr, "the leader ended with %d\n", WEXITSTATUS(status));
+    must(!WIFEXITED(status) || WEXITSTATUS(status) == 0, "the leader met what it should not");
+}
+
+static bool look(model *tree, int round, long *lost) {
+    medium it;
+    bpfs fs = BPFS_CLOSED;
+    bpfs_fault fault;
+    uint32_t made = 0, durable = told->durable, begun = told->begun;
+    open_medium(&it, "follower");
+    catch_up(&it);
+    must(bpfs_file_mount(&fs, &it.file, &fault) == BPFS_OK, "the follower does not mount");
+    for (; made < durable; made++) model_call(tree, NULL);
+    bool right = model_finds(tree, &fs, &made, begun);
+    if (!right) fprintf(stderr, "round %d: no prefix of %u to %u calls\n", round, durable, begun);
+    *lost += made < begun;
+    bpfs_close(&fs);
+    close_medium(&it);
+    return right;
+}
+
+/* Who leads with an old number is refused, and the stream stays as it is. */
+static bool is_fenced(void) {
+    medium it;
+    bpfs_stream stream;
+    uint64_t value = 1;
+    open_medium(&it, "follower");
+    bpfs_stream_to(&stream, bpfs_redis_send, &redis, it.follower.number ? it.follower.number - 1 : 0);
+    must(stream.carrier.put(&stream.carrier, BPFS_NOTE_WORD - 1, &value, 1) == 0, "no put");
+    bool refused = stream.carrier.barrier(&stream.carrier) == -1 && errno == EPROTO;
+    if (!refused) fprintf(stderr, "a second leader is not refused\n");
+    bpfs_stream_close(&stream);
+    close_medium(&it);
+    return refused;
+}
+
+int main(int argc, char **argv) {
+    static model tree;
+    if (argc != 4) stop("redis_test FOLDER ROUNDS SEED");
+    folder = argv[1];
+    state = strtoull(argv[3], NULL, 10);
+    told = mmap(NULL, sizeof *told, PROT_READ | PROT_WRITE, MAP_SHARED | MAP_ANONYMOUS, -1, 0);
+    must(told != MAP_FAILED, "no memory");
+    model_clear(&tree, state);
+    start_redis();
+    long lost = 0, kills = 0;
+    bool right = true;
+    int rounds = atoi(argv[2]);
+    for (int round = 0; round < rounds && right; round++) {
+        redisFree(connect_redis());
+        kill_a_leader(&tree, round == 0);
+        if (round % 3 == 1) {
+            kill_redis();
+            start_redis();
+            kills++;
+        }
+        redis.at = connect_redis();
+        right = look(&tree, round, &lost) && is_fenced();
+        redisFree(redis.at);
+    }
+    kill_redis();
+    if (!right) return 1;
+    printf("%d leaders over a Redis stream killed, %ld of them with calls lost; ", rounds, lost);
+    printf("Redis killed %ld times; old leaders refused\n", kills);
+    return 0;
+}

@@ -67,7 +67,7 @@ few_stores : (size needed : ℕ) → size % 4096 ≡ 0 → prep_stores size size
 few_stores size needed whole = let one = one_leaf size whole in rw one (omega arith)
 
 module _ (old middle new : Memory) (free_old free_new : List ℕ) (wf : IsWellFormed (current_words old))
-    (prepared : PreparesWith old middle free_old free_new 0 (size_of (current_words old) 0) (size_of (current_words old) 0 + block_size) [])
+    (prepared : PreparesWith none_kept old middle free_old free_new 0 (size_of (current_words old) 0) (size_of (current_words old) 0 + block_size) [])
     (stored : Adds middle new (Store super_size (size_of (current_words old) 0 + block_size) ∷ Barrier ∷ [])) where
   abbrev image : Image
   image = current_words old

@@ -12,7 +12,8 @@ use Rattle.bp_calls.specs.CanGrow.{CanGrowFile}
 use Rattle.bp_calls.specs.Resized.{ResizesFile}
 use Rattle.bp_calls.specs.Space.{LacksSpace}
 use Rattle.bp_calls.proofs.FreeCounts.{free_members}
-use Rattle.bp_calls.proofs.TakenBlocks.{exact_taken, unused_members, usable_members}
+use Rattle.bp_append.proofs.EndWays.{none_loose}
+use Rattle.bp_calls.proofs.TakenBlocks.{exact_taken, members_free, usable_members}
 use Rattle.bp_free.specs.Set.{Set, members}
 use Rattle.bp_layout.specs.Inode.{ContentStandsAt, kind_of, root_of, size_of}
 use Rattle.bp_layout.specs.Need.{need}
@@ -51,7 +52,7 @@ module _ (old : Memory) (blocks inodes : Set) (n size : ℕ) (can : CanGrowFile 
   no_space needed free is count fewer =
       lacks_thawed image (resizes (suc n) size) needed free (needs ∙ sym is) (rw count (free_members image none_kept blocks can.exact.free_blocks can.exact.block_room)) fewer
 
-  can_prepare : (path : WordPath) → path ≡ inode_path (height_of (root_of image 0)) (suc n) 1 → need_for image (suc n) size size ≤ length (members blocks) → CanPrepare old (members blocks) (suc n) path size size
+  can_prepare : (path : WordPath) → path ≡ inode_path (height_of (root_of image 0)) (suc n) 1 → need_for image (suc n) size size ≤ length (members blocks) → CanPrepare none_kept old (members blocks) (suc n) path size size
   can_prepare path leads enough = record {
     well = can.well_formed;
     reached = can.reached;
@@ -61,14 +62,15 @@ module _ (old : Memory) (blocks inodes : Set) (n size : ℕ) (can : CanGrowFile 
     fits = can.fits;
     by_words = λ by. elim by [ inl e ↦ omega (arith, e) | inr two ↦ omega (arith, two, can.file) ];
     usable = usable_members image blocks inodes can.exact (length old.base / 512) (omega (arith, length_now old));
-    unused = unused_members image blocks inodes can.exact;
+    are_free = members_free image blocks inodes can.exact;
+    loose = none_loose (current_words old) (suc n);
     enough = enough;
     room = let room = room_asked old blocks (resizes (suc n) size) can.room (omega (arith, needs, enough)) in
         prepared_room_of _ _ _ _ needs (room_behind_whole (size_of image (suc n)) size size max_height) room;
   }
 
   -- behind the preparation there is room for the store
-  room_left : (middle : Memory) (free_new bytes : List ℕ) → PreparesWith old middle (members blocks) free_new (suc n) size size bytes → (3 ≤ room_in middle) × (length middle.base ≡ length old.base)
+  room_left : (middle : Memory) (free_new bytes : List ℕ) → PreparesWith none_kept old middle (members blocks) free_new (suc n) size size bytes → (3 ≤ room_in middle) × (length middle.base ≡ length old.base)
   room_left middle free_new bytes prepared =
       let stores = behind_whole (size_of image (suc n)) size size max_height in
       let left = room_in-piece _ _ old middle prepared.adds.part.added prepared.adds.part.adds prepared.adds.part.piece in
@@ -76,29 +78,29 @@ module _ (old : Memory) (blocks inodes : Set) (n size : ℕ) (can : CanGrowFile 
       let has = room_asked old blocks (resizes (suc n) size) can.room (omega (arith, needs, prepared.counted, all)) in
       (omega (arith, needs, stores, left, has), ap length (base-adds old middle prepared.adds.part.added prepared.adds.part.adds))
 
-  module _ (middle new : Memory) (rest : Set) (path : WordPath) (place : ℕ) (grows : GrowsTree old middle new (members blocks) (members rest) path n size size place []) (room : length rest ≡ length blocks) where
+  module _ (middle new : Memory) (rest : Set) (path : WordPath) (place : ℕ) (grows : GrowsTree none_kept old middle new (members blocks) (members rest) path n size size place []) (room : length rest ≡ length blocks) where
     only : OnlyGrows image (resizes (suc n) size) (suc n) size size
     only = only_grows image (suc n) size can.longer
 
     resized : ResizesFile (suc n) size image (current_words new)
     resized = record {
-      changes = grown_changes old middle new (members blocks) (members rest) path n size size place [] grows (resizes (suc n) size) only;
-      size_is = grown_size old middle new (members blocks) (members rest) path n size size place [] grows (resizes (suc n) size) only;
-      kept = λ o low was. grown_bytes old middle new (members blocks) (members rest) path n size size place [] grows (resizes (suc n) size) only o low ∙ grows.prepared.ready.kept o was;
-      zeros = λ o low past. grown_bytes old middle new (members blocks) (members rest) path n size size place [] grows (resizes (suc n) size) only o low ∙ grows.prepared.ready.bytes_are o past low ∙ none_given size o;
+      changes = grown_changes none_kept old middle new (members blocks) (members rest) path n size size place [] grows (resizes (suc n) size) only;
+      size_is = grown_size none_kept old middle new (members blocks) (members rest) path n size size place [] grows (resizes (suc n) size) only;
+      kept = λ o low was. grown_bytes none_kept old middle new (members blocks) (members rest) path n size size place [] grows (resizes (suc n) size) only o low ∙ grows.prepared.ready.kept o was;
+      zeros = λ o low past. grown_bytes none_kept old middle new (members blocks) (members rest) path n size size place [] grows (resizes (suc n) size) only o low ∙ grows.prepared.ready.bytes_are o past low ∙ none_given size o;
     }
 
     performs : Performs none_kept old new (resizes (suc n) size) (ResizesFile (suc n) size)
     performs =
         unthawed old new (resizes (suc n) size) (ResizesFile (suc n) size)
-        (grown_performs old middle new (members blocks) (members rest) path n size size place [] grows (resizes (suc n) size) only (ResizesFile (suc n) size) resized)
+        (grown_performs none_kept old middle new (members blocks) (members rest) path n size size place [] grows (resizes (suc n) size) only (ResizesFile (suc n) size) resized)
 
     exact : AreExact (current_words new) none_kept rest inodes
     exact =
         exact_taken image (current_words new) (suc n) can.well_formed resized.changes grows.prepared.taken blocks rest inodes can.exact grows.prepared.takes room
-        (grown_live old middle new (members blocks) (members rest) path n size size place [] grows (resizes (suc n) size) only)
-        (grown_stays old middle new (members blocks) (members rest) path n size size place [] grows (resizes (suc n) size) only)
-        (grown_taken old middle new (members blocks) (members rest) path n size size place [] grows (resizes (suc n) size) only)
+        (grown_live none_kept old middle new (members blocks) (members rest) path n size size place [] grows (resizes (suc n) size) only)
+        (grown_stays none_kept old middle new (members blocks) (members rest) path n size size place [] grows (resizes (suc n) size) only)
+        (grown_taken none_kept old middle new (members blocks) (members rest) path n size size place [] grows (resizes (suc n) size) only)
 
 -- ---- by the number of the inode
 
@@ -107,9 +109,9 @@ no_file image one = omega (arith, one)
 
 -- a file that got longer
 pub record Grew (old middle new : Memory) (blocks rest : Set) (path : WordPath) (i size place : ℕ) : Type 0 where
-  pub can : CanPrepare old (members blocks) i path size size
+  pub can : CanPrepare none_kept old (members blocks) i path size size
   pub stands : ContentStandsAt (current_words old) 0 (8 * i + 2) place
-  pub prepared : PreparesWith old middle (members blocks) (members rest) i size size []
+  pub prepared : PreparesWith none_kept old middle (members blocks) (members rest) i size size []
   pub room : length rest ≡ length blocks
   pub stored : Adds middle new (commit place size)
 
@@ -120,11 +122,11 @@ module _ (old : Memory) (blocks inodes : Set) where
   refused (suc n) size can = no_space old blocks inodes n size can
 
   pub prepares : (i size : ℕ) → CanGrowFile old blocks inodes i size → (path : WordPath) → path ≡ inode_path (height_of (root_of (current_words old) 0)) i 1 → need_for (current_words old) i size size ≤ length (members blocks) →
-      CanPrepare old (members blocks) i path size size
+      CanPrepare none_kept old (members blocks) i path size size
   prepares zero size can = absurd (no_file (current_words old) can.file)
   prepares (suc n) size can = can_prepare old blocks inodes n size can
 
-  pub room_behind : (middle : Memory) (free_new bytes : List ℕ) (i size : ℕ) → CanGrowFile old blocks inodes i size → PreparesWith old middle (members blocks) free_new i size size bytes → (3 ≤ room_in middle) × (length middle.base ≡ length old.base)
+  pub room_behind : (middle : Memory) (free_new bytes : List ℕ) (i size : ℕ) → CanGrowFile old blocks inodes i size → PreparesWith none_kept old middle (members blocks) free_new i size size bytes → (3 ≤ room_in middle) × (length middle.base ≡ length old.base)
   room_behind middle free_new bytes zero size can = absurd (no_file (current_words old) can.file)
   room_behind middle free_new bytes (suc n) size can = room_left old blocks inodes n size can middle free_new bytes
 
@@ -132,5 +134,5 @@ module _ (old : Memory) (blocks inodes : Set) where
       Performs none_kept old new (resizes i size) (ResizesFile i size) × AreExact (current_words new) none_kept rest inodes
   grew middle new rest path zero size place can = absurd (no_file (current_words old) can.file)
   grew middle new rest path (suc n) size place can = λ done.
-      let grows : GrowsTree old middle new (members blocks) (members rest) path n size size place [] = record { can = done.can; is_file = can.file; stands = done.stands; prepared = done.prepared; stored = done.stored } in
+      let grows : GrowsTree none_kept old middle new (members blocks) (members rest) path n size size place [] = record { can = done.can; is_file = can.file; stands = done.stands; prepared = done.prepared; stored = done.stored } in
       (performs old blocks inodes n size can middle new rest path place grows done.room, exact old blocks inodes n size can middle new rest path place grows done.room)

@@ -37,7 +37,7 @@ wider image root size more b low has = record {
 }
 
 module _ (old middle : Memory) (blocks inodes after : Set) (x from to : ℕ) (bytes : List ℕ) (wf : IsWellFormed (current_words old)) (exact : AreExact (current_words old) none_kept blocks inodes)
-    (reached : IsReached (current_words old) x) (some : x ≢ 0) (past : size_of (current_words old) x ≤ to) (prepared : PreparesWith old middle (members blocks) (members after) x from to bytes)
+    (reached : IsReached (current_words old) x) (some : x ≢ 0) (past : size_of (current_words old) x ≤ to) (prepared : PreparesWith none_kept old middle (members blocks) (members after) x from to bytes)
     (bound : ℕ → ℕ) (bound_here : bound x ≡ to) (bound_other : (t : ℕ) → (t ≡ x → ⊥) → bound t ≡ size_of (current_words middle) t) where
   abbrev image : Image
   image = current_words old

@@ -49,8 +49,8 @@ module _ (image : Image) (blocks inodes : Set) (exact : AreExact image none_kept
     apart = members_apart blocks;
   }
 
-  pub unused_members : Each (λ b. IsLiveBlock image b → ⊥) (members blocks)
-  unused_members = each-of (λ b. IsLiveBlock image b → ⊥) (members blocks) (λ b there. (free_of b there).free)
+  pub members_free : Each (IsFreeBlock image none_kept) (members blocks)
+  members_free = each-of (IsFreeBlock image none_kept) (members blocks) free_of
 
 -- ---- a call takes some of them
 

@@ -29,7 +29,8 @@ use Rattle.bp_shapes.specs.Sets.{AreExact}
 use Rattle.bp_calls.specs.Space.{LacksSpace}
 use Rattle.bp_calls.specs.WritesFile.{WritesFile, written_byte}
 use Rattle.bp_calls.proofs.FreeCounts.{free_members}
-use Rattle.bp_calls.proofs.TakenBlocks.{exact_taken, unused_members, usable_members}
+use Rattle.bp_append.proofs.EndWays.{none_loose}
+use Rattle.bp_calls.proofs.TakenBlocks.{exact_taken, members_free, usable_members}
 use Rattle.bp_layout.specs.Thaw.{none_kept}
 use Rattle.bp_calls.proofs.Unthawed.{lacks_thawed, room_asked, unthawed, prepared_room_of}
 
@@ -81,7 +82,7 @@ module _ (old : Memory) (blocks inodes : Set) (n off : ℕ) (bytes : List ℕ) (
   pub behind_need : need image (writes (suc n) off (length bytes)) ≡ need_here
   behind_need = only_need image (writes (suc n) off (length bytes)) n off end can.well_formed can.reached (only_grows image (suc n) off (length bytes) behind can.some)
 
-  pub behind_prepares : need_here ≤ length (members blocks) → (path : WordPath) → path ≡ inode_path (height_of (root_of image 0)) (suc n) 1 → CanPrepare old (members blocks) (suc n) path off end
+  pub behind_prepares : need_here ≤ length (members blocks) → (path : WordPath) → path ≡ inode_path (height_of (root_of image 0)) (suc n) 1 → CanPrepare none_kept old (members blocks) (suc n) path off end
   behind_prepares enough path is = record {
     well = can.well_formed;
     reached = can.reached;
@@ -91,26 +92,27 @@ module _ (old : Memory) (blocks inodes : Set) (n off : ℕ) (bytes : List ℕ) (
     fits = can.fits;
     by_words = λ by. elim by [ inl e ↦ omega (arith, e) | inr two ↦ omega (arith, two, can.file) ];
     usable = usable_members image blocks inodes can.exact _ (omega (arith, length-current_words old));
-    unused = unused_members image blocks inodes can.exact;
+    are_free = members_free image blocks inodes can.exact;
+    loose = none_loose (current_words old) (suc n);
     enough = enough;
     room = let room = room_asked old blocks (writes (suc n) off (length bytes)) can.room (omega (arith, behind_need, enough)) in
         prepared_room_of _ _ _ _ behind_need (room_behind_whole (size_of image (suc n)) off end max_height) room;
   }
 
-  module _ (middle new : Memory) (after : Set) (path : WordPath) (place : ℕ) (prepares : CanPrepare old (members blocks) (suc n) path off end) (stands : ContentStandsAt image 0 (8 * suc n + 2) place)
-      (prepared : PreparesWith old middle (members blocks) (members after) (suc n) off end bytes) (stored : Adds middle new (commit place end)) where
+  module _ (middle new : Memory) (after : Set) (path : WordPath) (place : ℕ) (prepares : CanPrepare none_kept old (members blocks) (suc n) path off end) (stands : ContentStandsAt image 0 (8 * suc n + 2) place)
+      (prepared : PreparesWith none_kept old middle (members blocks) (members after) (suc n) off end bytes) (stored : Adds middle new (commit place end)) where
     only : OnlyGrows image (writes (suc n) off (length bytes)) (suc n) off end
     only = only_grows image (suc n) off (length bytes) behind can.some
 
-    grows : GrowsTree old middle new (members blocks) (members after) path n off end place bytes
+    grows : GrowsTree none_kept old middle new (members blocks) (members after) path n off end place bytes
     grows = record { can = prepares; is_file = can.file; stands = stands; prepared = prepared; stored = stored }
 
     size_is : size_of (current_words new) (suc n) ≡ end
-    size_is = grown_size old middle new (members blocks) (members after) path n off end place bytes grows (writes (suc n) off (length bytes)) only
+    size_is = grown_size none_kept old middle new (members blocks) (members after) path n off end place bytes grows (writes (suc n) off (length bytes)) only
 
     byte_is : (o : ℕ) → o < end → byte (current_words new) (root_of (current_words new) (suc n)) o ≡ written_byte off bytes (size_of image (suc n)) (byte image (root_of image (suc n))) o
     byte_is o low =
-        grown_bytes old middle new (members blocks) (members after) path n off end place bytes grows (writes (suc n) off (length bytes)) only o low
+        grown_bytes none_kept old middle new (members blocks) (members after) path n off end place bytes grows (writes (suc n) off (length bytes)) only o low
         ∙ go (cases_lt o (size_of image (suc n))) (cases_lt o off)
       where
         go : (o < size_of image (suc n)) ⊎ (size_of image (suc n) ≤ o) → (o < off) ⊎ (off ≤ o) →
@@ -124,7 +126,7 @@ module _ (old : Memory) (blocks inodes : Set) (n off : ℕ) (bytes : List ℕ) (
 
     pub behind_writes : WritesFile (suc n) off bytes image (current_words new)
     behind_writes = record {
-      changes = grown_changes old middle new (members blocks) (members after) path n off end place bytes grows (writes (suc n) off (length bytes)) only;
+      changes = grown_changes none_kept old middle new (members blocks) (members after) path n off end place bytes grows (writes (suc n) off (length bytes)) only;
       size = omega (arith, size_is, behind);
       bytes_are = λ o low. byte_is o (omega (arith, low, size_is));
     }
@@ -132,15 +134,15 @@ module _ (old : Memory) (blocks inodes : Set) (n off : ℕ) (bytes : List ℕ) (
     pub behind_performs : Performs none_kept old new (writes (suc n) off (length bytes)) (WritesFile (suc n) off bytes)
     behind_performs =
         unthawed old new (writes (suc n) off (length bytes)) (WritesFile (suc n) off bytes)
-        (grown_performs old middle new (members blocks) (members after) path n off end place bytes grows (writes (suc n) off (length bytes)) only (WritesFile (suc n) off bytes) behind_writes)
+        (grown_performs none_kept old middle new (members blocks) (members after) path n off end place bytes grows (writes (suc n) off (length bytes)) only (WritesFile (suc n) off bytes) behind_writes)
 
     pub behind_exact : length after ≡ length blocks → AreExact (current_words new) none_kept after inodes
     unfolding grows
     behind_exact room =
         exact_taken image (current_words new) (suc n) can.well_formed behind_writes.changes prepared.taken blocks after inodes can.exact prepared.takes room
-        (grown_live old middle new (members blocks) (members after) path n off end place bytes grows (writes (suc n) off (length bytes)) only)
-        (grown_stays old middle new (members blocks) (members after) path n off end place bytes grows (writes (suc n) off (length bytes)) only)
-        (grown_taken old middle new (members blocks) (members after) path n off end place bytes grows (writes (suc n) off (length bytes)) only)
+        (grown_live none_kept old middle new (members blocks) (members after) path n off end place bytes grows (writes (suc n) off (length bytes)) only)
+        (grown_stays none_kept old middle new (members blocks) (members after) path n off end place bytes grows (writes (suc n) off (length bytes)) only)
+        (grown_taken none_kept old middle new (members blocks) (members after) path n off end place bytes grows (writes (suc n) off (length bytes)) only)
 
 -- ---- by the number of the inode
 
@@ -160,17 +162,17 @@ module _ (old : Memory) (blocks inodes : Set) (off : ℕ) (bytes : List ℕ) whe
       (subst (HasFree (current_words old) none_kept) (sym is) (free_members (current_words old) none_kept blocks can.exact.free_blocks can.exact.block_room)) fewer
 
   pub behind_can : (i root size needed : ℕ) (path : WordPath) → CanWrite old blocks inodes i off bytes → size_of (current_words old) i ≤ off → root ≡ root_of (current_words old) i → size ≡ size_of (current_words old) i →
-      needed ≡ nodes_here root size → needed ≤ length (members blocks) → path ≡ inode_path (height_of (root_of (current_words old) 0)) i 1 → CanPrepare old (members blocks) i path off (off + length bytes)
+      needed ≡ nodes_here root size → needed ≤ length (members blocks) → path ≡ inode_path (height_of (root_of (current_words old) 0)) i 1 → CanPrepare none_kept old (members blocks) i path off (off + length bytes)
   behind_can zero root size needed path can = λ behind one two counted enough is. not_inodes _ can
   behind_can (suc n) root size needed path can = λ behind one two counted enough is.
       behind_prepares old blocks inodes n off bytes can behind
       (subst (λ k. k ≤ length (members blocks)) (counted ∙ ap (λ r. nodes_here r size) one ∙ ap (nodes_here (root_of (current_words old) (suc n))) two) enough) path is
 
   module _ (middle : Memory) (after : Set) where
-    pub prepared_base : (i : ℕ) → PreparesWith old middle (members blocks) (members after) i off (off + length bytes) bytes → length middle.base ≡ length old.base
+    pub prepared_base : (i : ℕ) → PreparesWith none_kept old middle (members blocks) (members after) i off (off + length bytes) bytes → length middle.base ≡ length old.base
     prepared_base i prepared = ap length (base-adds old middle _ prepared.adds.part.adds)
 
-    pub prepared_room : (i : ℕ) → CanWrite old blocks inodes i off bytes → size_of (current_words old) i ≤ off → PreparesWith old middle (members blocks) (members after) i off (off + length bytes) bytes → 3 ≤ room_in middle
+    pub prepared_room : (i : ℕ) → CanWrite old blocks inodes i off bytes → size_of (current_words old) i ≤ off → PreparesWith none_kept old middle (members blocks) (members after) i off (off + length bytes) bytes → 3 ≤ room_in middle
     prepared_room zero can = λ behind prepared. not_inodes _ can
     prepared_room (suc n) can = λ behind prepared.
         let left = room_after_quiet Same 2 (prep_stores (size_of (current_words old) (suc n)) off (off + length bytes) (need_for (current_words old) (suc n) off (off + length bytes))) old middle prepared.adds.part in
@@ -183,14 +185,14 @@ module _ (old : Memory) (blocks inodes : Set) (off : ℕ) (bytes : List ℕ) whe
         enough needed behind room left a b c = omega (arith, a, b, c)
 
     module _ (new : Memory) (path : WordPath) (place : ℕ) where
-      pub behind_performs_at : (i : ℕ) → CanWrite old blocks inodes i off bytes → size_of (current_words old) i ≤ off → CanPrepare old (members blocks) i path off (off + length bytes) →
-          ContentStandsAt (current_words old) 0 (8 * i + 2) place → PreparesWith old middle (members blocks) (members after) i off (off + length bytes) bytes → Adds middle new (commit place (off + length bytes)) →
+      pub behind_performs_at : (i : ℕ) → CanWrite old blocks inodes i off bytes → size_of (current_words old) i ≤ off → CanPrepare none_kept old (members blocks) i path off (off + length bytes) →
+          ContentStandsAt (current_words old) 0 (8 * i + 2) place → PreparesWith none_kept old middle (members blocks) (members after) i off (off + length bytes) bytes → Adds middle new (commit place (off + length bytes)) →
           Performs none_kept old new (writes i off (length bytes)) (WritesFile i off bytes)
       behind_performs_at zero can = λ behind prepares stands prepared stored. not_inodes _ can
       behind_performs_at (suc n) can = λ behind prepares stands prepared stored. behind_performs old blocks inodes n off bytes can behind middle new after path place prepares stands prepared stored
 
-      pub behind_exact_at : (i : ℕ) → CanWrite old blocks inodes i off bytes → size_of (current_words old) i ≤ off → CanPrepare old (members blocks) i path off (off + length bytes) →
-          ContentStandsAt (current_words old) 0 (8 * i + 2) place → PreparesWith old middle (members blocks) (members after) i off (off + length bytes) bytes → Adds middle new (commit place (off + length bytes)) →
+      pub behind_exact_at : (i : ℕ) → CanWrite old blocks inodes i off bytes → size_of (current_words old) i ≤ off → CanPrepare none_kept old (members blocks) i path off (off + length bytes) →
+          ContentStandsAt (current_words old) 0 (8 * i + 2) place → PreparesWith none_kept old middle (members blocks) (members after) i off (off + length bytes) bytes → Adds middle new (commit place (off + length bytes)) →
           length after ≡ length blocks → AreExact (current_words new) none_kept after inodes
       behind_exact_at zero can = λ behind prepares stands prepared stored room. not_inodes _ can
       behind_exact_at (suc n) can = λ behind prepares stands prepared stored room. behind_exact old blocks inodes n off bytes can behind middle new after path place prepares stands prepared stored room

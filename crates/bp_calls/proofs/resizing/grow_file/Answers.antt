@@ -1,4 +1,5 @@
 use Rattle.std.proofs.Common.{length, ◌∙◌, ap₂, arith}
+use Rattle.bp_layout.specs.Thaw.{none_kept}
 use Rattle.bp_append.specs.Prepared.{CanPrepare}
 use Rattle.bp_layout.specs.Nodes.{nodes_for}
 use Rattle.bp_layout.specs.Reached.IsReached.{inode_file}
@@ -40,7 +41,7 @@ pub returns : goal.returns
 returns g c =
     let memory = g.R.Region.memory in
     let need = c.need_prep-need.ensures ∙ ap₂ (λ r z. length (nodes_for (current_words (memory c.args.parts.now.region)) r z c.args.size c.args.size)) c.requires.root c.requires.size in
-    let ready : CanPrepare (memory c.args.parts.now.region) (members c.args.parts.now.blocks) c.args.i c.root_path-at.result.items c.args.size c.args.size =
+    let ready : CanPrepare none_kept (memory c.args.parts.now.region) (members c.args.parts.now.blocks) c.args.i c.root_path-at.result.items c.args.size c.args.size =
     prepares (memory c.args.parts.now.region) c.args.parts.now.blocks c.args.parts.now.inodes c.args.i c.args.size c.requires.can c.root_path-at.result.items c.root_path-at.ensures (omega (arith, need, c.count-free.ensures, c.if-free-need.false)) in
     let done = grew (memory c.args.parts.now.region) c.args.parts.now.blocks c.args.parts.now.inodes (memory c.prep.new.parts.region) (memory c.commit_word.new.region) c.prep.new.parts.blocks c.root_path-at.result.items c.args.i c.args.size c.place-size_place.result c.requires.can (record {
       can = ready;

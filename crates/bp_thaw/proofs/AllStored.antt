@@ -16,7 +16,7 @@ use Rattle.bp_thaw.proofs.Marks.{trail_same, has-copy_on, copy_on-has, word-at_p
 use Rattle.bp_thaw.proofs.Filled.{nothing_stored, one_more, outside, filled_thawing, link_thawing}
 
 -- a copy of the block is among these
-any_source : (image : Image) (copies : Copies) (copy : ℕ × ℕ) (block : ℕ) → Has copies copy → source_of image copy ≡ block → is_copied image copies block ≡ true
+pub any_source : (image : Image) (copies : Copies) (copy : ℕ × ℕ) (block : ℕ) → Has copies copy → source_of image copy ≡ block → is_copied image copies block ≡ true
 any_source image [] copy block has e = absurd has
 any_source image (c ∷ copies) copy block (inl same) e =
     let is : (source_of image c == block) ≡ true = eq-eqb (source_of image c) block (ap (source_of image) same ∙ e) in
@@ -41,7 +41,7 @@ copies-has image [] copy has = absurd has
 copies-has image (m ∷ marks) copy (inl e) = (m, inl refl, sym e)
 copies-has image (m ∷ marks) copy (inr later) = let rest = copies-has image marks copy later in (rest.0, inr rest.1, rest.2)
 
-has_copies : (image : Image) (marks : Marks) (m : Trail × ℕ) → Has marks m → Has (copies_of image marks) (place_on image m.0, m.1)
+pub has_copies : (image : Image) (marks : Marks) (m : Trail × ℕ) → Has marks m → Has (copies_of image marks) (place_on image m.0, m.1)
 has_copies image [] m has = absurd has
 has_copies image (n ∷ marks) m (inl e) = inl (ap (λ (x : Trail × ℕ). (place_on image x.0, x.1)) e)
 has_copies image (n ∷ marks) m (inr later) = inr (has_copies image marks m later)
@@ -153,7 +153,7 @@ module _ (old mid : Image) (Pointer : Trail → Type 0) (are : ArePointers Point
           let value : pointing_to (word mid (place_on old m.0)) m.1 ≡ pointing_to (word_on old m.0) m.1 = ap (λ w. pointing_to w m.1) (word_mid m here) in
           rw (is, value) (rest _ (one_more m.0 stored) (link_thawing old Pointer are skeleton marks all now stored thawing some m.0 m.1 (is_top-mark m here is) (mark-some m here)) linked)
 
-  abbrev all_are : Trail → Bool
+  abbrev pub all_are : Trail → Bool
   all_are p = true
 
   pub thawing_all : (now : Image) (stored : Trail → Bool) → Thawing now stored → AllBut [] stored → Thawing now all_are

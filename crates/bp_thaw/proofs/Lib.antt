@@ -2,3 +2,5 @@ pub mod Marks
 pub mod Filled
 pub mod AllStored
 pub mod Told
+pub mod MarkAll
+pub mod ThawEnd

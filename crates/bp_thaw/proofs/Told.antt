@@ -25,7 +25,7 @@ use Rattle.bp_cow.specs.Job.{Job}
 use Rattle.bp_cow.proofs.CommitLaws.{committed_commits, content_after, root-now, size_after, word-now}
 
 -- nothing is to be done
-abbrev empty_job : Job
+abbrev pub empty_job : Job
 empty_job = record { way = λ i. []; leaves = 0; words = 0; patch = λ i slot old. old; slot = λ i. 0; value = λ i. 0 }
 
 same_null : (a b : ℕ) → (a ≡ b) ⊎ ((a ≢ 0) × (b ≢ 0)) → not (a == 0) ≡ not (b == 0)
@@ -37,7 +37,7 @@ module _ (old new : Image) (wf : IsWellFormed old) (turned : Trail → Type 0) (
   forest : IsForest old (size_of old)
   forest = wf_forest old wf
 
-  as_job : IsCommitted old new (IsTreePointer old (size_of old)) turned (after_commit old empty_job)
+  pub as_job : IsCommitted old new (IsTreePointer old (size_of old)) turned (after_commit old empty_job)
   as_job = record {
     whole = stage.whole;
     superblock = stage.superblock;

@@ -15,6 +15,9 @@ use Rattle.bp_thaw.specs.Copies.{Copies, Marks, copy_on, copies_of, source_of, i
 use Rattle.bp_thaw.proofs.Marks.{trail_same, has-copy_on, copy_on-has, word-at_place}
 use Rattle.bp_thaw.proofs.Filled.{nothing_stored, one_more, outside, filled_thawing, link_thawing}
 
+abbrev pub all_are : Trail → Bool
+all_are p = true
+
 -- a copy of the block is among these
 pub any_source : (image : Image) (copies : Copies) (copy : ℕ × ℕ) (block : ℕ) → Has copies copy → source_of image copy ≡ block → is_copied image copies block ≡ true
 any_source image [] copy block has e = absurd has
@@ -27,7 +30,7 @@ any_source image (c ∷ copies) copy block (inr later) e = go (source_of image c
     go true is rest = rw is refl
     go false is rest = rw is rest
 
-source_any : (image : Image) (copies : Copies) (block : ℕ) → is_copied image copies block ≡ true → (copy : ℕ × ℕ) × Has copies copy × (source_of image copy ≡ block)
+pub source_any : (image : Image) (copies : Copies) (block : ℕ) → is_copied image copies block ≡ true → (copy : ℕ × ℕ) × Has copies copy × (source_of image copy ≡ block)
 source_any image [] block is = absurd (true≢false (sym is))
 source_any image (c ∷ copies) block is = go (source_of image c == block) refl (λ also. source_any image copies block also)
   where
@@ -36,7 +39,7 @@ source_any image (c ∷ copies) block is = go (source_of image c == block) refl 
     go true e deeper = (c, inl refl, eqb-true (source_of image c) block e)
     go false e deeper = let rest = deeper (rw e at is) in (rest.0, inr rest.1, rest.2)
 
-copies-has : (image : Image) (marks : Marks) (copy : ℕ × ℕ) → Has (copies_of image marks) copy → (m : Trail × ℕ) × Has marks m × (copy ≡ (place_on image m.0, m.1))
+pub copies-has : (image : Image) (marks : Marks) (copy : ℕ × ℕ) → Has (copies_of image marks) copy → (m : Trail × ℕ) × Has marks m × (copy ≡ (place_on image m.0, m.1))
 copies-has image [] copy has = absurd has
 copies-has image (m ∷ marks) copy (inl e) = (m, inl refl, sym e)
 copies-has image (m ∷ marks) copy (inr later) = let rest = copies-has image marks copy later in (rest.0, inr rest.1, rest.2)
@@ -49,7 +52,7 @@ has_copies image (n ∷ marks) m (inr later) = inr (has_copies image marks m lat
 module _ (old mid : Image) (Pointer : Trail → Type 0) (are : ArePointers Pointer) (skeleton : IsSkeleton old Pointer) (some : 0 < block_count old) (marks : Marks) (all : AreMarks old Pointer marks)
     (has : HasCopies old mid marks) where
   -- a pointer stands as before, as long as it is not stored
-  word_mid : (m : Trail × ℕ) → Has marks m → word mid (place_on old m.0) ≡ word_on old m.0
+  pub word_mid : (m : Trail × ℕ) → Has marks m → word mid (place_on old m.0) ≡ word_on old m.0
   word_mid m here =
       has.others (place_on old m.0) (outside old Pointer are skeleton marks all m.0 (all.each m here).pointer)
       ∙ word-at_place old m.0 (all.each m here).present
@@ -152,9 +155,6 @@ module _ (old mid : Image) (Pointer : Trail → Type 0) (are : ArePointers Point
       go false is rest =
           let value : pointing_to (word mid (place_on old m.0)) m.1 ≡ pointing_to (word_on old m.0) m.1 = ap (λ w. pointing_to w m.1) (word_mid m here) in
           rw (is, value) (rest _ (one_more m.0 stored) (link_thawing old Pointer are skeleton marks all now stored thawing some m.0 m.1 (is_top-mark m here is) (mark-some m here)) linked)
-
-  abbrev pub all_are : Trail → Bool
-  all_are p = true
 
   pub thawing_all : (now : Image) (stored : Trail → Bool) → Thawing now stored → AllBut [] stored → Thawing now all_are
   thawing_all now stored thawing but = record {

@@ -4,3 +4,4 @@ pub mod AllStored
 pub mod Told
 pub mod MarkAll
 pub mod ThawEnd
+pub mod CopySteps

@@ -30,6 +30,24 @@ map-more f (y ∷ xs) x = ap (λ rest. f y ∷ rest) (map-more f xs x)
 pub has-last : {A : Type 0} (xs : List A) (x : A) → Has (xs ++ x ∷ []) x
 has-last xs x = has-behind xs (x ∷ []) x (inl refl)
 
+pub has-item : {A : Type 0} (xs : List A) (i : ℕ) (d : A) → i < length xs → Has xs (get_or xs i d)
+has-item [] i d low = absurd (omega (arith, low))
+has-item (x ∷ xs) zero d low = inl refl
+has-item (x ∷ xs) (suc i) d low = inr (has-item xs i d (omega (arith, low)))
+
+pub has-taken : {A : Type 0} (xs : List A) (n : ℕ) (x : A) → Has (take n xs) x → Has xs x
+has-taken [] zero x has = absurd has
+has-taken [] (suc n) x has = absurd has
+has-taken (y ∷ xs) zero x has = absurd has
+has-taken (y ∷ xs) (suc n) x (inl e) = inl e
+has-taken (y ∷ xs) (suc n) x (inr later) = inr (has-taken xs n x later)
+
+pub length-taken : {A : Type 0} (xs : List A) (n : ℕ) → n ≤ length xs → length (take n xs) ≡ n
+length-taken [] zero low = refl
+length-taken [] (suc n) low = absurd (omega (arith, low))
+length-taken (x ∷ xs) zero low = refl
+length-taken (x ∷ xs) (suc n) low = ap suc (length-taken xs n (omega (arith, low)))
+
 -- ---- blocks are taken
 
 pub takes_none : (before : Set) → TakesAll before before []
@@ -135,8 +153,11 @@ module _ (copies : Copies) (c : ℕ × ℕ) (apart : AreApart (places_of (copies
           get_or-set_other words (c.0 % 512) slot (pointing_to (get_or words (c.0 % 512) 0) c.1) 0 other
           ∙ so_far slot low ∙ beside_slot slot (λ e. other (omega (arith, e, low)))
 
-pub apart-more_taken : (copies : Copies) (i : ℕ) (d : ℕ × ℕ) → i < length copies → AreApart (places_of copies) → AreApart (places_of (take i copies ++ get_or copies i d ∷ []))
-apart-more_taken copies i d low apart = subst (λ cs. AreApart (places_of cs)) (take_more copies i d low) (apart-taken (λ (x : ℕ × ℕ). x.0) copies (i + 1) apart)
+pub apart-more_taken : (f : ℕ × ℕ → ℕ) (copies : Copies) (i : ℕ) (item : ℕ × ℕ) → i < length copies → get_or copies i (0, 0) ≡ item → AreApart (map f copies) → AreApart (map f (take i copies ++ item ∷ []))
+apart-more_taken f copies i item low is apart = subst (λ cs. AreApart (map f cs)) (take_more copies i (0, 0) low ∙ ap (λ x. take i copies ++ x ∷ []) is) (apart-taken f copies (i + 1) apart)
+
+pub one_more_taken : (P : Copies → Type 0) (copies : Copies) (i : ℕ) (item : ℕ × ℕ) → i < length copies → get_or copies i (0, 0) ≡ item → P (take i copies ++ item ∷ []) → P (take (i + 1) copies)
+one_more_taken P copies i item low is holds = subst P (ap (λ x. take i copies ++ x ∷ []) (sym is) ∙ sym (take_more copies i (0, 0) low)) holds
 
 -- ---- copies are filled
 

@@ -58,7 +58,7 @@ mark-from (t ∷ trails) [] m has = absurd has
 mark-from (t ∷ trails) (c ∷ copies) m (inl e) = (inl (ap (λ (x : Trail × ℕ). x.0) e), inl (ap (λ (x : Trail × ℕ). x.1) e))
 mark-from (t ∷ trails) (c ∷ copies) m (inr later) = let rest = mark-from trails copies m later in (inr rest.0, inr rest.1)
 
-has-mapped : {A B : Type 0} (f : A → B) (xs : List A) (x : A) (b : B) → Has xs x → f x ≡ b → Has (map f xs) b
+pub has-mapped : {A B : Type 0} (f : A → B) (xs : List A) (x : A) (b : B) → Has xs x → f x ≡ b → Has (map f xs) b
 has-mapped f [] x b has e = absurd has
 has-mapped f (y ∷ xs) x b (inl same) e = inl (ap f same ∙ e)
 has-mapped f (y ∷ xs) x b (inr later) e = inr (has-mapped f xs x b later e)

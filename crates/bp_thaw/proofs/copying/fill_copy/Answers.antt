@@ -1,43 +1,53 @@
-use Rattle.std.proofs.Common.{rules, ◌≡◌, ℕ, ◌+◌, ◌*◌, ◌/◌, ◌<◌, ◌≤◌, length, slice_index, ◌-◌, ◌%◌, Bool, true, false, nat_eq, nat_lt, List, [], ◌∷◌, ◌++◌, slice_index_or, slice_set, bit_and, bit_or, Fits, w8, w32, w64, Bor, MutBor}
-use Rattle.bp_free.specs.Set.{members}
-use Rattle.bp_limits.specs.Limits.{block_words}
-use Rattle.bp_layout.specs.Members.{AreApart}
-use Rattle.bp_layout.specs.Words.{word, block_count, block_of}
-use Rattle.pm_region.specs.Memory.{current_words, room_in}
-use Rattle.bp_cow.specs.Copies.{CanFillBlock, FillsBlock}
-use Rattle.bp_cow.specs.Thawing.{pointing_to}
-use Rattle.bp_thaw.specs.Copies.{blocks_of, copy_at, places_of, turned_to, turned_word}
-use Rattle.bp_thaw.specs.Steps.{CanFillCopies, FillsCopies, TakesAll}
+use Rattle.std.proofs.Common.{◌≡◌, ℕ, ◌+◌, ◌*◌, ◌<◌, ◌≤◌, List, length, get_or, sym, ◌∙◌, ap, arith, refl}
+use Rattle.std.specs.List.{slice_index}
+use Rattle.pm_region.specs.Memory.{Memory, Adds, current_words, stores_from}
+use Rattle.pm_region.proofs.MemoryLaws.{length-current_words}
+use Rattle.bp_layout.specs.Words.{block_of, word}
+use Rattle.bp_tree.proofs.LoadedWords.{length-loaded, loaded_word}
+use Rattle.bp_tree.proofs.RegionWords.{length_now}
+use Rattle.bp_cow.specs.Copies.{HoldsFront}
+use Rattle.bp_cow.proofs.CopyLaws.{filled, front_whole}
+use Rattle.bp_thaw.specs.Copies.{copy_at, turned_to, turned_word}
 use Rattle.bp_thaw.proofs.copying.fill_copy.Goals as goal
 
--- src/copying.rt:71:36
 pub load-requires : goal.load-requires
-load-requires g c = ?
+load-requires g c = omega (arith, c.requires.place, length_now (g.R.Region.memory c.args.region.now))
 
--- src/copying.rt:71:17
 pub overflow_cast-block : goal.overflow_cast-block
-overflow_cast-block g c = ?
+overflow_cast-block g c =
+    omega (arith, c.block_of-block.ensures, ap block_of c.load.ensures, c.requires.block, length_now (g.R.Region.memory c.args.region.now), c.words-words.ensures, c.words-words.type_inv)
 
--- src/copying.rt:73:45
 pub overflow_mul-block : goal.overflow_mul-block
-overflow_mul-block g c = ?
+overflow_mul-block g c =
+    omega (arith, c.block_of-block.ensures, ap block_of c.load.ensures, c.requires.block, length_now (g.R.Region.memory c.args.region.now), c.words-words.ensures, c.words-words.type_inv)
 
--- src/copying.rt:73:27
 pub load_words-requires : goal.load_words-requires
-load_words-requires g c = ?
+load_words-requires g c = omega (arith, c.block_of-block.ensures, ap block_of c.load.ensures, c.requires.block, length_now (g.R.Region.memory c.args.region.now))
 
--- src/copying.rt:75:24
 pub overflow_mul-copy : goal.overflow_mul-copy
-overflow_mul-copy g c = ?
+overflow_mul-copy g c = omega (arith, c.requires.copy.inside, length_now (g.R.Region.memory c.args.region.now), c.words-words.ensures, c.words-words.type_inv)
 
--- src/copying.rt:75:5
 pub store_words-requires-clause-in_range : goal.store_words-requires-clause-in_range
-store_words-requires-clause-in_range g c = ?
+store_words-requires-clause-in_range g c = omega (arith, c.requires.copy.inside, length_now (g.R.Region.memory c.args.region.now), c.turn_words.array_long)
 
--- src/copying.rt:59:1
+stored : (block : ℕ) (words : List ℕ) (old new : Memory) → length words ≡ 512 → 512 * block + 512 ≤ length (current_words old) → Adds old new (stores_from (512 * block) words) →
+    HoldsFront block (λ slot. get_or words slot 0) 512 old new
+stored block words old new long inside adds = front_whole block (λ slot. get_or words slot 0) old new words long inside (λ i few. refl) adds
+
 pub returns-clause-fills : goal.returns-clause-fills
-returns-clause-fills g c = ?
+returns-clause-fills g c =
+    let old = g.R.Region.memory c.args.region.now in
+    let new = g.R.Region.memory c.store_words.new.self in
+    filled c.args.copy _ old new (stored c.args.copy c.turn_words.new.words old new (omega (arith, c.turn_words.array_long)) (omega (arith, c.requires.copy.inside)) c.store_words.ensures)
 
--- src/copying.rt:59:1
 pub returns-clause-words : goal.returns-clause-words
-returns-clause-words g c = ?
+returns-clause-words g c slot low =
+    let image = current_words (g.R.Region.memory c.args.region.now) in
+    let block : c.block_of-block.result ≡ block_of (word image c.args.place) = c.block_of-block.ensures ∙ ap block_of c.load.ensures in
+    let loaded = ap (λ ws. slice_index ws slot) c.copy_from_slice.ensures.after ∙ loaded_word image c.load_words.result.now (512 * c.block_of-block.result) 512 c.load_words.ensures slot low in
+    let old = g.R.Region.memory c.args.region.now in
+    let new = g.R.Region.memory c.store_words.new.self in
+    (stored c.args.copy c.turn_words.new.words old new (omega (arith, c.turn_words.array_long)) (omega (arith, c.requires.copy.inside)) c.store_words.ensures).words slot low
+    ∙ c.turn_words.ensures slot low
+    ∙ ap (turned_to (copy_at c.args.copies.now.items (512 * c.block_of-block.result + slot))) loaded
+    ∙ ap (λ b. turned_word image c.args.copies.now.items (512 * b + slot)) block

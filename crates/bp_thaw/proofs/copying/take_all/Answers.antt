@@ -1,35 +1,37 @@
-use Rattle.std.proofs.Common.{rules, ◌≡◌, ℕ, ◌+◌, ◌*◌, ◌/◌, ◌<◌, ◌≤◌, length, slice_index, ◌-◌, ◌%◌, Bool, true, false, nat_eq, nat_lt, List, [], ◌∷◌, ◌++◌, slice_index_or, slice_set, bit_and, bit_or, Fits, w8, w32, w64, Bor, MutBor}
-use Rattle.bp_free.specs.Set.{members}
-use Rattle.bp_limits.specs.Limits.{block_words}
-use Rattle.bp_layout.specs.Members.{AreApart}
-use Rattle.bp_layout.specs.Words.{word, block_count, block_of}
-use Rattle.pm_region.specs.Memory.{current_words, room_in}
-use Rattle.bp_cow.specs.Copies.{CanFillBlock, FillsBlock}
-use Rattle.bp_cow.specs.Thawing.{pointing_to}
-use Rattle.bp_thaw.specs.Copies.{blocks_of, copy_at, places_of, turned_to, turned_word}
-use Rattle.bp_thaw.specs.Steps.{CanFillCopies, FillsCopies, TakesAll}
+use Rattle.std.proofs.Common.{◌≡◌, ℕ, ◌+◌, ◌<◌, List, [], ◌∷◌, ◌++◌, get_or, length, take, sym, ◌∙◌, ap, subst, refl, arith}
+use Rattle.std.proofs.lemmas.List.{length-append, length-map, take_more}
+use Rattle.std.proofs.Math.Seq.{take-length}
+use Rattle.bp_thaw.specs.Copies.{Copies, blocks_of, places_of}
+use Rattle.bp_thaw.specs.Steps.{TakesAll}
+use Rattle.bp_thaw.proofs.CopySteps.{map-more, takes_none, takes_one}
 use Rattle.bp_thaw.proofs.copying.take_all.Goals as goal
 
--- src/copying.rt:37:5
+-- the places of one more
+one_place : (places : List ℕ) (i x b : ℕ) (copies new : Copies) → i < length places → get_or places i 0 ≡ x → places_of copies ≡ take i places → new ≡ copies ++ (x, b) ∷ [] → places_of new ≡ take (i + 1) places
+one_place places i x b copies new low at of is =
+    ap places_of is ∙ map-more (λ (c : ℕ × ℕ). c.0) copies (x, b) ∙ ap (λ ps. ps ++ x ∷ []) of ∙ ap (λ y. take i places ++ y ∷ []) (sym at) ∙ sym (take_more places i 0 low)
+
 pub loop-i-init : goal.loop-i-init
-loop-i-init c = ?
+loop-i-init c = rw c.new-copies.ensures (record { of = refl; takes = takes_none c.args.blocks.now; count = search rules })
 
--- src/copying.rt:38:33
 pub take_least-requires : goal.take_least-requires
-take_least-requires c = ?
+take_least-requires c =
+    omega (arith, c.requires, c.loop-i-test.true, c.len-i-end.ensures.value, c.loop-i.invariant.takes.count, c.loop-i.invariant.count, length-map c.loop-i.copies.items (λ (x : ℕ × ℕ). x.1))
 
--- src/copying.rt:38:9
-pub push-requires : goal.push-requires
-push-requires c = ?
-
--- src/copying.rt:37:5
 pub loop-i-preserved : goal.loop-i-preserved
-loop-i-preserved c = ?
+loop-i-preserved c =
+    record {
+      of = one_place c.args.places.now.items c.loop-i.i _ c.take_least.result c.loop-i.copies.items c.push.new.self.items (omega (arith, c.loop-i-test.true, c.len-i-end.ensures.value))
+          (ap (λ ps. get_or ps c.loop-i.i 0) (sym c.deref.ensures.0)) c.loop-i.invariant.of c.push.ensures.items;
+      takes = subst (TakesAll c.args.blocks.now c.take_least.new.self) (sym (ap blocks_of c.push.ensures.items ∙ map-more (λ (x : ℕ × ℕ). x.1) c.loop-i.copies.items _))
+          (takes_one c.args.blocks.now c.loop-i.blocks c.take_least.new.self (blocks_of c.loop-i.copies.items) c.take_least.result c.loop-i.invariant.takes c.take_least.ensures);
+      count = omega (arith, c.push.ensures.len, c.loop-i.invariant.count);
+    }
 
--- src/copying.rt:31:1
 pub returns-clause-of : goal.returns-clause-of
-returns-clause-of c = ?
+returns-clause-of c =
+    let end : c.loop-i.i ≡ length c.args.places.now.items = omega (arith, c.loop-i-test.false, c.loop-i.auto.i-end, c.len-i-end.ensures.value) in
+    c.loop-i.invariant.of ∙ ap (λ n. take n c.args.places.now.items) end ∙ take-length c.args.places.now.items
 
--- src/copying.rt:31:1
 pub returns-clause-takes : goal.returns-clause-takes
-returns-clause-takes c = ?
+returns-clause-takes c = c.loop-i.invariant.takes

@@ -5,3 +5,4 @@ pub mod Told
 pub mod MarkAll
 pub mod ThawEnd
 pub mod CopySteps
+pub mod LinkSteps

@@ -6,3 +6,4 @@ pub mod MarkAll
 pub mod ThawEnd
 pub mod CopySteps
 pub mod LinkSteps
+pub mod PointerPaths

@@ -7,3 +7,4 @@ pub mod ThawEnd
 pub mod CopySteps
 pub mod LinkSteps
 pub mod PointerPaths
+pub mod Found

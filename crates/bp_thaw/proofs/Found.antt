@@ -41,11 +41,11 @@ some_any test (x ∷ xs) is = go (test x) refl (λ rest. some_any test xs rest)
     go true e rest = (x, inl refl, e)
     go false e rest = let found = rest (rw e at is) in (found.0, inr found.1, found.2)
 
-filter_none : {A : Type 0} (test : A → Bool) (xs : List A) → ((x : A) → Has xs x → test x ≡ false) → filter test xs ≡ []
+pub filter_none : {A : Type 0} (test : A → Bool) (xs : List A) → ((x : A) → Has xs x → test x ≡ false) → filter test xs ≡ []
 filter_none test [] none = refl
 filter_none test (x ∷ xs) none = rw (none x (inl refl)) (filter_none test xs (λ y later. none y (inr later)))
 
-mapped_range : {A : Type 0} (f : ℕ → A) (a n : ℕ) (x : A) → Has (map f (range_with_len a n)) x → (k : ℕ) × (k < a + n) × (x ≡ f k)
+pub mapped_range : {A : Type 0} (f : ℕ → A) (a n : ℕ) (x : A) → Has (map f (range_with_len a n)) x → (k : ℕ) × (k < a + n) × (x ≡ f k)
 mapped_range f a zero x has = absurd has
 mapped_range f a (suc n) x (inl e) = (a, omega arith, sym e)
 mapped_range f a (suc n) x (inr later) = let rest = mapped_range f (a + 1) n x later in (rest.0, omega (arith, rest.1), rest.2)
@@ -62,7 +62,7 @@ or_true false = refl
 front_take : (f w : WordPath) → is_front f w ≡ true → (length f < length w) × (f ≡ take (length f) w)
 front_take f w is = let both = and_true _ _ is in (ltb-true (length f) (length w) both.0, (bytes_eq-Decides f (take (length f) w)).0 both.1)
 
-take_front : (w : WordPath) (n : ℕ) → n < length w → is_front (take n w) w ≡ true
+pub take_front : (w : WordPath) (n : ℕ) → n < length w → is_front (take n w) w ≡ true
 take_front w n low =
     let long : length (take n w) ≡ n = length-take-le n w (omega (arith, low)) in
     let small : nat_lt (length (take n w)) (length w) ≡ true = lt-ltb _ _ (omega (arith, long, low)) in
@@ -117,10 +117,10 @@ module _ (image : Image) (wf : IsWellFormed image) (kept : ℕ → Bool) where
     pub fronts : (f : WordPath) → Has found f → IsFrontAmong earlier f
     pub same : (f : WordPath) → IsPointerPath image f → is_kept_at image kept f ≡ true → is_found image found f ≡ list_any (is_front f) earlier
 
-  there_of : (f : WordPath) → is_kept_at image kept f ≡ true → is_there_now image f ≡ true
+  pub there_of : (f : WordPath) → is_kept_at image kept f ≡ true → is_there_now image f ≡ true
   there_of f is = (and_true _ _ is).0
 
-  path_of : (earlier : List WordPath) → ((w : WordPath) → Has earlier w → IsWay image w) → (f : WordPath) → IsFrontAmong earlier f → IsPointerPath image f
+  pub path_of : (earlier : List WordPath) → ((w : WordPath) → Has earlier w → IsWay image w) → (f : WordPath) → IsFrontAmong earlier f → IsPointerPath image f
   path_of earlier ways f front = subst (IsPointerPath image) (sym front.is) (front_path image wf front.way front.count (ways front.way front.has) front.less)
 
   abbrev new_to : List WordPath → WordPath → Bool

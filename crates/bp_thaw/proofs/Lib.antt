@@ -8,3 +8,6 @@ pub mod CopySteps
 pub mod LinkSteps
 pub mod PointerPaths
 pub mod Found
+pub mod FindSteps
+pub mod Clear
+pub mod Whole

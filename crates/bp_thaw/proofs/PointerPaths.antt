@@ -30,7 +30,7 @@ use Rattle.bp_thaw.proofs.Marks.{block_above, placed, places_apart, word-at_plac
 
 -- ---- trails of paths
 
-front-trail : (xs ys : List ℕ) (n : ℕ) → n ≤ length xs → trail_of (xs ++ ys) n ≡ trail_of xs n
+pub front-trail : (xs ys : List ℕ) (n : ℕ) → n ≤ length xs → trail_of (xs ++ ys) n ≡ trail_of xs n
 front-trail xs ys zero low = refl
 front-trail xs ys (suc n) low =
     let head : slice_index (xs ++ ys) n ≡ slice_index xs n = get_or-append xs ys 0 n (omega (arith, low)) in
@@ -123,10 +123,10 @@ module _ (image : Image) (wf : IsWellFormed image) where
   abbrev Pointer : Trail → Type 0
   Pointer = IsTreePointer image (size_of image)
 
-  are : ArePointers Pointer
+  pub are : ArePointers Pointer
   are = pointers image (size_of image) forest
 
-  bones : IsSkeleton image Pointer
+  pub bones : IsSkeleton image Pointer
   bones = skeleton image (size_of image) forest wf.formatted.sized.whole
 
   root_digits : (i : ℕ) → IsReached image (suc i) → HasDigits (suc (height_of (word image 2))) (8 * suc i + 1)
@@ -180,7 +180,7 @@ module _ (image : Image) (wf : IsWellFormed image) where
     abbrev shown : Bool
     shown = is_present image (root_of image of.tree) (size_of image of.tree) (record { level = height_of (root_of image of.tree) - of.depth; index = of.index })
 
-    there_is : is_there_now image path ≡ is_present image (root_of image of.tree) (size_of image of.tree) (record { level = height_of (root_of image of.tree) - of.depth; index = of.index })
+    pub there_is : is_there_now image path ≡ is_present image (root_of image of.tree) (size_of image of.tree) (record { level = height_of (root_of image of.tree) - of.depth; index = of.index })
     there_is = ap (λ (p : ℕ × TreeNode). is_present image (root_of image p.0) (size_of image p.0) p.1) pointed_is
 
     pub trail_is : path_trail path ≡ tree_trail (height_of (word image 2)) of.tree of.depth of.index

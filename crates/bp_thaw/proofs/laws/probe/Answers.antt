@@ -3,7 +3,8 @@ use Rattle.bp_shapes.specs.Forest.{IsTreePointer}
 use Rattle.bp_thaw.proofs.Filled.{filled_thawing}
 use Rattle.bp_thaw.proofs.AllStored.{linked_thawing}
 use Rattle.bp_thaw.proofs.Told.{shape_stays}
-use Rattle.bp_thaw.proofs.Found.{found_is}
+use Rattle.bp_thaw.proofs.Clear.{clear}
+use Rattle.bp_thaw.proofs.Whole.{thaws_all}
 use Rattle.bp_thaw.proofs.laws.probe.Goals as goal
 
 pub returns : goal.returns

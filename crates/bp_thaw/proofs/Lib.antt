@@ -11,3 +11,4 @@ pub mod Found
 pub mod FindSteps
 pub mod Clear
 pub mod Whole
+pub mod ThawStores

@@ -60,14 +60,14 @@ or_true false = refl
 
 -- a front of a path is its first slots
 front_take : (f w : WordPath) → is_front f w ≡ true → (length f < length w) × (f ≡ take (length f) w)
-front_take f w is = let both = and_true _ _ is in (ltb-true (length f) (length w) both.0, (bytes_eq-Decides f (take (length f) w)).0 both.1)
+front_take f w is = let both = and_true _ _ is in (ltb-true (length f) (length w) both.1, (bytes_eq-Decides f (take (length f) w)).0 both.0)
 
 pub take_front : (w : WordPath) (n : ℕ) → n < length w → is_front (take n w) w ≡ true
 take_front w n low =
     let long : length (take n w) ≡ n = length-take-le n w (omega (arith, low)) in
     let small : nat_lt (length (take n w)) (length w) ≡ true = lt-ltb _ _ (omega (arith, long, low)) in
     let same : bytes_eq (take n w) (take (length (take n w)) w) ≡ true = (bytes_eq-Decides _ _).1 (ap (λ m. take m w) (sym long)) in
-    rw (small, same) refl
+    rw (same, small) refl
 
 -- ---- no place stands twice
 

@@ -12,3 +12,4 @@ pub mod FindSteps
 pub mod Clear
 pub mod Whole
 pub mod ThawStores
+pub mod WayNumbers

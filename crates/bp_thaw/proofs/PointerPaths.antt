@@ -63,7 +63,7 @@ trail-tree h (suc i) d k = trail-digits (inode_path h (suc i) 1) d k ∙ ap (λ 
 
 -- ---- the fronts of a way
 
-number-append : (ds : List ℕ) (d : ℕ) → path_number (ds ++ d ∷ []) ≡ 512 * path_number ds + d
+pub number-append : (ds : List ℕ) (d : ℕ) → path_number (ds ++ d ∷ []) ≡ 512 * path_number ds + d
 number-append ds d = fold-append (λ (n : ℕ) (d : ℕ). 512 * n + d) 0 ds (d ∷ [])
 
 number-digits : (d k : ℕ) → HasDigits d k → path_number (digits d k) ≡ k

@@ -12,7 +12,7 @@ use Rattle.bp_shapes.specs.Trail.{Trail, trail_of}
 
 -- a proper front of a path
 abbrev pub is_front : WordPath → WordPath → Bool
-is_front front path = nat_lt (length front) (length path) && is_prefix front path
+is_front front path = is_prefix front path && nat_lt (length front) (length path)
 
 -- The proper fronts of some paths. Each counts once, at the first path that it begins and does not end.
 abbrev pub fronts_of : List WordPath → List WordPath → List WordPath

@@ -1,7 +1,6 @@
 //! How far a way to a word is there.
 
-ghost use Rattle.std.specs.Prelude.{◌≡◌, ◌≢◌, ℕ, suc, ◌+◌, ◌-◌, ◌*◌, ◌/◌, ◌<◌, ◌≤◌, length, take, drop};
-ghost use Rattle.std.specs.List.{slice_range};
+ghost use Rattle.std.specs.Prelude.{◌≡◌, ◌≢◌, ℕ, suc, ◌+◌, ◌-◌, ◌*◌, ◌/◌, ◌<◌, ◌≤◌, length, slice_index, take, drop};
 ghost use Rattle.bp_layout.specs.Inode.{root_of, size_of};
 ghost use Rattle.bp_layout.specs.Need.{path_number};
 ghost use Rattle.bp_layout.specs.Nodes.{is_present};
@@ -9,8 +8,8 @@ ghost use Rattle.bp_layout.specs.Reached.{IsReached};
 ghost use Rattle.bp_layout.specs.Thaw.{is_there_now};
 ghost use Rattle.bp_layout.specs.Tree.{IsSound};
 ghost use Rattle.bp_layout.specs.WellFormed.{IsWellFormed};
-ghost use Rattle.bp_layout.specs.Words.{height_of, word};
-ghost use Rattle.bp_limits.specs.Limits.{super_root};
+ghost use Rattle.bp_layout.specs.Words.{height_of};
+ghost use Rattle.bp_limits.specs.Limits.{block_words};
 ghost use Rattle.pm_region.specs.Memory.{current_words};
 ghost use Rattle.bp_thaw.specs.Fronts.{IsWay};
 
@@ -23,7 +22,8 @@ fn number(way: &Slots, from: usize, to: usize) -> u64
     requires order { from ≤ to }
     requires in_range { to ≤ length way.now.items }
     requires few { to ≤ from + 6 }
-    ensures { result ≡ path_number (slice_range way.now.items from to) }
+    requires slots { (n : ℕ) → slice_index way.now.items n < block_words }
+    ensures { result ≡ path_number (drop from (take to way.now.items)) }
 {
     let mut number = 0;
     for i in from..to {

@@ -3,7 +3,7 @@ use Rattle.bp_shapes.specs.Forest.{IsTreePointer}
 use Rattle.bp_thaw.proofs.Filled.{filled_thawing}
 use Rattle.bp_thaw.proofs.AllStored.{linked_thawing}
 use Rattle.bp_thaw.proofs.Told.{shape_stays}
-use Rattle.bp_thaw.proofs.Clear.{clear}
+use Rattle.bp_thaw.proofs.WayNumbers.{tree_low}
 use Rattle.bp_thaw.proofs.Whole.{thaws_all}
 use Rattle.bp_thaw.proofs.laws.probe.Goals as goal
 

@@ -1,6 +1,6 @@
 //! How far a way to a word is there.
 
-ghost use Rattle.std.specs.Prelude.{◌≡◌, ◌≢◌, ℕ, suc, ◌+◌, ◌-◌, ◌*◌, ◌/◌, ◌<◌, ◌≤◌, length, slice_index, take, drop};
+ghost use Rattle.std.specs.Prelude.{◌≡◌, ◌≢◌, ℕ, suc, ◌+◌, ◌-◌, ◌*◌, ◌/◌, ◌^◌, ◌<◌, ◌≤◌, length, slice_index, take, drop};
 ghost use Rattle.bp_layout.specs.Inode.{root_of, size_of};
 ghost use Rattle.bp_layout.specs.Need.{path_number};
 ghost use Rattle.bp_layout.specs.Nodes.{is_present};
@@ -62,6 +62,7 @@ fn tree_of<R: Region>(region: &R, file: Tree, inode: u64) -> Tree
         (file.size ≡ size_of (current_words (R.memory region.now)) 0) }
     requires reached { IsReached (current_words (R.memory region.now)) inode }
     requires inode { inode ≢ 0 }
+    requires few { inode < 2 ^ 61 }
     ensures root { result.root ≡ root_of (current_words (R.memory region.now)) inode }
     ensures size { result.size ≡ size_of (current_words (R.memory region.now)) inode }
 {

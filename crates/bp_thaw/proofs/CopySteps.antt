@@ -231,7 +231,6 @@ module _ (copies done : Copies) (old now : Memory) (can : CanFillCopies copies o
         words = λ copy slot has low. go copy slot low (has-either done (c ∷ []) copy has);
       }
         where
-
           last : (slot : ℕ) → slot < 512 → word (current_words next) (512 * c.1 + slot) ≡ turned_word (current_words old) copies (512 * source_of (current_words old) c + slot)
           last slot low =
               words slot low

@@ -267,7 +267,6 @@ module _ (image : Image) (wf : IsWellFormed image) where
   pub paths_apart : (p q : WordPath) → IsPointerPath image p → IsPointerPath image q → is_there_now image p ≡ true → is_there_now image q ≡ true → address image p ≡ address image q → p ≡ q
   paths_apart p q of also there_p there_q same = of.is ∙ paths of.tree of.depth of.index also.tree also.depth also.index all.0 all.1 all.2 ∙ sym also.is
     where
-
       trails : path_trail p ≡ path_trail q
       trails =
           let one = there_pointer p of there_p in

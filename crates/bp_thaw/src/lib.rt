@@ -4,7 +4,6 @@
 
 mod copying;
 mod finding;
-pub mod laws;
 mod linking;
 mod thawing;
 mod ways;

@@ -40,7 +40,8 @@ fn is_present<R: Region>(region: &R, tree: Tree, level: u32, index: u64) -> bool
     ensures { result ≡ is_present (current_words (R.memory region.now)) tree.root tree.size
         (record { level = level; index = index }) }
 {
-    index <= (tree.size - 1) / pm_words::span(level) && bp_tree::node(region, tree, level, index) != 0
+    index <= (tree.size - 1) / pm_words::span(level)
+        && bp_tree::node(region, tree, level, index) != 0
 }
 
 /// The inode file.

@@ -17,5 +17,5 @@ returns-else-index-tree g c =
     let step : c.span.result ≡ span c.args.level = c.span.ensures ∙ sym (span-is c.args.level) in
     lt-leb _ _ (omega (arith, c.if-index-tree.false)) ∙ sym (present_far (current_words (g.R.Region.memory c.args.region.now)) c.args.tree.root c.args.tree.size c.args.level c.args.index
     (λ below.
-        let low = slots_all c.args.tree.size c.span.result c.args.index (subst (λ s. 0 < s) (sym step) (span_some c.args.level)) (subst (λ s. c.args.index * s < c.args.tree.size) (sym step) below) in
-        omega (arith, low, c.if-index-tree.false)))
+    let low = slots_all c.args.tree.size c.span.result c.args.index (subst (λ s. 0 < s) (sym step) (span_some c.args.level)) (subst (λ s. c.args.index * s < c.args.tree.size) (sym step) below) in
+    omega (arith, low, c.if-index-tree.false)))

@@ -8,7 +8,7 @@ use Rattle.bp_layout.specs.Members.{AreApart, Has}
 use Rattle.bp_layout.specs.Need.{prefixes_from}
 use Rattle.bp_layout.specs.Nodes.{TreeNode, is_present}
 use Rattle.bp_layout.specs.Reached.IsReached.{inode_file}
-use Rattle.bp_layout.specs.Thaw.{is_kept_at, is_there_now}
+use Rattle.bp_layout.specs.Thaw.{fronts_of, is_front, is_kept_at, is_there_now, thawed_on}
 use Rattle.bp_layout.specs.WellFormed.{IsWellFormed}
 use Rattle.bp_layout.specs.WordPaths.{WordPath, address, tree_path}
 use Rattle.bp_layout.specs.Words.{Image, height_of, word}
@@ -18,7 +18,7 @@ use Rattle.bp_changes.proofs.ReachedOn.{reached_on}
 use Rattle.bp_changes.proofs.SameMeaning.{well_formed-same}
 use Rattle.bp_shapes.specs.Trail.{Trail, block_on, place_on, trail_of}
 use Rattle.bp_shapes.specs.Forest.{IsTreePointer}
-use Rattle.bp_thaw.specs.Fronts.{IsPointerPath, IsWay, found_in, fronts_of, is_found, is_front, path_trail, thawed_on}
+use Rattle.bp_thaw.specs.Fronts.{IsPointerPath, IsWay, found_in, is_found, path_trail}
 use Rattle.bp_thaw.specs.Steps.{AreKept, IsKept}
 use Rattle.bp_thaw.proofs.Found.{AreFound, IsFrontAmong, all_apart, any_some, are_found, filter_none, found_is, gone, mapped_range, path_of, some_any, take_front, there_of}
 use Rattle.bp_thaw.proofs.FindSteps.{take-trail, there_above}

@@ -11,12 +11,12 @@ use Rattle.std.proofs.lemmas.List.FromFn.{map-range_with_len_more}
 use Rattle.std.proofs.lemmas.Slice.Eq.{bytes_eq-Decides}
 use Rattle.bp_layout.specs.Members.{AreApart, Each, Has}
 use Rattle.bp_layout.specs.Need.{is_prefix, prefixes_from}
-use Rattle.bp_layout.specs.Thaw.{is_kept_at, is_there_now}
+use Rattle.bp_layout.specs.Thaw.{fronts_of, is_front, is_kept_at, is_there_now, thawed_on}
 use Rattle.bp_layout.specs.WellFormed.{IsWellFormed}
 use Rattle.bp_layout.specs.WordPaths.{WordPath, address}
 use Rattle.bp_layout.specs.Words.{Image}
 use Rattle.bp_layout.proofs.MemberLaws.{apart-append, each-has, filter-has, has-behind, has-either, has-filter, has-front, has-map, has-range}
-use Rattle.bp_thaw.specs.Fronts.{IsPointerPath, IsWay, found_in, found_on, fronts_of, is_found, is_front, thawed_on}
+use Rattle.bp_thaw.specs.Fronts.{IsPointerPath, IsWay, found_in, found_on, is_found}
 use Rattle.bp_thaw.proofs.CopySteps.{map-more}
 use Rattle.bp_thaw.proofs.PointerPaths.{front_path, paths_apart}
 

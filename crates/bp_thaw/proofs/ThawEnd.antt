@@ -16,7 +16,7 @@ use Rattle.bp_layout.specs.Inode.{root_of, size_of}
 use Rattle.bp_layout.specs.Members.{AreApart, Each, Has}
 use Rattle.bp_layout.specs.Reached.{IsFreeBlock, IsLiveBlock, IsReached, IsUnheld}
 use Rattle.bp_layout.specs.Same.{Same}
-use Rattle.bp_thaw.specs.Fronts.{thawed_on}
+use Rattle.bp_layout.specs.Thaw.{thawed_on}
 use Rattle.bp_layout.specs.Tree.{HasBlock}
 use Rattle.bp_layout.specs.WordPaths.{WordPath}
 use Rattle.bp_layout.specs.WellFormed.{IsWellFormed}

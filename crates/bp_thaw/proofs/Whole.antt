@@ -24,7 +24,7 @@ use Rattle.bp_shapes.proofs.FreeSets.{wf_forest}
 use Rattle.bp_commit.proofs.PerformsLaws.{takes_none}
 use Rattle.bp_cow.specs.Committed.{IsCommitted}
 use Rattle.bp_thaw.specs.Copies.{Copies, blocks_of, is_copied, links_among, places_of, source_of}
-use Rattle.bp_thaw.specs.Fronts.{thawed_on}
+use Rattle.bp_layout.specs.Thaw.{thawed_on}
 use Rattle.bp_thaw.specs.Steps.{AreKept, ArePlacesOf, CanFillCopies, FillsCopies, InBlocks, TakesAll}
 use Rattle.bp_thaw.specs.Thaws.{CanThaw, Thaws}
 use Rattle.bp_thaw.proofs.Clear.{clear, places_are, places_once, trails_kept, trails_number, trails_of}

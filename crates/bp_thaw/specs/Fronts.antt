@@ -1,28 +1,13 @@
--- The ways to some words, and the kept blocks on them.
+-- The ways to some words, and how the kept blocks on them are found.
 use Rattle.std.specs.Prelude.{◌≡◌, ℕ, zero, suc, ◌/◌, ◌≤◌, List, [], ◌∷◌, ◌++◌, length, take, filter, map, Bool, not, ◌&&◌, ◌==◌, nat_lt, if◌then◌else◌}
 use Rattle.std.specs.List.{list_any}
 use Rattle.bp_limits.specs.Limits.{block_words, super_root}
 use Rattle.bp_layout.specs.Inode.{root_of}
-use Rattle.bp_layout.specs.Need.{is_prefix, prefixes_from}
 use Rattle.bp_layout.specs.Reached.{IsReached}
 use Rattle.bp_layout.specs.Thaw.{is_kept_at}
 use Rattle.bp_layout.specs.WordPaths.{WordPath, address, tree_path}
 use Rattle.bp_layout.specs.Words.{Image, height_of, word}
 use Rattle.bp_shapes.specs.Trail.{Trail, trail_of}
-
--- a proper front of a path
-abbrev pub is_front : WordPath → WordPath → Bool
-is_front front path = is_prefix front path && nat_lt (length front) (length path)
-
--- The proper fronts of some paths. Each counts once, at the first path that it begins and does not end.
-abbrev pub fronts_of : List WordPath → List WordPath → List WordPath
-fronts_of earlier [] = []
-fronts_of earlier (path ∷ paths) =
-    filter (λ front. not (list_any (is_front front) earlier)) (prefixes_from 0 path) ++ fronts_of (path ∷ earlier) paths
-
--- those of them that are live pointers to kept blocks
-abbrev pub thawed_on : Image → (ℕ → Bool) → List WordPath → List WordPath
-thawed_on image kept paths = filter (is_kept_at image kept) (fronts_of [] paths)
 
 -- a number of at most so many digits
 abbrev pub HasDigits : ℕ → ℕ → Type 0

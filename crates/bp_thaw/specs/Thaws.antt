@@ -9,7 +9,8 @@ use Rattle.bp_layout.specs.Reached.{IsLiveBlock}
 use Rattle.bp_layout.specs.WellFormed.{IsWellFormed}
 use Rattle.bp_layout.specs.WordPaths.{WordPath}
 use Rattle.bp_limits.specs.Limits.{block_words}
-use Rattle.bp_thaw.specs.Fronts.{IsWay, thawed_on}
+use Rattle.bp_layout.specs.Thaw.{thawed_on}
+use Rattle.bp_thaw.specs.Fronts.{IsWay}
 use Rattle.bp_commit.specs.Performs.{AddsTaking}
 use Rattle.pm_region.specs.Memory.{Memory, current_words, room_in}
 

@@ -7,7 +7,8 @@ ghost use Rattle.bp_layout.specs.WellFormed.{IsWellFormed};
 ghost use Rattle.bp_layout.specs.WordPaths.{WordPath};
 ghost use Rattle.bp_layout.specs.Words.{block_count};
 ghost use Rattle.pm_region.specs.Memory.{current_words};
-ghost use Rattle.bp_thaw.specs.Fronts.{IsWay, thawed_on};
+ghost use Rattle.bp_layout.specs.Thaw.{thawed_on};
+ghost use Rattle.bp_thaw.specs.Fronts.{IsWay};
 ghost use Rattle.bp_thaw.specs.Thaws.{CanThaw, Thaws, paths_in};
 
 use crate::copying::{fill_all, take_all};

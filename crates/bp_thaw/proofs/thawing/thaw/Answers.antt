@@ -7,7 +7,7 @@ use Rattle.pm_epochs.specs.declared.event.Event.TheVariants.{Barrier}
 use Rattle.bp_free.specs.Set.{has}
 use Rattle.bp_layout.specs.WordPaths.{WordPath, address}
 use Rattle.bp_thaw.specs.Copies.{links_among}
-use Rattle.bp_thaw.specs.Fronts.{thawed_on}
+use Rattle.bp_layout.specs.Thaw.{thawed_on}
 use Rattle.bp_thaw.specs.Steps.{ArePlacesOf}
 use Rattle.bp_thaw.specs.Thaws.{paths_in}
 use Rattle.bp_thaw.proofs.Found.{found_is}

@@ -3,7 +3,7 @@ use Rattle.std.proofs.lemmas.List.{length-map}
 use Rattle.pm_region.specs.Memory.{current_words}
 use Rattle.bp_free.specs.Set.{has}
 use Rattle.bp_layout.specs.WordPaths.{address}
-use Rattle.bp_thaw.specs.Fronts.{thawed_on}
+use Rattle.bp_layout.specs.Thaw.{thawed_on}
 use Rattle.bp_thaw.specs.Thaws.{paths_in}
 use Rattle.bp_thaw.proofs.Found.{found_is}
 use Rattle.bp_thaw.proofs.thawing.thaw_need.Goals as goal

@@ -1,0 +1,4 @@
+pub mod Copies
+pub mod Fronts
+pub mod Steps
+pub mod Thaws

@@ -133,8 +133,6 @@ enum Step {
     Look,
     Log(Event),
     Drain,
-    AdoptWords(u32, [u64; 2]),
-    AdoptWord(u32, u64),
 }
 
 /// A step, what the log of two places has then, and the words, as the processor sees them and at the last drain.
@@ -143,7 +141,7 @@ type Stepped = (Step, &'static [Event], [u64; 4], [u64; 4]);
 const FIVE: Event = Event::Store { word: 1, value: 5 };
 
 /// A store and a barrier fill the log, and a drain brings the store to the words at the last drain.
-const STEPS: [Stepped; 6] = [
+const STEPS: [Stepped; 4] = [
     (Step::Look, &[], [0; 4], [0; 4]),
     (Step::Log(FIVE), &[FIVE], [0, 5, 0, 0], [0; 4]),
     (
@@ -153,34 +151,13 @@ const STEPS: [Stepped; 6] = [
         [0; 4],
     ),
     (Step::Drain, &[], [0, 5, 0, 0], [0, 5, 0, 0]),
-    (Step::AdoptWords(2, [8, 9]), &[], [0, 5, 8, 9], [0, 5, 8, 9]),
-    (Step::AdoptWord(3, 7), &[], [0, 5, 8, 7], [0, 5, 8, 7]),
 ];
-
-/// Adopts where the region has these words, and an empty log.
-fn adopt<R: Region>(region: &mut R, first: u32, values: &[u64]) {
-    let words = region.words() as usize;
-    if region.event_count() == 0
-        && first as usize <= words
-        && values.len() <= words - first as usize
-    {
-        region.adopt_words(first, values);
-    }
-}
-
-fn adopt_one<R: Region>(region: &mut R, word: u32, value: u64) {
-    if region.event_count() == 0 && word < region.words() {
-        region.adopt_word(word, value);
-    }
-}
 
 fn take_step<R: Region>(region: &mut R, step: Step) {
     match step {
         Step::Look => {}
         Step::Log(event) => follow_one(region, event),
         Step::Drain => region.drain(),
-        Step::AdoptWords(first, values) => adopt(region, first, &values),
-        Step::AdoptWord(word, value) => adopt_one(region, word, value),
     }
 }
 

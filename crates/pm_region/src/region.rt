@@ -9,6 +9,10 @@ ghost use Rattle.pm_region.specs.Memory.{Memory, crashed, current_words, room_in
 
 use pm_epochs::{BadChoice, Choice, Event, Kept};
 
+/// The words that are read one by one: those of the first cache line. A region may show other words in their places than those
+/// that stand there, which no slice of what it holds could.
+pub const HEAD_WORDS: u32 = 8;
+
 /// Words of 8 bytes that outlive a crash, with the log of what was done to them since the last drain. Places and sizes are
 /// in words.
 pub trait Region {
@@ -23,9 +27,10 @@ pub trait Region {
         requires { word < length (memory self.now).base }
         ensures { result ≡ slice_index (current_words (memory self.now)) word };
 
-    /// The words from `first` on, so many, as the processor sees them.
+    /// The words from `first` on, so many, as the processor sees them. They stand behind the head, which is read by `load`.
     fn load_words(&self, first: u32, count: u32) -> &[u64]
-        requires { first + count ≤ length (memory self.now).base }
+        requires behind_head { HEAD_WORDS ≤ first }
+        requires in_range { first + count ≤ length (memory self.now).base }
         ensures { result.now ≡ slice_range (current_words (memory self.now)) first (first + count) };
 
     /// Sets a word, and writes that to the log.

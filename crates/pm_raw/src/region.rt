@@ -209,12 +209,4 @@ impl Region for RawRegion {
         self.marks.clear();
         Ok(kept)
     }
-
-    fn adopt_word(&mut self, word: u32, value: u64) {
-        self.current.set(word as usize, value);
-    }
-
-    fn adopt_words(&mut self, first: u32, values: &[u64]) {
-        overwrite(self.current.as_mut_slice(), first as usize, values);
-    }
 }

@@ -36,3 +36,4 @@ pub mod LeafCover
 pub mod Thawing
 pub mod SharedLaws
 pub mod LiveLaws
+pub mod LooseCover

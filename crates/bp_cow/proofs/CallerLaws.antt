@@ -13,16 +13,15 @@ use Rattle.bp_cow.specs.declared.touched.Run.{Run}
 use Rattle.bp_cow.specs.declared.touched.Touched.{Touched}
 use Rattle.bp_cow.specs.Touched.{IsTouched, path_of, word_paths}
 use Rattle.bp_cow.specs.CanCommit.{IsRunIn, CanCommit}
-use Rattle.bp_layout.specs.Thaw.{none_kept}
 
-module _ (old : Image) (wf : IsWellFormed old) (touched : Touched) (shape : IsTouched touched) (free : ℕ → Bool) (exact : AreFreeBlocks old none_kept free) where
+module _ {kept : ℕ → Bool} (old : Image) (wf : IsWellFormed old) (touched : Touched) (shape : IsTouched touched) (free : ℕ → Bool) (exact : AreFreeBlocks old kept free) where
   forest : IsForest old (size_of old)
   forest = wf_forest old wf
 
   -- one word
   module _ (none : touched.runs.now ≡ []) (one : length touched.words.now ≡ 1) (t k : ℕ) (reached : IsReached old t) (below : 8 * k < size_of old t) (no_root : t ≡ 0 → k % 8 ≢ 1)
       (is : trail_of (path_of (word_paths touched) 0) (length (path_of (word_paths touched) 0)) ≡ tree_trail (height_of (word old 2)) t (suc (height_of (root_of old t))) k) where
-    pub word_can : CanCommit old (size_of old) touched free
+    pub word_can : CanCommit old (size_of old) kept touched free
     word_can = record {
       shape = shape;
       forest = forest;
@@ -62,7 +61,7 @@ module _ (old : Image) (wf : IsWellFormed old) (touched : Touched) (shape : IsTo
             (subst (λ d. IsTreePointer old (size_of old) (trail_of (path_of (word_paths touched) 0) d)) whole (subst (λ n. IsTreePointer old (size_of old) (trail_of (path_of (word_paths touched) n) (length (path_of (word_paths touched) n)))) e pointer))
 
   -- runs alone
-  pub runs_can : length touched.words.now ≡ 0 → ((run : Run) → Has touched.runs.now run → IsRunIn old (size_of old) run) → CanCommit old (size_of old) touched free
+  pub runs_can : length touched.words.now ≡ 0 → ((run : Run) → Has touched.runs.now run → IsRunIn old (size_of old) run) → CanCommit old (size_of old) kept touched free
   runs_can none in_trees = record {
     shape = shape;
     forest = forest;
@@ -75,7 +74,7 @@ module _ (old : Image) (wf : IsWellFormed old) (touched : Touched) (shape : IsTo
     beside = λ r i j has here low high same. omega (arith, here, none);
   }
 
-  pub run_can : (run : Run) → touched.runs.now ≡ run ∷ [] → length touched.words.now ≡ 0 → IsRunIn old (size_of old) run → CanCommit old (size_of old) touched free
+  pub run_can : (run : Run) → touched.runs.now ≡ run ∷ [] → length touched.words.now ≡ 0 → IsRunIn old (size_of old) run → CanCommit old (size_of old) kept touched free
   run_can run one none in_tree = runs_can none (λ r has. only r (subst (λ runs. Has runs r) one has))
     where
       only : (r : Run) → Has (run ∷ []) r → IsRunIn old (size_of old) r

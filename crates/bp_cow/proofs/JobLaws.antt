@@ -35,7 +35,6 @@ use Rattle.bp_cow.proofs.RunsLaws.{HasEnd, HasLeaf, end-first, end-last, end-of-
 use Rattle.bp_cow.proofs.RunFronts.{trail_of-take, first-trail, front-run_way, end-run_way, between-run, same-run_path}
 use Rattle.bp_cow.proofs.CoverLaws.{run-slots, end-slots, some-ends}
 use Rattle.bp_cow.proofs.LiveLaws.{run-counts}
-use Rattle.bp_layout.specs.Thaw.{none_kept}
 
 -- ---- a run
 
@@ -154,7 +153,7 @@ module _ (touched : Touched) where
       let back : leaves_of touched.runs.now + i - leaves_of touched.runs.now ≡ i = omega arith in
       way-word touched.runs.now (word_paths touched) (leaves_of touched.runs.now + i) (omega arith) ∙ ap (λ k. above (path_of (word_paths touched) k)) back
 
-module _ (old : Image) (bound : ℕ → ℕ) (touched : Touched) (free : ℕ → Bool) (wf : IsWellFormed old) (can : CanCommit old bound touched free) where
+module _ {kept : ℕ → Bool} (old : Image) (bound : ℕ → ℕ) (touched : Touched) (free : ℕ → Bool) (wf : IsWellFormed old) (can : CanCommit old bound kept touched free) where
   abbrev paths : List (List ℕ)
   paths = word_paths touched
 
@@ -336,13 +335,13 @@ module _ (old : Image) (bound : ℕ → ℕ) (touched : Touched) (free : ℕ →
         in_block (slice_index first d) (trail_of first d) (first-pointer d (omega (arith, low, short))) (exists d low)
         (end-slots touched can.shape 0 d (some-ends touched can.shape) (omega (arith, low, alike.long 0 (some-ends touched can.shape))))
 
-    pub can_build : (place : ℕ) → ((k : ℕ) → k < n → block_on old (trail_of first k) ≢ 0) → place_on old (trail_of first n) ≡ place → IsFeasible old bound (job_of touched) n place free
+    pub can_build : (place : ℕ) → ((k : ℕ) → k < n → block_on old (trail_of first k) ≢ 0) → place_on old (trail_of first n) ≡ place → IsFeasible old bound (job_of touched) n place kept free
     can_build place exists at = record {
       some = some-ways;
       some_blocks = let least = wf.formatted.sized.at_least in omega (arith, least);
       whole = wf.formatted.sized.whole;
       forest = can.forest;
-      exact = unheld_exact old bound can.forest none_kept free can.exact;
+      exact = unheld_exact old bound can.forest kept free can.exact;
       below = λ i here. (begin-way i here).0;
       short = ways-short;
       cover = λ i here. (begin-way i here).1 ∙ sym (first-front n short);

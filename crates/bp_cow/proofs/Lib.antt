@@ -33,6 +33,6 @@ pub mod FewCopies
 pub mod RunThere
 pub mod RunWrites
 pub mod LeafCover
-pub mod Thawing
 pub mod SharedLaws
 pub mod LiveLaws
+pub mod LooseCover

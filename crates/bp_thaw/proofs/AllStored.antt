@@ -1,6 +1,5 @@
 -- Whichever of the pointers to copies are stored, and once all of them are.
-use Rattle.std.proofs.Common.{◌≡◌, ◌≢◌, ◌⊎◌, ℕ, zero, suc, ◌+◌, ◌*◌, ◌/◌, ◌<◌, List, [], ◌∷◌, map, length, Bool, true, false, ◌||◌, ◌==◌, Option, None, Some, set, refl, sym, ◌∙◌, ap, subst, arith, inl, inr, true≢false}
-use Rattle.std.specs.List.{list_any}
+use Rattle.std.proofs.Common.{◌≡◌, ◌⊎◌, ℕ, ◌+◌, ◌*◌, ◌/◌, ◌<◌, [], ◌∷◌, Bool, true, false, ◌==◌, Option, None, Some, refl, sym, ◌∙◌, ap, arith, inl, inr, true≢false}
 use Rattle.std.specs.Str.{bytes_eq}
 use Rattle.std.proofs.lemmas.Bool.{eq-eqb, eqb-true, or_left, or_right}
 use Rattle.std.proofs.lemmas.Slice.Eq.{bytes_eq-Decides}
@@ -10,9 +9,10 @@ use Rattle.bp_layout.specs.Members.{Has}
 use Rattle.bp_layout.specs.Same.{Same}
 use Rattle.bp_layout.specs.Words.{Image, word, block_of, block_count}
 use Rattle.bp_shapes.specs.Trail.{Trail, word_on, block_on, place_on, ArePointers, IsSkeleton}
-use Rattle.bp_cow.specs.Thawing.{AreThawing, is_top, pointing_to}
+use Rattle.bp_cow.specs.Copies.{pointing_to}
+use Rattle.bp_thaw.specs.Linked.{AreThawing, is_top}
 use Rattle.bp_thaw.specs.Copies.{Copies, Marks, copy_on, copies_of, source_of, is_copied, links_among, AreMarks, HasCopies}
-use Rattle.bp_thaw.proofs.Marks.{trail_same, has-copy_on, copy_on-has, word-at_place}
+use Rattle.bp_thaw.proofs.Marks.{has-copy_on, copy_on-has, word-at_place}
 use Rattle.bp_thaw.proofs.Filled.{nothing_stored, one_more, outside, filled_thawing, link_thawing}
 
 abbrev pub all_are : Trail → Bool

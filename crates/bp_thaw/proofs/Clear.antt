@@ -1,24 +1,24 @@
 -- The trails of what is found; and once those blocks are copied, no pointer on the ways leads to a kept block.
-use Rattle.std.proofs.Common.{◌≡◌, ◌≢◌, ◌⊎◌, ℕ, zero, suc, ◌+◌, ◌-◌, ◌<◌, ◌≤◌, List, [], ◌∷◌, ◌++◌, Bool, true, false, not, ◌==◌, map, take, length, filter, refl, sym, ◌∙◌, ap, subst, arith, inl, inr, true≢false}
-use Rattle.std.specs.List.{list_any, range_with_len}
+use Rattle.std.proofs.Common.{◌≡◌, ◌⊎◌, ℕ, zero, suc, ◌-◌, ◌<◌, ◌≤◌, List, [], ◌∷◌, Bool, true, false, not, ◌==◌, map, take, length, filter, refl, sym, ◌∙◌, ap, subst, arith, inl, inr}
+use Rattle.std.specs.List.{list_any}
 use Rattle.std.proofs.lemmas.Bool.{eqb-true}
 use Rattle.std.proofs.lemmas.List.{length-map}
 use Rattle.bp_layout.specs.Inode.{root_of, size_of}
 use Rattle.bp_layout.specs.Members.{AreApart, Has}
 use Rattle.bp_layout.specs.Need.{prefixes_from}
-use Rattle.bp_layout.specs.Nodes.{TreeNode, is_present}
+use Rattle.bp_layout.specs.Nodes.{is_present}
 use Rattle.bp_layout.specs.Reached.IsReached.{inode_file}
 use Rattle.bp_layout.specs.Thaw.{fronts_of, is_front, is_kept_at, is_there_now, thawed_on}
 use Rattle.bp_layout.specs.WellFormed.{IsWellFormed}
 use Rattle.bp_layout.specs.WordPaths.{WordPath, address, tree_path}
-use Rattle.bp_layout.specs.Words.{Image, height_of, word}
+use Rattle.bp_layout.specs.Words.{Image, height_of}
 use Rattle.bp_layout.proofs.MemberLaws.{filter-has, has-either}
 use Rattle.bp_changes.specs.Thawed.{SameShape}
 use Rattle.bp_changes.proofs.ReachedOn.{reached_on}
 use Rattle.bp_changes.proofs.SameMeaning.{well_formed-same}
 use Rattle.bp_shapes.specs.Trail.{Trail, block_on, place_on, trail_of}
 use Rattle.bp_shapes.specs.Forest.{IsTreePointer}
-use Rattle.bp_thaw.specs.Fronts.{IsPointerPath, IsWay, found_in, is_found, path_trail}
+use Rattle.bp_thaw.specs.Fronts.{IsPointerPath, IsWay, path_trail}
 use Rattle.bp_thaw.specs.Steps.{AreKept, IsKept}
 use Rattle.bp_thaw.proofs.Found.{AreFound, IsFrontAmong, all_apart, any_some, are_found, filter_none, found_is, gone, mapped_range, path_of, some_any, take_front, there_of}
 use Rattle.bp_thaw.proofs.FindSteps.{take-trail, there_above}

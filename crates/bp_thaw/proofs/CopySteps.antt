@@ -1,24 +1,23 @@
 -- One more block is taken, one more pointer is turned, and one more copy is filled.
-use Rattle.std.proofs.Common.{◌≡◌, ◌≢◌, ◌⊎◌, ℕ, zero, suc, ◌+◌, ◌*◌, ◌/◌, ◌%◌, ◌<◌, ◌≤◌, List, [], ◌∷◌, ◌++◌, map, take, set, get_or, length, Bool, true, false, ◌==◌, Option, None, Some, refl, sym, ◌∙◌, ap, subst, arith, inl, inr, get_or-set_same, get_or-set_other}
+use Rattle.std.proofs.Common.{◌≡◌, ◌≢◌, ◌⊎◌, ℕ, zero, suc, ◌+◌, ◌*◌, ◌/◌, ◌%◌, ◌<◌, ◌≤◌, List, [], ◌∷◌, ◌++◌, map, take, set, get_or, length, Bool, true, false, ◌==◌, None, Some, refl, sym, ◌∙◌, ap, subst, arith, inl, inr, get_or-set_same, get_or-set_other}
 use Rattle.std.proofs.lemmas.Bool.{cases_eq, eq-eqb, ne_eqb}
-use Rattle.std.proofs.lemmas.List.{length-append, length-map, take_more}
+use Rattle.std.proofs.lemmas.List.{length-append, take_more}
 use Rattle.pm_epochs.specs.Log.{StoresTo}
 use Rattle.pm_epochs.specs.May.{AnyAt}
 use Rattle.pm_epochs.proofs.MayLaws.{EachMay-stored, StoresMay-append, StoresMay-weaker}
 use Rattle.pm_epochs.proofs.PieceLaws.{IsPiece-append, IsPiece-more, IsPiece-none, StoresTo-behind, StoresTo-front}
-use Rattle.pm_region.specs.Memory.{Memory, Adds, current_words, room_in}
+use Rattle.pm_region.specs.Memory.{Memory, current_words, room_in}
 use Rattle.pm_region.specs.Safe.{AddsMay}
 use Rattle.pm_region.proofs.MayLaws.{room_after_may}
 use Rattle.pm_region.proofs.MemoryLaws.{adds_both, adds_none, current_words-adds}
-use Rattle.bp_free.specs.Set.{Set, TakesLeast, has, members}
+use Rattle.bp_free.specs.Set.{Set, TakesLeast, has}
 use Rattle.bp_layout.specs.Members.{AreApart, Each, Has}
-use Rattle.bp_layout.specs.Words.{Image, word, block_count, block_of}
+use Rattle.bp_layout.specs.Words.{word, block_of}
 use Rattle.bp_layout.proofs.MemberLaws.{apart-append, apart-first, each-append, each-as, has-behind, has-either, has-front}
 use Rattle.bp_commit.specs.Performs.{InBlock}
-use Rattle.bp_cow.specs.Copies.{CanFillBlock, FillsBlock}
-use Rattle.bp_cow.specs.Thawing.{pointing_to}
+use Rattle.bp_cow.specs.Copies.{CanFillBlock, FillsBlock, pointing_to}
 use Rattle.bp_thaw.specs.Copies.{Copies, blocks_of, copy_at, places_of, source_of, turned_to, turned_word}
-use Rattle.bp_thaw.specs.Steps.{CanFillCopies, FillsCopies, InBlocks, TakesAll}
+use Rattle.bp_thaw.specs.Steps.{CanFillCopies, InBlocks, TakesAll}
 
 clash : (b : Bool) → b ≡ true → b ≡ false → ⊥
 clash b one two = absurd (cc)

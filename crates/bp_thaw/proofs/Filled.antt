@@ -1,17 +1,18 @@
 -- The copies are made, and no pointer leads to them yet; then one more of the pointers is stored.
-use Rattle.std.proofs.Common.{◌≡◌, ◌≢◌, ◌⊎◌, ℕ, zero, suc, ◌+◌, ◌*◌, ◌/◌, ◌<◌, List, [], ◌∷◌, length, Bool, true, false, ◌||◌, Option, None, Some, set, refl, sym, ◌∙◌, ap, subst, arith, inl, inr, true≢false, get_or-set_same, get_or-set_other}
+use Rattle.std.proofs.Common.{◌≡◌, ◌≢◌, ◌⊎◌, ℕ, ◌+◌, ◌*◌, ◌/◌, ◌<◌, [], ◌∷◌, length, Bool, true, false, ◌||◌, Option, None, Some, set, refl, sym, ◌∙◌, ap, arith, inl, inr, true≢false, get_or-set_same, get_or-set_other}
 use Rattle.std.specs.Str.{bytes_eq}
 use Rattle.std.proofs.lemmas.List.{length-set}
 use Rattle.std.proofs.lemmas.Slice.Eq.{bytes_eq-Decides}
 use Rattle.bp_layout.specs.Members.{Has}
-use Rattle.bp_layout.specs.Words.{Image, word, block_of, block_count, slot_word}
-use Rattle.bp_shapes.specs.Trail.{Trail, word_on, block_on, place_on, ArePointers, IsSkeleton, IsPlaced, LeadsTo}
+use Rattle.bp_layout.specs.Words.{Image, word, block_count}
+use Rattle.bp_shapes.specs.Trail.{Trail, word_on, block_on, place_on, ArePointers, IsSkeleton, IsPlaced}
 use Rattle.bp_shapes.specs.Trail.IsPlaced.{at_top, in_block}
 use Rattle.bp_shapes.proofs.TrailLaws.{cases_trail, word_on-slot}
 use Rattle.bp_layout.proofs.TreeLaws.{slot_word-at}
-use Rattle.bp_cow.specs.Thawing.{AreCopies, AreThawing, copied_word, is_top, pointing_to}
-use Rattle.bp_thaw.specs.Copies.{Marks, copy_on, copy_at, copies_of, turned_to, turned_word, IsMark, AreMarks, HasCopies}
-use Rattle.bp_thaw.proofs.Marks.{some_none, trail_same, trail_differs, has-copy_on, block_above, placed, places_apart, copy_at-placed, mark-placed, are_copies}
+use Rattle.bp_cow.specs.Copies.{pointing_to}
+use Rattle.bp_thaw.specs.Linked.{AreThawing, copied_word, is_top}
+use Rattle.bp_thaw.specs.Copies.{Marks, copy_on, turned_to, IsMark, AreMarks, HasCopies}
+use Rattle.bp_thaw.proofs.Marks.{trail_differs, has-copy_on, places_apart, copy_at-placed, mark-placed}
 
 abbrev pub nothing_stored : Trail → Bool
 nothing_stored p = false

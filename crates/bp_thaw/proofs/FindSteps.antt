@@ -1,5 +1,5 @@
 -- One more pointer of a way is looked at, and one more way.
-use Rattle.std.proofs.Common.{◌≡◌, ◌≢◌, ◌⊎◌, ℕ, zero, suc, ◌+◌, ◌*◌, ◌/◌, ◌%◌, ◌<◌, ◌≤◌, List, [], ◌∷◌, ◌++◌, map, length, take, drop, get_or, Bool, true, false, not, ◌&&◌, ◌||◌, ◌==◌, refl, sym, ◌∙◌, ap, subst, arith, inl, inr, true≢false}
+use Rattle.std.proofs.Common.{◌≡◌, ◌≢◌, ◌⊎◌, ℕ, zero, suc, ◌+◌, ◌*◌, ◌/◌, ◌%◌, ◌<◌, ◌≤◌, List, [], ◌∷◌, ◌++◌, map, length, take, drop, get_or, Bool, true, false, ◌||◌, ◌==◌, refl, sym, ◌∙◌, ap, subst, arith, inl, inr, true≢false}
 use Rattle.std.specs.List.{list_any, slice_index}
 use Rattle.std.proofs.lemmas.Bool.{cases_eq}
 use Rattle.std.proofs.lemmas.List.{length-take-le, take-append-drop, take_more}
@@ -9,14 +9,14 @@ use Rattle.bp_layout.specs.WordPaths.{WordPath, address, digits, inode_path, tre
 use Rattle.bp_layout.specs.Words.{Image, block_count, block_of, height_of, word}
 use Rattle.bp_layout.specs.Inode.{size_of}
 use Rattle.bp_layout.proofs.Addresses.{address_from-append}
-use Rattle.bp_shapes.specs.Trail.{Trail, block_on, place_on, trail_of}
+use Rattle.bp_shapes.specs.Trail.{block_on, trail_of}
 use Rattle.bp_shapes.specs.Forest.{IsTreePointer}
 use Rattle.bp_shapes.proofs.FreeSets.{pointer_fronts, wf_forest}
 use Rattle.bp_shapes.proofs.PathTrails.{low-placed}
 use Rattle.bp_thaw.specs.Fronts.{IsPointerPath, IsWay, found_in, found_on, is_found, path_trail}
 use Rattle.bp_thaw.proofs.CopySteps.{map-more}
 use Rattle.bp_thaw.proofs.Marks.{block_above, placed}
-use Rattle.bp_thaw.proofs.PointerPaths.{address_is, are, block_at, bones, front_path, front-trail, kept_is, pointer_there, there_pointer}
+use Rattle.bp_thaw.proofs.PointerPaths.{address_is, are, block_at, bones, front_path, front-trail, pointer_there, there_pointer}
 
 -- looked for by place
 pub any-map : (image : Image) (found : List WordPath) (place : ℕ) → list_any (λ other. other == place) (map (address image) found) ≡ list_any (λ other. address image other == place) found

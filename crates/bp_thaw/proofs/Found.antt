@@ -1,21 +1,21 @@
 -- What is found on the ways are just the kept blocks on them.
-use Rattle.std.proofs.Common.{◌≡◌, ◌≢◌, ◌⊎◌, ℕ, zero, suc, ◌+◌, ◌-◌, ◌*◌, ◌<◌, ◌≤◌, List, [], ◌∷◌, ◌++◌, map, filter, length, take, Bool, true, false, not, ◌&&◌, ◌||◌, ◌==◌, refl, sym, ◌∙◌, ap, ap₂, subst, arith, inl, inr, true≢false, append_assoc}
+use Rattle.std.proofs.Common.{◌≡◌, ℕ, zero, suc, ◌+◌, ◌-◌, ◌<◌, ◌≤◌, List, [], ◌∷◌, ◌++◌, map, filter, length, take, Bool, true, false, not, ◌&&◌, ◌||◌, ◌==◌, refl, sym, ◌∙◌, ap, ap₂, subst, arith, inl, inr, true≢false, append_assoc}
 use Rattle.std.specs.Prelude.{nat_lt}
 use Rattle.std.specs.List.{list_any, range_with_len}
 use Rattle.std.specs.Str.{bytes_eq}
-use Rattle.std.proofs.lemmas.Bool.{cases_eq, eq-eqb, eqb-true, lt-ltb, ltb-true, ne_eqb, or_left, or_right}
-use Rattle.std.proofs.lemmas.List.{length-take-le, take-take}
+use Rattle.std.proofs.lemmas.Bool.{eq-eqb, lt-ltb, ltb-true, ne_eqb, or_left, or_right}
+use Rattle.std.proofs.lemmas.List.{length-take-le}
 use Rattle.std.proofs.lemmas.List.Elements.{filter-append}
 use Rattle.std.proofs.lemmas.List.Folds.{list_any-append}
 use Rattle.std.proofs.lemmas.List.FromFn.{map-range_with_len_more}
 use Rattle.std.proofs.lemmas.Slice.Eq.{bytes_eq-Decides}
-use Rattle.bp_layout.specs.Members.{AreApart, Each, Has}
-use Rattle.bp_layout.specs.Need.{is_prefix, prefixes_from}
+use Rattle.bp_layout.specs.Members.{AreApart, Has}
+use Rattle.bp_layout.specs.Need.{prefixes_from}
 use Rattle.bp_layout.specs.Thaw.{fronts_of, is_front, is_kept_at, is_there_now, thawed_on}
 use Rattle.bp_layout.specs.WellFormed.{IsWellFormed}
 use Rattle.bp_layout.specs.WordPaths.{WordPath, address}
 use Rattle.bp_layout.specs.Words.{Image}
-use Rattle.bp_layout.proofs.MemberLaws.{apart-append, each-has, filter-has, has-behind, has-either, has-filter, has-front, has-map, has-range}
+use Rattle.bp_layout.proofs.MemberLaws.{apart-append, filter-has, has-either, has-filter, has-map, has-range}
 use Rattle.bp_thaw.specs.Fronts.{IsPointerPath, IsWay, found_in, found_on, is_found}
 use Rattle.bp_thaw.proofs.CopySteps.{map-more}
 use Rattle.bp_thaw.proofs.PointerPaths.{front_path, paths_apart}

@@ -1,5 +1,5 @@
 -- One more copy is looked at, and one more link is stored.
-use Rattle.std.proofs.Common.{◌≡◌, ◌≢◌, ℕ, suc, ◌+◌, ◌*◌, ◌/◌, ◌<◌, ◌≤◌, List, [], ◌∷◌, ◌++◌, length, Bool, true, false, ◌==◌, refl, sym, ◌∙◌, ap, subst, arith, append_assoc}
+use Rattle.std.proofs.Common.{◌≡◌, ◌≢◌, ℕ, suc, ◌+◌, ◌/◌, ◌≤◌, List, [], ◌∷◌, ◌++◌, length, Bool, true, false, ◌==◌, refl, sym, ◌∙◌, ap, subst, arith}
 use Rattle.std.proofs.lemmas.Bool.{ne_eqb}
 use Rattle.std.proofs.lemmas.List.{length-append}
 use Rattle.pm_epochs.specs.declared.event.Event.TheVariants.{Store, Barrier}
@@ -7,7 +7,7 @@ use Rattle.pm_epochs.specs.May.{links_of}
 use Rattle.pm_region.specs.Memory.{Memory, Adds, room_in}
 use Rattle.pm_region.proofs.MemoryLaws.{adds_both}
 use Rattle.bp_layout.specs.Words.{Image, word}
-use Rattle.bp_cow.specs.Thawing.{pointing_to}
+use Rattle.bp_cow.specs.Copies.{pointing_to}
 use Rattle.bp_thaw.specs.Copies.{Copies, is_copied, links_among, source_of}
 
 pub not_copied_more : (image : Image) (copies : Copies) (c : ℕ × ℕ) (block : ℕ) → is_copied image copies block ≡ false → source_of image c ≢ block → is_copied image (copies ++ c ∷ []) block ≡ false

@@ -1,6 +1,6 @@
 -- The trails of pointers and the copies of their blocks, in one order.
-use Rattle.std.proofs.Common.{◌≡◌, ◌≢◌, ◌⊎◌, ℕ, suc, ◌+◌, ◌*◌, ◌/◌, ◌<◌, List, [], ◌∷◌, map, length, Bool, true, refl, sym, ◌∙◌, ap, subst, arith, inl, inr}
-use Rattle.bp_layout.specs.Members.{AreApart, Each, Has}
+use Rattle.std.proofs.Common.{◌≡◌, ℕ, suc, List, [], ◌∷◌, map, length, refl, sym, ◌∙◌, ap, inl, inr}
+use Rattle.bp_layout.specs.Members.{AreApart, Has}
 use Rattle.bp_layout.proofs.MemberLaws.{apart-first}
 use Rattle.bp_layout.specs.Words.{Image}
 use Rattle.bp_shapes.specs.Trail.{Trail, place_on}

@@ -1,5 +1,5 @@
 -- Copies by the places of pointers, and by their trails.
-use Rattle.std.proofs.Common.{◌≡◌, ◌≢◌, ◌⊎◌, ℕ, zero, suc, ◌+◌, ◌*◌, ◌/◌, ◌<◌, List, [], ◌∷◌, Bool, true, false, ◌==◌, Option, None, Some, refl, sym, ◌∙◌, ap, subst, arith, inl, inr}
+use Rattle.std.proofs.Common.{◌≡◌, ◌≢◌, ◌⊎◌, ℕ, [], ◌∷◌, Bool, true, false, ◌==◌, Option, None, Some, refl, sym, ◌∙◌, ap, arith, inl, inr}
 use Rattle.std.specs.Str.{bytes_eq}
 use Rattle.std.proofs.lemmas.Bool.{eq-eqb, ne_eqb}
 use Rattle.std.proofs.lemmas.Slice.Eq.{bytes_eq-Decides}
@@ -9,8 +9,8 @@ use Rattle.bp_layout.proofs.TreeLaws.{slot_word-at}
 use Rattle.bp_shapes.specs.Trail.{Trail, word_on, block_on, place_on, ArePointers, IsSkeleton, IsPlaced}
 use Rattle.bp_shapes.specs.Trail.IsPlaced.{at_top, in_block}
 use Rattle.bp_shapes.proofs.TrailLaws.{cases_trail, word_on-top, word_on-slot}
-use Rattle.bp_cow.specs.Thawing.{AreCopies}
-use Rattle.bp_thaw.specs.Copies.{Marks, copy_on, copy_at, copies_of, IsMark, AreMarks}
+use Rattle.bp_thaw.specs.Linked.{AreCopies}
+use Rattle.bp_thaw.specs.Copies.{Marks, copy_on, copy_at, copies_of, AreMarks}
 
 pub some_none : (c : ℕ) → ◌≡◌ {A = Option ℕ} (Some c) None → ⊥
 some_none c e = absurd (cc)

@@ -1,11 +1,11 @@
 -- The paths of pointers: the tree and node that each tells, its trail and its place.
-use Rattle.std.proofs.Common.{nat_le, ◌≡◌, ◌≢◌, ◌⊎◌, ℕ, zero, suc, ◌+◌, ◌-◌, ◌*◌, ◌/◌, ◌%◌, ◌<◌, ◌≤◌, List, [], ◌∷◌, ◌++◌, length, take, get_or, Bool, true, false, not, ◌&&◌, ◌==◌, refl, sym, ◌∙◌, ap, ap₂, subst, arith, inl, inr, true≢false, append_assoc}
+use Rattle.std.proofs.Common.{nat_le, ◌≡◌, ◌≢◌, ◌⊎◌, ℕ, zero, suc, ◌+◌, ◌-◌, ◌*◌, ◌/◌, ◌%◌, ◌<◌, ◌≤◌, List, [], ◌∷◌, ◌++◌, length, take, Bool, true, false, not, ◌&&◌, ◌==◌, refl, sym, ◌∙◌, ap, ap₂, subst, arith, inl, inr, true≢false, append_assoc}
 use Rattle.std.specs.Prelude.{nat_lt}
-use Rattle.std.proofs.lemmas.Bool.{cases_eq, cases_lt, eq-eqb, le-leb, leb-true, lt-leb, lt-ltb, ltb-true, ne_eqb}
+use Rattle.std.proofs.lemmas.Bool.{cases_eq, cases_lt, eq-eqb, le-leb, lt-leb, lt-ltb, ltb-true, ne_eqb}
 use Rattle.std.proofs.lemmas.List.{length-append, take-append-le}
 use Rattle.std.proofs.lemmas.List.Sums.{fold-append}
 use Rattle.std.proofs.Math.ListN.{get_or-append}
-use Rattle.std.proofs.Math.Seq.{drop-append_seam, get_or-append_seam, take-append_seam, take-length}
+use Rattle.std.proofs.Math.Seq.{drop-append_seam, take-append_seam, take-length}
 use Rattle.std.specs.List.{slice_index}
 use Rattle.bp_layout.specs.Inode.{root_of, size_of, inode_count}
 use Rattle.bp_layout.specs.Need.{path_number, pointed}
@@ -13,19 +13,19 @@ use Rattle.bp_layout.specs.Nodes.{TreeNode, is_present}
 use Rattle.bp_layout.specs.Reached.{IsReached}
 use Rattle.bp_layout.specs.Reached.IsReached.{inode_file}
 use Rattle.bp_layout.specs.Thaw.{heights_now, is_kept_at, is_there_now}
-use Rattle.bp_layout.specs.Tree.{IsLivePointer, IsSound, node, span}
+use Rattle.bp_layout.specs.Tree.{IsLivePointer, node, span}
 use Rattle.bp_layout.specs.WellFormed.{IsWellFormed}
 use Rattle.bp_layout.specs.WordPaths.{WordPath, address, digits, inode_path, tree_path}
 use Rattle.bp_layout.specs.Words.{Image, block_of, height_of, word}
 use Rattle.bp_layout.proofs.TreeLaws.{live_above, live_content}
 use Rattle.bp_layout.proofs.Reached.{reached-in_file}
-use Rattle.bp_shapes.specs.Trail.{ArePointers, IsSkeleton, Trail, block_on, place_on, trail_of, word_on}
-use Rattle.bp_shapes.specs.Forest.{IsForest, IsTreePointer, along, root_trail, tree_trail}
+use Rattle.bp_shapes.specs.Trail.{ArePointers, IsSkeleton, Trail, block_on, place_on, trail_of}
+use Rattle.bp_shapes.specs.Forest.{IsForest, IsTreePointer, along, tree_trail}
 use Rattle.bp_shapes.proofs.ForestLaws.{block-tree, pointers, same_trail, short, short_pointer, skeleton}
 use Rattle.bp_shapes.proofs.FreeSets.{wf_forest}
 use Rattle.bp_shapes.proofs.PathTrails.{AreNodes, address-on}
 use Rattle.bp_tree.proofs.Digits.{length-digits}
-use Rattle.bp_thaw.specs.Fronts.{HasDigits, IsPathIn, IsPointerPath, IsWay, path_trail}
+use Rattle.bp_thaw.specs.Fronts.{HasDigits, IsPointerPath, IsWay, path_trail}
 use Rattle.bp_thaw.proofs.Marks.{block_above, placed, places_apart, word-at_place}
 
 -- ---- trails of paths

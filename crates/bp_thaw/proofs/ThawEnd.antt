@@ -1,8 +1,8 @@
 -- What the steps of a thaw make together.
-use Rattle.std.proofs.Common.{◌≡◌, ◌≢◌, ◌⊎◌, ℕ, zero, suc, ◌+◌, ◌*◌, ◌/◌, ◌<◌, ◌≤◌, List, [], ◌∷◌, ◌++◌, map, length, Bool, true, false, Option, None, Some, refl, sym, ◌∙◌, ap, subst, arith, inl, inr, true≢false, append_assoc, le_of_eq}
+use Rattle.std.proofs.Common.{◌≡◌, ◌≢◌, ◌⊎◌, ℕ, suc, ◌+◌, ◌*◌, ◌/◌, ◌<◌, ◌≤◌, List, [], ◌∷◌, ◌++◌, map, length, Bool, true, false, Option, None, Some, refl, sym, ◌∙◌, ap, subst, arith, inl, inr, true≢false, append_assoc, le_of_eq}
 use Rattle.std.proofs.lemmas.List.{length-map}
 use Rattle.pm_epochs.specs.declared.event.Event.{Event}
-use Rattle.pm_epochs.specs.declared.event.Event.TheVariants.{Store, Barrier}
+use Rattle.pm_epochs.specs.declared.event.Event.TheVariants.{Barrier}
 use Rattle.pm_epochs.specs.Log.{StoresTo, words_after}
 use Rattle.pm_epochs.specs.May.{AnyAt, AnyOf, EachMay, StoresMay, links_of}
 use Rattle.pm_epochs.proofs.MayLaws.{EachMay-stored, StoresMay-append, StoresMay-weaker, quiet_prepared}
@@ -13,15 +13,15 @@ use Rattle.pm_region.proofs.MemoryLaws.{adds_both, current_words-adds}
 use Rattle.bp_free.specs.Set.{Set, has}
 use Rattle.bp_layout.specs.Free.{AreFreeBlocks}
 use Rattle.bp_layout.specs.Inode.{root_of, size_of}
-use Rattle.bp_layout.specs.Members.{AreApart, Each, Has}
-use Rattle.bp_layout.specs.Reached.{IsFreeBlock, IsLiveBlock, IsReached, IsUnheld}
+use Rattle.bp_layout.specs.Members.{AreApart, Has}
+use Rattle.bp_layout.specs.Reached.{IsFreeBlock, IsLiveBlock, IsReached}
 use Rattle.bp_layout.specs.Same.{Same}
 use Rattle.bp_layout.specs.Thaw.{thawed_on}
 use Rattle.bp_layout.specs.Tree.{HasBlock}
 use Rattle.bp_layout.specs.WordPaths.{WordPath}
 use Rattle.bp_layout.specs.WellFormed.{IsWellFormed}
 use Rattle.bp_layout.specs.Words.{Image, word, block_of, block_count}
-use Rattle.bp_layout.proofs.MemberLaws.{each-of, each-as, each-has}
+use Rattle.bp_layout.proofs.MemberLaws.{each-of, each-as}
 use Rattle.bp_layout.proofs.SameLaws.{same_symmetric, same_transitive}
 use Rattle.bp_changes.specs.Thawed.{SameShape}
 use Rattle.bp_changes.proofs.ReachedOn.{reached_on}
@@ -33,21 +33,22 @@ use Rattle.bp_shapes.proofs.ForestLaws.{pointers, skeleton}
 use Rattle.bp_shapes.proofs.FreeSets.{wf_forest}
 use Rattle.bp_shapes.proofs.PathTrails.{low-placed}
 use Rattle.bp_shapes.proofs.Unseen.{same_unseen}
-use Rattle.bp_commit.specs.Performs.{AddsTaking, InBlock, IsOpen, TakesBlocks}
+use Rattle.bp_commit.specs.Performs.{AddsTaking, InBlock, IsOpen}
 use Rattle.bp_commit.specs.Performs.IsOpen.{in_taken, in_live, at_root}
 use Rattle.bp_commit.proofs.PerformsLaws.{same_equivalence}
 use Rattle.bp_cow.specs.Committed.{IsCommitted, after_commit}
-use Rattle.bp_cow.specs.Thawing.{AreThawing, is_turned, pointing_to}
+use Rattle.bp_cow.specs.Copies.{pointing_to}
+use Rattle.bp_thaw.specs.Linked.{AreThawing, is_turned}
 use Rattle.bp_cow.proofs.CommitLaws.{has_led, led_has}
-use Rattle.bp_cow.proofs.Thawing.{thawed_words, words_now}
+use Rattle.bp_thaw.proofs.Linked.{thawed_words, words_now}
 use Rattle.bp_thaw.specs.Copies.{AreMarks, Copies, HasCopies, IsMark, Marks, blocks_of, copies_of, copy_on, is_copied, links_among, places_of, source_of, turned_word}
 use Rattle.bp_thaw.specs.Thaws.{Thaws}
 use Rattle.bp_thaw.specs.Steps.{AreKept, FillsCopies, InBlocks, TakesAll}
-use Rattle.bp_thaw.proofs.Marks.{are_copies, block_above, copy_on-has, has-copy_on, mark-placed, placed, places_apart, some_none, word-at_place}
+use Rattle.bp_thaw.proofs.Marks.{are_copies, block_above, copy_on-has, has-copy_on, placed, places_apart, word-at_place}
 use Rattle.bp_thaw.proofs.Filled.{filled_thawing, nothing_stored, outside}
 use Rattle.bp_thaw.proofs.MarkAll.{block-marked, copies_marked, mark-from, mark_all, number-marked, once_by, trail-marked}
 use Rattle.bp_thaw.proofs.AllStored.{all_are, any_source, any_stored, copies-has, has_copies, linked_thawing, word_mid}
-use Rattle.bp_thaw.proofs.Told.{meaning_stays, same_stays, shape_stays, sizes-same, as_job, empty_job}
+use Rattle.bp_thaw.proofs.Told.{same_stays, shape_stays, as_job, empty_job}
 
 bool_clash : (b : Bool) → b ≡ true → b ≡ false → ⊥
 bool_clash b one two = absurd (cc)
@@ -152,7 +153,7 @@ module _ (kept : ℕ → Bool) (first : Memory) (before after : Set) (wf : IsWel
         λ inside. let mark = mark_of (c.0 / 512) inside in outside old Pointer are bones marks all which.0.0 is.pointer (mark.0, c.0 / 512) mark.1 (ap (λ n. n / 512) (sym at_is)),
       )
 
-  pub copy-source : (c : ℕ × ℕ) → Has copies c → (source_of (current_words first) c < block_count (current_words first)) × (Has (blocks_of copies) (source_of (current_words first) c) → ⊥)
+  pub copy-source : (c : ℕ × ℕ) → Has copies c → (source_of (current_words first) c < block_count (current_words first)) × (Has (blocks_of copies) (source_of (current_words first) c) → ⊥) × (0 < source_of (current_words first) c)
   copy-source c here =
       let which = copies-has old marks c (subst (λ cs. Has cs c) (sym marked) here) in
       let is = is_mark which.0 which.1 in
@@ -161,6 +162,7 @@ module _ (kept : ℕ → Bool) (first : Memory) (before after : Set) (wf : IsWel
         λ inside.
             let mark = mark_of (source_of old c) inside in
             (is_mark (mark.0, source_of old c) mark.1).unled (record { trail = which.0.0; pointer = is.pointer; named = sym source; not_null = λ null. is.present (sym source ∙ null) }),
+        omega (arith, source, is.present),
       )
 
   module _ (mid : Memory) (fills : FillsCopies copies first mid) where

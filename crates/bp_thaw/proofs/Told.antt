@@ -1,12 +1,12 @@
 -- An image whose words are as before, of which some stand in other blocks, means the same, and its trees have the same shape.
-use Rattle.std.proofs.Common.{◌≡◌, ◌≢◌, ◌⊎◌, ℕ, zero, suc, ◌+◌, ◌-◌, ◌*◌, ◌/◌, ◌%◌, ◌<◌, ◌≤◌, [], ◌∷◌, Bool, true, false, not, ◌&&◌, ◌==◌, refl, sym, ◌∙◌, ap, subst, arith, inl, inr, le_of_eq}
+use Rattle.std.proofs.Common.{◌≡◌, ◌≢◌, ◌⊎◌, ℕ, zero, suc, ◌+◌, ◌-◌, ◌*◌, ◌/◌, ◌%◌, ◌<◌, ◌≤◌, [], Bool, true, false, not, ◌&&◌, ◌==◌, refl, sym, ◌∙◌, ap, subst, arith, inl, inr, le_of_eq}
 use Rattle.std.specs.Prelude.{nat_le, nat_lt}
 use Rattle.std.proofs.lemmas.Bool.{ne_eqb, leb-true, ltb-true}
 use Rattle.bp_layout.specs.Words.{Image, word, block_of, height_of, byte_of}
-use Rattle.bp_layout.specs.Tree.{word_at, node, content_word, span, IsLivePointer, IsFull}
+use Rattle.bp_layout.specs.Tree.{node, content_word, span, IsLivePointer}
 use Rattle.bp_layout.specs.Nodes.{TreeNode, is_present}
 use Rattle.bp_layout.specs.Inode.{kind_of, root_of, size_of}
-use Rattle.bp_layout.specs.Directory.{EntryNames, entry_count, entry_word, inumber_at}
+use Rattle.bp_layout.specs.Directory.{entry_count}
 use Rattle.bp_layout.specs.Reached.{IsReached}
 use Rattle.bp_layout.specs.Reached.IsReached.{inode_file}
 use Rattle.bp_layout.specs.Same.{Same}
@@ -22,11 +22,11 @@ use Rattle.bp_shapes.proofs.ForestLaws.{pointers, word-root, word-tree}
 use Rattle.bp_shapes.proofs.FreeSets.{wf_forest}
 use Rattle.bp_cow.specs.Committed.{IsCommitted, after_commit, changes_of}
 use Rattle.bp_cow.specs.Job.{Job}
-use Rattle.bp_cow.proofs.CommitLaws.{committed_commits, content_after, root-now, size_after, word-now}
+use Rattle.bp_cow.proofs.CommitLaws.{committed_commits, content_after, first_plain, root-now, size_after, word-now}
 
 -- nothing is to be done
 abbrev pub empty_job : Job
-empty_job = record { way = λ i. []; leaves = 0; words = 0; patch = λ i slot old. old; slot = λ i. 0; value = λ i. 0 }
+empty_job = record { way = λ i. []; leaves = 0; words = 0; patch = λ i slot old. old; slot = λ i. 0; value = λ i. 0; live = λ i depth. 0 }
 
 same_null : (a b : ℕ) → (a ≡ b) ⊎ ((a ≢ 0) × (b ≢ 0)) → not (a == 0) ≡ not (b == 0)
 same_null a b (inl e) = ap (λ n. not (n == 0)) e
@@ -45,7 +45,7 @@ module _ (old new : Image) (wf : IsWellFormed old) (turned : Trail → Type 0) (
     kept = stage.kept;
     bits = stage.bits;
     fresh = stage.fresh;
-    words = λ p slot pointer low none. stage.words p slot pointer low none;
+    words = λ p slot pointer low none content. stage.words p slot pointer low none content;
     decide = stage.decide;
     pointers = stage.pointers;
   }
@@ -109,7 +109,8 @@ module _ (old new : Image) (wf : IsWellFormed old) (turned : Trail → Type 0) (
       go : turned (root_trail (height_of (word old 2)) (suc i)) ⊎ (turned (root_trail (height_of (word old 2)) (suc i)) → ⊥) →
           word_on new (root_trail (height_of (word old 2)) (suc i)) % 4096 ≡ word_on old (root_trail (height_of (word old 2)) (suc i)) % 4096
       go (inl is) = stage.bits _ (stage.pointers _ is)
-      go (inr none) = ap (λ w. w % 4096) (stage.words (along [] (height_of (word old 2)) ((8 * suc i + 1) / 512)) ((8 * suc i + 1) % 512) leaf (omega arith) none)
+      go (inr none) = ap (λ w. w % 4096) (stage.words (along [] (height_of (word old 2)) ((8 * suc i + 1) / 512)) ((8 * suc i + 1) % 512) leaf (omega arith) none
+          (first_plain old (size_of old) forest 0 (8 * suc i + 1) inode_file (omega (arith, inside i r))))
 
   pub heights-same : (t : ℕ) → IsReached old t → height_of (root_of new t) ≡ height_of (root_of old t)
   heights-same t r =

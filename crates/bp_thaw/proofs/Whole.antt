@@ -1,5 +1,5 @@
 -- What the steps of a thaw ask for, and what they make together.
-use Rattle.std.proofs.Common.{◌≡◌, ◌≢◌, ◌⊎◌, ℕ, zero, suc, ◌+◌, ◌*◌, ◌/◌, ◌<◌, ◌≤◌, List, [], ◌∷◌, ◌++◌, map, length, Bool, true, false, refl, sym, ◌∙◌, ap, subst, arith, inl, inr}
+use Rattle.std.proofs.Common.{◌≡◌, ℕ, ◌+◌, ◌*◌, ◌/◌, ◌<◌, ◌≤◌, List, [], ◌∷◌, ◌++◌, map, length, Bool, true, false, refl, sym, ◌∙◌, ap, subst, arith, inl, inr}
 use Rattle.std.proofs.lemmas.List.{length-map}
 use Rattle.pm_epochs.specs.declared.event.Event.TheVariants.{Barrier}
 use Rattle.pm_epochs.specs.May.{AnyAt, links_of}
@@ -12,25 +12,20 @@ use Rattle.bp_free.specs.Set.{Set, has, members}
 use Rattle.bp_layout.specs.Inode.{size_of}
 use Rattle.bp_layout.specs.Members.{AreApart, Has}
 use Rattle.bp_layout.specs.Same.{Same}
-use Rattle.bp_layout.specs.WellFormed.{IsWellFormed}
 use Rattle.bp_layout.specs.WordPaths.{WordPath, address}
-use Rattle.bp_layout.specs.Words.{Image, block_count, block_of, word}
+use Rattle.bp_layout.specs.Words.{Image}
 use Rattle.bp_layout.proofs.SameLaws.{same_self}
-use Rattle.bp_changes.specs.Thawed.{SameShape}
-use Rattle.bp_shapes.specs.Trail.{Trail, block_on, place_on, word_on, IsSkeleton}
+use Rattle.bp_shapes.specs.Trail.{Trail, place_on, word_on}
 use Rattle.bp_shapes.specs.Forest.{IsTreePointer}
 use Rattle.bp_shapes.proofs.ForestLaws.{skeleton}
 use Rattle.bp_shapes.proofs.FreeSets.{wf_forest}
 use Rattle.bp_commit.proofs.PerformsLaws.{takes_none}
 use Rattle.bp_cow.specs.Committed.{IsCommitted}
-use Rattle.bp_thaw.specs.Copies.{Copies, blocks_of, is_copied, links_among, places_of, source_of}
+use Rattle.bp_thaw.specs.Copies.{Copies, blocks_of, is_copied, links_among, places_of}
 use Rattle.bp_layout.specs.Thaw.{thawed_on}
 use Rattle.bp_thaw.specs.Steps.{AreKept, ArePlacesOf, CanFillCopies, FillsCopies, InBlocks, TakesAll}
 use Rattle.bp_thaw.specs.Thaws.{CanThaw, Thaws}
 use Rattle.bp_thaw.proofs.Clear.{clear, places_are, places_once, trails_kept, trails_number, trails_of}
-use Rattle.bp_thaw.proofs.MarkAll.{number-marked}
-use Rattle.bp_thaw.proofs.Marks.{word-at_place}
-use Rattle.bp_thaw.proofs.AllStored.{copies-has}
 use Rattle.bp_thaw.proofs.ThawEnd.{copied_loose, copy-place, copy-source, has_words, links_few, loose_same, shape, thaws}
 use Rattle.bp_thaw.proofs.Told.{shape_stays}
 
@@ -60,7 +55,7 @@ module _ (kept : ℕ → Bool) (paths : List WordPath) (memory : Memory) (blocks
     kept = λ p pointer none. refl;
     bits = λ p pointer. refl;
     fresh = λ p pointer none. absurd none;
-    words = λ p slot pointer low none. refl;
+    words = λ p slot pointer low none content. refl;
     decide = λ p. inr (λ none. none);
     pointers = λ p none. absurd none;
   }
@@ -124,6 +119,7 @@ module _ (kept : ℕ → Bool) (paths : List WordPath) (first : Memory) (before 
       inside = λ c here. (copy-place kept first before after can.well_formed can.free trails are_kept copies at apart takes c here).0;
       outside = λ c here. (copy-place kept first before after can.well_formed can.free trails are_kept copies at apart takes c here).1;
       sources = λ c here. (copy-source kept first before after can.well_formed can.free trails are_kept copies at apart takes c here).0;
+      present = λ c here. (copy-source kept first before after can.well_formed can.free trails are_kept copies at apart takes c here).2;
       apart = λ c here. (copy-source kept first before after can.well_formed can.free trails are_kept copies at apart takes c here).1;
       not_null = λ b here. (can.free.free b (takes.were b here)).low;
       in_range = λ b here. (can.free.free b (takes.were b here)).high;

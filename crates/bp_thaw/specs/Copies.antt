@@ -5,7 +5,7 @@ use Rattle.bp_limits.specs.Limits.{block_words}
 use Rattle.bp_layout.specs.Words.{Image, word, block_count, block_of}
 use Rattle.bp_layout.specs.Members.{Has}
 use Rattle.bp_shapes.specs.Trail.{Trail, block_on, place_on, LeadsTo}
-use Rattle.bp_cow.specs.Thawing.{pointing_to}
+use Rattle.bp_cow.specs.Copies.{pointing_to}
 
 -- of each the place of the pointer to its block, and its own number
 abbrev pub Copies : Type 0

@@ -1,5 +1,5 @@
 -- The ways to some words, and how the kept blocks on them are found.
-use Rattle.std.specs.Prelude.{◌≡◌, ℕ, zero, suc, ◌/◌, ◌≤◌, List, [], ◌∷◌, ◌++◌, length, take, filter, map, Bool, not, ◌&&◌, ◌==◌, nat_lt, if◌then◌else◌}
+use Rattle.std.specs.Prelude.{◌≡◌, ℕ, zero, suc, ◌/◌, ◌≤◌, List, [], ◌∷◌, ◌++◌, length, take, Bool, not, ◌&&◌, ◌==◌, if◌then◌else◌}
 use Rattle.std.specs.List.{list_any}
 use Rattle.bp_limits.specs.Limits.{block_words, super_root}
 use Rattle.bp_layout.specs.Inode.{root_of}

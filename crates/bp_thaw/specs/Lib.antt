@@ -1,3 +1,4 @@
+pub mod Linked
 pub mod Copies
 pub mod Fronts
 pub mod Steps

@@ -60,6 +60,7 @@ pub record CanFillCopies (copies : Copies) (memory : Memory) : Type 0 where
   pub outside : (copy : ℕ × ℕ) → Has copies copy → InBlocks (blocks_of copies) copy.0 → ⊥
   pub sources : (copy : ℕ × ℕ) → Has copies copy
       → source_of (current_words memory) copy < block_count (current_words memory)
+  pub present : (copy : ℕ × ℕ) → Has copies copy → 0 < source_of (current_words memory) copy
   pub apart : (copy : ℕ × ℕ) → Has copies copy → Has (blocks_of copies) (source_of (current_words memory) copy) → ⊥
   pub not_null : (b : ℕ) → Has (blocks_of copies) b → 0 < b
   pub in_range : (b : ℕ) → Has (blocks_of copies) b → b < block_count (current_words memory)

@@ -6,8 +6,7 @@ ghost use Rattle.bp_limits.specs.Limits.{block_words};
 ghost use Rattle.bp_layout.specs.Members.{AreApart};
 ghost use Rattle.bp_layout.specs.Words.{word, block_count, block_of};
 ghost use Rattle.pm_region.specs.Memory.{current_words, room_in};
-ghost use Rattle.bp_cow.specs.Copies.{CanFillBlock, FillsBlock};
-ghost use Rattle.bp_cow.specs.Thawing.{pointing_to};
+ghost use Rattle.bp_cow.specs.Copies.{CanFillBlock, FillsBlock, pointing_to};
 ghost use Rattle.bp_thaw.specs.Copies.{blocks_of, copy_at, places_of, turned_to, turned_word};
 ghost use Rattle.bp_thaw.specs.Steps.{CanFillCopies, FillsCopies, TakesAll};
 
@@ -59,6 +58,7 @@ fn turn_words(copies: &Copies, block: u32, words: &mut [u64; 512])
 fn fill_copy<R: Region>(region: &mut R, copies: &Copies, place: u32, copy: u32)
     requires apart { AreApart (places_of copies.now.items) }
     requires place { place < length (current_words (R.memory region.old)) }
+    requires present { 0 < block_of (word (current_words (R.memory region.old)) place) }
     requires block { block_of (word (current_words (R.memory region.old)) place) <
         block_count (current_words (R.memory region.old)) }
     requires copy { CanFillBlock copy (R.memory region.old) }

@@ -1,8 +1,8 @@
-use Rattle.std.proofs.Common.{◌≡◌, ◌≢◌, ℕ, ◌+◌, ◌*◌, ◌/◌, ◌<◌, ◌≤◌, List, [], ◌∷◌, ◌++◌, get_or, length, map, take, sym, ◌∙◌, ap, subst, refl, arith}
+use Rattle.std.proofs.Common.{◌≡◌, ◌≢◌, ℕ, ◌+◌, ◌*◌, ◌<◌, ◌≤◌, get_or, length, take, sym, ◌∙◌, ap, subst, arith}
 use Rattle.std.proofs.Math.Seq.{take-length}
-use Rattle.pm_region.specs.Memory.{Memory, current_words}
+use Rattle.pm_region.specs.Memory.{Memory}
 use Rattle.bp_layout.specs.Members.{Has}
-use Rattle.bp_thaw.specs.Copies.{Copies, blocks_of}
+use Rattle.bp_thaw.specs.Copies.{Copies}
 use Rattle.bp_thaw.specs.Steps.{CanFillCopies}
 use Rattle.bp_thaw.proofs.CopySteps.{HasFilled, apart-before, apart-more_taken, can_fill, filled_none, filled_one, has-item, has-taken, length-taken, length_filled, one_more_taken, source_filled}
 use Rattle.bp_thaw.proofs.MarkAll.{has-mapped}
@@ -31,6 +31,17 @@ fill_copy-requires-clause-place g c =
     let is = ap (λ cs. get_or cs c.loop-i.i (0, 0)) (sym c.deref.ensures.0) in
     let here = item_here copies c.loop-i.i _ low is in
     omega (arith, c.requires.inside _ here, length_filled copies (take c.loop-i.i copies) (g.R.Region.memory c.args.region.now) (g.R.Region.memory c.loop-i.region) c.requires (λ d has. has-taken copies c.loop-i.i d has) c.loop-i.invariant.filled)
+
+pub fill_copy-requires-clause-present : goal.fill_copy-requires-clause-present
+fill_copy-requires-clause-present g c =
+    let copies = c.args.copies.now.items in
+    let low : c.loop-i.i < length copies = omega (arith, c.loop-i-test.true, c.len-i-end.ensures.value) in
+    let is = ap (λ cs. get_or cs c.loop-i.i (0, 0)) (sym c.deref.ensures.0) in
+    let here = item_here copies c.loop-i.i _ low is in
+    let old = g.R.Region.memory c.args.region.now in
+    let now = g.R.Region.memory c.loop-i.region in
+    let inside : (d : ℕ × ℕ) → Has (take c.loop-i.i copies) d → Has copies d = λ d has. has-taken copies c.loop-i.i d has in
+    omega (arith, c.requires.present _ here, source_filled copies (take c.loop-i.i copies) old now c.requires inside c.loop-i.invariant.filled _ here)
 
 pub fill_copy-requires-clause-block : goal.fill_copy-requires-clause-block
 fill_copy-requires-clause-block g c =

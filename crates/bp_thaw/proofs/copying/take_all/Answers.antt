@@ -1,5 +1,5 @@
 use Rattle.std.proofs.Common.{◌≡◌, ℕ, ◌+◌, ◌<◌, List, [], ◌∷◌, ◌++◌, get_or, length, take, sym, ◌∙◌, ap, subst, refl, arith, rules}
-use Rattle.std.proofs.lemmas.List.{length-append, length-map, take_more}
+use Rattle.std.proofs.lemmas.List.{length-map, take_more}
 use Rattle.std.proofs.Math.Seq.{take-length}
 use Rattle.bp_thaw.specs.Copies.{Copies, blocks_of, places_of}
 use Rattle.bp_thaw.specs.Steps.{TakesAll}

@@ -1,4 +1,4 @@
-use Rattle.std.proofs.Common.{◌≡◌, ℕ, ◌+◌, ◌*◌, ◌<◌, ◌≤◌, List, [], ◌∷◌, ◌++◌, get_or, length, map, take, refl, rules, sym, ◌∙◌, ap, subst, arith}
+use Rattle.std.proofs.Common.{◌≡◌, ℕ, ◌+◌, ◌<◌, List, [], ◌∷◌, ◌++◌, get_or, length, map, take, refl, rules, sym, ◌∙◌, ap, subst, arith}
 use Rattle.std.proofs.lemmas.List.{take_more}
 use Rattle.std.proofs.Math.Seq.{take-length}
 use Rattle.arrayvec.specs.ArrayVec.{ArrayVec}
@@ -8,7 +8,6 @@ use Rattle.bp_layout.specs.Members.{Has}
 use Rattle.bp_layout.specs.WordPaths.{WordPath, address}
 use Rattle.bp_layout.proofs.MemberLaws.{has-map}
 use Rattle.bp_thaw.specs.Fronts.{found_in}
-use Rattle.bp_thaw.specs.Thaws.{paths_in}
 use Rattle.bp_thaw.proofs.CopySteps.{has-item, map-more}
 use Rattle.bp_thaw.proofs.FindSteps.{found_in-more}
 use Rattle.bp_thaw.proofs.finding.find.Goals as goal

@@ -1,8 +1,8 @@
-use Rattle.std.proofs.Common.{◌≡◌, ℕ, ◌+◌, ◌-◌, ◌*◌, ◌<◌, ◌≤◌, List, Bool, true, false, get_or, length, map, take, refl, sym, ◌∙◌, ap, arith}
+use Rattle.std.proofs.Common.{◌≡◌, ℕ, ◌+◌, ◌-◌, ◌*◌, ◌<◌, Bool, true, false, get_or, length, map, take, refl, sym, ◌∙◌, ap, arith}
 use Rattle.pm_region.specs.Memory.{current_words}
 use Rattle.bp_free.specs.Set.{has}
 use Rattle.bp_layout.specs.Thaw.{is_kept_at, is_there_now}
-use Rattle.bp_layout.specs.WordPaths.{WordPath, address}
+use Rattle.bp_layout.specs.WordPaths.{address}
 use Rattle.bp_layout.specs.Words.{block_of, word}
 use Rattle.bp_tree.proofs.RegionWords.{length_now}
 use Rattle.bp_thaw.specs.Fronts.{found_on}

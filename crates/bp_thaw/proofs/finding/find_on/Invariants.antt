@@ -1,4 +1,4 @@
-use Rattle.std.proofs.Common.{◌≡◌, ℕ, ◌+◌, ◌<◌, ◌≤◌, List, length, map, take}
+use Rattle.std.proofs.Common.{◌≡◌, ◌+◌, ◌≤◌, List, length, map, take}
 use Rattle.bp_free.specs.Set.{has}
 use Rattle.bp_layout.specs.WordPaths.{WordPath, address}
 use Rattle.pm_region.specs.Memory.{current_words}

@@ -1,10 +1,9 @@
-use Rattle.std.proofs.Common.{◌≡◌, ◌≢◌, ℕ, ◌+◌, ◌<◌, ◌/◌, List, [], ◌∷◌, ◌++◌, Bool, true, false, get_or, length, take, sym, ◌∙◌, ap, subst, refl, arith, rules}
+use Rattle.std.proofs.Common.{◌≡◌, ℕ, ◌<◌, ◌/◌, [], ◌∷◌, ◌++◌, true, false, get_or, length, take, sym, ◌∙◌, ap, subst, refl, arith, rules}
 use Rattle.std.proofs.Math.Seq.{take-length}
 use Rattle.pm_region.specs.Memory.{current_words}
 use Rattle.bp_tree.proofs.RegionWords.{length_now}
 use Rattle.bp_layout.specs.Members.{Has}
-use Rattle.bp_layout.specs.Words.{Image, word}
-use Rattle.bp_cow.specs.Thawing.{pointing_to}
+use Rattle.bp_cow.specs.Copies.{pointing_to}
 use Rattle.bp_thaw.specs.Copies.{Copies, is_copied, links_among}
 use Rattle.bp_thaw.proofs.CopySteps.{has-item, one_more_taken}
 use Rattle.bp_thaw.proofs.LinkSteps.{link_more, link_none}

@@ -1,8 +1,8 @@
-use Rattle.std.proofs.Common.{◌≡◌, ◌≢◌, ℕ, ◌+◌, ◌<◌, List, [], ◌∷◌, ◌++◌, get_or, length, take, sym, ◌∙◌, ap, subst, refl, arith}
+use Rattle.std.proofs.Common.{◌≡◌, ℕ, ◌<◌, [], ◌∷◌, get_or, length, take, sym, ◌∙◌, ap, subst, arith}
 use Rattle.std.proofs.Math.Seq.{take-length}
-use Rattle.pm_epochs.specs.declared.event.Event.TheVariants.{Store, Barrier}
+use Rattle.pm_epochs.specs.declared.event.Event.TheVariants.{Barrier}
 use Rattle.pm_epochs.specs.May.{links_of}
-use Rattle.pm_region.specs.Memory.{Adds, current_words}
+use Rattle.pm_region.specs.Memory.{Adds}
 use Rattle.pm_region.proofs.MemoryLaws.{adds_both, base-adds}
 use Rattle.bp_tree.proofs.RegionWords.{length_now}
 use Rattle.bp_layout.specs.Members.{Has}

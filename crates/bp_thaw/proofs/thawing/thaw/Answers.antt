@@ -1,11 +1,9 @@
-use Rattle.std.proofs.Common.{◌≡◌, ℕ, ◌+◌, ◌≤◌, List, [], length, map, ◌==◌, ◌∷◌, true, refl, sym, ◌∙◌, ap, subst, arith}
+use Rattle.std.proofs.Common.{◌≡◌, ℕ, ◌+◌, ◌≤◌, List, [], length, map, ◌∷◌, refl, sym, ◌∙◌, ap, subst, arith}
 use Rattle.std.proofs.lemmas.Bool.{eqb-true}
 use Rattle.std.proofs.lemmas.List.{length-map}
 use Rattle.pm_region.specs.Memory.{current_words, room_in}
-use Rattle.pm_region.specs.Memory.{Adds}
-use Rattle.pm_epochs.specs.declared.event.Event.TheVariants.{Barrier}
 use Rattle.bp_free.specs.Set.{has}
-use Rattle.bp_layout.specs.WordPaths.{WordPath, address}
+use Rattle.bp_layout.specs.WordPaths.{address}
 use Rattle.bp_thaw.specs.Copies.{links_among}
 use Rattle.bp_layout.specs.Thaw.{thawed_on}
 use Rattle.bp_thaw.specs.Steps.{ArePlacesOf}

@@ -1,4 +1,4 @@
-use Rattle.std.proofs.Common.{◌≡◌, length, map, sym, ◌∙◌, ap}
+use Rattle.std.proofs.Common.{length, map, ◌∙◌, ap}
 use Rattle.std.proofs.lemmas.List.{length-map}
 use Rattle.pm_region.specs.Memory.{current_words}
 use Rattle.bp_free.specs.Set.{has}

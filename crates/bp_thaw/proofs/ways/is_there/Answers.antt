@@ -1,4 +1,4 @@
-use Rattle.std.proofs.Common.{◌≡◌, ◌≢◌, ℕ, suc, ◌+◌, ◌-◌, ◌*◌, ◌/◌, ◌<◌, ◌≤◌, length, take, drop, refl, sym, ◌∙◌, ap, ap₂, subst, arith}
+use Rattle.std.proofs.Common.{◌≡◌, ◌≢◌, ℕ, suc, ◌+◌, ◌-◌, ◌/◌, ◌<◌, ◌≤◌, take, drop, refl, sym, ◌∙◌, ap, ap₂, subst, arith}
 use Rattle.pm_region.specs.Memory.{current_words}
 use Rattle.std.proofs.lemmas.List.{take-take}
 use Rattle.bp_layout.specs.Inode.{root_of, size_of}
@@ -6,10 +6,8 @@ use Rattle.bp_layout.specs.Need.{path_number}
 use Rattle.bp_layout.specs.Nodes.{is_present}
 use Rattle.bp_layout.specs.Reached.{IsReached}
 use Rattle.bp_layout.specs.Reached.IsReached.{inode_file}
-use Rattle.bp_layout.specs.Tree.{IsSound}
 use Rattle.bp_layout.specs.WellFormed.{IsWellFormed}
 use Rattle.bp_layout.specs.Words.{Image, height_of}
-use Rattle.bp_thaw.specs.Fronts.{IsWay}
 use Rattle.bp_thaw.proofs.FindSteps.{low_slot}
 use Rattle.bp_thaw.proofs.WayNumbers.{present_none, there_file, there_tree, tree_low, tree_reached, tree_some}
 use Rattle.bp_thaw.proofs.ways.is_there.Goals as goal

@@ -1,5 +1,4 @@
-use Rattle.std.proofs.Common.{◌≡◌, ℕ, ◌+◌, ◌-◌, ◌*◌, ◌^◌, ◌<◌, get_or, length, take, drop, sym, ◌∙◌, ap, subst, arith}
-use Rattle.bp_layout.specs.Need.{path_number}
+use Rattle.std.proofs.Common.{◌≡◌, ◌-◌, ◌^◌, ◌<◌, get_or, sym, ◌∙◌, ap, subst, arith}
 use Rattle.bp_thaw.proofs.WayNumbers.{number_more, number_next, number_small, number_start}
 use Rattle.bp_thaw.proofs.ways.number.Goals as goal
 

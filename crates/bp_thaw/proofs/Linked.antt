@@ -4,7 +4,8 @@ use Rattle.bp_layout.specs.Words.{Image, word, block_of, block_count, slot_word}
 use Rattle.bp_layout.proofs.TreeLaws.{slot_word-at}
 use Rattle.bp_shapes.specs.Trail.{Trail, word_on, block_on, place_on, ArePointers, IsSkeleton, LeadsTo}
 use Rattle.bp_cow.specs.Committed.{IsCommitted}
-use Rattle.bp_cow.specs.Thawing.{pointing_to, AreCopies, AreThawing, copied_word, is_turned}
+use Rattle.bp_cow.specs.Copies.{pointing_to}
+use Rattle.bp_thaw.specs.Linked.{AreCopies, AreThawing, copied_word, is_turned}
 
 module _ (old now : Image) (Pointer : Trail → Type 0) (copy : Trail → Option ℕ) (stored : Trail → Bool)
     (are : ArePointers Pointer) (skeleton : IsSkeleton old Pointer) (copies : AreCopies old Pointer copy) (thawing : AreThawing old now Pointer copy stored) where

@@ -1,12 +1,9 @@
 -- Blocks that are copied, each to one copy, and pointers to the topmost copies of which any may be stored.
-use Rattle.std.specs.Prelude.{◌≡◌, ◌≢◌, ℕ, ◌+◌, ◌*◌, ◌%◌, ◌<◌, [], ◌∷◌, length, Bool, true, false, ◌&&◌, Option, None, Some, is_some, if◌then◌else◌}
-use Rattle.bp_limits.specs.Limits.{block_size, block_words, super_root}
+use Rattle.std.specs.Prelude.{◌≡◌, ◌≢◌, ℕ, ◌+◌, ◌*◌, ◌<◌, [], ◌∷◌, length, Bool, true, false, ◌&&◌, Option, None, Some, is_some, if◌then◌else◌}
+use Rattle.bp_limits.specs.Limits.{block_words, super_root}
 use Rattle.bp_layout.specs.Words.{Image, word, block_count}
 use Rattle.bp_shapes.specs.Trail.{Trail, word_on, block_on, place_on, LeadsTo}
-
--- a pointer to another block, with its other bits
-abbrev pub pointing_to : ℕ → ℕ → ℕ
-pointing_to pointer block = block_size * block + pointer % block_size
+use Rattle.bp_cow.specs.Copies.{pointing_to}
 
 -- the pointers whose blocks are copied, and the copies: blocks to which no pointer leads, no two the same
 pub record AreCopies (old : Image) (Pointer : Trail → Type 0) (copy : Trail → Option ℕ) : Type 0 where

@@ -1,8 +1,9 @@
 //! A log as it stands in two arrays.
 
-ghost use Rattle.std.specs.Prelude.{◌≡◌, ◌<◌, ◌≤◌, length, take, drop, slice_get, slice_index_or, Some};
+ghost use Rattle.std.specs.Prelude.{◌≡◌, ◌+◌, ◌^◌, ◌<◌, ◌≤◌, length, take, drop, slice_get, slice_index_or, Some};
 ghost use Rattle.pm_epochs.specs.declared.event.Event.TheVariants.{Mark};
 ghost use Rattle.pm_raw.specs.Entries.{event_of, events_of, event_word};
+ghost use Rattle.pm_raw.specs.Runs.{IsRow, IsRun};
 
 use pm_epochs::Event;
 use std::marker::Model;
@@ -49,6 +50,19 @@ fn read_event(word: u32, value: u64) -> Event
     } else {
         Event::Store { word, value }
     }
+}
+
+/// How many of these words, from the front, are those from `first` on, in order.
+fn row_length(words: &[u32], first: u32) -> usize
+    requires { first + length words.now < 2 ^ 32 }
+    ensures { IsRow words.now first result }
+{
+    for i in 0..words.len() {
+        if words[i] != first + i as u32 {
+            return i;
+        }
+    }
+    words.len()
 }
 
 impl<'a> Log<'a> {
@@ -110,5 +124,17 @@ impl<'a> Log<'a> {
             words: &self.words[first..],
             values: &self.values[first..],
         }
+    }
+
+    /// The values of the stores that the log begins with, where the first one goes to this word, the second one to the next
+    /// word, and so on: at most so many. They are found by the words alone.
+    #[tactic(auto, using(crate::proofs::EntryLaws::length_events))]
+    pub fn run(&self, word: u32, most: usize) -> &'a [u64]
+        ensures { IsRun self.now word most result.now }
+    {
+        let (words, values) = (self.words, self.values);
+        let wanted = most.min(words.len()).min((NO_WORD - word) as usize);
+        let count = row_length(&words[..wanted], word);
+        &values[..count]
     }
 }

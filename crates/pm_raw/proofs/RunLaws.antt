@@ -1,14 +1,39 @@
 -- Runs of stores in a log that stands in two arrays.
-use Rattle.std.proofs.Common.{◌≡◌, ℕ, zero, suc, ◌+◌, ◌-◌, ◌<◌, ◌≤◌, inl, inr, List, [], ◌∷◌, Option, None, Some, length, take, get_or, slice_get, refl, sym, ◌∙◌, ap, arith, min, subst}
+use Rattle.std.proofs.Common.{◌≡◌, ℕ, zero, suc, ◌+◌, ◌-◌, ◌<◌, ◌≤◌, inl, inr, List, [], ◌∷◌, ◌++◌, Option, None, Some, length, take, drop, get_or, slice_get, refl, sym, ◌∙◌, ap, arith, min, subst, take-add}
 use Rattle.std.specs.List.{range_with_len}
 use Rattle.std.proofs.lemmas.Bool.Decides.{eqb_tells}
-use Rattle.std.proofs.lemmas.List.{get_or-take, length-take-le, take-take}
+use Rattle.std.proofs.lemmas.List.{get_or-take, length-drop, length-take-le, take_more, take-take}
 use Rattle.pm_epochs.specs.declared.event.Event.{Event}
 use Rattle.pm_epochs.specs.declared.event.Event.TheVariants.{Store, Barrier, Mark}
 use Rattle.pm_region.specs.Memory.{stores_from}
 use Rattle.pm_raw.specs.Entries.{no_word, signal_of, event_of, events_of, event_word}
 use Rattle.pm_raw.specs.Runs.{IsRow, IsRun}
-use Rattle.pm_raw.proofs.EntryLaws.{events_of-run, events_of-take, length_events, word_of-event}
+use Rattle.pm_raw.proofs.EntryLaws.{range_with_len-more, events_of-run, events_of-take, length_events, word_of-event}
+
+-- a word more of those in a row
+pub row-more : (words : List ℕ) (first i : ℕ) → i < length words → get_or words i 0 ≡ first + i → take i words ≡ range_with_len first i → take (i + 1) words ≡ range_with_len first (i + 1)
+row-more words first i low next row =
+    take_more words i 0 low ∙ ap (λ w. take i words ++ w ∷ []) next ∙ ap (λ ws. ws ++ (first + i) ∷ []) row ∙ sym (range_with_len-more first i)
+
+range-add : (first m n : ℕ) → range_with_len first (m + n) ≡ range_with_len first m ++ range_with_len (first + m) n
+range-add first zero n =
+    let none : 0 + n ≡ n = omega arith in
+    let here : first ≡ first + 0 = omega arith in
+    ap (range_with_len first) none ∙ ap (λ w. range_with_len w n) here
+range-add first (suc m) n =
+    let more : suc m + n ≡ suc (m + n) = omega arith in
+    let there : (first + 1) + m ≡ first + suc m = omega arith in
+    ap (range_with_len first) more
+    ∙ ap (λ ws. first ∷ ws) (range-add (first + 1) m n ∙ ap (λ w. range_with_len (first + 1) m ++ range_with_len w n) there)
+
+-- a piece more, of `n` words
+pub row-joined : (words : List ℕ) (first m n k both : ℕ) → k ≡ n → m + n ≡ both → both ≤ length words → take m words ≡ range_with_len first m
+    → take k (drop m words) ≡ range_with_len (first + m) (length (take k (drop m words))) → take both words ≡ range_with_len first both
+row-joined words first m n k both same sum fits row piece =
+    let long : length (take k (drop m words)) ≡ n = omega (arith, length-take-le k (drop m words) (omega (arith, length-drop m words)), same) in
+    let next = ap (λ j. take j (drop m words)) (sym same) ∙ piece ∙ ap (range_with_len (first + m)) long in
+    subst (λ j. take j words ≡ range_with_len first j) sum
+    (take-add m n words ∙ ap (λ ws. ws ++ take n (drop m words)) row ∙ ap (λ ws. range_with_len first m ++ ws) next ∙ sym (range-add first m n))
 
 -- the events of words in a row are stores to them
 run-stores : (words values : List ℕ) (first n : ℕ) → length values ≡ length words → n ≤ length words → first + n ≤ no_word

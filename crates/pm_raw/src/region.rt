@@ -105,8 +105,8 @@ impl RawRegion {
     }
 
     /// The values of the stores that stand in the log from the event `first` on, where the first one goes to this word, the
-    /// second one to the next word, and so on: at most so many. They are lent as they stand in the log, and finding how many
-    /// there are takes one look at each of their words.
+    /// second one to the next word, and so on: at most so many. They are lent as they stand in the log, and how many there are
+    /// is told by the words alone.
     pub fn run_values(&self, first: usize, word: u32, most: usize) -> &[u64]
         requires { first ≤ length self.now.events }
         ensures { IsRun (drop first self.now.events) word most result.now }

@@ -161,11 +161,11 @@ impl<'a> Log<'a> {
 
     /// The values of the stores that the log begins with, where the first one goes to this word, the second one to the next
     /// word, and so on: at most so many. They are found by the words alone.
-    #[tactic(auto, using(crate::proofs::EntryLaws::length_events))]
     pub fn run(&self, word: u32, most: usize) -> &'a [u64]
         ensures { IsRun self.now word most result.now }
     {
         let (words, values) = (self.words, self.values);
+        // What has `NO_WORD` is no store, so no run reaches it.
         let wanted = most.min(words.len()).min((NO_WORD - word) as usize);
         let count = row_length(&words[..wanted], word);
         &values[..count]

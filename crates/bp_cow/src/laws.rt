@@ -30,7 +30,7 @@ ghost use Rattle.bp_layout.specs.Tree.{IsFull, HasBlock};
 ghost use Rattle.bp_layout.specs.WordPaths.{WordPath};
 ghost use Rattle.bp_layout.specs.Words.{word, height_of, byte_of};
 ghost use Rattle.bp_layout.specs.WellFormed.{IsWellFormed};
-ghost use Rattle.bp_cow.specs.CanCommit.{IsRunIn, CanCommit};
+ghost use Rattle.bp_cow.specs.CanCommit.{IsRunIn, IsTreeIn, CanCommit};
 ghost use Rattle.bp_cow.specs.Commit.{IsCommittedBy};
 ghost use Rattle.bp_cow.specs.Committed.{after_commit, changes_of};
 ghost use Rattle.bp_cow.specs.Cover.{end_path, BeginAlike, LeadsInside, IsCover, commit_cover};
@@ -48,6 +48,7 @@ ghost use Rattle.bp_cow.specs.Touched.{
   job_of,
 };
 ghost use Rattle.bp_cow.specs.declared.touched.Run.{Run};
+ghost use Rattle.bp_cow.specs.declared.touched.TreeSize.{TreeSize};
 
 use crate::touched::{Run, Touched};
 
@@ -131,17 +132,21 @@ pub fn commits_are_told_on_trees(old: &[u64], new: &[u64], touched: &Touched<'_>
 {}
 
 /// One word of a tree that a well-formed image has below its size, but for a root word in the inode file, can be
-/// committed; and so can runs of files and directories, below their sizes.
+/// committed; and so can runs of files and directories, below their sizes. Trees that are given have the image's sizes.
 pub fn a_word_or_runs_can_be_committed(image: &[u64], touched: &Touched<'_>)
     requires well_formed { IsWellFormed image.now }
     requires touched { IsTouched touched.now }
-    ensures word { (kept free : ℕ → Bool) (t k : ℕ) → AreFreeBlocks image.now kept free → touched.now.runs.now ≡ [] →
+    ensures word { (kept free : ℕ → Bool) (t k : ℕ) → AreFreeBlocks image.now kept free →
+        ((tree : TreeSize) → Has touched.now.trees.now tree → IsTreeIn image.now (size_of image.now) tree) →
+        touched.now.runs.now ≡ [] →
         length touched.now.words.now ≡ 1 →
         IsReached image.now t → 8 * k < size_of image.now t → (t ≡ 0 → k % 8 ≢ 1) →
         touched_trail touched.now 0 ≡
         tree_trail (height_of (word image.now super_root)) t (suc (height_of (root_of image.now t))) k →
         CanCommit image.now (size_of image.now) kept touched.now free }
-    ensures runs { (kept free : ℕ → Bool) → AreFreeBlocks image.now kept free → length touched.now.words.now ≡ 0 →
+    ensures runs { (kept free : ℕ → Bool) → AreFreeBlocks image.now kept free →
+        ((tree : TreeSize) → Has touched.now.trees.now tree → IsTreeIn image.now (size_of image.now) tree) →
+        length touched.now.words.now ≡ 0 →
         ((run : Run) → Has touched.now.runs.now run → IsRunIn image.now (size_of image.now) run) →
         CanCommit image.now (size_of image.now) kept touched.now free }
 {}

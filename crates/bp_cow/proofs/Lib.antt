@@ -38,3 +38,4 @@ pub mod LiveLaws
 pub mod LooseCover
 pub mod NodeLive
 pub mod WordLive
+pub mod TreeSizes

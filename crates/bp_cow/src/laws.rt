@@ -27,7 +27,7 @@ ghost use Rattle.bp_layout.specs.Members.{Has};
 ghost use Rattle.bp_layout.specs.Reached.{IsReached};
 ghost use Rattle.bp_shapes.specs.Trail.{Trail, word_on, trail_of, LeadsTo};
 ghost use Rattle.bp_layout.specs.Tree.{IsFull, HasBlock};
-ghost use Rattle.bp_layout.specs.WordPaths.{WordPath};
+ghost use Rattle.bp_layout.specs.WordPaths.{WordPath, inode_path};
 ghost use Rattle.bp_layout.specs.Words.{word, height_of, byte_of};
 ghost use Rattle.bp_layout.specs.WellFormed.{IsWellFormed};
 ghost use Rattle.bp_cow.specs.CanCommit.{IsRunIn, IsTreeIn, CanCommit};
@@ -50,7 +50,7 @@ ghost use Rattle.bp_cow.specs.Touched.{
 ghost use Rattle.bp_cow.specs.declared.touched.Run.{Run};
 ghost use Rattle.bp_cow.specs.declared.touched.TreeSize.{TreeSize};
 
-use crate::touched::{Run, Touched};
+use crate::touched::{Run, Touched, TreeSize};
 
 /// Where the paths that tell the cover begin alike, all touched paths do.
 pub fn all_touched_paths_begin_alike(touched: &Touched<'_>)
@@ -149,4 +149,19 @@ pub fn a_word_or_runs_can_be_committed(image: &[u64], touched: &Touched<'_>)
         length touched.now.words.now ≡ 0 →
         ((run : Run) → Has touched.now.runs.now run → IsRunIn image.now (size_of image.now) run) →
         CanCommit image.now (size_of image.now) kept touched.now free }
+{}
+
+/// The tree of a reached inode, and the inode file, can be given with the size that the image has. It still can where
+/// another image has the tree as high, and no more of it counts.
+pub fn trees_can_be_given_with_their_sizes(old: &[u64], new: &[u64], tree: &TreeSize)
+    ensures inode { (n : ℕ) → IsReached old.now (suc n) →
+        tree.now.root.items ≡ inode_path (height_of (root_of old.now 0)) (suc n) 1 →
+        tree.now.height ≡ height_of (root_of old.now (suc n)) → tree.now.size ≡ size_of old.now (suc n) →
+        IsTreeIn old.now (size_of old.now) tree.now }
+    ensures inode_file { tree.now.root.items ≡ [] → tree.now.height ≡ height_of (root_of old.now 0) →
+        tree.now.size ≡ size_of old.now 0 → IsTreeIn old.now (size_of old.now) tree.now }
+    ensures stays { (bound : ℕ → ℕ) (at : IsTreeIn old.now (size_of old.now) tree.now) →
+        IsReached new.now at.number → height_of (word new.now super_root) ≡ height_of (word old.now super_root) →
+        height_of (root_of new.now at.number) ≡ height_of (root_of old.now at.number) →
+        bound at.number ≤ size_of old.now at.number → IsTreeIn new.now bound tree.now }
 {}

@@ -1,5 +1,5 @@
 -- Touched words that can be committed under the sizes that the image has: one word of a tree, and runs.
-use Rattle.std.proofs.Common.{◌≡◌, ◌≢◌, ℕ, suc, ◌-◌, ◌*◌, ◌%◌, ◌<◌, ◌≤◌, [], ◌∷◌, length, Bool, sym, ◌∙◌, ap, subst, arith, inl, inr}
+use Rattle.std.proofs.Common.{◌≡◌, ◌≢◌, ℕ, suc, ◌-◌, ◌*◌, ◌%◌, ◌<◌, ◌≤◌, List, [], ◌∷◌, length, Bool, sym, ◌∙◌, ap, subst, arith, inl, inr}
 use Rattle.bp_layout.specs.Free.{AreFreeBlocks}
 use Rattle.bp_layout.specs.Members.{Has}
 use Rattle.bp_layout.specs.Words.{Image, word, height_of}
@@ -11,10 +11,15 @@ use Rattle.bp_shapes.specs.Trail.{trail_of}
 use Rattle.bp_shapes.proofs.FreeSets.{wf_forest, content_fronts, content_no_pointer}
 use Rattle.bp_cow.specs.declared.touched.Run.{Run}
 use Rattle.bp_cow.specs.declared.touched.Touched.{Touched}
+use Rattle.bp_cow.specs.declared.touched.TreeSize.{TreeSize}
 use Rattle.bp_cow.specs.Touched.{IsTouched, path_of, word_paths}
-use Rattle.bp_cow.specs.CanCommit.{IsRunIn, CanCommit}
+use Rattle.bp_cow.specs.CanCommit.{IsRunIn, IsTreeIn, CanCommit}
 
-module _ {kept : ℕ → Bool} (old : Image) (wf : IsWellFormed old) (touched : Touched) (shape : IsTouched touched) (free : ℕ → Bool) (exact : AreFreeBlocks old kept free) where
+-- what is asked of trees that are given, where none is
+pub no_trees : {trees : List TreeSize} (P : TreeSize → Type 0) → trees ≡ [] → (tree : TreeSize) → Has trees tree → P tree
+no_trees P none tree has = absurd (subst (λ (ts : List TreeSize). Has ts tree) none has)
+
+module _ {kept : ℕ → Bool} (old : Image) (wf : IsWellFormed old) (touched : Touched) (shape : IsTouched touched) (free : ℕ → Bool) (exact : AreFreeBlocks old kept free) (in_size : (tree : TreeSize) → Has touched.trees.now tree → IsTreeIn old (size_of old) tree) where
   forest : IsForest old (size_of old)
   forest = wf_forest old wf
 
@@ -30,6 +35,7 @@ module _ {kept : ℕ → Bool} (old : Image) (wf : IsWellFormed old) (touched : 
       pointers = λ i d here low. pointers i d (first i here) low;
       contents = λ i here pointer. contents i (first i here) pointer;
       runs = λ run has. absurd (no_run run has);
+      trees = in_size;
       apart = λ i j here there same. omega (arith, first i here, first j there);
       beside = λ run i j has here low high same. no_run run has;
     }
@@ -70,6 +76,7 @@ module _ {kept : ℕ → Bool} (old : Image) (wf : IsWellFormed old) (touched : 
     pointers = λ i d here low. absurd (omega (arith, here, none));
     contents = λ i here pointer. omega (arith, here, none);
     runs = in_trees;
+    trees = in_size;
     apart = λ i j here there same. absurd (omega (arith, here, none));
     beside = λ r i j has here low high same. omega (arith, here, none);
   }

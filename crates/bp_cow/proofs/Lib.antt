@@ -36,3 +36,6 @@ pub mod LeafCover
 pub mod SharedLaws
 pub mod LiveLaws
 pub mod LooseCover
+pub mod NodeLive
+pub mod WordLive
+pub mod TreeSizes

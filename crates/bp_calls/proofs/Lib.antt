@@ -48,6 +48,8 @@ pub mod GrowthNeed
 pub mod GrowthCover
 pub mod Unthawed
 pub mod CountLaws
+pub mod ThawedParts
+pub mod TargetPaths
 pub mod FewNames
 pub mod GrowthPerforms
 pub mod NewNames

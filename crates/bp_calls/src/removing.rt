@@ -38,6 +38,12 @@ pub fn remove<R: Region>(parts: &mut Parts<R>, dir: u32, slot: u64)
     if names > 0 {
         return;
     }
-    give_back(&parts.region, tree, 0, &mut parts.blocks);
+    give_back(
+        &parts.region,
+        tree,
+        0,
+        &mut parts.blocks,
+        &parts.frozen,
+    );
     parts.inodes.give(inode);
 }

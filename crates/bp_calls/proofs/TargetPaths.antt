@@ -66,5 +66,5 @@ module _ (image : Image) (wf : IsWellFormed image) (i s j : ℕ) (can : CanUnlin
   leaving_ways path has = go (subst (λ ps. Has ps path) leaving_targets has)
     where
       go : Has (entry ∷ []) path → IsWay image path
-      go (inl e) = subst (IsWay image) (sym e) (content_way image wf i (32 * s + 0) can.reached (let low = can.entry.in_size in omega (arith, low)))
+      go (inl e) = subst (IsWay image) e (content_way image wf i (32 * s + 0) can.reached (let low = can.entry.in_size in omega (arith, low)))
       go (inr never) = absurd never

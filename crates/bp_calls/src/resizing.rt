@@ -68,13 +68,8 @@ fn shrink_file<R: Region>(parts: &mut Parts<R>, i: u32, tree: Tree, size: u64)
 {
     let size_place = place(&parts.region, i, SIZE_FIELD);
     commit_word(&mut parts.region, size_place, size);
-    give_back(
-        &parts.region,
-        tree,
-        size,
-        &mut parts.blocks,
-        &parts.frozen,
-    );
+    let frozen = &parts.frozen;
+    give_back(&parts.region, tree, size, &mut parts.blocks, frozen);
 }
 
 /// Gives a file another size in bytes, by one store alone in its epoch: it ends there, or gets zeros behind its old

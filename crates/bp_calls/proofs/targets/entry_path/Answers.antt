@@ -4,7 +4,7 @@ use Rattle.bp_layout.specs.Words.{height_of}
 use Rattle.bp_tree.proofs.Digits.{length-digits}
 use Rattle.pm_region.specs.Memory.{current_words}
 use Rattle.bp_calls.proofs.TargetPaths.{entry_fits}
-use Rattle.bp_calls.proofs.touching.entry_path.Goals as goal
+use Rattle.bp_calls.proofs.targets.entry_path.Goals as goal
 
 pub unreachable-requires : goal.unreachable-requires
 unreachable-requires g c =

@@ -1,8 +1,9 @@
-use Rattle.std.proofs.Common.{◌≡◌, ◌-◌, ◌<◌, length, slice_index, refl, subst, arith}
+use Rattle.std.proofs.Common.{◌≡◌, ◌-◌, ◌/◌, ◌<◌, length, slice_index, refl, sym, ◌∙◌, ap, subst, arith}
+use Rattle.bp_shapes.specs.Sets.{kept_of}
 use Rattle.pm_region.specs.Memory.{current_words}
 use Rattle.pm_region.proofs.MemoryLaws.{length-current_words}
 use Rattle.bp_calls.proofs.Leaving.{found_leaving, named_few, named_reached, inode_in_room, inode_taken, can_give, leaving_counts, leaving_exact, leaving_performs, leaving_whole, named_exact}
-use Rattle.bp_calls.proofs.removing.remove.Goals as goal
+use Rattle.bp_calls.proofs.removing.take_out.Goals as goal
 use Rattle.std.proofs.lemmas.List.{length-set}
 use Rattle.bp_layout.specs.Names.{HasNames}
 use Rattle.bp_calls.proofs.CountLaws.{exact_with, last_name, other_name, some_name}
@@ -30,7 +31,7 @@ give_back-requires g c =
     let image = current_words (memory c.args.parts.now.region) in
     let can = found_leaving image c.args.dir c.args.slot c.inumber-inode.result c.entry_place-entry.result c.tree_of-directory.result.root c.requires.mounted.well_formed c.requires.can c.tree_of-directory.ensures.root c.inumber-inode.ensures c.entry_place-entry.ensures.place c.entry_place-entry.ensures.present in
     let gives = can_give (memory c.args.parts.now.region) (memory c.commit_word.new.region) c.args.dir c.args.slot c.inumber-inode.result c.entry_place-entry.result can c.commit_word.ensures c.args.parts.now.blocks c.args.parts.now.inodes c.requires.mounted.exact.sets in
-    rw (c.tree_of-tree.ensures.root, c.tree_of-tree.ensures.size) (record { sound = gives.sound; room = gives.room; taken = gives.taken })
+    rw (c.tree_of-tree.ensures.root, c.tree_of-tree.ensures.size) (record { sound = gives.sound; room = gives.room; known = c.requires.mounted.exact.frozen_room ∙ sym (ap (λ n. n / 512) (leaving_whole (memory c.args.parts.now.region) (memory c.commit_word.new.region) c.args.dir c.args.slot c.inumber-inode.result c.entry_place-entry.result can c.commit_word.ensures)); taken = gives.taken })
 
 pub give-requires-clause-in_range : goal.give-requires-clause-in_range
 give-requires-clause-in_range g c =
@@ -84,7 +85,7 @@ returns-then-names-gt0 g c =
     let some = some_name image c.args.dir c.args.slot c.inumber-inode.result can.unlink.reached can.unlink.entry _ (c.requires.mounted.exact.counts.each c.inumber-inode.result low) in
     let more = other_name image c.args.dir c.args.slot c.inumber-inode.result can.unlink.reached can.unlink.entry _ (omega (arith, some, c.names-names.ensures, c.if-names-gt0.true)) (c.requires.mounted.exact.counts.each c.inumber-inode.result low) in
     record {
-      performs = leaving_performs (memory c.args.parts.now.region) (memory c.commit_word.new.region) c.args.dir c.args.slot c.inumber-inode.result c.entry_place-entry.result can c.commit_word.ensures;
+      performs = leaving_performs (memory c.args.parts.now.region) (memory c.commit_word.new.region) c.args.dir c.args.slot c.inumber-inode.result c.entry_place-entry.result can c.commit_word.ensures (kept_of c.args.parts.now) c.requires.clear;
       exact = exact_with _ _ c.args.parts.now _ c.requires.mounted.exact
           (named_exact (memory c.args.parts.now.region) (memory c.commit_word.new.region) c.args.dir c.args.slot c.inumber-inode.result c.entry_place-entry.result can c.commit_word.ensures c.args.parts.now.blocks c.args.parts.now.inodes c.requires.mounted.exact.sets more) refl
           (leaving_whole (memory c.args.parts.now.region) (memory c.commit_word.new.region) c.args.dir c.args.slot c.inumber-inode.result c.entry_place-entry.result can c.commit_word.ensures)
@@ -104,7 +105,7 @@ returns g c =
     let alone : slice_index c.args.parts.now.counts c.inumber-inode.result ≡ 1 = omega (arith, some, c.names-names.ensures, c.if-names-gt0.false) in
     let last = last_name image c.args.dir c.args.slot c.inumber-inode.result can.unlink.reached can.unlink.entry (subst (HasNames image c.inumber-inode.result) alone (c.requires.mounted.exact.counts.each c.inumber-inode.result low)) in
     record {
-      performs = leaving_performs (memory c.args.parts.now.region) (memory c.commit_word.new.region) c.args.dir c.args.slot c.inumber-inode.result c.entry_place-entry.result can c.commit_word.ensures;
+      performs = leaving_performs (memory c.args.parts.now.region) (memory c.commit_word.new.region) c.args.dir c.args.slot c.inumber-inode.result c.entry_place-entry.result can c.commit_word.ensures (kept_of c.args.parts.now) c.requires.clear;
       exact = exact_with _ _ c.args.parts.now _ c.requires.mounted.exact
           (rw c.give.ensures
           (leaving_exact (memory c.args.parts.now.region) (memory c.commit_word.new.region) c.args.dir c.args.slot c.inumber-inode.result c.entry_place-entry.result can c.commit_word.ensures c.args.parts.now.blocks c.args.parts.now.inodes c.requires.mounted.exact.sets last c.give_back.new.blocks

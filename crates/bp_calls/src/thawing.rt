@@ -1,9 +1,10 @@
 //! What is kept near the words of a change is thawed before the change.
 
-ghost use Rattle.std.specs.Prelude.{◌≡◌, ◌+◌, ◌^◌, ◌<◌, IfErr, OnErr, OnOk};
+ghost use Rattle.std.specs.Prelude.{◌≡◌, ◌+◌, ◌^◌, ◌<◌, ◌≤◌, IfErr, OnErr, OnOk, length};
 ghost use Rattle.bp_calls.specs.Mounted.{IsMounted};
 ghost use Rattle.bp_calls.specs.Space.{LacksBlocks};
 ghost use Rattle.bp_calls.specs.ThawsFor.{HasRoomToThaw, ThawsFor, thaw_count};
+ghost use Rattle.bp_free.specs.Set.{members};
 ghost use Rattle.bp_layout.specs.Members.{Has};
 ghost use Rattle.bp_layout.specs.WordPaths.{WordPath};
 ghost use Rattle.bp_shapes.specs.Sets.{kept_of};
@@ -32,6 +33,8 @@ pub(crate) fn thaw_before<R: Region>(
     requires few { more < 2 ^ 31 }
     requires room { HasRoomToThaw R.memory (paths_in targets.now) parts.old more }
     ensures thaws { OnOk result (ThawsFor R.memory (paths_in targets.now) parts.old parts.new) }
+    ensures enough { OnOk result (thaw_count R.memory (paths_in targets.now) parts.old + more ≤
+        length (members parts.old.blocks)) }
     ensures refused { IfErr result (LacksBlocks (current_words (R.memory parts.old.region)) (kept_of parts.old)
         (thaw_count R.memory (paths_in targets.now) parts.old + more)) }
     ensures same { OnErr result (parts.new ≡ parts.old) }

@@ -73,8 +73,10 @@ give_back-requires g t c κs within =
           rw (c.child-below.ensures.root, c.child-below.ensures.size) (child_is_sound image c.args.tree.root c.args.tree.size (height_of c.args.tree.root - 1) c.args.shorter c.requires.sound c.if-tree-shorter.false (rw c.block-top.ensures at c.if-top-eq0.false) high c.loop-slot.slot live),
           (
             c.loop-slot.invariant.room ∙ c.requires.room,
-            (c.requires.known,
-            rw (c.child-below.ensures.root, c.child-below.ensures.size) (not_yet image c.args.tree.root c.args.tree.size (height_of c.args.tree.root - 1) c.args.shorter c.requires.sound c.if-tree-shorter.false (rw c.block-top.ensures at c.if-top-eq0.false) high c.loop-slot.slot c.args.blocks.now c.loop-slot.blocks live c.requires.taken c.loop-slot.invariant)),
+            (
+              c.requires.known,
+              rw (c.child-below.ensures.root, c.child-below.ensures.size) (not_yet image c.args.tree.root c.args.tree.size (height_of c.args.tree.root - 1) c.args.shorter c.requires.sound c.if-tree-shorter.false (rw c.block-top.ensures at c.if-top-eq0.false) high c.loop-slot.slot c.args.blocks.now c.loop-slot.blocks live c.requires.taken c.loop-slot.invariant),
+            ),
           ),
         ),
       ),

@@ -50,6 +50,7 @@ pub mod Unthawed
 pub mod CountLaws
 pub mod ThawedParts
 pub mod TargetPaths
+pub mod ThawedRoom
 pub mod LeavingThawed
 pub mod FewNames
 pub mod GrowthPerforms

@@ -1,10 +1,10 @@
 //! The words near which a change stores, before it is made.
 
-ghost use Rattle.std.specs.Prelude.{◌≡◌, suc, ◌+◌, ◌*◌, ◌<◌, ◌≤◌};
+ghost use Rattle.std.specs.Prelude.{◌≡◌, ℕ, suc, ◌+◌, ◌*◌, ◌<◌, ◌≤◌};
 ghost use Rattle.bp_changes.specs.Effects.{CanUnlink};
 ghost use Rattle.bp_layout.specs.Directory.{entry_count, inumber_at};
-ghost use Rattle.bp_layout.specs.Inode.{root_of};
-ghost use Rattle.bp_layout.specs.Need.Change.{leaves};
+ghost use Rattle.bp_layout.specs.Inode.{root_of, size_of};
+ghost use Rattle.bp_layout.specs.Need.Change.{leaves, resizes};
 ghost use Rattle.bp_layout.specs.Reached.{IsReached};
 ghost use Rattle.bp_layout.specs.Thaw.{targets};
 ghost use Rattle.bp_layout.specs.WellFormed.{IsWellFormed};
@@ -15,7 +15,7 @@ ghost use Rattle.bp_thaw.specs.Thaws.{paths_in};
 ghost use Rattle.pm_region.specs.Memory.{current_words};
 
 use arrayvec::ArrayVec;
-use bp_inodes::{root_path, tree_of};
+use bp_inodes::{root_path, size_path, tree_of};
 use bp_limits::ENTRY_SIZE;
 use bp_tree::{Slots, word_path};
 use pm_region::Region;
@@ -49,5 +49,17 @@ pub(crate) fn leaving<R: Region>(region: &R, dir: u32, slot: u64) -> Targets
 {
     let mut targets = Targets::new();
     targets.push(entry_path(region, dir, slot));
+    targets
+}
+
+/// Where a file ends earlier, or where it did: the word of its size alone.
+pub(crate) fn shrinking<R: Region>(region: &R, i: u32) -> Targets
+    requires well_formed { IsWellFormed (current_words (R.memory region.now)) }
+    requires reached { IsReached (current_words (R.memory region.now)) i }
+    ensures { (size : ℕ) → size ≤ size_of (current_words (R.memory region.now)) i →
+        paths_in result ≡ targets (current_words (R.memory region.now)) (resizes i size) }
+{
+    let mut targets = Targets::new();
+    targets.push(size_path(region, i));
     targets
 }

@@ -1,3 +1,5 @@
+use Rattle.std.proofs.Common.{◌∙◌}
+use Rattle.bp_changes.proofs.ReachedOn.{reached_on}
 use Rattle.bp_calls.specs.Resized.{ResizesFile}
 use Rattle.bp_layout.specs.Need.Change.{resizes}
 use Rattle.pm_region.specs.Memory.{current_words}
@@ -16,3 +18,14 @@ pub returns-in-Ok-clause-performs : goal.returns-in-Ok-clause-performs
 returns-in-Ok-clause-performs g c =
     performed_thawed g.R.Region.memory (resizes c.args.i c.args.size) c.args.parts.now c.thaw_size.new.parts c.requires.mounted c.requires.reached c.in-Ok.ensures.thaws
     c.cut.new.parts (ResizesFile c.args.i c.args.size) c.cut.ensures.performs
+
+pub cut-requires-clause-reached : goal.cut-requires-clause-reached
+cut-requires-clause-reached g c =
+    let memory = g.R.Region.memory in
+    reached_on (current_words (memory c.args.parts.now.region)) (current_words (memory c.thaw_size.new.parts.region)) c.in-Ok.ensures.thaws.thaws.shape.meaning c.args.i c.requires.reached
+
+pub cut-requires-clause-file : goal.cut-requires-clause-file
+cut-requires-clause-file g c = c.in-Ok.ensures.thaws.thaws.shape.meaning.kind c.args.i c.requires.reached ∙ c.requires.file
+
+pub cut-requires-clause-smaller : goal.cut-requires-clause-smaller
+cut-requires-clause-smaller g c = rw (c.in-Ok.ensures.thaws.thaws.shape.sizes c.args.i c.requires.reached) c.requires.smaller

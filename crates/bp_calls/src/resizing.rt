@@ -1,6 +1,6 @@
 //! A file gets another size.
 
-ghost use Rattle.std.specs.Prelude.{◌≡◌, ◌≢◌, ◌<◌, ◌≤◌, [], IfErr, OnErr, OnOk};
+ghost use Rattle.std.specs.Prelude.{◌≡◌, ◌≢◌, ◌<◌, ◌≤◌, [], IfErr, OnErr, OnOk, length};
 ghost use Rattle.bp_calls.specs.Mounted.{IsMounted};
 ghost use Rattle.bp_calls.specs.Space.{HasRoomWhereFree, LacksSpace};
 ghost use Rattle.bp_calls.specs.ThawsFor.{ThawsFor};
@@ -8,6 +8,8 @@ ghost use Rattle.bp_changes.specs.Thawed.{AfterThaw};
 ghost use Rattle.bp_layout.specs.Thaw.{targets, thawed};
 ghost use Rattle.bp_calls.specs.CanGrow.{CanGrowFile};
 ghost use Rattle.bp_calls.specs.Resized.{ResizesFile};
+ghost use Rattle.bp_append.specs.Prepared.{need_for};
+ghost use Rattle.bp_free.specs.Set.{members};
 ghost use Rattle.bp_layout.specs.Inode.{IsFile, root_of, size_of};
 ghost use Rattle.bp_layout.specs.Need.Change.{resizes};
 ghost use Rattle.bp_layout.specs.Reached.{IsReached};
@@ -28,34 +30,20 @@ use bp_limits::SIZE_FIELD;
 use bp_tree::Tree;
 use pm_region::Region;
 
-/// Gives a file a size above its own, with zeros behind its bytes: a preparation makes its tree high enough and clears
-/// the rest of its last leaf, and then the size is stored.
-///
-/// # Errors
-///
-/// `NoSpace` exactly where fewer blocks are free than it needs. Nothing has changed then.
-fn grow_file<R: Region>(parts: &mut Parts<R>, i: u32, tree: Tree, size: u64) -> Result<(), NoSpace>
-    requires can { CanGrowFile (R.memory parts.old.region) parts.old.blocks parts.old.inodes i size }
+/// Gives a file a size above its own, with zeros behind its bytes, once nothing is left to thaw and enough blocks are
+/// free: a preparation makes its tree high enough and clears the rest of its last leaf, and then the size is stored.
+fn lengthen<R: Region>(parts: &mut Parts<R>, i: u32, size: u64)
+    requires can { CanGrowFile (kept_of parts.old) (R.memory parts.old.region) parts.old.blocks parts.old.inodes i size }
     requires exact { IsExact (current_words (R.memory parts.old.region)) parts.old }
-    requires root { tree.root ≡ root_of (current_words (R.memory parts.old.region)) i }
-    requires size { tree.size ≡ size_of (current_words (R.memory parts.old.region)) i }
-    ensures performs { OnOk result (Performs (kept_of parts.old) (R.memory parts.old.region) (R.memory parts.new.region)
-        (resizes i size) (ResizesFile i size)) }
+    requires enough { need_for (current_words (R.memory parts.old.region)) i size size ≤ length (members parts.old.blocks) }
+    ensures performs { PerformsThawed (kept_of parts.old) (R.memory parts.old.region) (R.memory parts.new.region)
+        (resizes i size) (ResizesFile i size) }
     ensures exact { IsExact (current_words (R.memory parts.new.region)) parts.new }
-    ensures refused { IfErr result (LacksSpace (current_words (R.memory parts.old.region)) (kept_of parts.old)
-        (resizes i size)) }
-    ensures same { OnErr result (parts.new ≡ parts.old) }
 {
-    let need = need_prep(&parts.region, tree, size, size);
-    let free = parts.blocks.count();
-    if free < need {
-        return Err(NoSpace { need, free });
-    }
     let size_place = place(&parts.region, i, SIZE_FIELD);
     let at = root_path(&parts.region, i);
     prep(parts, &at, size, &[], size);
     commit_word(&mut parts.region, size_place, size);
-    Ok(())
 }
 
 /// Thaws what is kept on the way to the size of a file that is to get smaller.
@@ -130,6 +118,19 @@ fn shrink_file<R: Region>(parts: &mut Parts<R>, i: u32, size: u64) -> Result<(),
     }
 }
 
+/// Gives a file a size above its own. Not yet behind a thaw.
+fn grow_file<R: Region>(parts: &mut Parts<R>, i: u32, size: u64) -> Result<(), NoSpace>
+{
+    let tree = tree_of(&parts.region, i);
+    let need = need_prep(&parts.region, tree, size, size);
+    let free = parts.blocks.count();
+    if free < need {
+        return Err(NoSpace { need, free });
+    }
+    lengthen(parts, i, size);
+    Ok(())
+}
+
 /// Gives a file another size in bytes, by one store alone in its epoch: it ends there, or gets zeros behind its old
 /// bytes.
 ///
@@ -154,5 +155,5 @@ pub fn truncate<R: Region>(parts: &mut Parts<R>, i: u32, size: u64) -> Result<()
     if size < tree.size {
         return shrink_file(parts, i, size);
     }
-    grow_file(parts, i, tree, size)
+    grow_file(parts, i, size)
 }

@@ -15,7 +15,7 @@ use Rattle.bp_changes.proofs.ReachedOn.{reached_on}
 use Rattle.bp_changes.proofs.SameMeaning.{reached-back, well_formed-same}
 use Rattle.bp_calls.specs.Growth.{AddsInodes}
 
-module _ {kept : ℕ → Bool} (old new : Image) (taken : List ℕ) (wf : IsWellFormed old) (adds : AddsInodes old new taken) where
+module _ (old new : Image) (taken : List ℕ) (wf : IsWellFormed old) (adds : AddsInodes old new taken) where
   pub longer_well_formed : IsWellFormed new
   longer_well_formed = well_formed-same old new wf adds.meaning
 
@@ -83,7 +83,7 @@ module _ {kept : ℕ → Bool} (old new : Image) (taken : List ℕ) (wf : IsWell
   longer_taken b took = record { tree = 0; reached = inode_file; has = adds.has_taken b took }
 
   -- what is free now was free, and was not taken
-  pub longer_free : (b : ℕ) → IsFreeBlock new kept b → IsFreeBlock old kept b × (Has taken b → ⊥)
+  pub longer_free : {kept : ℕ → Bool} (b : ℕ) → IsFreeBlock new kept b → IsFreeBlock old kept b × (Has taken b → ⊥)
   longer_free b free = (
     record { low = free.low; high = rw adds.meaning.trees.whole at free.high; free = λ live. free.free (longer_stays b live); loose = free.loose },
     λ took. free.free (longer_taken b took),

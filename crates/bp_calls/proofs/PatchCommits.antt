@@ -33,11 +33,11 @@ use Rattle.bp_calls.proofs.PatchRuns.{IsInFile, leaves_few, no_words, patches_ca
 use Rattle.bp_calls.proofs.PatchWords.{patches_overwrite, sizes_stay}
 use Rattle.bp_calls.proofs.RunCommits.{commit_exact, run_loose, run_open}
 
-exists_as : (p q : WordPath → Bool) → ((path : WordPath) → p path ≡ q path) → (here path : WordPath) → existing_from p here path ≡ existing_from q here path
+pub exists_as : (p q : WordPath → Bool) → ((path : WordPath) → p path ≡ q path) → (here path : WordPath) → existing_from p here path ≡ existing_from q here path
 exists_as p q alike here [] = refl
 exists_as p q alike here (slot ∷ path) = rw (alike here, exists_as p q alike (here ++ slot ∷ []) path) refl
 
-or_false : (b : Bool) → b ≡ ((b || false) || false)
+pub or_false : (b : Bool) → b ≡ ((b || false) || false)
 or_false true = refl
 or_false false = refl
 

@@ -88,7 +88,6 @@ fn overlay<R: Region>(parts: &mut Parts<R>, patches: &[Patch<'_>]) -> Result<(),
 }
 
 /// Writes bytes into files, below their sizes. Not yet behind a thaw.
-pub fn batch<R: Region>(parts: &mut Parts<R>, patches: &[Patch<'_>]) -> Result<(), NoSpace>
-{
+pub fn batch<R: Region>(parts: &mut Parts<R>, patches: &[Patch<'_>]) -> Result<(), NoSpace> {
     overlay(parts, patches)
 }

@@ -119,8 +119,7 @@ fn shrink_file<R: Region>(parts: &mut Parts<R>, i: u32, size: u64) -> Result<(),
 }
 
 /// Gives a file a size above its own. Not yet behind a thaw.
-fn grow_file<R: Region>(parts: &mut Parts<R>, i: u32, size: u64) -> Result<(), NoSpace>
-{
+fn grow_file<R: Region>(parts: &mut Parts<R>, i: u32, size: u64) -> Result<(), NoSpace> {
     let tree = tree_of(&parts.region, i);
     let need = need_prep(&parts.region, tree, size, size);
     let free = parts.blocks.count();

@@ -36,11 +36,11 @@ fn write_behind<R: Region>(
     requires can { CanWrite (kept_of parts.old) (R.memory parts.old.region) parts.old.blocks parts.old.inodes i off bytes.now }
     requires exact { IsExact (current_words (R.memory parts.old.region)) parts.old }
     requires behind { size_of (current_words (R.memory parts.old.region)) i ≤ off }
-    ensures performs { OnOk result (Performs (kept_of parts.old) (R.memory parts.old.region) (R.memory parts.new.region)
+    ensures performs { OnOk result (PerformsThawed (kept_of parts.old) (R.memory parts.old.region) (R.memory parts.new.region)
         (writes i off (length bytes.now)) (WritesFile i off bytes.now)) }
     ensures exact { IsExact (current_words (R.memory parts.new.region)) parts.new }
-    ensures refused { IfErr result (LacksSpace (current_words (R.memory parts.old.region)) (kept_of parts.old)
-        (writes i off (length bytes.now))) }
+    ensures refused { IfErr result (LacksBlocks (current_words (R.memory parts.old.region)) (kept_of parts.old)
+        (need (current_words (R.memory parts.old.region)) (writes i off (length bytes.now)))) }
     ensures same { OnErr result (parts.new ≡ parts.old) }
 {
     let tree = tree_of(&parts.region, i);

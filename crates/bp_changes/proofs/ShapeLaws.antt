@@ -17,6 +17,7 @@ use Rattle.bp_layout.specs.Need.{Beyond, Change, Stretch, beyond, common, common
 use Rattle.bp_layout.specs.Need.Change.{writes, resizes, enters, leaves, replaces, moves, respells, overwrites}
 use Rattle.bp_layout.specs.Need.Entrant.{taken, grown, linked}
 use Rattle.bp_layout.specs.Reached.{IsReached}
+use Rattle.bp_layout.specs.Thaw.{cover_now, end_targets, entry_targets, heights_now, is_there_now, slot_target, targets}
 use Rattle.bp_layout.specs.Reached.IsReached.{inode_file}
 use Rattle.bp_layout.specs.WellFormed.{IsWellFormed}
 use Rattle.bp_layout.specs.WordPaths.{WordPath, digits, inode_path, tree_path}
@@ -408,3 +409,61 @@ module _ (old new : Image) (wf : IsWellFormed old) (shape : SameShape old new) (
       let grown : length (growth new change) ≡ length (growth old change) = ap length (growth-same old new shape change) in
       let copies : length (copied new change) ≡ length (copied old change) = ap length copied-shape in
       omega (arith, made, grown, copies)
+
+  -- ---- before it is prepared
+
+  -- the inode word of a reached tree has a place in the inode file as it is
+  small_now : (t : ℕ) → IsReached old t → 8 * t + 1 < 512 ^ suc (heights_now old 0)
+  small_now t reached =
+      let inside : t < inode_count old = reached-in_file old wf t reached in
+      let fits : size_of old 0 ≤ 8 * 512 ^ suc (height_of (root_of old 0)) = (wf.sound 0 inode_file).fits in
+      omega (arith, inside, fits)
+
+  front_now-same : (path : WordPath) → (length path ≤ heights_now old 0) ⊎ IsReached old (path_number (take (suc (heights_now old 0)) path) / 8) → is_there_now new path ≡ is_there_now old path
+  front_now-same path on =
+      ap (λ (n : ℕ × TreeNode). is_present new (root_of new n.0) (size_of new n.0) n.1) (pointed-same old new shape (heights_now new) (heights_now old) path (shape.heights 0 inode_file) (alike on))
+      ∙ shape.present (pointed (heights_now old) path).0 (pointed-reached old new shape (heights_now old) path on) (pointed (heights_now old) path).1
+    where
+      alike : (length path ≤ heights_now old 0) ⊎ IsReached old (path_number (take (suc (heights_now old 0)) path) / 8) →
+          (length path ≤ heights_now old 0) ⊎ (heights_now new (path_number (take (suc (heights_now old 0)) path) / 8) ≡ heights_now old (path_number (take (suc (heights_now old 0)) path) / 8))
+      alike (inl short) = inl short
+      alike (inr reached) = inr (shape.heights (path_number (take (suc (heights_now old 0)) path) / 8) reached)
+
+  pub cover_now-shape : cover_now new change ≡ cover_now old change
+  cover_now-shape =
+      ap (cover_of (is_there_now new)) (touched-same old new shape (heights_now new) (heights_now old) shape.heights change of)
+      ∙ existing-same (is_there_now new) (is_there_now old) [] (common_all (touched_at (heights_now old) old change))
+      (λ front slot rest e. front_now-same front (common-on old new shape (heights_now old) small_now (touched_at (heights_now old) old change) (touched-on old new shape (heights_now old) small_now change of) front slot rest e))
+
+  end-same : (b : Beyond) → IsReached old b.tree → end_targets new b ≡ end_targets old b
+  end-same b reached = rw (shape.sizes b.tree reached, shape.heights b.tree reached, shape.heights 0 inode_file) refl
+
+  ends-same : (bs : List Beyond) → OfReached old new shape bs → flat_map (end_targets new) bs ≡ flat_map (end_targets old) bs
+  ends-same [] all = refl
+  ends-same (b ∷ bs) all = ap₂ (λ (xs ys : List WordPath). xs ++ ys) (end-same b all.0) (ends-same bs all.1)
+
+  slot-same : (j : ℕ) → IsReached old j → (slot : Option ℕ) → slot_target new j slot ≡ slot_target old j slot
+  slot-same j reached None = refl
+  slot-same j reached (Some slot) = ap (λ (p : WordPath). p ∷ []) (entry_path-same old new shape (heights_now new) (heights_now old) shape.heights j reached slot 0)
+
+  entry_targets-same : (change : Change) → IsOfReached old change → entry_targets new change ≡ entry_targets old change
+  entry_targets-same (writes i off len) of = refl
+  entry_targets-same (resizes i size) of = refl
+  entry_targets-same (enters i (taken j)) of = ap (λ (h : ℕ). inode_path h j 0 ∷ []) (shape.heights 0 inode_file)
+  entry_targets-same (enters i grown) of = refl
+  entry_targets-same (enters i linked) of = refl
+  entry_targets-same (leaves i s) of = refl
+  entry_targets-same (replaces i s j r) of = refl
+  entry_targets-same (moves i s j) of = ap (slot_target new j) (empty-same old new shape j of.1.0 of.1.1) ∙ slot-same j of.1.0 (empty_slot old j)
+  entry_targets-same (respells i s len) of = refl
+  entry_targets-same (overwrites stretches) of = refl
+
+  -- so the words near which it stores are the same
+  pub targets-shape : targets new change ≡ targets old change
+  targets-shape =
+      ap₂ (λ (p : WordPath) (ps : List WordPath). p ∷ ps) cover_now-shape
+      (ap₂ (λ (xs ys : List WordPath). xs ++ ys)
+      (ap (flat_map (end_targets new)) (ap₂ (λ (xs ys : List Beyond). xs ++ ys) (beyond-same old new shape change of) (new_inodes-same old new shape change))
+      ∙ ends-same (beyond old change ++ new_inodes old change)
+      (each-append (λ (b : Beyond). IsReached old b.tree) (beyond old change) (new_inodes old change) (beyond-reached old new shape change of) (inodes-reached old new shape change)))
+      (entry_targets-same change of))

@@ -25,8 +25,9 @@ pub fn thaw_need<R: Region>(parts: &Parts<R>, targets: &ArrayVec<Slots, 8>) -> u
     requires frozen { block_count (current_words (R.memory parts.now.region)) ≤ length parts.now.frozen }
     requires ways { (path : WordPath) → Has (paths_in targets.now) path →
         IsWay (current_words (R.memory parts.now.region)) path }
-    ensures { result ≡ length (thawed_on (current_words (R.memory parts.now.region)) (has parts.now.frozen)
+    ensures need { result ≡ length (thawed_on (current_words (R.memory parts.now.region)) (has parts.now.frozen)
         (paths_in targets.now)) }
+    ensures few { result ≤ 96 }
 {
     find(&parts.region, &parts.frozen, targets).len() as u32
 }

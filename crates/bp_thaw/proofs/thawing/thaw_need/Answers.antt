@@ -8,8 +8,8 @@ use Rattle.bp_thaw.specs.Thaws.{paths_in}
 use Rattle.bp_thaw.proofs.Found.{found_is}
 use Rattle.bp_thaw.proofs.thawing.thaw_need.Goals as goal
 
-pub returns : goal.returns
-returns g c =
+pub returns-clause-need : goal.returns-clause-need
+returns-clause-need g c =
     let image = current_words (g.R.Region.memory c.args.parts.now.region) in
     let kept = has c.args.parts.now.frozen in
     let paths = paths_in c.args.targets.now in

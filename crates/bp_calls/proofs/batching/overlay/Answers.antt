@@ -7,12 +7,17 @@ use Rattle.bp_changes.proofs.Overwrites.{keeps}
 use Rattle.bp_calls.specs.Overwritten.{AreRuns, patches_seen}
 use Rattle.bp_calls.proofs.CommitResults.{by_three, on_either}
 use Rattle.bp_calls.proofs.CountLaws.{exact_files}
-use Rattle.bp_calls.proofs.PatchCommits.{overwrite_can, overwrite_exact, overwrite_lacks, overwrite_performs, overwrite_room, overwrites_files}
-use Rattle.bp_calls.proofs.batching.batch.Goals as goal
+use Rattle.bp_calls.proofs.PatchCommits.{overwrite_can, overwrite_exact, overwrite_lacks, overwrite_loose, overwrite_performs, overwrite_room, overwrites_files}
+use Rattle.bp_calls.proofs.batching.overlay.Goals as goal
 
 pub commit_below-requires-clause-can : goal.commit_below-requires-clause-can
 commit_below-requires-clause-can g c =
     overwrite_can (g.R.Region.memory c.args.parts.now.region) c.args.parts.now.blocks c.args.parts.now.inodes (patches_seen c.args.patches.now) c.touched_by-touched.result c.requires.can
+    (rw (c.touched_by-touched.ensures.runs, c.as_slice.ensures.value) c.runs_of-runs.ensures) c.touched_by-touched.ensures.words
+
+pub commit_below-requires-clause-loose : goal.commit_below-requires-clause-loose
+commit_below-requires-clause-loose g c =
+    overwrite_loose (g.R.Region.memory c.args.parts.now.region) c.args.parts.now.blocks c.args.parts.now.inodes (patches_seen c.args.patches.now) c.touched_by-touched.result c.requires.can
     (rw (c.touched_by-touched.ensures.runs, c.as_slice.ensures.value) c.runs_of-runs.ensures) c.touched_by-touched.ensures.words
 
 pub commit_below-requires-clause-room : goal.commit_below-requires-clause-room

@@ -32,7 +32,7 @@ use Rattle.bp_calls.proofs.PatchWords.{patches_overwrite, sizes_stay}
 use Rattle.bp_calls.proofs.RunCommits.{commit_exact, run_open}
 use Rattle.bp_calls.proofs.Unthawed.{lacks_thawed, room_asked, unthawed}
 
-module _ (old : Memory) (blocks inodes : Set) (patches : List Patch) (touched : Touched) (asks : CanOverwrite old blocks inodes patches) (are : AreRuns (current_words old) patches touched.runs.now) (none : touched.words.now ≡ []) where
+module _ (old : Memory) (blocks inodes : Set) (patches : List Patch) (touched : Touched) (asks : CanOverwrite old blocks inodes patches) (are : AreRuns (current_words old) patches touched.runs.now) (none : touched.words.now ≡ []) (bare : touched.trees.now ≡ []) where
   abbrev image : Image
   image = current_words old
 
@@ -43,16 +43,16 @@ module _ (old : Memory) (blocks inodes : Set) (patches : List Patch) (touched : 
   wf = asks.well_formed
 
   no_word : length touched.words.now ≡ 0
-  no_word = no_words image wf patches touched are none asks.few asks.each asks.some asks.short
+  no_word = no_words image wf patches touched are none bare asks.few asks.each asks.some asks.short
 
   shape : IsTouched touched
-  shape = patches_shape image wf patches touched are none asks.few asks.each asks.some asks.short
+  shape = patches_shape image wf patches touched are none bare asks.few asks.each asks.some asks.short
 
   at : (run : Run) → Has touched.runs.now run → IsInFile image run
-  at = run_at image wf patches touched are none asks.few asks.each asks.some asks.short
+  at = run_at image wf patches touched are none bare asks.few asks.each asks.some asks.short
 
   pub overwrite_can : CanCommit (current_words old) (size_of (current_words old)) touched (has blocks)
-  overwrite_can = patches_can image wf patches touched are none asks.few asks.each asks.some asks.short (has blocks) asks.exact.free_blocks
+  overwrite_can = patches_can image wf patches touched are none bare asks.few asks.each asks.some asks.short (has blocks) asks.exact.free_blocks
 
   -- one of the runs, of which there is one at least
   first : (run : Run) × Has touched.runs.now run

@@ -2,19 +2,20 @@
 
 ghost use Rattle.std.specs.Prelude.{◌≡◌, ◌<◌, ◌≤◌, [], length, IfErr, OnErr, OnOk};
 ghost use Rattle.bp_calls.specs.TouchedBelow.{IsRunFor};
-ghost use Rattle.bp_cow.specs.CanCommit.{CanCommit};
+ghost use Rattle.bp_cow.specs.CanCommit.{CanCommit, IsTreeIn};
 ghost use Rattle.bp_cow.specs.Commit.{CommitsTouched, HasRoom};
 ghost use Rattle.bp_cow.specs.Cover.{copied_count};
+ghost use Rattle.bp_layout.specs.Reached.{IsReached};
 ghost use Rattle.bp_free.specs.Set.{has, members};
 ghost use Rattle.bp_layout.specs.Inode.{root_of, size_of};
 ghost use Rattle.bp_layout.specs.WellFormed.{IsWellFormed};
 ghost use Rattle.bp_layout.specs.Words.{block_count};
 ghost use Rattle.pm_region.specs.Memory.{current_words};
 
-use bp_cow::{Run, Touched, commit_at, copies_below, find_cover};
+use bp_cow::{Run, Touched, TreeSize, commit_at, copies_below, find_cover};
 use bp_free::{NoSpace, Parts};
-use bp_inodes::root_path;
-use bp_tree::Tree;
+use bp_inodes::{inode_file, root_path, tree_of};
+use bp_tree::{Slots, Tree};
 use pm_region::Region;
 
 /// The run of bytes that lie below the size of a file, in its tree.
@@ -36,6 +37,34 @@ pub(crate) fn run_for<'a, R: Region>(
         size: tree.size,
         off,
         bytes,
+    }
+}
+
+/// How many pointers count of the tree of an inode.
+pub fn size_of_file<R: Region>(region: &R, i: u32) -> TreeSize
+    requires well_formed { IsWellFormed (current_words (R.memory region.now)) }
+    requires reached { IsReached (current_words (R.memory region.now)) i }
+    requires some { 1 ≤ i }
+    ensures { IsTreeIn (current_words (R.memory region.now)) (size_of (current_words (R.memory region.now))) result }
+{
+    let tree = tree_of(region, i);
+    TreeSize {
+        root: root_path(region, i),
+        height: tree.height(),
+        size: tree.size,
+    }
+}
+
+/// How many pointers count of the inode file.
+pub fn size_of_inodes<R: Region>(region: &R) -> TreeSize
+    requires { IsWellFormed (current_words (R.memory region.now)) }
+    ensures { IsTreeIn (current_words (R.memory region.now)) (size_of (current_words (R.memory region.now))) result }
+{
+    let tree = inode_file(region);
+    TreeSize {
+        root: Slots::new(),
+        height: tree.height(),
+        size: tree.size,
     }
 }
 

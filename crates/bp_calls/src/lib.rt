@@ -16,7 +16,7 @@ mod resizing;
 mod writing;
 
 pub use batching::{Patch, batch};
-pub use committing::touched_by;
+pub use committing::{size_of_file, size_of_inodes, touched_by};
 pub use creating::{create, create_in};
 pub use entering::put_behind;
 pub use giving::give_back;

@@ -14,7 +14,7 @@ ghost use Rattle.pm_region.specs.Memory.{current_words};
 
 use crate::behind::{move_behind, need_behind};
 use crate::moving::Move;
-use crate::touching::{entry_path, touched_two};
+use crate::touching::{entry_path, touched_two, trees_of};
 use bp_cow::{commit, need_cover};
 use bp_dirs::{entry_place, inumber, put_name};
 use bp_free::Parts;
@@ -46,7 +46,10 @@ fn need_into<R: Region>(region: &R, to_move: &Move<'_>, slot: u64) -> u32
     ensures { result ≡ need (current_words (R.memory region.now))
         (moves to_move.now.from_dir to_move.now.from_slot to_move.now.to_dir) }
 {
-    need_cover(region, &touched_two(&words_into(region, to_move, slot)))
+    need_cover(
+        region,
+        &touched_two(&words_into(region, to_move, slot), &[]),
+    )
 }
 
 /// Moves a name into an empty entry: it is written there, where nobody sees it, and then one commit gives both inumbers.
@@ -67,7 +70,8 @@ fn move_into<R: Region>(parts: &mut Parts<R>, to_move: &Move<'_>, slot: u64)
     let target = tree_of(&parts.region, to_move.to_dir);
     let entry = entry_place(&parts.region, target, slot, 0);
     let words = words_into(&parts.region, to_move, slot);
-    let touched = touched_two(&words);
+    let trees = trees_of(&parts.region, to_move.from_dir, to_move.to_dir);
+    let touched = touched_two(&words, &trees);
     put_name(&mut parts.region, entry, to_move.name);
     parts.region.barrier();
     commit(parts, &touched);

@@ -15,7 +15,7 @@ ghost use Rattle.bp_commit.specs.Performs.{HasRoomFor, Performs};
 ghost use Rattle.pm_region.specs.Memory.{current_words};
 
 use crate::moving::Move;
-use crate::touching::{entry_path, touched_two};
+use crate::touching::{entry_path, touched_two, trees_of};
 use bp_append::need_prep;
 use bp_calls::put_behind;
 use bp_cow::{commit, need_cover};
@@ -51,7 +51,7 @@ pub(crate) fn need_behind<R: Region>(region: &R, to_move: &Move<'_>) -> u32
 {
     let target = tree_of(region, to_move.to_dir);
     let behind = need_prep(region, target, target.size, target.size + ENTRY_SIZE);
-    behind + need_cover(region, &touched_two(&words_behind(region, to_move)))
+    behind + need_cover(region, &touched_two(&words_behind(region, to_move), &[]))
 }
 
 /// Moves a name behind the last entry of its new directory: an entry is put there, where nobody sees it, and then one
@@ -74,7 +74,8 @@ pub(crate) fn move_behind<R: Region>(parts: &mut Parts<R>, to_move: &Move<'_>)
     let inode = inumber(&parts.region, source, to_move.from_slot) as u32;
     let target = tree_of(&parts.region, to_move.to_dir);
     let words = words_behind(&parts.region, to_move);
-    let touched = touched_two(&words);
+    let trees = trees_of(&parts.region, to_move.from_dir, to_move.from_dir);
+    let touched = touched_two(&words, &trees);
     put_behind(parts, to_move.to_dir, target, inode, to_move.name);
     commit(parts, &touched);
 }

@@ -12,7 +12,7 @@ ghost use Rattle.pm_region.specs.Memory.{current_words};
 ghost use Rattle.bp_rename.specs.TouchesTwo.{AreTwo, inumber_path};
 
 use crate::moving::Move;
-use crate::touching::{entry_path, touched_two};
+use crate::touching::{entry_path, touched_two, trees_of};
 use bp_calls::give_back;
 use bp_cow::{commit, need_cover};
 use bp_dirs::inumber;
@@ -44,7 +44,10 @@ pub(crate) fn need_onto<R: Region>(region: &R, to_move: &Move<'_>, slot: u64) ->
     ensures { result ≡ need (current_words (R.memory region.now))
         (replaces to_move.now.from_dir to_move.now.from_slot to_move.now.to_dir slot) }
 {
-    need_cover(region, &touched_two(&words_onto(region, to_move, slot)))
+    need_cover(
+        region,
+        &touched_two(&words_onto(region, to_move, slot), &[]),
+    )
 }
 
 /// Moves a name onto another one, by one commit of both inumbers. What had that name has a name less. Where that was its
@@ -67,7 +70,8 @@ pub(crate) fn rename_onto<R: Region>(parts: &mut Parts<R>, to_move: &Move<'_>, s
     let target = tree_of(&parts.region, to_move.to_dir);
     let replaced = inumber(&parts.region, target, slot) as u32;
     let words = words_onto(&parts.region, to_move, slot);
-    let touched = touched_two(&words);
+    let trees = trees_of(&parts.region, to_move.from_dir, to_move.to_dir);
+    let touched = touched_two(&words, &trees);
     let names = parts.counts.names(replaced) - 1;
     parts.counts.set(replaced, names);
     commit(parts, &touched);

@@ -2,15 +2,19 @@
 
 ghost use Rattle.std.specs.Prelude.{◌≡◌, suc, ◌+◌, ◌*◌, ◌<◌, ◌≤◌, []};
 ghost use Rattle.bp_limits.specs.Limits.{entry_words};
+ghost use Rattle.bp_cow.specs.CanCommit.{IsTreeIn};
+ghost use Rattle.bp_cow.specs.declared.touched.TreeSize.{TreeSize};
+ghost use Rattle.bp_layout.specs.Members.{Has};
 ghost use Rattle.bp_layout.specs.Directory.{entry_count};
-ghost use Rattle.bp_layout.specs.Inode.{root_of};
+ghost use Rattle.bp_layout.specs.Inode.{root_of, size_of};
 ghost use Rattle.bp_layout.specs.Reached.{IsReached};
 ghost use Rattle.bp_layout.specs.WellFormed.{IsWellFormed};
 ghost use Rattle.bp_layout.specs.WordPaths.{tree_path};
 ghost use Rattle.bp_layout.specs.Words.{height_of};
 ghost use Rattle.pm_region.specs.Memory.{current_words};
 
-use bp_cow::Touched;
+use bp_calls::{size_of_file, size_of_inodes};
+use bp_cow::{Touched, TreeSize};
 use bp_inodes::{root_path, tree_of};
 use bp_limits::ENTRY_SIZE;
 use bp_tree::{Slots, word_path};
@@ -33,15 +37,32 @@ pub(crate) fn entry_path<R: Region>(region: &R, dir: u32, slot: u64) -> Slots
     }
 }
 
-/// What is touched by two words and no run.
-pub(crate) fn touched_two(words: &[(Slots, u64); 2]) -> Touched<'_>
+/// The trees of two directories and the inode file, with their sizes: the ways to words in them go through no others.
+pub(crate) fn trees_of<R: Region>(region: &R, first: u32, second: u32) -> [TreeSize; 3]
+    requires well_formed { IsWellFormed (current_words (R.memory region.now)) }
+    requires first_reached { IsReached (current_words (R.memory region.now)) first }
+    requires first_some { 1 ≤ first }
+    requires second_reached { IsReached (current_words (R.memory region.now)) second }
+    requires second_some { 1 ≤ second }
+    ensures { (tree : TreeSize) → Has result tree →
+        IsTreeIn (current_words (R.memory region.now)) (size_of (current_words (R.memory region.now))) tree }
+{
+    [
+        size_of_file(region, first),
+        size_of_file(region, second),
+        size_of_inodes(region),
+    ]
+}
+
+/// What is touched by two words and no run, on ways through these trees.
+pub(crate) fn touched_two<'a>(words: &'a [(Slots, u64); 2], trees: &'a [TreeSize]) -> Touched<'a>
     ensures words { result.words.now ≡ words.now }
     ensures none { result.runs.now ≡ [] }
-    ensures trees { result.trees.now ≡ [] }
+    ensures trees { result.trees.now ≡ trees.now }
 {
     Touched {
         words,
         runs: &[],
-        trees: &[],
+        trees,
     }
 }

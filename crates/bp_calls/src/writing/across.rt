@@ -12,6 +12,7 @@ ghost use Rattle.bp_shapes.specs.Sets.{IsExact, kept_of};
 ghost use Rattle.bp_commit.specs.Performs.{Performs};
 ghost use Rattle.pm_region.specs.Memory.{current_words};
 
+use crate::committing::size_of_inodes;
 use bp_append::{height_with, need_prep, prep};
 use bp_cow::{Run, Touched, commit, need_cover};
 use bp_free::{NoSpace, Parts};
@@ -107,10 +108,11 @@ pub(crate) fn write_across<R: Region>(
     let (below, _) = bytes.split_at((tree.size - off) as usize);
     let sized = [(size_path(&parts.region, i), end)];
     let runs = [run_across(&parts.region, i, tree, off, below, end)];
+    let trees = [size_of_inodes(&parts.region)];
     let touched = Touched {
         words: &sized,
         runs: &runs,
-        trees: &[],
+        trees: &trees,
     };
     write_touched(parts, i, off, bytes, &touched)
 }

@@ -124,6 +124,14 @@ fn refuses_words(rt: HostRuntime) {
     }
 }
 
+/// Whether the words ask for help.
+fn is_help(alloc: Global, words: &[&str]) -> bool {
+    match read_words(alloc, words) {
+        Err(WordsFault::Usage(help)) => !help.use_stderr(),
+        _ => false,
+    }
+}
+
 #[test]
 fn asks_for_help(rt: HostRuntime) {
     let rows = [
@@ -134,9 +142,6 @@ fn asks_for_help(rt: HostRuntime) {
         ["bpfs", "run", "--help"].as_slice(),
     ];
     for words in rows {
-        match read_words(rt.alloc(), words) {
-            Err(WordsFault::Usage(help)) => assert!(rt; !help.use_stderr()),
-            _ => assert!(rt; false),
-        }
+        assert!(rt; is_help(rt.alloc(), words), "{words:?}");
     }
 }

@@ -6,7 +6,7 @@ ghost use Rattle.bp_samples.specs.Cores.{AreTwo};
 use pm_cores::{Cores, NotYet};
 use pm_region::{ListRegion, Region};
 use std::alloc::{AllocError, Global};
-use std::test::Fail;
+use std::process::Abort;
 
 const CORES: u32 = 2;
 
@@ -205,18 +205,27 @@ fn word_of<R: Region>(region: &R, cores: &Cores, word: u32) -> Option<u64>
     }
 }
 
-#[test]
-fn caches_of_two_cores(rt: HostRuntime) -> Result<(), Fail> {
-    let zeros = vec![in rt.alloc(); 0u64; WORDS as usize]?;
-    let region = ListRegion::new(rt.alloc(), zeros, 1)?;
-    for (steps, left) in &ROWS {
-        let mut cores = two_cores(rt.alloc())?;
-        for step in *steps {
-            assert!(rt; gives(*step, &region, &mut cores));
-        }
-        for (word, value) in *left {
-            assert_eq!(rt; word_of(&region, &cores, *word), Some(*value));
-        }
+/// Two cores do steps, and leave these words.
+fn leaves<R: Region>(rt: &impl Abort, region: &R, cores: &mut Cores, row: &Row)
+    requires { AreTwo cores.old }
+{
+    let (steps, left) = row;
+    for step in *steps {
+        assert!(rt; gives(*step, region, cores));
     }
-    Ok(())
+    for (word, value) in *left {
+        assert_eq!(rt; word_of(region, cores, *word), Some(*value));
+    }
+}
+
+#[test]
+fn caches_of_two_cores(rt: HostRuntime) {
+    let zeros = vec![in rt.alloc(); 0u64; WORDS as usize].expect(&rt, "there is memory");
+    let region = ListRegion::new(rt.alloc(), zeros, 1).expect(&rt, "there is memory");
+    for row in &ROWS {
+        let mut cores = two_cores(rt.alloc()).expect(&rt, "there is memory");
+        leaves(&rt, &region, &mut cores, row);
+        drop(cores);
+    }
+    drop(region);
 }

@@ -6,15 +6,16 @@ ghost use Rattle.bp_limits.specs.Limits.{max_blocks};
 use bp_free::{Blocks, Counts, Inodes, Steps};
 use bp_limits::MAX_BLOCKS;
 use std::marker::Brand;
+use std::process::Abort;
 use std::sync::ledger::{Blank, Ledger};
-use std::test::Fail;
 
 #[test]
-fn blocks_are_given_and_taken(rt: HostRuntime) -> Result<(), Fail> {
-    let mut blocks = Blocks::new(rt.alloc(), 200)?;
-    assert_eq!(rt; blocks.room(), 200);
-    assert_eq!(rt; blocks.count(), 0);
-    assert_eq!(rt; blocks.take(), None);
+fn blocks_are_given_and_taken(rt: HostRuntime) {
+    let mut blocks = Blocks::new(rt.alloc(), 200).expect(&rt, "there is memory");
+    assert_eq!(rt;
+        (blocks.room(), blocks.count(), blocks.take()),
+        (200, 0, None)
+    );
     for block in [63, 199, 64, 1, 128] {
         if block < blocks.room() && !blocks.is_free(block) {
             blocks.give(block);
@@ -27,30 +28,27 @@ fn blocks_are_given_and_taken(rt: HostRuntime) -> Result<(), Fail> {
     for wanted in [Some(1), Some(63), Some(128), Some(199), None] {
         assert_eq!(rt; blocks.take(), wanted);
     }
-    Ok(())
+    drop(blocks);
 }
 
 #[test]
-fn inodes_are_filled_and_cleared(rt: HostRuntime) -> Result<(), Fail> {
-    let mut inodes = Inodes::new(rt.alloc(), 130)?;
+fn inodes_are_filled_and_cleared(rt: HostRuntime) {
+    let mut inodes = Inodes::new(rt.alloc(), 130).expect(&rt, "there is memory");
     inodes.fill(2, 130);
-    assert_eq!(rt; inodes.count(), 128);
-    assert!(rt; !inodes.is_free(1));
-    assert!(rt; inodes.is_free(129));
-    assert_eq!(rt; inodes.take(), Some(2));
+    assert_eq!(rt; [inodes.is_free(1), inodes.is_free(129)], [false, true]);
+    assert_eq!(rt; (inodes.count(), inodes.take()), (128, Some(2)));
     inodes.clear();
-    assert_eq!(rt; inodes.count(), 0);
-    assert_eq!(rt; inodes.room(), 130);
-    Ok(())
+    assert_eq!(rt; [inodes.count(), inodes.room()], [0, 130]);
+    drop(inodes);
 }
 
 #[test]
-fn names_are_counted(rt: HostRuntime) -> Result<(), Fail> {
-    let mut counts = Counts::new(rt.alloc(), 64)?;
+fn names_are_counted(rt: HostRuntime) {
+    let mut counts = Counts::new(rt.alloc(), 64).expect(&rt, "there is memory");
     counts.set(2, 3);
-    assert_eq!(rt; [counts.names(1), counts.names(2)], [0, 3]);
-    assert_eq!(rt; counts.names(63), 0);
-    Ok(())
+    let names = [counts.names(1), counts.names(2), counts.names(63)];
+    assert_eq!(rt; names, [0, 3, 0]);
+    drop(counts);
 }
 
 /// A search of 65,536 numbers has seventeen steps at most.
@@ -71,22 +69,23 @@ fn take_counting<L: Ledger>(blocks: &mut Blocks, blank: Blank) -> Option<u32>
     take_in_seventeen(blocks, &mut steps)
 }
 
+/// A search in room for 65,536 numbers takes this one, and leaves the room.
+fn takes(rt: &impl Abort, blocks: &mut Blocks, wanted: Option<u32>)
+    ensures { length blocks.new ≡ max_blocks }
+{
+    assert_eq!(rt; blocks.room(), MAX_BLOCKS);
+    assert_eq!(rt; take_counting::<Brand>(blocks, Blank::new(1)), wanted);
+    assert_eq!(rt; blocks.room(), MAX_BLOCKS);
+}
+
 #[test]
-fn blocks_are_found_in_seventeen_steps(rt: HostRuntime) -> Result<(), Fail> {
-    let mut blocks = Blocks::new(rt.alloc(), MAX_BLOCKS)?;
-    assert_eq!(rt; blocks.room(), MAX_BLOCKS);
-    let none = take_counting::<Brand>(&mut blocks, Blank::new(1));
-    assert_eq!(rt; none, None);
-    assert_eq!(rt; blocks.room(), MAX_BLOCKS);
+fn blocks_are_found_in_seventeen_steps(rt: HostRuntime) {
+    let mut blocks = Blocks::new(rt.alloc(), MAX_BLOCKS).expect(&rt, "there is memory");
+    takes(&rt, &mut blocks, None);
     blocks.fill(MAX_BLOCKS - 1, MAX_BLOCKS);
-    assert_eq!(rt; blocks.room(), MAX_BLOCKS);
-    let last = take_counting::<Brand>(&mut blocks, Blank::new(1));
-    assert_eq!(rt; last, Some(65_535));
-    assert_eq!(rt; blocks.room(), MAX_BLOCKS);
+    takes(&rt, &mut blocks, Some(65_535));
     blocks.fill(0, MAX_BLOCKS);
-    assert_eq!(rt; blocks.room(), MAX_BLOCKS);
-    let first = take_counting::<Brand>(&mut blocks, Blank::new(1));
-    assert_eq!(rt; first, Some(0));
+    takes(&rt, &mut blocks, Some(0));
     assert_eq!(rt; blocks.count(), 65_535);
-    Ok(())
+    drop(blocks);
 }

@@ -9,15 +9,13 @@ ghost use Rattle.bp_names.specs.Names.{known_of};
 ghost use Rattle.pm_region.specs.Memory.{current_words};
 
 use crate::images::{DEEP, EMPTY, laid, put};
-use bp_free::{Blocks, Counts, Inodes};
+use crate::scan::is_file_system;
 use bp_layout::{Hints, NoHints};
 use bp_names::Names;
 use bp_path::{FoundEntry, WalkFault, parse, walk, walk_parent_with, walk_with};
-use bp_scan::{Pending, scan};
 use pm_region::ListRegion;
 use std::alloc::{AllocError, Global};
 use std::process::Abort;
-use std::test::Fail;
 
 /// What `/d/f` finds in the image [`DEEP`].
 const FILE: FoundEntry = FoundEntry {
@@ -60,72 +58,85 @@ fn deep_words(alloc: Global) -> Result<Vec<u64>, AllocError>
 }
 
 /// A file system of one directory with one file.
-fn deep(alloc: Global) -> Result<ListRegion, Fail>
-    ensures { IfOk result (λ region. IsWellFormed (current_words region)) }
+fn deep(alloc: Global, rt: &impl Abort) -> ListRegion
+    ensures { IsWellFormed (current_words result) }
 {
-    let words = deep_words(alloc)?;
-    let region = ListRegion::new(alloc, words, 0)?;
-    let mut blocks = Blocks::new(alloc, 8)?;
-    let mut inodes = Inodes::new(alloc, 512)?;
-    let mut pending = Pending::new(alloc, 512)?;
-    let mut counts = Counts::new(alloc, 512)?;
-    scan(&region, &mut blocks, &mut inodes, &mut pending, &mut counts)?;
-    Ok(region)
+    let words = deep_words(alloc).expect(rt, "there is memory");
+    let region = ListRegion::new(alloc, words, 0).expect(rt, "there is memory");
+    is_file_system(alloc, rt, &region);
+    region
 }
 
 /// Hints that know nothing yet.
-fn nothing_known(alloc: Global) -> Result<Counting, Fail>
-    ensures { IfOk result (λ hints. (image : Image) → AreRight image (known_of hints.names)) }
+fn nothing_known(alloc: Global, rt: &impl Abort) -> Counting
+    ensures { (image : Image) → AreRight image (known_of result.names) }
 {
-    let names = Names::new(alloc, 4)?;
-    Ok(Counting {
+    let names = Names::new(alloc, 4).expect(rt, "there is memory");
+    Counting {
         names,
         asked: 0,
         learned: 0,
-    })
+    }
+}
+
+/// A walk by hints finds this, and then they were asked and told so often.
+fn finds(
+    rt: &impl Abort,
+    region: &ListRegion,
+    path: &[u8],
+    hints: &mut Counting,
+    wanted: Result<FoundEntry, WalkFault>,
+    counts: (u32, u32),
+)
+    requires well { IsWellFormed (current_words region.now) }
+    requires right { AreRight (current_words region.now) (known_of hints.old.names) }
+    ensures right { AreRight (current_words region.entry.now) (known_of hints.new.names) }
+{
+    let path = parse(path).expect(rt, "it is a path");
+    assert_eq!(rt; walk_with(region, &path, hints), wanted);
+    assert_eq!(rt; (hints.asked, hints.learned), counts);
 }
 
 #[test]
-fn a_second_walk_asks_two_hints_and_learns_nothing(rt: HostRuntime) -> Result<(), Fail> {
-    let region = deep(rt.alloc())?;
-    let mut hints = nothing_known(rt.alloc())?;
-    let path = parse(b"/d/f")?;
-    assert_eq!(rt; walk_with(&region, &path, &mut hints), Ok(FILE));
-    assert_eq!(rt; (hints.asked, hints.learned), (2, 2));
-    assert_eq!(rt; walk_with(&region, &path, &mut hints), Ok(FILE));
-    assert_eq!(rt; (hints.asked, hints.learned), (4, 2));
+fn a_second_walk_asks_two_hints_and_learns_nothing(rt: HostRuntime) {
+    let region = deep(rt.alloc(), &rt);
+    let mut hints = nothing_known(rt.alloc(), &rt);
+    finds(&rt, &region, b"/d/f", &mut hints, Ok(FILE), (2, 2));
+    finds(&rt, &region, b"/d/f", &mut hints, Ok(FILE), (4, 2));
+    let path = parse(b"/d/f").expect(&rt, "it is a path");
     assert_eq!(rt; walk_parent_with(&region, &path, &mut hints), Ok(2));
     assert_eq!(rt; (hints.asked, hints.learned), (5, 2));
-    Ok(())
+    drop(hints);
+    drop(region);
 }
 
 /// a name that is missing, and a name below a file, of which nobody is asked
 #[test]
-fn what_is_not_found_is_not_learned(rt: HostRuntime) -> Result<(), Fail> {
-    let region = deep(rt.alloc())?;
-    let mut hints = nothing_known(rt.alloc())?;
-    let path = parse(b"/d/x")?;
-    assert_eq!(rt;
-        walk_with(&region, &path, &mut hints),
-        Err(WalkFault::NotFound)
-    );
-    assert_eq!(rt; (hints.asked, hints.learned), (2, 1));
-    let path = parse(b"/d/f/x")?;
-    assert_eq!(rt;
-        walk_with(&region, &path, &mut hints),
-        Err(WalkFault::NotDir)
-    );
-    assert_eq!(rt; (hints.asked, hints.learned), (4, 2));
-    Ok(())
+fn what_is_not_found_is_not_learned(rt: HostRuntime) {
+    let region = deep(rt.alloc(), &rt);
+    let mut hints = nothing_known(rt.alloc(), &rt);
+    let missing = Err(WalkFault::NotFound);
+    finds(&rt, &region, b"/d/x", &mut hints, missing, (2, 1));
+    let below = Err(WalkFault::NotDir);
+    finds(&rt, &region, b"/d/f/x", &mut hints, below, (4, 2));
+    drop(hints);
+    drop(region);
 }
 
 #[test]
-fn who_knows_nothing_is_led_by_the_directories(rt: HostRuntime) -> Result<(), Fail> {
-    let region = deep(rt.alloc())?;
-    let path = parse(b"/d/f")?;
+fn who_knows_nothing_is_led_by_the_directories(rt: HostRuntime) {
+    let region = deep(rt.alloc(), &rt);
+    let path = parse(b"/d/f").expect(&rt, "it is a path");
     assert_eq!(rt; walk(&region, &path), Ok(FILE));
     assert_eq!(rt; walk_with(&region, &path, &mut NoHints), Ok(FILE));
-    Ok(())
+    drop(region);
+}
+
+/// Learns names of the directory 1, each with its slot.
+fn learn(rt: &impl Abort, names: &mut Names, slots: &[(&[u8; 1], u64)]) {
+    for (name, slot) in slots {
+        assert!(rt; names.learn(1, *name, *slot));
+    }
 }
 
 /// What is remembered of names, each of a directory: its slot.
@@ -136,11 +147,9 @@ fn remembers(rt: &impl Abort, names: &mut Names, wanted: &[(u32, &[u8], Option<u
 }
 
 #[test]
-fn the_oldest_name_goes(rt: HostRuntime) -> Result<(), Fail> {
-    let mut names = Names::new(rt.alloc(), 2)?;
-    for (name, slot) in [(b"a", 0), (b"b", 1), (b"c", 2)] {
-        assert!(rt; names.learn(1, name, slot));
-    }
+fn the_oldest_name_goes(rt: HostRuntime) {
+    let mut names = Names::new(rt.alloc(), 2).expect(&rt, "there is memory");
+    learn(&rt, &mut names, &[(b"a", 0), (b"b", 1), (b"c", 2)]);
     let wanted: [(u32, &[u8], Option<u64>); 4] = [
         (1, b"a", None),
         (1, b"b", Some(1)),
@@ -148,18 +157,16 @@ fn the_oldest_name_goes(rt: HostRuntime) -> Result<(), Fail> {
         (2, b"c", None),
     ];
     remembers(&rt, &mut names, &wanted);
-    Ok(())
+    drop(names);
 }
 
 #[test]
-fn names_are_forgotten(rt: HostRuntime) -> Result<(), Fail> {
-    let mut names = Names::new(rt.alloc(), 2)?;
-    for (name, slot) in [(b"b", 1), (b"c", 2)] {
-        assert!(rt; names.learn(1, name, slot));
-    }
+fn names_are_forgotten(rt: HostRuntime) {
+    let mut names = Names::new(rt.alloc(), 2).expect(&rt, "there is memory");
+    learn(&rt, &mut names, &[(b"b", 1), (b"c", 2)]);
     names.forget(1, b"b");
     remembers(&rt, &mut names, &[(1, b"b", None), (1, b"c", Some(2))]);
     names.forget_all();
     remembers(&rt, &mut names, &[(1, b"c", None)]);
-    Ok(())
+    drop(names);
 }

@@ -9,29 +9,31 @@ use bp_io::{
 use std::alloc::{AllocError, Global};
 use std::io::{ErrorKind, Read, Write};
 use std::process::Abort;
-use std::{fs, io};
+use std::{fs, io, rt};
 
-/// The bytes at these places of a file.
-fn has_bytes(rt: &impl Abort, bytes: &[u8], wanted: &[(usize, u8)]) {
+/// A file of the system has this length, and these bytes at these places.
+fn has_file<R: Abort + AllocGlobal + rt::Files>(
+    rt: &R,
+    name: &str,
+    length: usize,
+    wanted: &[(usize, u8)],
+) {
+    let bytes = fs::read(rt, name).expect(rt, "it is there");
+    assert_eq!(rt; bytes.len(), length, "{name}");
     for (at, want) in wanted {
-        assert_eq!(rt; bytes.get(*at), Some(want), "at {at}");
+        assert_eq!(rt; bytes.get(*at), Some(want), "{name} at {at}");
     }
+    drop(bytes);
 }
 
-#[test]
-fn disk_files_keep_blocks(rt: HostRuntime) {
-    let mut files = DiskFiles::new(rt.alloc(), &rt).expect(&rt, "there is memory");
-    assert_eq!(rt; files.attach("disk.img", Access::Write), Ok(None));
-    assert_eq!(rt; files.attach("disk.img", Access::Make), Ok(Some(0)));
-    assert_eq!(rt; files.set_blocks(8), Ok(()));
-    let block = [77u8; 4096];
-    assert_eq!(rt; files.write_block(3, &block), Ok(()));
-    assert_eq!(rt; files.flush(), Ok(()));
-    let bytes = fs::read(&rt, "disk.img").expect(&rt, "it is there");
-    assert_eq!(rt; bytes.len(), 32_768);
-    let wanted = [(12_287, 0), (12_288, 77), (16_383, 77), (16_384, 0)];
-    has_bytes(&rt, &bytes, &wanted);
-    fs::remove_file(&rt, "disk.img").expect(&rt, "it is removed");
+/// Gives a file of the system these bytes.
+fn write<R: Abort + rt::Files>(rt: &R, name: &str, bytes: &[u8]) {
+    fs::write(rt, name, bytes).expect(rt, "it is written");
+}
+
+/// Removes a file of the system.
+fn remove<R: Abort + rt::Files>(rt: &R, name: &str) {
+    fs::remove_file(rt, name).expect(rt, "it is removed");
 }
 
 /// Writes a block of one byte alone.
@@ -58,14 +60,25 @@ fn is_filled<F: Files>(files: &mut F, i: u32, byte: u8) -> Result<bool, Failed>
 }
 
 /// Makes a file of 8 blocks, and writes one of them. The answer is whether it was not there.
-fn make_short<F: Files>(files: &mut F) -> Result<bool, Failed> {
-    if files.attach("short.img", Access::Make)? != Some(0) {
+fn make_short<F: Files>(files: &mut F, name: &str) -> Result<bool, Failed> {
+    if files.attach(name, Access::Make)? != Some(0) {
         return Ok(false);
     }
     files.set_blocks(8)?;
     fill_block(files, 3, 77)?;
     files.flush()?;
     Ok(true)
+}
+
+#[test]
+fn disk_files_keep_blocks(rt: HostRuntime) {
+    let mut files = DiskFiles::new(rt.alloc(), &rt).expect(&rt, "there is memory");
+    assert_eq!(rt; files.attach("disk.img", Access::Write), Ok(None));
+    assert_eq!(rt; make_short(&mut files, "disk.img"), Ok(true));
+    let wanted = [(12_287, 0), (12_288, 77), (16_383, 77), (16_384, 0)];
+    has_file(&rt, "disk.img", 32_768, &wanted);
+    remove(&rt, "disk.img");
+    drop(files);
 }
 
 /// Whether the file of 8 blocks has the block that was written, and zeros in the one behind it.
@@ -99,66 +112,72 @@ fn is_locked<F: Files>(files: &mut F, name: &str) -> bool {
 #[test]
 fn disk_files_are_locked(rt: HostRuntime) {
     let mut files = DiskFiles::new(rt.alloc(), &rt).expect(&rt, "there is memory");
-    assert_eq!(rt; make_short(&mut files), Ok(true));
+    assert_eq!(rt; make_short(&mut files, "short.img"), Ok(true));
     let mut again = DiskFiles::new(rt.alloc(), &rt).expect(&rt, "there is memory");
     assert!(rt; is_locked(&mut again, "short.img"));
     drop(files);
     assert_eq!(rt; reads_short(&mut again), Ok(true));
     assert_eq!(rt; cut_short(&mut again), Ok(true));
-    assert_eq!(rt;
-        fs::read(&rt, "short.img").expect(&rt, "it is there").len(),
-        8192
-    );
-    fs::remove_file(&rt, "short.img").expect(&rt, "it is removed");
+    has_file(&rt, "short.img", 8192, &[]);
+    remove(&rt, "short.img");
+    drop(again);
 }
 
 #[test]
 fn disk_files_are_read(rt: HostRuntime) {
-    fs::write(&rt, "read.img", [5u8; 8192].as_slice()).expect(&rt, "it is written");
+    write(&rt, "read.img", &[5; 8192]);
     let mut files = DiskFiles::new(rt.alloc(), &rt).expect(&rt, "there is memory");
     assert_eq!(rt; files.attach("read.img", Access::Write), Ok(Some(8192)));
     assert_eq!(rt; is_filled(&mut files, 1, 5), Ok(true));
-    fs::remove_file(&rt, "read.img").expect(&rt, "it is removed");
+    remove(&rt, "read.img");
+    drop(files);
+}
+
+/// Gives the file of two blocks a third one, and writes over its second one. The answer is whether it had two.
+fn change_whole<F: Files>(files: &mut F) -> Result<bool, Failed> {
+    if files.attach("whole.img", Access::Make)? != Some(8192) {
+        return Ok(false);
+    }
+    files.set_blocks(3)?;
+    fill_block(files, 1, 6)?;
+    Ok(true)
 }
 
 #[test]
 fn disk_files_change_at_the_flush(rt: HostRuntime) {
-    fs::write(&rt, "whole.img", [5u8; 8192].as_slice()).expect(&rt, "it is written");
+    write(&rt, "whole.img", &[5; 8192]);
     let mut files = DiskFiles::new(rt.alloc(), &rt).expect(&rt, "there is memory");
-    assert_eq!(rt; files.attach("whole.img", Access::Make), Ok(Some(8192)));
-    assert_eq!(rt; files.set_blocks(3), Ok(()));
-    let block = [6u8; 4096];
-    assert_eq!(rt; files.write_block(1, &block), Ok(()));
-    assert_eq!(rt;
-        fs::read(&rt, "whole.img").expect(&rt, "it is there").len(),
-        8192
-    );
+    assert_eq!(rt; change_whole(&mut files), Ok(true));
+    has_file(&rt, "whole.img", 8192, &[]);
     // It is flushed before it is left.
     assert_eq!(rt; files.attach("whole.img", Access::Read), Ok(Some(12_288)));
-    let bytes = fs::read(&rt, "whole.img").expect(&rt, "it is there");
-    has_bytes(&rt, &bytes, &[(4095, 5), (4096, 6), (8191, 6), (8192, 0)]);
-    fs::remove_file(&rt, "whole.img").expect(&rt, "it is removed");
+    let wanted = [(4095, 5), (4096, 6), (8191, 6), (8192, 0)];
+    has_file(&rt, "whole.img", 12_288, &wanted);
+    remove(&rt, "whole.img");
+    drop(files);
 }
 
 #[test]
 fn disk_files_are_replaced(rt: HostRuntime) {
-    fs::write(&rt, "front.img", [5u8; 12_288].as_slice()).expect(&rt, "it is written");
+    write(&rt, "front.img", &[5; 12_288]);
     let mut files = DiskFiles::new(rt.alloc(), &rt).expect(&rt, "there is memory");
     assert_eq!(rt; files.attach("front.img", Access::Write), Ok(Some(12_288)));
     let block = [6u8; 4096];
     assert_eq!(rt; files.replace(&block, 8), Ok(()));
     assert_eq!(rt; files.write_block(5, &block), Ok(()));
-    assert_eq!(rt;
-        fs::read(&rt, "front.img").expect(&rt, "it is there").len(),
-        12_288
-    );
+    has_file(&rt, "front.img", 12_288, &[]);
     assert_eq!(rt; files.flush(), Ok(()));
-    let bytes = fs::read(&rt, "front.img").expect(&rt, "it is there");
-    assert_eq!(rt; bytes.len(), 32_768);
-    let front = [(0, 6), (4095, 6), (4096, 0), (12_287, 0)];
-    has_bytes(&rt, &bytes, &front);
-    has_bytes(&rt, &bytes, &[(20_480, 6), (24_576, 0)]);
-    fs::remove_file(&rt, "front.img").expect(&rt, "it is removed");
+    let wanted = [
+        (0, 6),
+        (4095, 6),
+        (4096, 0),
+        (12_287, 0),
+        (20_480, 6),
+        (24_576, 0),
+    ];
+    has_file(&rt, "front.img", 32_768, &wanted);
+    remove(&rt, "front.img");
+    drop(files);
 }
 
 /// What the block `i` of the long file holds in each of its bytes.
@@ -249,11 +268,14 @@ fn keeps_long<F: Files>(alloc: Global, files: &mut F) -> Result<bool, AllocError
 fn disk_files_keep_many_blocks(rt: HostRuntime) {
     let mut files = DiskFiles::new(rt.alloc(), &rt).expect(&rt, "there is memory");
     assert_eq!(rt; make_long(&mut files), Ok(true));
-    assert!(rt; is_long(&fs::read(&rt, "long.img").expect(&rt, "it is there")));
+    let bytes = fs::read(&rt, "long.img").expect(&rt, "it is there");
+    assert!(rt; is_long(&bytes));
+    drop(bytes);
     drop(files);
     let mut again = DiskFiles::new(rt.alloc(), &rt).expect(&rt, "there is memory");
     assert!(rt; keeps_long(rt.alloc(), &mut again).expect(&rt, "there is memory"));
-    fs::remove_file(&rt, "long.img").expect(&rt, "it is removed");
+    remove(&rt, "long.img");
+    drop(again);
 }
 
 #[test]
@@ -266,19 +288,21 @@ fn disk_files_report_faults(rt: HostRuntime) {
     ] {
         let mut files = DiskFiles::new(rt.alloc(), &rt).expect(&rt, "there is memory");
         assert_eq!(rt; files.attach(name, access), Err(Failed), "at {name}");
+        drop(files);
     }
 }
 
 #[test]
 fn disk_files_miss_a_lost_block(rt: HostRuntime) {
-    fs::write(&rt, "lost.img", [5u8; 8192].as_slice()).expect(&rt, "it is written");
+    write(&rt, "lost.img", &[5; 8192]);
     let mut files = DiskFiles::new(rt.alloc(), &rt).expect(&rt, "there is memory");
     let length = files.attach("lost.img", Access::Read);
-    fs::write(&rt, "lost.img", [5u8; 5000].as_slice()).expect(&rt, "it is written");
-    fs::remove_file(&rt, "lost.img").expect(&rt, "it is removed");
+    write(&rt, "lost.img", &[5; 5000]);
+    remove(&rt, "lost.img");
     assert_eq!(rt; length, Ok(Some(8192)));
     let mut read = [0u8; 4096];
     assert_eq!(rt; files.read_blocks(1, &mut read), Err(Failed));
+    drop(files);
 }
 
 /// A signal interrupts the first calls; then it gives and takes one byte at a time.
@@ -339,47 +363,49 @@ impl Write for Stuck {
 
 #[test]
 fn std_source_reads_a_file(rt: HostRuntime) {
-    fs::write(&rt, "in", "hello").expect(&rt, "it is written");
+    write(&rt, "in", b"hello");
     let mut source = StdSource::new(fs::open(&rt, "in").expect(&rt, "it is there"));
     let mut into = [0u8; 3];
     for (count, bytes) in [(3, *b"hel"), (2, *b"lol"), (0, *b"lol")] {
-        assert_eq!(rt; source.read(&mut into), Ok(count));
-        assert!(rt; into == bytes);
+        let read = source.read(&mut into);
+        assert_eq!(rt; (read, into), (Ok(count), bytes));
     }
-    fs::remove_file(&rt, "in").expect(&rt, "it is removed");
+    remove(&rt, "in");
+    drop(source);
 }
 
 #[test]
 fn std_source_fails_at_a_folder(rt: HostRuntime) {
     let mut folder = StdSource::new(fs::open(&rt, ".").expect(&rt, "it is there"));
     assert_eq!(rt; folder.read(&mut [0u8; 3]), Err(Failed));
+    drop(folder);
 }
 
 #[test]
 fn std_source_reads_behind_signals(rt: HostRuntime) {
     let mut interrupted = StdSource::new(Interrupted { signals: 3 });
     let mut into = *b"lol";
-    assert_eq!(rt; interrupted.read(&mut into), Ok(1));
-    assert!(rt; into == [7, b'o', b'l']);
+    let read = interrupted.read(&mut into);
+    assert_eq!(rt; (read, into), (Ok(1), [7, b'o', b'l']));
+    drop(interrupted);
 }
 
 #[test]
 fn std_sink_writes_a_file(rt: HostRuntime) {
     let mut sink = StdSink::new(fs::create(&rt, "replies").expect(&rt, "it is made"));
     assert_eq!(rt; [sink.write(b"ok\n"), sink.write(b"")], [Ok(3), Ok(0)]);
-    assert_eq!(rt;
-        fs::read(&rt, "replies")
-            .expect(&rt, "it is there")
-            .as_slice(),
-        b"ok\n".as_slice()
-    );
-    fs::remove_file(&rt, "replies").expect(&rt, "it is removed");
+    let bytes = fs::read(&rt, "replies").expect(&rt, "it is there");
+    assert_eq!(rt; bytes.as_slice(), b"ok\n".as_slice());
+    remove(&rt, "replies");
+    drop(bytes);
+    drop(sink);
 }
 
 #[test]
 fn std_sink_fails_at_a_full_disk(rt: HostRuntime) {
     let mut full = StdSink::new(fs::create(&rt, "/dev/full").expect(&rt, "it is made"));
     assert_eq!(rt; full.write(b"ok\n"), Err(Failed));
+    drop(full);
 }
 
 #[test]
@@ -397,15 +423,21 @@ fn std_sink_writes_behind_signals(rt: HostRuntime) {
 fn memory_sources_give_pieces(rt: HostRuntime) {
     let mut into = [0u8; 9];
     let mut fair = FairSource::new(b"hello world");
-    assert_eq!(rt; fair.read(&mut into), Ok(9));
-    assert!(rt; into == *b"hello wor");
-    assert_eq!(rt; fair.read(&mut into), Ok(2));
-    assert_eq!(rt; fair.read(&mut into), Ok(0));
+    let read = fair.read(&mut into);
+    assert_eq!(rt; (read, into), (Ok(9), *b"hello wor"));
+    assert_eq!(rt;
+        [fair.read(&mut into), fair.read(&mut into)],
+        [Ok(2), Ok(0)]
+    );
     for (most, first, second) in [(1, 1, 1), (7, 7, 4)] {
         let mut source = MemSource::new(b"hello world", most, &[1]);
-        assert_eq!(rt; source.read(&mut into), Ok(first), "pieces of {most}");
-        assert_eq!(rt; source.read(&mut into), Err(Failed), "pieces of {most}");
-        assert_eq!(rt; source.read(&mut into), Ok(second), "pieces of {most}");
+        let read = [
+            source.read(&mut into),
+            source.read(&mut into),
+            source.read(&mut into),
+        ];
+        let wanted = [Ok(first), Err(Failed), Ok(second)];
+        assert_eq!(rt; read, wanted, "pieces of {most}");
     }
 }
 
@@ -424,6 +456,7 @@ fn memory_sinks_take_pieces(rt: HostRuntime) {
         assert_eq!(rt; sink.write(piece), taken, "{piece:?}");
     }
     assert_eq!(rt; sink.bytes(), b"hello wor".as_slice());
+    drop(sink);
     let mut null = NullSink::new();
     assert_eq!(rt; [null.write(b"ok\n"), null.write(b"ok\n")], [Ok(3), Ok(3)]);
     assert_eq!(rt; null.count(), 6);
@@ -455,6 +488,7 @@ fn memory_files_keep_blocks(rt: HostRuntime) {
     assert!(rt; read.starts_with(&[5; 904]));
     assert!(rt; read.ends_with(&[0; 3192]));
     write_first(&rt, &mut fair, &read);
+    drop(fair);
 }
 
 #[test]
@@ -468,6 +502,7 @@ fn memory_files_fail_as_planned(rt: HostRuntime) {
     assert_eq!(rt; files.attach("disk.img", Access::Write), Ok(Some(0)));
     assert_eq!(rt; files.set_blocks(1), Ok(()));
     assert_eq!(rt; files.image(), Some([0u8; 4096].as_slice()));
+    drop(files);
 }
 
 #[test]
@@ -491,4 +526,5 @@ fn blocks_fail_as_planned(rt: HostRuntime) {
     assert!(rt; read == block);
     assert_eq!(rt; files.attach("disk.img", Access::Write), Ok(Some(4096)));
     assert_eq!(rt; [files.flush(), files.flush()], failed_once);
+    drop(files);
 }

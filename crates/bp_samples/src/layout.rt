@@ -5,7 +5,6 @@ use bp_layout::{
     pointer_word,
 };
 use bp_limits::Version;
-use std::test::Fail;
 
 #[test]
 fn marks_spell_their_bytes(rt: HostRuntime) {
@@ -14,8 +13,10 @@ fn marks_spell_their_bytes(rt: HostRuntime) {
         (2, Version::Two, *b"BPFSRS02"),
     ] {
         assert_eq!(rt; pm_words::write_word(version.magic()), mark);
-        assert_eq!(rt; Version::at(version.magic()), version);
-        assert_eq!(rt; Version::numbered(number), version);
+        assert_eq!(rt;
+            [Version::at(version.magic()), Version::numbered(number)],
+            [version; 2]
+        );
     }
 }
 
@@ -25,8 +26,8 @@ fn limits_agree(rt: HostRuntime) {
         (Version::One, 549_755_813_888, 65_536),
         (Version::Two, 144_115_188_075_855_872, 1_048_576),
     ] {
-        assert_eq!(rt; version.greatest_size(), size);
-        assert_eq!(rt; pm_words::span(version.greatest_height()), size);
+        let span = pm_words::span(version.greatest_height());
+        assert_eq!(rt; [version.greatest_size(), span], [size; 2]);
         assert_eq!(rt; version.greatest_write(), write);
     }
 }
@@ -37,7 +38,7 @@ fn pointers_are_read_and_written(rt: HostRuntime) {
         height: 3,
         block: 5,
     };
-    assert_eq!(rt; root.word(), 0x5003);
+    assert_eq!(rt; [root.word(), pointer_word(7)], [0x5003, 0x7000]);
     for (word, top, want) in [
         (0x5003, 3, Ok(root)),
         (0x5003, 5, Ok(root)),
@@ -48,9 +49,10 @@ fn pointers_are_read_and_written(rt: HostRuntime) {
     ] {
         assert_eq!(rt; RootWord::read(word, top), want, "{word} up to {top}");
     }
-    assert_eq!(rt; pointer_word(7), 0x7000);
-    assert_eq!(rt; pointer(0x7000), Ok(7));
-    assert_eq!(rt; pointer(0x7001), Err(BadPointer));
+    assert_eq!(rt;
+        [pointer(0x7000), pointer(0x7001)],
+        [Ok(7), Err(BadPointer)]
+    );
 }
 
 #[test]
@@ -82,22 +84,23 @@ fn entries_are_read_and_written(rt: HostRuntime) {
     assert_eq!(rt; entry.inumber, 2);
     assert_eq!(rt; entry.name.as_slice(), b"abcdefghi".as_slice());
     let back = entry.words();
-    assert_eq!(rt; back[2], 0x6867_6665_6463_6261);
-    assert_eq!(rt; back[3], 0x69);
+    assert_eq!(rt; [back[2], back[3]], [0x6867_6665_6463_6261, 0x69]);
     assert_eq!(rt; name_word(b"ab", 0), 0x6261);
 }
 
 #[test]
-fn listing_keeps_its_names(rt: HostRuntime) -> Result<(), Fail> {
+fn listing_keeps_its_names(rt: HostRuntime) {
     let mut entries = Vec::new(rt.alloc());
     let mut name = Name::new();
     name.push(b'a');
-    entries.push((Kind::Dir, name))?;
-    let listing = Listing::of(rt.alloc(), &entries)?;
+    entries
+        .push((Kind::Dir, name))
+        .expect(&rt, "there is memory");
+    let listing = Listing::of(rt.alloc(), &entries).expect(&rt, "there is memory");
     assert_eq!(rt; listing.len(), 1);
     assert!(rt; !listing.is_empty());
     let (kind, name) = listing.at(0);
     assert_eq!(rt; kind, Kind::Dir);
     assert_eq!(rt; name, b"a".as_slice());
-    Ok(())
+    drop(listing);
 }

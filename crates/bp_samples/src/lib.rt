@@ -4,6 +4,9 @@
 //! The images stand in one table, told by their words. A row of `bp_rows` shows what a script, the words of a command or a
 //! failing device can show; here is the rest. No crate has tests of its own, since one with tests is proved once more with
 //! them.
+//!
+//! A test drops what it has made by `drop`, at its end too: the proof then takes one call, and does not walk the parts of
+//! each value. It asserts several values at once where they belong together, since each assertion is proved too.
 #![tactic(auto)]
 
 #[cfg(test)]

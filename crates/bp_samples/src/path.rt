@@ -12,7 +12,6 @@ use bp_path::{FoundEntry, WalkFault, parse, walk, walk_parent};
 use bp_tree::{Tree, content_place, content_word, leaf_block, node};
 use pm_region::ListRegion;
 use std::alloc::{AllocError, Global};
-use std::test::Fail;
 
 fn fresh(alloc: Global) -> Result<ListRegion, AllocError>
     ensures { IfOk result (λ region. IsWellFormed (current_words region)) }
@@ -23,9 +22,9 @@ fn fresh(alloc: Global) -> Result<ListRegion, AllocError>
 }
 
 #[test]
-fn leads_to_the_root(rt: HostRuntime) -> Result<(), Fail> {
-    let region = fresh(rt.alloc())?;
-    let path = parse(b"/")?;
+fn leads_to_the_root(rt: HostRuntime) {
+    let region = fresh(rt.alloc()).expect(&rt, "there is memory");
+    let path = parse(b"/").expect(&rt, "it is a path");
     assert!(rt; path.is_root());
     let root = FoundEntry {
         inumber: 1,
@@ -33,38 +32,35 @@ fn leads_to_the_root(rt: HostRuntime) -> Result<(), Fail> {
         slot: 0,
     };
     assert_eq!(rt; walk(&region, &path), Ok(root));
-    Ok(())
+    drop(region);
 }
 
 #[test]
-fn finds_no_name(rt: HostRuntime) -> Result<(), Fail> {
-    let region = fresh(rt.alloc())?;
-    let path = parse(b"/a/b.txt")?;
+fn finds_no_name(rt: HostRuntime) {
+    let region = fresh(rt.alloc()).expect(&rt, "there is memory");
+    let path = parse(b"/a/b.txt").expect(&rt, "it is a path");
     assert!(rt; !path.is_root());
     assert_eq!(rt; walk(&region, &path), Err(WalkFault::NotFound));
     assert_eq!(rt; walk_parent(&region, &path), Err(WalkFault::NotFound));
-    let path = parse(b"/a")?;
+    let path = parse(b"/a").expect(&rt, "it is a path");
     assert_eq!(rt; walk_parent(&region, &path), Ok(1));
     assert_eq!(rt; path.last(), b"a".as_slice());
-    Ok(())
+    drop(region);
 }
 
 #[test]
-fn refuses_what_is_no_path(rt: HostRuntime) -> Result<(), Fail> {
-    assert!(rt; parse(b"").is_err());
-    assert!(rt; parse(b"a").is_err());
-    assert!(rt; parse(b"//").is_err());
-    assert!(rt; parse(b"/a/").is_err());
-    assert!(rt; parse(b"/a/../b").is_err());
-    assert!(rt; parse(b"/a\0").is_err());
+fn refuses_what_is_no_path(rt: HostRuntime) {
+    let rows: [&[u8]; 6] = [b"", b"a", b"//", b"/a/", b"/a/../b", b"/a\0"];
+    for bytes in rows {
+        assert!(rt; parse(bytes).is_err(), "{bytes:?}");
+    }
     assert!(rt; parse(b"/...").is_ok());
-    Ok(())
 }
 
 /// the root directory, which has no entry, and inode 1 in the inode file
 #[test]
-fn reads_an_empty_directory(rt: HostRuntime) -> Result<(), Fail> {
-    let region = fresh(rt.alloc())?;
+fn reads_an_empty_directory(rt: HostRuntime) {
+    let region = fresh(rt.alloc()).expect(&rt, "there is memory");
     let inode = get(&region, 1);
     let root = Inode {
         kind: Kind::Dir,
@@ -76,21 +72,22 @@ fn reads_an_empty_directory(rt: HostRuntime) -> Result<(), Fail> {
         root: inode.root,
         size: inode.size,
     };
-    assert_eq!(rt; find(&region, tree, b"a"), None);
-    assert_eq!(rt; free_slot(&region, tree), None);
-    assert_eq!(rt; count(&region, tree), 0);
-    assert!(rt; is_empty(&region, tree));
-    Ok(())
+    assert_eq!(rt;
+        (find(&region, tree, b"a"), free_slot(&region, tree)),
+        (None, None)
+    );
+    assert_eq!(rt; (count(&region, tree), is_empty(&region, tree)), (0, true));
+    drop(region);
 }
 
 #[test]
-fn reads_the_inode_file(rt: HostRuntime) -> Result<(), Fail> {
-    let region = fresh(rt.alloc())?;
+fn reads_the_inode_file(rt: HostRuntime) {
+    let region = fresh(rt.alloc()).expect(&rt, "there is memory");
     let inodes = inode_file(&region);
-    assert_eq!(rt; place(&region, 1, 2), 522);
+    let places = [place(&region, 1, 2), content_place(&region, inodes, 8)];
+    assert_eq!(rt; places, [522, 520]);
     assert_eq!(rt; content_word(&region, inodes, 8), 2);
-    assert_eq!(rt; content_place(&region, inodes, 8), 520);
-    assert_eq!(rt; leaf_block(&region, inodes, 0), 1);
-    assert_eq!(rt; node(&region, inodes, 0, 0), 1);
-    Ok(())
+    let blocks = (leaf_block(&region, inodes, 0), node(&region, inodes, 0, 0));
+    assert_eq!(rt; blocks, (1, 1));
+    drop(region);
 }

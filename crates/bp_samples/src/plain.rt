@@ -31,8 +31,7 @@ const REFUSALS: [(FsError, u8, &str); 16] = [
 #[test]
 fn refusals(rt: HostRuntime) {
     for (error, number, word) in &REFUSALS {
-        assert_eq!(rt; error.number(), *number);
-        assert_eq!(rt; error.word(), *word);
+        assert_eq!(rt; (error.number(), error.word()), (*number, *word));
     }
 }
 
@@ -90,6 +89,7 @@ fn answers(rt: HostRuntime) {
         &mut reply,
         Listing::of(rt.alloc(), &[]).expect(&rt, "there is memory"),
     );
+    drop(reply);
 }
 
 /// A plain tree, and the answer of its last call.
@@ -151,6 +151,7 @@ fn a_plain_tree_tells_names(rt: HostRuntime) {
     assert!(rt; matches!(answer, Answer::Refused(FsError::NotDir)));
     let answer = asked.ask(&Call::List(b"/")).expect(&rt, "there is memory");
     assert!(rt; matches!(answer, Answer::Names(listing) if listing.len() == 1));
+    drop(asked);
 }
 
 #[test]
@@ -180,6 +181,7 @@ fn a_plain_tree_keeps_bytes(rt: HostRuntime) {
         assert_eq!(rt; asked.does(&call), Ok(true));
     }
     assert_eq!(rt; asked.has(b"/b", b"\0\0h"), Ok(true));
+    drop(asked);
 }
 
 #[test]
@@ -205,4 +207,5 @@ fn a_plain_tree_counts_names(rt: HostRuntime) {
     assert_eq!(rt; asked.has_names(b"/b", 2), Ok(true));
     assert_eq!(rt; asked.does(&Call::Unlink(b"/a")), Ok(true));
     assert_eq!(rt; asked.has_names(b"/b", 1), Ok(true));
+    drop(asked);
 }

@@ -6,7 +6,6 @@ use pm_region::{ListRegion, Region};
 use pm_steps::{Backs, Machine, NotYet};
 use std::alloc::{AllocError, Global};
 use std::process::Abort;
-use std::test::Fail;
 
 /// A log of two epochs over three words.
 const TWO_EPOCHS: [Event; 5] = [
@@ -42,25 +41,31 @@ fn chosen(alloc: Global, moment: usize, epoch: usize, mask: &[bool]) -> Result<C
     Ok(choice)
 }
 
-#[test]
-fn replays_of_two_epochs(rt: HostRuntime) -> Result<(), Fail> {
-    for (moment, epoch, mask, left) in &CRASHES {
-        let choice = chosen(rt.alloc(), *moment, *epoch, *mask)?;
-        match left {
-            Some(words) => {
-                for word in 0..3u32 {
-                    let value = replay_word(0, &TWO_EPOCHS, &choice, word).ok();
-                    assert_eq!(rt; value, Some(words[word as usize]), "{epoch} {word}");
-                }
+/// What a choice leaves of the two epochs over words of 0.
+fn replays(rt: &impl Abort, choice: &Choice, left: &Option<[u64; 3]>) {
+    let epoch = choice.epoch();
+    match left {
+        Some(words) => {
+            for word in 0..3u32 {
+                let value = replay_word(0, &TWO_EPOCHS, choice, word).ok();
+                assert_eq!(rt; value, Some(words[word as usize]), "{epoch} {word}");
             }
-            None => assert_eq!(rt; check_choice(&TWO_EPOCHS, &choice), Err(BadChoice)),
         }
+        None => assert_eq!(rt; check_choice(&TWO_EPOCHS, choice), Err(BadChoice)),
     }
-    Ok(())
 }
 
 #[test]
-fn calls_without_a_store_are_kept(rt: HostRuntime) -> Result<(), Fail> {
+fn replays_of_two_epochs(rt: HostRuntime) {
+    for (moment, epoch, mask, left) in &CRASHES {
+        let choice = chosen(rt.alloc(), *moment, *epoch, *mask).expect(&rt, "there is memory");
+        replays(&rt, &choice, left);
+        drop(choice);
+    }
+}
+
+#[test]
+fn calls_without_a_store_are_kept(rt: HostRuntime) {
     let events = [
         Event::Mark,
         Event::Store { word: 0, value: 1 },
@@ -68,11 +73,12 @@ fn calls_without_a_store_are_kept(rt: HostRuntime) -> Result<(), Fail> {
         Event::Mark,
         Event::Mark,
     ];
-    let none = chosen(rt.alloc(), 0, 0, &[])?;
-    assert_eq!(rt; kept_calls(&events, &none).ok(), Some(Kept { c: 1, n: 3 }));
-    let all = chosen(rt.alloc(), 5, 1, &[])?;
-    assert_eq!(rt; kept_calls(&events, &all).ok(), Some(Kept { c: 3, n: 3 }));
-    Ok(())
+    for (moment, epoch, kept) in [(0, 0, 1), (5, 1, 3)] {
+        let choice = chosen(rt.alloc(), moment, epoch, &[]).expect(&rt, "there is memory");
+        let calls = kept_calls(&events, &choice).ok();
+        assert_eq!(rt; calls, Some(Kept { c: kept, n: 3 }));
+        drop(choice);
+    }
 }
 
 fn list(alloc: Global, words: u32, capacity: usize) -> Result<ListRegion, AllocError> {
@@ -236,36 +242,47 @@ fn crash_keeps_what_was_written_back<R: Region, A: Abort>(rt: &A, region: &mut R
 }
 
 #[test]
-fn a_raw_region_crashes(rt: HostRuntime) -> Result<(), Fail> {
+fn a_raw_region_crashes(rt: HostRuntime) {
     for (moment, epoch, mask, left) in &CRASHES {
-        let choice = chosen(rt.alloc(), *moment, *epoch, *mask)?;
-        crash_leaves(&rt, &mut RawRegion::new(rt.alloc(), 3, 8)?, &choice, *left);
+        let choice = chosen(rt.alloc(), *moment, *epoch, *mask).expect(&rt, "there is memory");
+        let mut region = RawRegion::new(rt.alloc(), 3, 8).expect(&rt, "there is memory");
+        crash_leaves(&rt, &mut region, &choice, *left);
+        drop(region);
+        drop(choice);
     }
-    Ok(())
 }
 
 #[test]
-fn a_list_region_crashes(rt: HostRuntime) -> Result<(), Fail> {
+fn a_list_region_crashes(rt: HostRuntime) {
     for (moment, epoch, mask, left) in &CRASHES {
-        let choice = chosen(rt.alloc(), *moment, *epoch, *mask)?;
-        crash_leaves(&rt, &mut list(rt.alloc(), 3, 8)?, &choice, *left);
+        let choice = chosen(rt.alloc(), *moment, *epoch, *mask).expect(&rt, "there is memory");
+        let mut region = list(rt.alloc(), 3, 8).expect(&rt, "there is memory");
+        crash_leaves(&rt, &mut region, &choice, *left);
+        drop(region);
+        drop(choice);
     }
-    Ok(())
 }
 
 #[test]
-fn both_regions_keep_what_was_written_back(rt: HostRuntime) -> Result<(), Fail> {
-    let choice = chosen(rt.alloc(), 2, 0, &[false, true])?;
-    crash_keeps_what_was_written_back(&rt, &mut RawRegion::new(rt.alloc(), 4, 8)?, &choice);
-    crash_keeps_what_was_written_back(&rt, &mut list(rt.alloc(), 4, 8)?, &choice);
-    Ok(())
+fn both_regions_keep_what_was_written_back(rt: HostRuntime) {
+    let choice = chosen(rt.alloc(), 2, 0, &[false, true]).expect(&rt, "there is memory");
+    let mut raw = RawRegion::new(rt.alloc(), 4, 8).expect(&rt, "there is memory");
+    crash_keeps_what_was_written_back(&rt, &mut raw, &choice);
+    drop(raw);
+    let mut list = list(rt.alloc(), 4, 8).expect(&rt, "there is memory");
+    crash_keeps_what_was_written_back(&rt, &mut list, &choice);
+    drop(list);
+    drop(choice);
 }
 
 #[test]
-fn both_regions_drain(rt: HostRuntime) -> Result<(), Fail> {
-    takes_steps(&rt, &mut RawRegion::new(rt.alloc(), 4, 2)?);
-    takes_steps(&rt, &mut list(rt.alloc(), 4, 2)?);
-    Ok(())
+fn both_regions_drain(rt: HostRuntime) {
+    let mut raw = RawRegion::new(rt.alloc(), 4, 2).expect(&rt, "there is memory");
+    takes_steps(&rt, &mut raw);
+    drop(raw);
+    let mut list = list(rt.alloc(), 4, 2).expect(&rt, "there is memory");
+    takes_steps(&rt, &mut list);
+    drop(list);
 }
 
 #[test]
@@ -318,18 +335,24 @@ fn has_words<R: Region>(machine: &Machine<'_, R>, words: &[u64; 3]) -> bool {
     true
 }
 
+/// Each store goes back as the row says.
+fn goes_back<R: Region>(rt: &impl Abort, machine: &mut Machine<'_, R>) {
+    for (which, answer, words) in &WRITE_BACKS {
+        assert_eq!(rt; write_back(machine, *which), Some(*answer));
+        assert!(rt; has_words(machine, words), "{which}");
+    }
+}
+
 /// All stores of an epoch go back before any of the next one, and those to one word in their order.
 #[test]
-fn stores_go_back_in_order(rt: HostRuntime) -> Result<(), Fail> {
-    let mut region = list(rt.alloc(), 3, 8)?;
+fn stores_go_back_in_order(rt: HostRuntime) {
+    let mut region = list(rt.alloc(), 3, 8).expect(&rt, "there is memory");
     follow(&mut region, &TWO_EPOCHS);
     assert_eq!(rt; region.event_count(), 5);
-    let mut backs = Backs::new(rt.alloc(), 8)?;
+    let mut backs = Backs::new(rt.alloc(), 8).expect(&rt, "there is memory");
     let mut machine = Machine::over(&region, &mut backs);
     execute_all(&mut machine);
-    for (which, answer, words) in &WRITE_BACKS {
-        assert_eq!(rt; write_back(&mut machine, *which), Some(*answer));
-        assert!(rt; has_words(&machine, words), "{which}");
-    }
-    Ok(())
+    goes_back(&rt, &mut machine);
+    drop(backs);
+    drop(region);
 }

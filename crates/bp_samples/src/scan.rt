@@ -1,15 +1,17 @@
 //! A small file system. Rows over the devices in memory show one damage after another (docs/rows.md).
 
 ghost use Rattle.std.specs.Prelude.{◌*◌, ◌≡◌, IfOk, length, vec_len};
+ghost use Rattle.bp_layout.specs.WellFormed.{IsWellFormed};
 ghost use Rattle.bp_limits.specs.Limits.{block_words, min_blocks};
+ghost use Rattle.pm_region.specs.Memory.{current_words};
 
-use crate::images::{EMPTY, SECOND, TWO_ENTRIES, TWO_NAMES, laid, put};
+use crate::images::{EMPTY, SECOND, Stores, TWO_ENTRIES, TWO_NAMES, laid, put};
 use bp_free::{Blocks, Counts, Inodes};
 use bp_layout::Check;
 use bp_scan::{MountFault, Pending, Totals, image_length, scan};
 use pm_region::ListRegion;
 use std::alloc::{AllocError, Global};
-use std::test::Fail;
+use std::process::Abort;
 
 const BLOCKS: u32 = 8;
 
@@ -84,73 +86,114 @@ fn base(alloc: Global) -> Result<Vec<u64>, AllocError>
     Ok(words)
 }
 
-/// The sets of all blocks and of all inodes.
-fn full_sets(alloc: Global) -> Result<(Blocks, Inodes), AllocError>
-    ensures blocks { IfOk result (λ sets. length sets.0 ≡ BLOCKS) }
-    ensures inodes { IfOk result (λ sets. length sets.1 ≡ INODES) }
-{
-    let mut blocks = Blocks::new(alloc, BLOCKS)?;
-    let mut inodes = Inodes::new(alloc, INODES)?;
-    blocks.fill(0, BLOCKS);
-    inodes.fill(0, INODES);
-    Ok((blocks, inodes))
+/// The memory of a scan.
+#[derive(Drop)]
+struct ScanMemory {
+    blocks: Blocks,
+    inodes: Inodes,
+    counts: Counts,
+    pending: Pending,
 }
 
-/// Scans an image, with sets and counts that have something before.
-fn scanned(alloc: Global, words: Vec<u64>) -> Result<Found, AllocError>
-    requires { vec_len words ≡ min_blocks * block_words }
+/// Memory in which something stands from before: the sets of all blocks and of all inodes, and names of one inode.
+fn used_memory(alloc: Global, rt: &impl Abort) -> ScanMemory
+    ensures blocks { length result.blocks ≡ BLOCKS }
+    ensures inodes { length result.inodes ≡ INODES }
+    ensures counts { length result.counts ≡ INODES }
+    ensures pending { result.pending ≡ INODES }
 {
-    let region = ListRegion::new(alloc, words, 0)?;
-    let (mut blocks, mut inodes) = full_sets(alloc)?;
-    let mut counts = Counts::new(alloc, INODES)?;
+    let mut blocks = Blocks::new(alloc, BLOCKS).expect(rt, "there is memory");
+    blocks.fill(0, BLOCKS);
+    let mut inodes = Inodes::new(alloc, INODES).expect(rt, "there is memory");
+    inodes.fill(0, INODES);
+    let mut counts = Counts::new(alloc, INODES).expect(rt, "there is memory");
     counts.set(1, 7);
-    let mut pending = Pending::new(alloc, INODES)?;
-    let answer = scan(&region, &mut blocks, &mut inodes, &mut pending, &mut counts);
+    let pending = Pending::new(alloc, INODES).expect(rt, "there is memory");
+    ScanMemory {
+        blocks,
+        inodes,
+        counts,
+        pending,
+    }
+}
+
+/// Scans a region, and tells what was found.
+fn found(region: &ListRegion, memory: &mut ScanMemory) -> Found
+    requires words { length (current_words region.now) ≡ min_blocks * block_words }
+    requires blocks { length memory.old.blocks ≡ BLOCKS }
+    requires inodes { length memory.old.inodes ≡ INODES }
+    requires counts { length memory.old.counts ≡ INODES }
+    requires pending { memory.old.pending ≡ INODES }
+{
+    let ScanMemory {
+        blocks,
+        inodes,
+        counts,
+        pending,
+    } = memory;
+    let answer = scan(region, blocks, inodes, pending, counts);
     let names = [counts.names(1), counts.names(2), counts.names(3)];
-    Ok((answer, (blocks.count(), inodes.count()), names))
+    (answer, (blocks.count(), inodes.count()), names)
+}
+
+/// What a scan finds in the base image with these stores on top.
+fn scanned(alloc: Global, rt: &impl Abort, stores: Stores<'_>) -> Found {
+    let mut words = base(alloc).expect(rt, "there is memory");
+    put(&mut words, stores);
+    let region = ListRegion::new(alloc, words, 0).expect(rt, "there is memory");
+    let mut memory = used_memory(alloc, rt);
+    let found = found(&region, &mut memory);
+    drop(memory);
+    drop(region);
+    found
+}
+
+/// A scan of the base image with these stores on top finds this.
+fn finds(alloc: Global, rt: &impl Abort, stores: Stores<'_>, wanted: Found) {
+    assert_eq!(rt; scanned(alloc, rt, stores), wanted);
+}
+
+/// A region of 8 blocks is a file system.
+pub(crate) fn is_file_system(alloc: Global, rt: &impl Abort, region: &ListRegion)
+    requires { length (current_words region.now) ≡ min_blocks * block_words }
+    ensures { IsWellFormed (current_words region.entry.now) }
+{
+    let mut memory = used_memory(alloc, rt);
+    let ScanMemory {
+        blocks,
+        inodes,
+        counts,
+        pending,
+    } = &mut memory;
+    scan(region, blocks, inodes, pending, counts).expect(rt, "it is a file system");
+    drop(memory);
 }
 
 #[test]
-fn an_image_is_scanned(rt: HostRuntime) -> Result<(), Fail> {
-    let words = base(rt.alloc())?;
-    assert_eq!(rt; scanned(rt.alloc(), words)?, BASE);
-    let mut words = base(rt.alloc())?;
-    put(&mut words, &[SECOND]);
-    assert_eq!(rt; scanned(rt.alloc(), words)?, BASE);
-    let mut words = base(rt.alloc())?;
-    put(&mut words, &[(0, 0)]);
-    assert_eq!(rt;
-        scanned(rt.alloc(), words)?,
-        refused(MountFault::NotFormatted)
-    );
-    Ok(())
+fn an_image_is_scanned(rt: HostRuntime) {
+    finds(rt.alloc(), &rt, &[], BASE);
+    finds(rt.alloc(), &rt, &[SECOND], BASE);
+    let none = refused(MountFault::NotFormatted);
+    finds(rt.alloc(), &rt, &[(0, 0)], none);
 }
 
 /// Both entries name inode 2, so that inode 3 is free.
 #[test]
-fn a_file_has_two_names(rt: HostRuntime) -> Result<(), Fail> {
-    let mut words = base(rt.alloc())?;
-    put(&mut words, &[(1056, 2)]);
+fn a_file_has_two_names(rt: HostRuntime) {
     let totals = Totals { files: 1, ..TOTALS };
-    assert_eq!(rt;
-        scanned(rt.alloc(), words)?,
-        (Ok(totals), (5, 61), [0, 2, 0])
-    );
-    Ok(())
+    let wanted = (Ok(totals), (5, 61), [0, 2, 0]);
+    finds(rt.alloc(), &rt, &[(1056, 2)], wanted);
 }
 
 #[test]
-fn each_check_fails_at_its_word(rt: HostRuntime) -> Result<(), Fail> {
+fn each_check_fails_at_its_word(rt: HostRuntime) {
     for (stores, check, place) in &DAMAGES {
-        let mut words = base(rt.alloc())?;
-        put(&mut words, *stores);
         let fault = MountFault::Damaged {
             check: *check,
             place: *place,
         };
-        assert_eq!(rt; scanned(rt.alloc(), words)?, refused(fault));
+        finds(rt.alloc(), &rt, *stores, refused(fault));
     }
-    Ok(())
 }
 
 #[test]
@@ -173,8 +216,8 @@ fn lengths(rt: HostRuntime) {
 }
 
 #[test]
-fn memory(rt: HostRuntime) -> Result<(), Fail> {
-    let pending = Pending::new(rt.alloc(), INODES)?;
+fn memory(rt: HostRuntime) {
+    let pending = Pending::new(rt.alloc(), INODES).expect(&rt, "there is memory");
     assert_eq!(rt; pending.room(), 512);
-    Ok(())
+    drop(pending);
 }

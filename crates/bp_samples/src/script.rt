@@ -8,11 +8,10 @@ use bp_plain::{Answer, Call, FsError};
 use bp_replay::Cut;
 use bp_script::{Decoded, Line, MAX_NOTICE, Notice, Said, Syntax, announce, say};
 use std::process::Abort;
-use std::test::Fail;
 
 fn asks(rt: &impl Abort, decoded: &mut Decoded, bytes: &[u8], want: Result<Line<'_>, Syntax>) {
     assert!(rt; bytes.len() <= decoded.room());
-    assert_eq!(rt; decoded.line(bytes), want, "{bytes:?}");
+    assert!(rt; decoded.line(bytes) == want, "{bytes:?}");
 }
 
 /// Lines, and the calls that they are.
@@ -74,14 +73,14 @@ const CALLS: [(&[u8], Call<'static>); 22] = [
 ];
 
 #[test]
-fn lines_of_the_table(rt: HostRuntime) -> Result<(), Fail> {
-    let mut decoded = Decoded::new(rt.alloc(), 64)?;
+fn lines_of_the_table(rt: HostRuntime) {
+    let mut decoded = Decoded::new(rt.alloc(), 64).expect(&rt, "there is memory");
     for (bytes, call) in &CALLS {
         asks(&rt, &mut decoded, *bytes, Ok(Line::Call(*call)));
     }
     asks(&rt, &mut decoded, b"sync", Ok(Line::Sync));
     asks(&rt, &mut decoded, b"space", Ok(Line::Space));
-    Ok(())
+    drop(decoded);
 }
 
 /// Lines that are reads, each with its path, its offset and its length.
@@ -115,8 +114,8 @@ const NO_READS: [&[u8]; 17] = [
 ];
 
 #[test]
-fn lines_of_reads(rt: HostRuntime) -> Result<(), Fail> {
-    let mut decoded = Decoded::new(rt.alloc(), 64)?;
+fn lines_of_reads(rt: HostRuntime) {
+    let mut decoded = Decoded::new(rt.alloc(), 64).expect(&rt, "there is memory");
     for (bytes, path, off, len) in &READS {
         let want = Call::Read {
             path: *path,
@@ -128,7 +127,7 @@ fn lines_of_reads(rt: HostRuntime) -> Result<(), Fail> {
     for bytes in &NO_READS {
         asks(&rt, &mut decoded, *bytes, Err(Syntax));
     }
-    Ok(())
+    drop(decoded);
 }
 
 /// Lines that are none of a script.
@@ -170,27 +169,31 @@ const NO_LINES: [&[u8]; 34] = [
 ];
 
 #[test]
-fn lines_outside_the_table(rt: HostRuntime) -> Result<(), Fail> {
-    let mut decoded = Decoded::new(rt.alloc(), 64)?;
+fn lines_outside_the_table(rt: HostRuntime) {
+    let mut decoded = Decoded::new(rt.alloc(), 64).expect(&rt, "there is memory");
     for bytes in &NO_LINES {
         asks(&rt, &mut decoded, *bytes, Err(Syntax));
     }
-    Ok(())
+    drop(decoded);
+}
+
+/// What was decoded are these two words.
+fn has_words(rt: &impl Abort, decoded: &Decoded, first: &[u8], second: &[u8]) {
+    assert_eq!(rt; decoded.first(), first);
+    assert_eq!(rt; decoded.second(), second);
 }
 
 #[test]
-fn two_words(rt: HostRuntime) -> Result<(), Fail> {
-    let mut decoded = Decoded::new(rt.alloc(), 64)?;
+fn two_words(rt: HostRuntime) {
+    let mut decoded = Decoded::new(rt.alloc(), 64).expect(&rt, "there is memory");
     assert!(rt; decoded.room() >= 64);
     decoded.pair(b"/a%20b", b"/c%2Fd");
-    assert_eq!(rt; decoded.first(), b"/a b".as_slice());
-    assert_eq!(rt; decoded.second(), b"/c\0d".as_slice());
+    has_words(&rt, &decoded, b"/a b", b"/c\0d");
     assert_eq!(rt; decoded.path_and_bytes(b"/e", b"00fF"), Ok(()));
-    assert_eq!(rt; decoded.first(), b"/e".as_slice());
-    assert_eq!(rt; decoded.second(), b"\x00\xff".as_slice());
+    has_words(&rt, &decoded, b"/e", b"\x00\xff");
     assert_eq!(rt; decoded.path_and_bytes(b"/e", b"00f"), Err(Syntax));
     assert_eq!(rt; decoded.path_and_bytes(b"/e", b"0g"), Err(Syntax));
-    Ok(())
+    drop(decoded);
 }
 
 fn says(rt: &impl Abort, said: &Said<'_>, into: &mut [u8], want: &[u8])
@@ -208,9 +211,9 @@ fn answers(rt: &impl Abort, answer: Answer<'_>, into: &mut [u8], want: &[u8])
 }
 
 #[test]
-fn answer_texts(rt: HostRuntime) -> Result<(), Fail> {
-    let mut into = vec![in rt.alloc(); 0u8; MAX_TEXT]?;
-    let into = into.as_mut_slice();
+fn answer_texts(rt: HostRuntime) {
+    let mut room = vec![in rt.alloc(); 0u8; MAX_TEXT].expect(&rt, "there is memory");
+    let into = room.as_mut_slice();
     answers(&rt, Answer::Done, into, b"ok\n");
     answers(
         &rt,
@@ -228,13 +231,13 @@ fn answer_texts(rt: HostRuntime) -> Result<(), Fail> {
         b"data 000affab\n",
     );
     answers(&rt, Answer::Bytes(&[]), into, b"data -\n");
-    Ok(())
+    drop(room);
 }
 
 #[test]
-fn refusal_texts(rt: HostRuntime) -> Result<(), Fail> {
-    let mut into = vec![in rt.alloc(); 0u8; MAX_TEXT]?;
-    let into = into.as_mut_slice();
+fn refusal_texts(rt: HostRuntime) {
+    let mut room = vec![in rt.alloc(); 0u8; MAX_TEXT].expect(&rt, "there is memory");
+    let into = room.as_mut_slice();
     let full = FsError::NoSpace { need: 5, free: 4 };
     answers(
         &rt,
@@ -249,24 +252,24 @@ fn refusal_texts(rt: HostRuntime) -> Result<(), Fail> {
         b"err 3 notdir\n",
     );
     answers(&rt, Answer::Refused(full), into, b"err 11 nospace 5 4\n");
-    Ok(())
+    drop(room);
 }
 
 #[test]
-fn other_texts(rt: HostRuntime) -> Result<(), Fail> {
-    let mut into = vec![in rt.alloc(); 0u8; MAX_TEXT]?;
-    let into = into.as_mut_slice();
+fn other_texts(rt: HostRuntime) {
+    let mut room = vec![in rt.alloc(); 0u8; MAX_TEXT].expect(&rt, "there is memory");
+    let into = room.as_mut_slice();
     says(&rt, &Said::End, into, b"end\n");
     says(&rt, &Said::Synced, into, b"ok\n");
     says(&rt, &Said::Space { free: 6, live: 1 }, into, b"space 6 1\n");
     says(&rt, &Said::Syntax, into, b"err 20 syntax\n");
     says(&rt, &Said::LongLine, into, b"err 21 line\n");
-    Ok(())
+    drop(room);
 }
 
 #[test]
-fn name_texts(rt: HostRuntime) -> Result<(), Fail> {
-    let mut into = vec![in rt.alloc(); 0u8; MAX_TEXT]?;
+fn name_texts(rt: HostRuntime) {
+    let mut into = vec![in rt.alloc(); 0u8; MAX_TEXT].expect(&rt, "there is memory");
     let rows: [(Kind, &[u8], &[u8]); 5] = [
         (Kind::Dir, b"d", b"entry d d\n"),
         (Kind::File, b"a b", b"entry f a%20b\n"),
@@ -278,7 +281,7 @@ fn name_texts(rt: HostRuntime) -> Result<(), Fail> {
         assert!(rt; name.len() <= MAX_NAME);
         says(&rt, &Said::Name { kind, name }, &mut into, want);
     }
-    Ok(())
+    drop(into);
 }
 
 /// Notices, and their texts.

@@ -9,7 +9,6 @@ use crate::images::{TWO_LEAVES, laid};
 use bp_tree::{Tree, address, count_live, first_null, node, read, word_path};
 use pm_region::ListRegion;
 use std::alloc::{AllocError, Global};
-use std::test::Fail;
 
 pub(crate) const TREE: Tree = Tree {
     root: 0x3001,
@@ -28,18 +27,18 @@ pub(crate) fn sample(alloc: Global) -> Result<ListRegion, AllocError>
 }
 
 #[test]
-fn reads_its_nodes(rt: HostRuntime) -> Result<(), Fail> {
-    let region = sample(rt.alloc())?;
-    assert_eq!(rt; node(&region, TREE, 0, 1), 0);
-    assert_eq!(rt; node(&region, TREE, 0, 2), 5);
-    assert_eq!(rt; count_live(&region, TREE), 3);
-    assert_eq!(rt; first_null(&region, TREE), Some(1));
-    Ok(())
+fn reads_its_nodes(rt: HostRuntime) {
+    let region = sample(rt.alloc()).expect(&rt, "there is memory");
+    let nodes = [node(&region, TREE, 0, 1), node(&region, TREE, 0, 2)];
+    assert_eq!(rt; nodes, [0, 5]);
+    let leaves = (count_live(&region, TREE), first_null(&region, TREE));
+    assert_eq!(rt; leaves, (3, Some(1)));
+    drop(region);
 }
 
 #[test]
-fn reads_its_bytes(rt: HostRuntime) -> Result<(), Fail> {
-    let region = sample(rt.alloc())?;
+fn reads_its_bytes(rt: HostRuntime) {
+    let region = sample(rt.alloc()).expect(&rt, "there is memory");
     for (offset, room, count, want) in [
         (0, 2, 2, [0x11, 0, 0xee, 0xee]),
         (8190, 4, 4, [0, 0, 0, 0x22]),
@@ -47,21 +46,17 @@ fn reads_its_bytes(rt: HostRuntime) -> Result<(), Fail> {
         (8200, 4, 0, [0xee, 0xee, 0xee, 0xee]),
     ] {
         let mut into = [0xee; 4];
-        assert_eq!(rt;
-            read(&region, TREE, offset, &mut into[..room]),
-            count,
-            "from {offset}"
-        );
-        assert_eq!(rt; into, want, "from {offset}");
+        let read = read(&region, TREE, offset, &mut into[..room]);
+        assert_eq!(rt; (read, into), (count, want), "from {offset}");
     }
-    Ok(())
+    drop(region);
 }
 
 #[test]
-fn goes_by_paths(rt: HostRuntime) -> Result<(), Fail> {
-    let region = sample(rt.alloc())?;
+fn goes_by_paths(rt: HostRuntime) {
+    let region = sample(rt.alloc()).expect(&rt, "there is memory");
     let path = word_path(TREE, 8193);
     assert_eq!(rt; path.as_slice(), [2, 0].as_slice());
     assert_eq!(rt; address(&region, &path), 2560);
-    Ok(())
+    drop(region);
 }

@@ -4,8 +4,8 @@ use pm_words::{MAX_LEVEL, block_of, digit, read_word, span, write_word};
 
 #[test]
 fn words_and_bytes(rt: HostRuntime) {
-    assert_eq!(rt; read_word(b"BPFSRS01"), 0x3130_5352_5346_5042);
-    assert_eq!(rt; read_word(b"BPFSRS02"), 0x3230_5352_5346_5042);
+    let marks = [read_word(b"BPFSRS01"), read_word(b"BPFSRS02")];
+    assert_eq!(rt; marks, [0x3130_5352_5346_5042, 0x3230_5352_5346_5042]);
     assert_eq!(rt; write_word(0x0102_0304_0506_0708), [8, 7, 6, 5, 4, 3, 2, 1]);
 }
 

@@ -30,7 +30,8 @@ use Rattle.bp_calls.proofs.AcrossMiddle.{across_can, middle_count, middle_formed
 use Rattle.bp_calls.proofs.SizesWith.{sizes_with}
 use Rattle.bp_calls.proofs.AcrossTouched.{across_apart, across_few, across_inside, across_needs, across_shape, across_words}
 use Rattle.bp_calls.proofs.FreeCounts.{free_members}
-use Rattle.bp_calls.proofs.TakenBlocks.{unused_members, usable_members}
+use Rattle.bp_append.proofs.EndWays.{none_loose}
+use Rattle.bp_calls.proofs.TakenBlocks.{members_free, usable_members}
 use Rattle.bp_layout.specs.Thaw.{none_kept}
 use Rattle.bp_calls.proofs.Unthawed.{lacks_thawed, room_asked, across_room}
 
@@ -103,13 +104,13 @@ module _ (old : Memory) (blocks inodes : Set) (off : ℕ) (bytes : List ℕ) (to
 
   pub at_prepare : (i root size made : ℕ) (path : WordPath) → WritesAcross old blocks inodes i off bytes touched → root ≡ root_of (current_words old) i → size ≡ size_of (current_words old) i →
       made ≡ length (nodes_for (current_words old) root size size (off + length bytes)) → made + copied_count (current_words old) touched ≤ length (members blocks) → path ≡ inode_path (height_of (root_of (current_words old) 0)) i 1 →
-      CanPrepare old (members blocks) i path size (off + length bytes)
+      CanPrepare none_kept old (members blocks) i path size (off + length bytes)
   at_prepare zero root size made path across = not_inodes _ across
   at_prepare (suc n) root size made path across = λ one two counted enough is.
       let needs = across_needs old blocks inodes n off bytes touched across in
       let has : room_for (need (current_words old) (writes (suc n) off (length bytes))) ≤ room_in old =
       room_asked old blocks (writes (suc n) off (length bytes)) across.can.room (omega (arith, enough, counted, made_is (suc n) root size one two, needs)) in
-      let can : CanPrepare old (members blocks) (suc n) path (size_of (current_words old) (suc n)) (off + length bytes) = record {
+      let can : CanPrepare none_kept old (members blocks) (suc n) path (size_of (current_words old) (suc n)) (off + length bytes) = record {
         well = across.can.well_formed;
         reached = across.can.reached;
         leads = is ∙ sym (append-nil (inode_path (height_of (root_of (current_words old) 0)) (suc n) 1));
@@ -118,22 +119,23 @@ module _ (old : Memory) (blocks inodes : Set) (off : ℕ) (bytes : List ℕ) (to
         fits = across.can.fits;
         by_words = λ by. elim by [ inl e ↦ omega (arith, e) | inr kind ↦ omega (arith, kind, across.can.file) ];
         usable = usable_members (current_words old) blocks inodes across.can.exact _ (omega (arith, length-current_words old));
-        unused = unused_members (current_words old) blocks inodes across.can.exact;
+        are_free = members_free (current_words old) blocks inodes across.can.exact;
+        loose = none_loose (current_words old) (suc n);
         enough = omega (arith, enough, counted, made_is (suc n) root size one two);
         room = across_room _ _ _ _ _ needs (room_behind_whole (size_of (current_words old) (suc n)) (size_of (current_words old) (suc n)) (off + length bytes) max_height) has;
       } in
-      subst (λ s. CanPrepare old (members blocks) (suc n) path s (off + length bytes)) (sym two) can
+      subst (λ s. CanPrepare none_kept old (members blocks) (suc n) path s (off + length bytes)) (sym two) can
 
   module _ (middle : Memory) (after : Set) where
     -- the preparation, told at the size of the file
-    pub at_prepared : (i size : ℕ) (beyond : List ℕ) → PreparesWith old middle (members blocks) (members after) i size (off + length bytes) beyond → size ≡ size_of (current_words old) i → beyond ≡ drop (size - off) bytes →
-        PreparesWith old middle (members blocks) (members after) i (size_of (current_words old) i) (off + length bytes) (drop (size_of (current_words old) i - off) bytes)
+    pub at_prepared : (i size : ℕ) (beyond : List ℕ) → PreparesWith none_kept old middle (members blocks) (members after) i size (off + length bytes) beyond → size ≡ size_of (current_words old) i → beyond ≡ drop (size - off) bytes →
+        PreparesWith none_kept old middle (members blocks) (members after) i (size_of (current_words old) i) (off + length bytes) (drop (size_of (current_words old) i - off) bytes)
     at_prepared i size beyond prepared is split =
-        subst₂ (λ s bs. PreparesWith old middle (members blocks) (members after) i s (off + length bytes) bs) is (split ∙ ap (λ s. drop (s - off) bytes) is) prepared
+        subst₂ (λ s bs. PreparesWith none_kept old middle (members blocks) (members after) i s (off + length bytes) bs) is (split ∙ ap (λ s. drop (s - off) bytes) is) prepared
 
     pub at_commit : (i root size made : ℕ) → WritesAcross old blocks inodes i off bytes touched → root ≡ root_of (current_words old) i → size ≡ size_of (current_words old) i →
         made ≡ length (nodes_for (current_words old) root size size (off + length bytes)) → made + copied_count (current_words old) touched ≤ length (members blocks) →
-        PreparesWith old middle (members blocks) (members after) i (size_of (current_words old) i) (off + length bytes) (drop (size_of (current_words old) i - off) bytes) → length after ≡ length blocks →
+        PreparesWith none_kept old middle (members blocks) (members after) i (size_of (current_words old) i) (off + length bytes) (drop (size_of (current_words old) i - off) bytes) → length after ≡ length blocks →
         CanCommitIn (sizes_with (current_words middle) touched) middle touched after
     at_commit zero root size made across = not_inodes _ across
     at_commit (suc n) root size made across = λ one two counted enough prepared room.
@@ -155,7 +157,7 @@ module _ (old : Memory) (blocks inodes : Set) (off : ℕ) (bytes : List ℕ) (to
 
     module _ (new : Memory) (last : Set) where
       pub at_done : (i : ℕ) → WritesAcross old blocks inodes i off bytes touched →
-          PreparesWith old middle (members blocks) (members after) i (size_of (current_words old) i) (off + length bytes) (drop (size_of (current_words old) i - off) bytes) → ((k : ℕ) → slice_index bytes k < 256) →
+          PreparesWith none_kept old middle (members blocks) (members after) i (size_of (current_words old) i) (off + length bytes) (drop (size_of (current_words old) i - off) bytes) → ((k : ℕ) → slice_index bytes k < 256) →
           CommitsTouched (sizes_with (current_words middle) touched) touched middle new after last → length last ≡ length after → length after ≡ length blocks →
           Performs none_kept old new (writes i off (length bytes)) (WritesFile i off bytes) × AreExact (current_words new) none_kept last inodes
       at_done zero across = not_inodes _ across

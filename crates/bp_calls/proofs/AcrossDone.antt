@@ -52,7 +52,7 @@ small_take (suc count) (b ∷ bytes) small (suc k) = small_take count bytes (λ 
 -- ---- the call
 
 module _ (old middle new : Memory) (blocks inodes after last : Set) (n off : ℕ) (bytes : List ℕ) (touched : Touched) (across : WritesAcross old blocks inodes (suc n) off bytes touched)
-    (prepared : PreparesWith old middle (members blocks) (members after) (suc n) (size_of (current_words old) (suc n)) (off + length bytes) (drop (size_of (current_words old) (suc n) - off) bytes))
+    (prepared : PreparesWith none_kept old middle (members blocks) (members after) (suc n) (size_of (current_words old) (suc n)) (off + length bytes) (drop (size_of (current_words old) (suc n) - off) bytes))
     (small : (k : ℕ) → slice_index bytes k < 256) (done : CommitsTouched (sizes_with (current_words middle) touched) touched middle new after last) where
   abbrev image : Image
   image = current_words old

@@ -35,7 +35,7 @@ use Rattle.bp_calls.proofs.PreparedSets.{live_before, prepared_exact, prepared_f
 use Rattle.bp_layout.specs.Thaw.{none_kept}
 
 module _ (old middle : Memory) (blocks inodes after : Set) (n off : ℕ) (bytes : List ℕ) (touched : Touched) (across : WritesAcross old blocks inodes (suc n) off bytes touched)
-    (prepared : PreparesWith old middle (members blocks) (members after) (suc n) (size_of (current_words old) (suc n)) (off + length bytes) (drop (size_of (current_words old) (suc n) - off) bytes)) where
+    (prepared : PreparesWith none_kept old middle (members blocks) (members after) (suc n) (size_of (current_words old) (suc n)) (off + length bytes) (drop (size_of (current_words old) (suc n) - off) bytes)) where
   abbrev image : Image
   image = current_words old
 

@@ -9,3 +9,13 @@ on_either (Err e) done lacking = lacking
 pub by_three : {T E : Type 0} (result : Result T E) {A B C P : E → Type 0} → IfErr result A → IfErr result B → IfErr result C → ((e : E) → A e → B e → C e → P e) → IfErr result P
 by_three (Ok x) a b c so = tt
 by_three (Err e) a b c so = so e a b c
+
+-- two things that are known where there was
+pub ok_both : {T E A B C : Type 0} (result : Result T E) → OnOk result A → OnOk result B → (A → B → C) → OnOk result C
+ok_both (Ok x) a b both = both a b
+ok_both (Err e) a b both = tt
+
+-- one that is known of an error
+pub by_one : {T E : Type 0} {A P : E → Type 0} (result : Result T E) → IfErr result A → ((e : E) → A e → P e) → IfErr result P
+by_one (Ok x) a so = tt
+by_one (Err e) a so = so e a

@@ -48,6 +48,10 @@ pub mod GrowthNeed
 pub mod GrowthCover
 pub mod Unthawed
 pub mod CountLaws
+pub mod ThawedParts
+pub mod TargetPaths
+pub mod ThawedRoom
+pub mod LeavingThawed
 pub mod FewNames
 pub mod GrowthPerforms
 pub mod NewNames

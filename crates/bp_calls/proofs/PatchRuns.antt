@@ -6,7 +6,6 @@ use Rattle.bp_layout.specs.Free.{AreFreeBlocks}
 use Rattle.bp_layout.specs.Inode.{kind_of, root_of, size_of}
 use Rattle.bp_layout.specs.Members.{Each, Has}
 use Rattle.bp_layout.specs.Reached.{IsReached}
-use Rattle.bp_layout.specs.Thaw.{none_kept}
 use Rattle.bp_layout.specs.WellFormed.{IsWellFormed}
 use Rattle.bp_layout.specs.WordPaths.{inode_path}
 use Rattle.bp_layout.specs.Words.{Image, height_of}
@@ -105,7 +104,7 @@ module _ (image : Image) (wf : IsWellFormed image) (patches : List Patch) (touch
         some = omega (arith, leaves_some image touched.runs.now one.0 one.1);
       }
 
-  pub patches_can : (free : ℕ → Bool) → AreFreeBlocks image none_kept free → CanCommit image (size_of image) touched free
+  pub patches_can : {kept : ℕ → Bool} (free : ℕ → Bool) → AreFreeBlocks image kept free → CanCommit image (size_of image) kept touched free
   patches_can free exact =
       runs_can image wf touched patches_shape free exact no_words (λ run has. let at = run_at run has in run_in image wf at.inode at.reached run at.of)
 

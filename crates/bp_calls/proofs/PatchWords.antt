@@ -136,7 +136,7 @@ module _ (image : Image) (wf : IsWellFormed image) (i : ℕ) (reached : IsReache
 
 -- ---- the words
 
-module _ (old new : Image) (wf : IsWellFormed old) (touched : Touched) (free : ℕ → Bool) (can : CanCommit old (size_of old) touched free) (no_word : length touched.words.now ≡ 0)
+module _ {kept : ℕ → Bool} (old new : Image) (wf : IsWellFormed old) (touched : Touched) (free : ℕ → Bool) (can : CanCommit old (size_of old) kept touched free) (no_word : length touched.words.now ≡ 0)
     (at : (run : Run) → Has touched.runs.now run → IsInFile old run) (turned : Trail → Type 0) (stage : IsCommitted old new (IsTreePointer old (size_of old)) turned (after_commit old (job_of touched))) where
   -- the trail of a word by the run's path is that of the content word
   run_trail : (run : Run) (has : Has touched.runs.now run) (k : ℕ) → trail_of (run_path run k) (length (run_path run k)) ≡ word_trail old (suc (at run has).inode) k

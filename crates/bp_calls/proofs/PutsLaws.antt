@@ -1,9 +1,10 @@
 -- An entry is put behind the last one of a directory: what that asks of a preparation, and that it reads back.
-use Rattle.std.proofs.Common.{◌≡◌, ℕ, zero, suc, ◌+◌, ◌*◌, ◌/◌, ◌%◌, ◌^◌, ◌<◌, ◌≤◌, List, length, refl, sym, ◌∙◌, arith, le_trans}
+use Rattle.std.proofs.Common.{◌≡◌, ℕ, zero, suc, ◌+◌, ◌-◌, ◌*◌, ◌/◌, ◌%◌, ◌^◌, ◌<◌, ◌≤◌, List, length, refl, sym, ◌∙◌, arith, le_trans}
 use Rattle.bp_limits.specs.declared.version.Version.TheVariants.{One}
 use Rattle.bp_limits.proofs.Versions.{size_least}
 use Rattle.bp_layout.specs.Formatted.{version_of}
 use Rattle.std.proofs.lemmas.List.{append-nil}
+use Rattle.bp_layout.specs.Thaw.{none_kept}
 use Rattle.bp_append.specs.Prepared.{CanPrepare, PreparesWith, need_for}
 use Rattle.bp_append.proofs.FewNeeded.{few_needed}
 use Rattle.bp_changes.proofs.ReachedOn.{reached_on}
@@ -25,7 +26,8 @@ use Rattle.bp_calls.specs.Entries.{AreEntryBytes, PutsBehind}
 use Rattle.bp_calls.specs.Steps.{CanPutBehind, entering_room}
 use Rattle.bp_calls.proofs.EnteredLaws.{directory_inode}
 use Rattle.bp_calls.proofs.EntryBytes.{inumber_there, length_there, inumber_read, name_read_back}
-use Rattle.bp_calls.proofs.TakenBlocks.{unused_members, usable_members}
+use Rattle.bp_append.proofs.EndWays.{none_loose}
+use Rattle.bp_calls.proofs.TakenBlocks.{members_free, usable_members}
 use Rattle.bp_append.proofs.StoresLaws.{room_behind_one}
 
 -- a directory is small, since it has no nulls
@@ -48,7 +50,7 @@ module _ (old : Memory) (blocks : Set) (j : ℕ) (name : Name) where
   image = current_words old
 
   prepares : (n : ℕ) → CanPutBehind old blocks (suc n) name → (path : WordPath) → path ≡ inode_path (height_of (root_of image 0)) (suc n) 1 →
-      CanPrepare old (members blocks) (suc n) path (size_of image (suc n)) (size_of image (suc n) + 256)
+      CanPrepare none_kept old (members blocks) (suc n) path (size_of image (suc n)) (size_of image (suc n) + 256)
   prepares n can path is = record {
     well = can.lacks.well_formed;
     reached = can.lacks.reached;
@@ -58,7 +60,8 @@ module _ (old : Memory) (blocks : Set) (j : ℕ) (name : Name) where
     fits = le_trans (small_directory image can.lacks.well_formed (suc n) can.lacks.reached can.lacks.directory) (size_least (version_of image));
     by_words = λ by. refl;
     usable = usable_members image blocks can.inodes can.exact _ (omega (arith, length-current_words old));
-    unused = unused_members image blocks can.inodes can.exact;
+    are_free = members_free image blocks can.inodes can.exact;
+    loose = none_loose (current_words old) (suc n);
     enough = can.enough;
     room = go _ _ _ (room_behind_one (size_of image (suc n)) (size_of image (suc n) + 256) max_height (one_entry (size_of image (suc n)) (can.lacks.well_formed.directory_sizes (suc n) can.lacks.reached can.lacks.directory))) can.room;
   }
@@ -68,12 +71,12 @@ module _ (old : Memory) (blocks : Set) (j : ℕ) (name : Name) where
 
   -- given the size that was read
   pub put_prepares : (i : ℕ) → CanPutBehind old blocks i name → (path : WordPath) → path ≡ inode_path (height_of (root_of image 0)) i 1 → (size : ℕ) → size ≡ size_of image i →
-      CanPrepare old (members blocks) i path size (size + 256)
+      CanPrepare none_kept old (members blocks) i path size (size + 256)
   put_prepares zero can path is size e = absurd (directory_inode image 0 can.lacks.directory refl)
   put_prepares (suc n) can path is size e = rw e (prepares n can path is)
 
   module _ (new : Memory) (rest : List ℕ) (i size : ℕ) (bytes : List ℕ) (can : CanPutBehind old blocks i name) (e : size ≡ size_of image i) (entry : AreEntryBytes j name bytes)
-      (prepared : PreparesWith old new (members blocks) rest i size (size + 256) bytes) where
+      (prepared : PreparesWith none_kept old new (members blocks) rest i size (size + 256) bytes) where
     pub put_well_formed : IsWellFormed (current_words new)
     put_well_formed = well_formed-same image (current_words new) can.lacks.well_formed prepared.ready.meaning
 

@@ -1,5 +1,5 @@
 -- What a write below the size of a file touches.
-use Rattle.std.specs.Prelude.{◌≡◌, ℕ, ◌+◌, ◌<◌, ◌≤◌, List, [], ◌∷◌, length, slice_index}
+use Rattle.std.specs.Prelude.{◌≡◌, ℕ, ◌+◌, ◌<◌, ◌≤◌, List, [], ◌∷◌, length, slice_index, Bool}
 use Rattle.bp_cow.specs.declared.touched.Run.{Run}
 use Rattle.bp_cow.specs.declared.touched.Touched.{Touched}
 use Rattle.bp_free.specs.Set.{Set}
@@ -27,8 +27,8 @@ pub record TouchesBelow (image : Image) (i off : ℕ) (bytes : List ℕ) (touche
   pub is : IsRunFor image i off bytes run
 
 -- bytes that end below the size of a file or with it, and what is touched for them
-pub record WritesBelow (memory : Memory) (blocks inodes : Set) (i off : ℕ) (bytes : List ℕ)
-    (touched : Touched) : Type 0 where
-  pub can : CanWrite memory blocks inodes i off bytes
+pub record WritesBelow (kept : ℕ → Bool) (memory : Memory) (blocks inodes : Set) (i off : ℕ)
+    (bytes : List ℕ) (touched : Touched) : Type 0 where
+  pub can : CanWrite kept memory blocks inodes i off bytes
   pub below : off + length bytes ≤ size_of (current_words memory) i
   pub touches : TouchesBelow (current_words memory) i off bytes touched

@@ -9,11 +9,12 @@ ghost use Rattle.bp_calls.specs.Overwritten.{
   patches_seen,
   stretches_of,
 };
-ghost use Rattle.bp_calls.specs.Space.{LacksSpace};
+ghost use Rattle.bp_calls.specs.Space.{LacksBlocks};
 ghost use Rattle.bp_calls.specs.TouchedBelow.{IsRunFor};
 ghost use Rattle.bp_changes.specs.Overwrites.{OverwritesFiles};
-ghost use Rattle.bp_commit.specs.Performs.{Performs};
+ghost use Rattle.bp_commit.specs.Performs.{PerformsThawed};
 ghost use Rattle.bp_layout.specs.Members.{Each};
+ghost use Rattle.bp_layout.specs.Need.{need};
 ghost use Rattle.bp_layout.specs.Need.Change.{overwrites};
 ghost use Rattle.bp_layout.specs.WellFormed.{IsWellFormed};
 ghost use Rattle.bp_limits.specs.Limits.{max_pieces};
@@ -64,24 +65,29 @@ fn runs_of<'a, R: Region>(region: &R, patches: &[Patch<'a>]) -> ArrayVec<Run<'a>
     runs
 }
 
-/// Writes bytes into files, below their sizes, all of them by one store alone in its epoch. Where two patches give the
-/// same byte, that of the later one stands.
+/// What [`batch`] does once nothing is left to thaw.
 ///
 /// # Errors
 ///
-/// `NoSpace` exactly where fewer blocks are free than are copied: each block on the ways to the bytes, from the word
-/// that covers all of them down, once. Nothing has changed then.
-pub fn batch<R: Region>(parts: &mut Parts<R>, patches: &[Patch<'_>]) -> Result<(), NoSpace>
-    requires can { CanOverwrite (R.memory parts.old.region) parts.old.blocks parts.old.inodes (patches_seen patches.now) }
+/// Where fewer blocks are free than are copied. Nothing has changed then.
+fn overlay<R: Region>(parts: &mut Parts<R>, patches: &[Patch<'_>]) -> Result<(), NoSpace>
+    requires can { CanOverwrite (kept_of parts.old) (R.memory parts.old.region) parts.old.blocks parts.old.inodes
+        (patches_seen patches.now) }
     requires exact { IsExact (current_words (R.memory parts.old.region)) parts.old }
-    ensures performs { OnOk result (Performs (kept_of parts.old) (R.memory parts.old.region) (R.memory parts.new.region)
-        (overwrites (stretches_of (patches_seen patches.now))) (OverwritesFiles (patches_seen patches.now))) }
+    ensures performs { OnOk result (PerformsThawed (kept_of parts.old) (R.memory parts.old.region)
+        (R.memory parts.new.region) (overwrites (stretches_of (patches_seen patches.now)))
+        (OverwritesFiles (patches_seen patches.now))) }
     ensures exact { IsExact (current_words (R.memory parts.new.region)) parts.new }
-    ensures refused { IfErr result (LacksSpace (current_words (R.memory parts.old.region)) (kept_of parts.old)
-        (overwrites (stretches_of (patches_seen patches.now)))) }
+    ensures refused { IfErr result (LacksBlocks (current_words (R.memory parts.old.region)) (kept_of parts.old)
+        (need (current_words (R.memory parts.old.region)) (overwrites (stretches_of (patches_seen patches.now))))) }
     ensures same { OnErr result (parts.new ≡ parts.old) }
 {
     let runs = runs_of(&parts.region, patches);
     let touched = touched_by(runs.as_slice());
     commit_below(parts, &touched)
+}
+
+/// Writes bytes into files, below their sizes. Not yet behind a thaw.
+pub fn batch<R: Region>(parts: &mut Parts<R>, patches: &[Patch<'_>]) -> Result<(), NoSpace> {
+    overlay(parts, patches)
 }

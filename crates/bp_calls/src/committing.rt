@@ -3,12 +3,13 @@
 ghost use Rattle.std.specs.Prelude.{◌≡◌, ◌<◌, ◌≤◌, [], length, IfErr, OnErr, OnOk};
 ghost use Rattle.bp_calls.specs.TouchedBelow.{IsRunFor};
 ghost use Rattle.bp_cow.specs.CanCommit.{CanCommit};
-ghost use Rattle.bp_cow.specs.Commit.{CommitsTouched, HasRoom};
+ghost use Rattle.bp_cow.specs.Commit.{CommitsTouched, HasLooseCover, HasRoom};
 ghost use Rattle.bp_cow.specs.Cover.{copied_count};
 ghost use Rattle.bp_free.specs.Set.{has, members};
 ghost use Rattle.bp_layout.specs.Inode.{root_of, size_of};
 ghost use Rattle.bp_layout.specs.WellFormed.{IsWellFormed};
 ghost use Rattle.bp_layout.specs.Words.{block_count};
+ghost use Rattle.bp_shapes.specs.Sets.{kept_of};
 ghost use Rattle.pm_region.specs.Memory.{current_words};
 
 use bp_cow::{Run, Touched, commit_at, copies_below, find_cover};
@@ -58,12 +59,14 @@ pub(crate) fn commit_below<R: Region>(
 ) -> Result<(), NoSpace>
     requires well_formed { IsWellFormed (current_words (R.memory parts.old.region)) }
     requires can { CanCommit (current_words (R.memory parts.old.region))
-        (size_of (current_words (R.memory parts.old.region))) touched.now (has parts.old.blocks) }
+        (size_of (current_words (R.memory parts.old.region))) (kept_of parts.old) touched.now (has parts.old.blocks) }
+    requires loose { HasLooseCover (current_words (R.memory parts.old.region)) (kept_of parts.old) touched.now }
+    requires known { block_count (current_words (R.memory parts.old.region)) ≤ length parts.old.frozen }
     requires fits { block_count (current_words (R.memory parts.old.region)) ≤ length parts.old.blocks }
     requires room { copied_count (current_words (R.memory parts.old.region)) touched.now ≤ length (members parts.old.blocks)
         → HasRoom (R.memory parts.old.region) touched.now }
-    ensures commits { OnOk result (CommitsTouched (size_of (current_words (R.memory parts.old.region))) touched.now
-        (R.memory parts.old.region) (R.memory parts.new.region) parts.old.blocks parts.new.blocks) }
+    ensures commits { OnOk result (CommitsTouched (size_of (current_words (R.memory parts.old.region)))
+        (kept_of parts.old) touched.now (R.memory parts.old.region) (R.memory parts.new.region) parts.old.blocks parts.new.blocks) }
     ensures size { length parts.new.blocks ≡ length parts.old.blocks }
     ensures inodes { parts.new.inodes ≡ parts.old.inodes }
     ensures counts { parts.new.counts ≡ parts.old.counts }

@@ -13,6 +13,8 @@ mod listing;
 mod reading;
 mod removing;
 mod resizing;
+mod targets;
+mod thawing;
 mod writing;
 
 pub use batching::{Patch, batch};

@@ -1,20 +1,27 @@
 //! A file gets another size.
 
-ghost use Rattle.std.specs.Prelude.{◌≡◌, ◌≢◌, ◌<◌, ◌≤◌, IfErr, OnErr, OnOk};
+ghost use Rattle.std.specs.Prelude.{◌≡◌, ◌≢◌, ◌<◌, ◌≤◌, [], IfErr, OnErr, OnOk, length};
 ghost use Rattle.bp_calls.specs.Mounted.{IsMounted};
 ghost use Rattle.bp_calls.specs.Space.{HasRoomWhereFree, LacksSpace};
+ghost use Rattle.bp_calls.specs.ThawsFor.{ThawsFor};
+ghost use Rattle.bp_changes.specs.Thawed.{AfterThaw};
+ghost use Rattle.bp_layout.specs.Thaw.{targets, thawed};
 ghost use Rattle.bp_calls.specs.CanGrow.{CanGrowFile};
 ghost use Rattle.bp_calls.specs.Resized.{ResizesFile};
+ghost use Rattle.bp_append.specs.Prepared.{need_for};
+ghost use Rattle.bp_free.specs.Set.{members};
 ghost use Rattle.bp_layout.specs.Inode.{IsFile, root_of, size_of};
 ghost use Rattle.bp_layout.specs.Need.Change.{resizes};
 ghost use Rattle.bp_layout.specs.Reached.{IsReached};
 ghost use Rattle.bp_layout.specs.Formatted.{version_of};
 ghost use Rattle.bp_limits.specs.Limits.{greatest_size};
 ghost use Rattle.bp_shapes.specs.Sets.{IsExact, kept_of};
-ghost use Rattle.bp_commit.specs.Performs.{Performs};
+ghost use Rattle.bp_commit.specs.Performs.{Performs, PerformsThawed};
 ghost use Rattle.pm_region.specs.Memory.{current_words, room_in};
 
 use crate::giving::give_back;
+use crate::targets::shrinking;
+use crate::thawing::thaw_before;
 use bp_append::{need_prep, prep};
 use bp_free::{NoSpace, Parts};
 use bp_inodes::{place, root_path, tree_of};
@@ -23,52 +30,104 @@ use bp_limits::SIZE_FIELD;
 use bp_tree::Tree;
 use pm_region::Region;
 
-/// Gives a file a size above its own, with zeros behind its bytes: a preparation makes its tree high enough and clears
-/// the rest of its last leaf, and then the size is stored.
+/// Gives a file a size above its own, with zeros behind its bytes, once nothing is left to thaw and enough blocks are
+/// free: a preparation makes its tree high enough and clears the rest of its last leaf, and then the size is stored.
+fn lengthen<R: Region>(parts: &mut Parts<R>, i: u32, size: u64)
+    requires can { CanGrowFile (kept_of parts.old) (R.memory parts.old.region) parts.old.blocks parts.old.inodes i size }
+    requires exact { IsExact (current_words (R.memory parts.old.region)) parts.old }
+    requires enough { need_for (current_words (R.memory parts.old.region)) i size size ≤ length (members parts.old.blocks) }
+    ensures performs { PerformsThawed (kept_of parts.old) (R.memory parts.old.region) (R.memory parts.new.region)
+        (resizes i size) (ResizesFile i size) }
+    ensures exact { IsExact (current_words (R.memory parts.new.region)) parts.new }
+{
+    let size_place = place(&parts.region, i, SIZE_FIELD);
+    let at = root_path(&parts.region, i);
+    prep(parts, &at, size, &[], size);
+    commit_word(&mut parts.region, size_place, size);
+}
+
+/// Thaws what is kept on the way to the size of a file that is to get smaller.
+///
+/// # Errors
+///
+/// `NoSpace` exactly where fewer blocks are free than that takes. Nothing has changed then.
+fn thaw_size<R: Region>(parts: &mut Parts<R>, i: u32, size: u64) -> Result<(), NoSpace>
+    requires mounted { IsMounted (current_words (R.memory parts.old.region)) parts.old }
+    requires reached { IsReached (current_words (R.memory parts.old.region)) i }
+    requires file { IsFile (current_words (R.memory parts.old.region)) i }
+    requires smaller { size < size_of (current_words (R.memory parts.old.region)) i }
+    requires room { HasRoomWhereFree (R.memory parts.old.region) (kept_of parts.old) parts.old.blocks (resizes i size) }
+    ensures thaws { OnOk result (ThawsFor R.memory (targets (current_words (R.memory parts.old.region)) (resizes i size))
+        parts.old parts.new) }
+    ensures room { OnOk result (3 ≤ room_in (R.memory parts.new.region)) }
+    ensures refused { IfErr result (LacksSpace (current_words (R.memory parts.old.region)) (kept_of parts.old)
+        (resizes i size)) }
+    ensures same { OnErr result (parts.new ≡ parts.old) }
+{
+    if parts.frozen.count() == 0 {
+        return Ok(());
+    }
+    let targets = shrinking(&parts.region, i);
+    thaw_before(parts, &targets, 0)
+}
+
+/// What [`shrink_file`] does once nothing is left to thaw: the size is stored, and then the blocks come back that hold
+/// no byte below it and are not kept.
+fn cut<R: Region>(parts: &mut Parts<R>, i: u32, size: u64)
+    requires mounted { IsMounted (current_words (R.memory parts.old.region)) parts.old }
+    requires reached { IsReached (current_words (R.memory parts.old.region)) i }
+    requires file { IsFile (current_words (R.memory parts.old.region)) i }
+    requires smaller { size < size_of (current_words (R.memory parts.old.region)) i }
+    requires clear { thawed (current_words (R.memory parts.old.region)) (kept_of parts.old) (resizes i size) ≡ [] }
+    requires room { 3 ≤ room_in (R.memory parts.old.region) }
+    ensures performs { PerformsThawed (kept_of parts.old) (R.memory parts.old.region) (R.memory parts.new.region)
+        (resizes i size) (ResizesFile i size) }
+    ensures exact { IsExact (current_words (R.memory parts.new.region)) parts.new }
+{
+    let tree = tree_of(&parts.region, i);
+    let size_place = place(&parts.region, i, SIZE_FIELD);
+    commit_word(&mut parts.region, size_place, size);
+    let frozen = &parts.frozen;
+    give_back(&parts.region, tree, size, &mut parts.blocks, frozen);
+}
+
+/// Gives a file a size below its own. It needs no block but for what it thaws.
 ///
 /// # Errors
 ///
 /// `NoSpace` exactly where fewer blocks are free than it needs. Nothing has changed then.
-fn grow_file<R: Region>(parts: &mut Parts<R>, i: u32, tree: Tree, size: u64) -> Result<(), NoSpace>
-    requires can { CanGrowFile (R.memory parts.old.region) parts.old.blocks parts.old.inodes i size }
-    requires exact { IsExact (current_words (R.memory parts.old.region)) parts.old }
-    requires root { tree.root ≡ root_of (current_words (R.memory parts.old.region)) i }
-    requires size { tree.size ≡ size_of (current_words (R.memory parts.old.region)) i }
+fn shrink_file<R: Region>(parts: &mut Parts<R>, i: u32, size: u64) -> Result<(), NoSpace>
+    requires mounted { IsMounted (current_words (R.memory parts.old.region)) parts.old }
+    requires reached { IsReached (current_words (R.memory parts.old.region)) i }
+    requires file { IsFile (current_words (R.memory parts.old.region)) i }
+    requires smaller { size < size_of (current_words (R.memory parts.old.region)) i }
+    requires room { HasRoomWhereFree (R.memory parts.old.region) (kept_of parts.old) parts.old.blocks (resizes i size) }
     ensures performs { OnOk result (Performs (kept_of parts.old) (R.memory parts.old.region) (R.memory parts.new.region)
-        (resizes i size) (ResizesFile i size)) }
+        (resizes i size) (AfterThaw (ResizesFile i size))) }
     ensures exact { IsExact (current_words (R.memory parts.new.region)) parts.new }
     ensures refused { IfErr result (LacksSpace (current_words (R.memory parts.old.region)) (kept_of parts.old)
         (resizes i size)) }
     ensures same { OnErr result (parts.new ≡ parts.old) }
 {
+    match thaw_size(parts, i, size) {
+        Ok(()) => {
+            cut(parts, i, size);
+            Ok(())
+        }
+        Err(lacks) => Err(lacks),
+    }
+}
+
+/// Gives a file a size above its own. Not yet behind a thaw.
+fn grow_file<R: Region>(parts: &mut Parts<R>, i: u32, size: u64) -> Result<(), NoSpace> {
+    let tree = tree_of(&parts.region, i);
     let need = need_prep(&parts.region, tree, size, size);
     let free = parts.blocks.count();
     if free < need {
         return Err(NoSpace { need, free });
     }
-    let size_place = place(&parts.region, i, SIZE_FIELD);
-    let at = root_path(&parts.region, i);
-    prep(parts, &at, size, &[], size);
-    commit_word(&mut parts.region, size_place, size);
+    lengthen(parts, i, size);
     Ok(())
-}
-
-/// Gives a file a size below its own: the size is stored, and then the blocks come back that hold no byte below it.
-fn shrink_file<R: Region>(parts: &mut Parts<R>, i: u32, tree: Tree, size: u64)
-    requires mounted { IsMounted (current_words (R.memory parts.old.region)) parts.old }
-    requires reached { IsReached (current_words (R.memory parts.old.region)) i }
-    requires file { IsFile (current_words (R.memory parts.old.region)) i }
-    requires root { tree.root ≡ root_of (current_words (R.memory parts.old.region)) i }
-    requires size { tree.size ≡ size_of (current_words (R.memory parts.old.region)) i }
-    requires smaller { size < tree.size }
-    requires room { 3 ≤ room_in (R.memory parts.old.region) }
-    ensures performs { Performs (kept_of parts.old) (R.memory parts.old.region) (R.memory parts.new.region)
-        (resizes i size) (ResizesFile i size) }
-    ensures exact { IsExact (current_words (R.memory parts.new.region)) parts.new }
-{
-    let size_place = place(&parts.region, i, SIZE_FIELD);
-    commit_word(&mut parts.region, size_place, size);
-    give_back(&parts.region, tree, size, &mut parts.blocks);
 }
 
 /// Gives a file another size in bytes, by one store alone in its epoch: it ends there, or gets zeros behind its old
@@ -93,8 +152,7 @@ pub fn truncate<R: Region>(parts: &mut Parts<R>, i: u32, size: u64) -> Result<()
 {
     let tree = tree_of(&parts.region, i);
     if size < tree.size {
-        shrink_file(parts, i, tree, size);
-        return Ok(());
+        return shrink_file(parts, i, size);
     }
-    grow_file(parts, i, tree, size)
+    grow_file(parts, i, size)
 }

@@ -3,11 +3,12 @@
 ghost use Rattle.std.specs.Prelude.{◌≡◌, ◌+◌, ◌≤◌, length, IfErr, OnErr, OnOk};
 ghost use Rattle.bp_calls.specs.CanWrite.{CanWrite};
 ghost use Rattle.bp_shapes.specs.Sets.{IsExact, kept_of};
-ghost use Rattle.bp_calls.specs.Space.{LacksSpace};
+ghost use Rattle.bp_calls.specs.Space.{LacksBlocks, LacksSpace};
 ghost use Rattle.bp_calls.specs.WritesFile.{WritesFile};
 ghost use Rattle.bp_layout.specs.Inode.{size_of};
+ghost use Rattle.bp_layout.specs.Need.{need};
 ghost use Rattle.bp_layout.specs.Need.Change.{writes};
-ghost use Rattle.bp_commit.specs.Performs.{Performs};
+ghost use Rattle.bp_commit.specs.Performs.{Performs, PerformsThawed};
 ghost use Rattle.pm_region.specs.Memory.{current_words};
 
 mod across;
@@ -32,14 +33,14 @@ fn write_behind<R: Region>(
     off: u64,
     bytes: &[u8],
 ) -> Result<(), NoSpace>
-    requires can { CanWrite (R.memory parts.old.region) parts.old.blocks parts.old.inodes i off bytes.now }
+    requires can { CanWrite (kept_of parts.old) (R.memory parts.old.region) parts.old.blocks parts.old.inodes i off bytes.now }
     requires exact { IsExact (current_words (R.memory parts.old.region)) parts.old }
     requires behind { size_of (current_words (R.memory parts.old.region)) i ≤ off }
-    ensures performs { OnOk result (Performs (kept_of parts.old) (R.memory parts.old.region) (R.memory parts.new.region)
+    ensures performs { OnOk result (PerformsThawed (kept_of parts.old) (R.memory parts.old.region) (R.memory parts.new.region)
         (writes i off (length bytes.now)) (WritesFile i off bytes.now)) }
     ensures exact { IsExact (current_words (R.memory parts.new.region)) parts.new }
-    ensures refused { IfErr result (LacksSpace (current_words (R.memory parts.old.region)) (kept_of parts.old)
-        (writes i off (length bytes.now))) }
+    ensures refused { IfErr result (LacksBlocks (current_words (R.memory parts.old.region)) (kept_of parts.old)
+        (need (current_words (R.memory parts.old.region)) (writes i off (length bytes.now)))) }
     ensures same { OnErr result (parts.new ≡ parts.old) }
 {
     let tree = tree_of(&parts.region, i);
@@ -68,14 +69,14 @@ fn write_below<R: Region>(
     off: u64,
     bytes: &[u8],
 ) -> Result<(), NoSpace>
-    requires can { CanWrite (R.memory parts.old.region) parts.old.blocks parts.old.inodes i off bytes.now }
+    requires can { CanWrite (kept_of parts.old) (R.memory parts.old.region) parts.old.blocks parts.old.inodes i off bytes.now }
     requires exact { IsExact (current_words (R.memory parts.old.region)) parts.old }
     requires below { off + length bytes.now ≤ size_of (current_words (R.memory parts.old.region)) i }
-    ensures performs { OnOk result (Performs (kept_of parts.old) (R.memory parts.old.region) (R.memory parts.new.region)
+    ensures performs { OnOk result (PerformsThawed (kept_of parts.old) (R.memory parts.old.region) (R.memory parts.new.region)
         (writes i off (length bytes.now)) (WritesFile i off bytes.now)) }
     ensures exact { IsExact (current_words (R.memory parts.new.region)) parts.new }
-    ensures refused { IfErr result (LacksSpace (current_words (R.memory parts.old.region)) (kept_of parts.old)
-        (writes i off (length bytes.now))) }
+    ensures refused { IfErr result (LacksBlocks (current_words (R.memory parts.old.region)) (kept_of parts.old)
+        (need (current_words (R.memory parts.old.region)) (writes i off (length bytes.now)))) }
     ensures same { OnErr result (parts.new ≡ parts.old) }
 {
     let tree = tree_of(&parts.region, i);
@@ -92,7 +93,7 @@ fn write_below<R: Region>(
 /// `NoSpace` exactly where fewer blocks are free than it needs: those for bytes past the size, and those that are
 /// copied for bytes below it. Nothing has changed then.
 pub fn write<R: Region>(parts: &mut Parts<R>, i: u32, off: u64, bytes: &[u8]) -> Result<(), NoSpace>
-    requires can { CanWrite (R.memory parts.old.region) parts.old.blocks parts.old.inodes i off bytes.now }
+    requires can { CanWrite (kept_of parts.old) (R.memory parts.old.region) parts.old.blocks parts.old.inodes i off bytes.now }
     requires exact { IsExact (current_words (R.memory parts.old.region)) parts.old }
     ensures performs { OnOk result (Performs (kept_of parts.old) (R.memory parts.old.region) (R.memory parts.new.region)
         (writes i off (length bytes.now)) (WritesFile i off bytes.now)) }

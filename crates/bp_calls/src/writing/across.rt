@@ -91,7 +91,7 @@ pub(crate) fn write_across<R: Region>(
     off: u64,
     bytes: &[u8],
 ) -> Result<(), NoSpace>
-    requires can { CanWrite (R.memory parts.old.region) parts.old.blocks parts.old.inodes i off bytes.now }
+    requires can { CanWrite (kept_of parts.old) (R.memory parts.old.region) parts.old.blocks parts.old.inodes i off bytes.now }
     requires exact { IsExact (current_words (R.memory parts.old.region)) parts.old }
     requires below { off < size_of (current_words (R.memory parts.old.region)) i }
     requires past { size_of (current_words (R.memory parts.old.region)) i < off + length bytes.now }

@@ -4,6 +4,7 @@ use Rattle.pm_region.proofs.MemoryLaws.{length-current_words}
 use Rattle.bp_free.specs.Set.{members}
 use Rattle.bp_layout.specs.Reached.IsReached.{inode_file}
 use Rattle.bp_layout.proofs.Reached.{reached-in_file}
+use Rattle.bp_shapes.specs.Sets.{kept_of}
 use Rattle.bp_append.specs.Prepared.{CanPrepare}
 use Rattle.bp_calls.proofs.WriteBehind.{behind_lacks, behind_can, prepared_base, prepared_room, behind_performs_at, behind_exact_at}
 use Rattle.bp_calls.proofs.writing.write_behind.Goals as goal
@@ -37,7 +38,7 @@ pub commit_word-requires-clause-in_range : goal.commit_word-requires-clause-in_r
 commit_word-requires-clause-in_range g c =
     let memory = g.R.Region.memory in
     let enough : c.need_prep-need.result ≤ length (members c.args.parts.now.blocks) = omega (arith, c.if-free-need.false, c.count-free.ensures) in
-    let prepares : CanPrepare (memory c.args.parts.now.region) (members c.args.parts.now.blocks) c.args.i c.root_path-root.result.items c.args.off (c.args.off + length c.args.bytes.now) =
+    let prepares : CanPrepare (kept_of c.args.parts.now) (memory c.args.parts.now.region) (members c.args.parts.now.blocks) c.args.i c.root_path-root.result.items c.args.off (c.args.off + length c.args.bytes.now) =
     behind_can (memory c.args.parts.now.region) c.args.parts.now.blocks c.args.parts.now.inodes c.args.off c.args.bytes.now c.args.i _ _ c.need_prep-need.result c.root_path-root.result.items c.requires.can c.requires.behind
     c.tree_of-tree.ensures.root c.tree_of-tree.ensures.size c.need_prep-need.ensures enough c.root_path-root.ensures in
     let same = prepared_base (memory c.args.parts.now.region) c.args.parts.now.blocks c.args.parts.now.inodes c.args.off c.args.bytes.now (memory c.prep.new.parts.region) c.prep.new.parts.blocks c.args.i
@@ -48,7 +49,7 @@ pub commit_word-requires-clause-room : goal.commit_word-requires-clause-room
 commit_word-requires-clause-room g c =
     let memory = g.R.Region.memory in
     let enough : c.need_prep-need.result ≤ length (members c.args.parts.now.blocks) = omega (arith, c.if-free-need.false, c.count-free.ensures) in
-    let prepares : CanPrepare (memory c.args.parts.now.region) (members c.args.parts.now.blocks) c.args.i c.root_path-root.result.items c.args.off (c.args.off + length c.args.bytes.now) =
+    let prepares : CanPrepare (kept_of c.args.parts.now) (memory c.args.parts.now.region) (members c.args.parts.now.blocks) c.args.i c.root_path-root.result.items c.args.off (c.args.off + length c.args.bytes.now) =
     behind_can (memory c.args.parts.now.region) c.args.parts.now.blocks c.args.parts.now.inodes c.args.off c.args.bytes.now c.args.i _ _ c.need_prep-need.result c.root_path-root.result.items c.requires.can c.requires.behind
     c.tree_of-tree.ensures.root c.tree_of-tree.ensures.size c.need_prep-need.ensures enough c.root_path-root.ensures in
     prepared_room (memory c.args.parts.now.region) c.args.parts.now.blocks c.args.parts.now.inodes c.args.off c.args.bytes.now (memory c.prep.new.parts.region) c.prep.new.parts.blocks c.args.i c.requires.can c.requires.behind
@@ -58,7 +59,7 @@ pub returns-clause-performs : goal.returns-clause-performs
 returns-clause-performs g c =
     let memory = g.R.Region.memory in
     let enough : c.need_prep-need.result ≤ length (members c.args.parts.now.blocks) = omega (arith, c.if-free-need.false, c.count-free.ensures) in
-    let prepares : CanPrepare (memory c.args.parts.now.region) (members c.args.parts.now.blocks) c.args.i c.root_path-root.result.items c.args.off (c.args.off + length c.args.bytes.now) =
+    let prepares : CanPrepare (kept_of c.args.parts.now) (memory c.args.parts.now.region) (members c.args.parts.now.blocks) c.args.i c.root_path-root.result.items c.args.off (c.args.off + length c.args.bytes.now) =
     behind_can (memory c.args.parts.now.region) c.args.parts.now.blocks c.args.parts.now.inodes c.args.off c.args.bytes.now c.args.i _ _ c.need_prep-need.result c.root_path-root.result.items c.requires.can c.requires.behind
     c.tree_of-tree.ensures.root c.tree_of-tree.ensures.size c.need_prep-need.ensures enough c.root_path-root.ensures in
     behind_performs_at (memory c.args.parts.now.region) c.args.parts.now.blocks c.args.parts.now.inodes c.args.off c.args.bytes.now (memory c.prep.new.parts.region) c.prep.new.parts.blocks (memory c.commit_word.new.region)
@@ -68,7 +69,7 @@ pub returns-clause-exact : goal.returns-clause-exact
 returns-clause-exact g c =
     let memory = g.R.Region.memory in
     let enough : c.need_prep-need.result ≤ length (members c.args.parts.now.blocks) = omega (arith, c.if-free-need.false, c.count-free.ensures) in
-    let prepares : CanPrepare (memory c.args.parts.now.region) (members c.args.parts.now.blocks) c.args.i c.root_path-root.result.items c.args.off (c.args.off + length c.args.bytes.now) =
+    let prepares : CanPrepare (kept_of c.args.parts.now) (memory c.args.parts.now.region) (members c.args.parts.now.blocks) c.args.i c.root_path-root.result.items c.args.off (c.args.off + length c.args.bytes.now) =
     behind_can (memory c.args.parts.now.region) c.args.parts.now.blocks c.args.parts.now.inodes c.args.off c.args.bytes.now c.args.i _ _ c.need_prep-need.result c.root_path-root.result.items c.requires.can c.requires.behind
     c.tree_of-tree.ensures.root c.tree_of-tree.ensures.size c.need_prep-need.ensures enough c.root_path-root.ensures in
     let done = returns-clause-performs g c in

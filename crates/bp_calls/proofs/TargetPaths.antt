@@ -1,0 +1,123 @@
+-- The ways to the words near which a change stores.
+use Rattle.std.proofs.Common.{◌≡◌, ℕ, zero, suc, ◌+◌, ◌-◌, ◌*◌, ◌/◌, ◌^◌, ◌<◌, ◌≤◌, List, [], ◌∷◌, ◌++◌, Bool, true, false, ◌||◌, flat_map, length, refl, sym, ◌∙◌, ap, subst, arith, inl, inr, pow-suc}
+use Rattle.std.proofs.lemmas.Bool.{le-ltb}
+use Rattle.bp_layout.proofs.Reached.{reached-in_file}
+use Rattle.bp_changes.specs.Effects.{CanUnlink}
+use Rattle.bp_layout.specs.Directory.{EntryNames, entry_count, inumber_at}
+use Rattle.bp_layout.specs.Inode.{ContentStandsAt, inode_count, kind_of, root_of, size_of}
+use Rattle.bp_layout.specs.Members.{Has}
+use Rattle.bp_layout.specs.Need.{Beyond, Change, beyond, entry_path, is_there_after}
+use Rattle.bp_layout.specs.Need.Change.{leaves, resizes}
+use Rattle.bp_layout.specs.Reached.{IsReached}
+use Rattle.bp_layout.specs.Reached.IsReached.{inode_file}
+use Rattle.bp_layout.specs.Thaw.{cover_now, end_targets, is_there_now, targets, thawed}
+use Rattle.bp_layout.specs.WellFormed.{IsWellFormed}
+use Rattle.bp_layout.specs.WordPaths.{WordPath, inode_path, tree_path}
+use Rattle.bp_layout.specs.Words.{Image, height_of}
+use Rattle.bp_limits.specs.Limits.{max_height}
+use Rattle.bp_thaw.specs.Fronts.{HasDigits, IsWay}
+use Rattle.bp_layout.specs.Tree.{node}
+use Rattle.bp_layout.proofs.ThawLaws.{loose-on}
+use Rattle.bp_tree.proofs.LooseWays.{loose_inode_word}
+use Rattle.bp_tree.proofs.ExistingPaths.{AllThere, content_path-there, cover_of-one, inode_path-there}
+
+-- a directory is not the inode file
+pub directory_some : (image : Image) (t : ℕ) → kind_of image t ≡ 2 → 1 ≤ t
+directory_some image zero kind = absurd (omega (arith, kind))
+directory_some image (suc n) kind = omega arith
+
+pub entry_fits : (image : Image) → IsWellFormed image → (t slot : ℕ) → IsReached image t → slot < entry_count image t → height_of (root_of image 0) + height_of (root_of image t) ≤ 2 * max_height
+entry_fits image wf t slot reached live =
+    let top : height_of (root_of image 0) ≤ max_height = (wf.sound 0 inode_file).low (omega (arith, wf.some_inodes)) in
+    let low : height_of (root_of image t) ≤ max_height = (wf.sound t reached).low (omega (arith, live)) in
+    omega (arith, top, low)
+
+-- a number has as many digits as its power has
+pub few_digits : (d k : ℕ) → k < 512 ^ d → HasDigits d k
+few_digits zero k low = omega (arith, low)
+few_digits (suc d) k low = few_digits d (k / 512) (let more = rw pow-suc at low in omega (arith, more))
+
+-- the way to a content word of a reached tree
+pub content_way : (image : Image) → IsWellFormed image → (t k : ℕ) → IsReached image t → 8 * k < size_of image t → IsWay image (tree_path (height_of (root_of image 0)) t (suc (height_of (root_of image t))) k)
+content_way image wf t k reached below =
+    let fits = (wf.sound t reached).fits in
+    record { tree = t; depth = suc (height_of (root_of image t)); index = k; reached = reached; low = omega arith; few = few_digits (suc (height_of (root_of image t))) k (omega (arith, fits, below)); is = refl }
+
+there_as : (p q : WordPath → Bool) → ((path : WordPath) → p path ≡ true → q path ≡ true) → (here path : WordPath) → AllThere p here path → AllThere q here path
+there_as p q alike here [] all = tt
+there_as p q alike here (slot ∷ path) all = (alike here all.0, there_as p q alike (here ++ slot ∷ []) path all.1)
+
+or_none : (b : Bool) → ((b || false) || false) ≡ true → b ≡ true
+or_none true e = refl
+or_none false e = e
+
+or_more : (image : Image) (i s : ℕ) (path : WordPath) → is_there_after image (leaves i s) path ≡ true → is_there_now image path ≡ true
+or_more image i s path there = or_none (is_there_now image path) there
+
+-- a word of a reached inode is there
+inode_path-now : (image : Image) → IsWellFormed image → (i f : ℕ) → IsReached image i → f < 8 → AllThere (is_there_now image) [] (inode_path (height_of (root_of image 0)) i f)
+inode_path-now image wf i f reached low =
+    there_as (is_there_after image (leaves i 0)) (is_there_now image) (or_more image i 0) [] (inode_path (height_of (root_of image 0)) i f) (inode_path-there image (leaves i 0) wf refl i f reached low)
+
+-- the way to a word of a reached inode
+pub inode_way : (image : Image) → IsWellFormed image → (i f : ℕ) → IsReached image i → f < 8 → IsWay image (inode_path (height_of (root_of image 0)) i f)
+inode_way image wf i f reached low =
+    let inside : i < inode_count image = reached-in_file image wf i reached in
+    content_way image wf 0 (8 * i + f) inode_file (omega (arith, inside, low))
+
+-- ---- where a name leaves
+
+module _ (image : Image) (wf : IsWellFormed image) (i s j : ℕ) (can : CanUnlink image i s j) where
+  abbrev entry : WordPath
+  entry = tree_path (height_of (root_of image 0)) i (suc (height_of (root_of image i))) (32 * s + 0)
+
+  whole : AllThere (is_there_now image) [] entry
+  whole = there_as (is_there_after image (leaves i s)) (is_there_now image) (λ path there. or_none (is_there_now image path) there) [] entry
+      (content_path-there image (leaves i s) wf refl i (32 * s + 0) can.reached refl (wf.full_directories i can.reached can.entry.directory) (let low = can.entry.in_size in omega (arith, low)))
+
+  pub leaving_cover : cover_now image (leaves i s) ≡ entry
+  leaving_cover = cover_of-one (is_there_now image) entry whole
+
+  pub leaving_targets : targets image (leaves i s) ≡ entry ∷ []
+  leaving_targets = ap (λ (p : WordPath). p ∷ []) leaving_cover
+
+  pub leaving_ways : (path : WordPath) → Has (targets image (leaves i s)) path → IsWay image path
+  leaving_ways path has = go (subst (λ ps. Has ps path) leaving_targets has)
+    where
+      go : Has (entry ∷ []) path → IsWay image path
+      go (inl e) = subst (IsWay image) e (content_way image wf i (32 * s + 0) can.reached (let low = can.entry.in_size in omega (arith, low)))
+      go (inr never) = absurd never
+
+-- ---- where a file gets no bytes more
+
+module _ (image : Image) (wf : IsWellFormed image) (i size : ℕ) (reached : IsReached image i) (smaller : size ≤ size_of image i) where
+  abbrev size_way : WordPath
+  size_way = inode_path (height_of (root_of image 0)) i 2
+
+  none_beyond : beyond image (resizes i size) ≡ []
+  none_beyond = rw (le-ltb (size_of image i) size smaller) refl
+
+  shrinking_whole : AllThere (is_there_now image) [] size_way
+  shrinking_whole = inode_path-now image wf i 2 reached (omega arith)
+
+  pub shrinking_cover : cover_now image (resizes i size) ≡ size_way
+  shrinking_cover = cover_of-one (is_there_now image) size_way shrinking_whole
+
+  pub shrinking_targets : targets image (resizes i size) ≡ size_way ∷ []
+  shrinking_targets =
+      ap (λ (bs : List Beyond). cover_now image (resizes i size) ∷ flat_map (end_targets image) (bs ++ []) ++ []) none_beyond ∙ ap (λ (p : WordPath). p ∷ []) shrinking_cover
+
+  pub shrinking_ways : (path : WordPath) → Has (targets image (resizes i size)) path → IsWay image path
+  shrinking_ways path has = go (subst (λ ps. Has ps path) shrinking_targets has)
+    where
+      go : Has (size_way ∷ []) path → IsWay image path
+      go (inl e) = subst (IsWay image) e (inode_way image wf i 2 reached (omega arith))
+      go (inr never) = absurd never
+
+  -- where nothing is left to thaw the block of its size is not kept
+  pub shrinking_loose : (kept : ℕ → Bool) (place : ℕ) → ContentStandsAt image 0 (8 * i + 2) place → thawed image kept (resizes i size) ≡ [] → kept (place / 512) ≡ false
+  shrinking_loose kept place stands clear =
+      let inside : i < inode_count image = reached-in_file image wf i reached in
+      let among : Has (targets image (resizes i size)) size_way = subst (λ ps. Has ps size_way) (sym shrinking_targets) (inl refl) in
+      let here : node image (root_of image 0) (height_of (root_of image 0)) ((8 * i + 2) / 512) ≡ place / 512 = omega (arith, stands.at) in
+      ap kept (sym here) ∙ loose_inode_word image wf kept i 2 inside (omega arith) (loose-on image kept (targets image (resizes i size)) clear size_way among (length size_way - 1))

@@ -1,0 +1,65 @@
+//! The words near which a change stores, before it is made.
+
+ghost use Rattle.std.specs.Prelude.{◌≡◌, ℕ, suc, ◌+◌, ◌*◌, ◌<◌, ◌≤◌};
+ghost use Rattle.bp_changes.specs.Effects.{CanUnlink};
+ghost use Rattle.bp_layout.specs.Directory.{entry_count, inumber_at};
+ghost use Rattle.bp_layout.specs.Inode.{root_of, size_of};
+ghost use Rattle.bp_layout.specs.Need.Change.{leaves, resizes};
+ghost use Rattle.bp_layout.specs.Reached.{IsReached};
+ghost use Rattle.bp_layout.specs.Thaw.{targets};
+ghost use Rattle.bp_layout.specs.WellFormed.{IsWellFormed};
+ghost use Rattle.bp_layout.specs.WordPaths.{tree_path};
+ghost use Rattle.bp_layout.specs.Words.{height_of};
+ghost use Rattle.bp_limits.specs.Limits.{entry_words};
+ghost use Rattle.bp_thaw.specs.Thaws.{paths_in};
+ghost use Rattle.pm_region.specs.Memory.{current_words};
+
+use arrayvec::ArrayVec;
+use bp_inodes::{root_path, size_path, tree_of};
+use bp_limits::ENTRY_SIZE;
+use bp_tree::{Slots, word_path};
+use pm_region::Region;
+
+/// The ways to these words. No change has more than eight.
+pub(crate) type Targets = ArrayVec<Slots, 8>;
+
+/// The path of the inumber of an entry.
+pub(crate) fn entry_path<R: Region>(region: &R, dir: u32, slot: u64) -> Slots
+    requires well_formed { IsWellFormed (current_words (R.memory region.now)) }
+    requires reached { IsReached (current_words (R.memory region.now)) dir }
+    requires some { 1 ≤ dir }
+    requires live { slot < entry_count (current_words (R.memory region.now)) dir }
+    ensures { result.items ≡ tree_path (height_of (root_of (current_words (R.memory region.now)) 0)) dir
+        (suc (height_of (root_of (current_words (R.memory region.now)) dir))) (entry_words * slot + 0) }
+{
+    let mut path = root_path(region, dir);
+    let within = word_path(tree_of(region, dir), slot * ENTRY_SIZE);
+    match path.try_extend_from_slice(within.as_slice()) {
+        Ok(()) => path,
+        Err(_) => unreachable!(),
+    }
+}
+
+/// Where a name leaves the entry in `slot`: the inumber alone.
+pub(crate) fn leaving<R: Region>(region: &R, dir: u32, slot: u64) -> Targets
+    requires well_formed { IsWellFormed (current_words (R.memory region.now)) }
+    requires can { CanUnlink (current_words (R.memory region.now)) dir slot
+        (inumber_at (current_words (R.memory region.now)) dir slot) }
+    ensures { paths_in result ≡ targets (current_words (R.memory region.now)) (leaves dir slot) }
+{
+    let mut targets = Targets::new();
+    targets.push(entry_path(region, dir, slot));
+    targets
+}
+
+/// Where a file ends earlier, or where it did: the word of its size alone.
+pub(crate) fn shrinking<R: Region>(region: &R, i: u32) -> Targets
+    requires well_formed { IsWellFormed (current_words (R.memory region.now)) }
+    requires reached { IsReached (current_words (R.memory region.now)) i }
+    ensures { (size : ℕ) → size ≤ size_of (current_words (R.memory region.now)) i →
+        paths_in result ≡ targets (current_words (R.memory region.now)) (resizes i size) }
+{
+    let mut targets = Targets::new();
+    targets.push(size_path(region, i));
+    targets
+}

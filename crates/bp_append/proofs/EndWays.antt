@@ -1,7 +1,7 @@
 -- Where the way to the byte at the size of a tree is loose, no node with that byte is kept, nor the block that holds the
 -- tree's root word.
 use Rattle.std.proofs.Common.{◌≡◌, ◌≢◌, ℕ, zero, suc, ◌+◌, ◌-◌, ◌*◌, ◌/◌, ◌%◌, ◌<◌, ◌≤◌, [], ◌∷◌, ◌++◌, length, Bool, true, false, nat_lt, if◌then◌else◌, refl, sym, ◌∙◌, ap, subst, arith, append_assoc, mul-le-mul_right, lt_of_le_of_lt, lt_of_lt_of_le, le_trans, le_of_lt, inl, inr}
-use Rattle.std.proofs.lemmas.Bool.{cases_lt, lt-ltb}
+use Rattle.std.proofs.lemmas.Bool.{and_from, cases_lt, lt-ltb}
 use Rattle.std.proofs.lemmas.List.{length-append}
 use Rattle.std.proofs.Math.Nat.{div-mul-le_self, lt-div-mul-add, div-lt_iff_lt-mul}
 use Rattle.std.proofs.lemmas.Nat.{le-div}
@@ -113,8 +113,9 @@ module _ (image : Image) (wf : IsWellFormed image) where
         let begins : k * span live.level < span (heights_now image t) = lt_of_lt_of_le live.live fits in
         let ends : k * span live.level + span live.level ≤ span (heights_now image t) = ends_within (heights_now image t) live.level d k live.height begins in
         let low : size_of image t < span (heights_now image t) = lt_of_lt_of_le high ends in
+        let some : 0 < size_of image t = lt_of_le_of_lt (grind (arith)) live.live in
         let way : IsLoose image kept (length (root_path_now image t) - 1) (tree_path (heights_now image 0) t (suc (heights_now image t)) (size_of image t / 8)) =
-        subst (λ b. IsLoose image kept (length (root_path_now image t) - 1) (if b then tree_path (heights_now image 0) t (suc (heights_now image t)) (size_of image t / 8) else root_path_now image t)) (lt-ltb _ _ low) loose in
+        subst (λ b. IsLoose image kept (length (root_path_now image t) - 1) (if b then tree_path (heights_now image 0) t (suc (heights_now image t)) (size_of image t / 8) else root_path_now image t)) (and_from _ _ (lt-ltb _ _ some) (lt-ltb _ _ low)) loose in
         let through = digits-through (heights_now image t) (size_of image t) live.level d k live.height (le_of_lt live.live) high in
         sym (kept_node image wf kept t d k reached live present)
         ∙ loose-front image kept (length (root_path_now image t) - 1) (tree_path (heights_now image 0) t d k) through.0 through.1.0 (root_short (heights_now image 0) t d k)

@@ -30,10 +30,10 @@ cover_now image change = cover_of (is_there_now image) (touched_at (heights_now 
 abbrev pub root_path_now : Image → ℕ → WordPath
 root_path_now image t = tree_path (heights_now image 0) t 0 0
 
--- the word of the byte at the size, or the root word where the tree is too low for it
+-- the word of the byte at the size, or the root word where the tree is empty or too low for it
 abbrev pub end_path_now : Image → ℕ → WordPath
 end_path_now image t =
-    if nat_lt (size_of image t) (span (heights_now image t))
+    if nat_lt 0 (size_of image t) && nat_lt (size_of image t) (span (heights_now image t))
     then tree_path (heights_now image 0) t (suc (heights_now image t)) (size_of image t / 8) else root_path_now image t
 
 -- where bytes come behind the size of a tree

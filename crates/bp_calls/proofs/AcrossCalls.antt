@@ -20,7 +20,7 @@ use Rattle.bp_cow.specs.Touched.{IsTouched, NoneBegins, all_paths}
 use Rattle.bp_cow.specs.declared.touched.Touched.{Touched}
 use Rattle.pm_region.specs.Memory.{Memory, current_words, room_in}
 use Rattle.pm_region.proofs.MemoryLaws.{length-current_words, room_in-piece}
-use Rattle.bp_calls.specs.CanWrite.{CanWrite}
+use Rattle.bp_calls.specs.CanWrite.{CanWriteThawed}
 use Rattle.bp_calls.specs.Space.{LacksSpace}
 use Rattle.bp_calls.specs.TouchedAcross.{IsRunAcross, IsSizeWord, TouchesAcross, WritesAcross}
 use Rattle.bp_cow.specs.declared.touched.Run.{Run}
@@ -59,7 +59,7 @@ module _ (old : Memory) (blocks inodes : Set) (off : ℕ) (bytes : List ℕ) (to
   not_inodes P across = absurd (omega (arith, across.can.file))
 
   -- the bytes are split at the size
-  pub splits_at : (i size : ℕ) (below : List ℕ) → CanWrite old blocks inodes i off bytes → off < size_of (current_words old) i → size_of (current_words old) i < off + length bytes → size ≡ size_of (current_words old) i →
+  pub splits_at : (i size : ℕ) (below : List ℕ) → CanWriteThawed old blocks inodes i off bytes → off < size_of (current_words old) i → size_of (current_words old) i < off + length bytes → size ≡ size_of (current_words old) i →
       below ≡ take (size - off) bytes → TouchesAcross (current_words old) i off (off + length bytes) below touched → WritesAcross old blocks inodes i off bytes touched
   splits_at i size below can low past is split touches = record {
     can = can;

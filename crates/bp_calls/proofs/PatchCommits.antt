@@ -25,7 +25,7 @@ use Rattle.bp_cow.specs.Cover.{commit_cover, copied_count}
 use Rattle.bp_cow.specs.Job.{IsTurned}
 use Rattle.bp_cow.specs.Touched.{IsTouched, job_of, leaves_of}
 use Rattle.bp_cow.proofs.CommitTaking.{commit_performs, stores_few}
-use Rattle.bp_calls.specs.Overwritten.{AreRuns, CanOverwrite, stretches_of}
+use Rattle.bp_calls.specs.Overwritten.{AreRuns, CanOverwriteThawed, stretches_of}
 use Rattle.bp_calls.specs.Space.{LacksBlocks}
 use Rattle.bp_calls.proofs.FreeCounts.{free_members}
 use Rattle.bp_calls.proofs.PatchPaths.{patches_cover, patches_need}
@@ -46,7 +46,7 @@ overwrites_now : (image : Image) (stretches : List Stretch) → cover_now image 
 overwrites_now image stretches =
     exists_as (is_there_now image) (is_there_after image (overwrites stretches)) (λ path. or_false (is_there_now image path)) [] (common_all (all_touched image (overwrites stretches)))
 
-module _ {kept : ℕ → Bool} (old : Memory) (blocks inodes : Set) (patches : List Patch) (touched : Touched) (asks : CanOverwrite kept old blocks inodes patches) (are : AreRuns (current_words old) patches touched.runs.now) (none : touched.words.now ≡ []) where
+module _ {kept : ℕ → Bool} (old : Memory) (blocks inodes : Set) (patches : List Patch) (touched : Touched) (asks : CanOverwriteThawed kept old blocks inodes patches) (are : AreRuns (current_words old) patches touched.runs.now) (none : touched.words.now ≡ []) where
   abbrev image : Image
   image = current_words old
 

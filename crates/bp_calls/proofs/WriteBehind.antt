@@ -24,7 +24,7 @@ use Rattle.bp_append.proofs.StoresLaws.{behind_whole, room_behind_whole}
 use Rattle.bp_append.specs.Prepared.{HasLooseEnd, CanPrepare, PreparesWith, need_for}
 use Rattle.bp_append.proofs.GrowsTree.{OnlyGrows, GrowsTree, only_need, grown_size, grown_performs}
 use Rattle.bp_append.proofs.GrownEffect.{grown_changes, grown_bytes, grown_live, grown_stays, grown_taken}
-use Rattle.bp_calls.specs.CanWrite.{CanWrite}
+use Rattle.bp_calls.specs.CanWrite.{CanWriteThawed}
 use Rattle.bp_shapes.specs.Sets.{AreExact}
 use Rattle.bp_calls.specs.Space.{LacksBlocks}
 use Rattle.bp_calls.specs.WritesFile.{WritesFile, written_byte}
@@ -71,7 +71,7 @@ only_grows image i off len behind some = record {
 
 -- ---- the call
 
-module _ {kept : ℕ → Bool} (old : Memory) (blocks inodes : Set) (n off : ℕ) (bytes : List ℕ) (can : CanWrite kept old blocks inodes (suc n) off bytes) (behind : size_of (current_words old) (suc n) ≤ off) where
+module _ {kept : ℕ → Bool} (old : Memory) (blocks inodes : Set) (n off : ℕ) (bytes : List ℕ) (can : CanWriteThawed kept old blocks inodes (suc n) off bytes) (behind : size_of (current_words old) (suc n) ≤ off) where
   abbrev image : Image
   image = current_words old
 
@@ -160,10 +160,10 @@ module _ (old : Memory) (blocks inodes : Set) (off : ℕ) (bytes : List ℕ) whe
   abbrev nodes_here : ℕ → ℕ → ℕ
   nodes_here root size = length (nodes_for (current_words old) root size off (off + length bytes))
 
-  not_inodes : {kept : ℕ → Bool} (P : Type 0) → CanWrite kept old blocks inodes 0 off bytes → P
+  not_inodes : {kept : ℕ → Bool} (P : Type 0) → CanWriteThawed kept old blocks inodes 0 off bytes → P
   not_inodes P can = absurd (omega (arith, can.file))
 
-  pub behind_lacks : {kept : ℕ → Bool} (i root size needed free : ℕ) → CanWrite kept old blocks inodes i off bytes → size_of (current_words old) i ≤ off → root ≡ root_of (current_words old) i → size ≡ size_of (current_words old) i →
+  pub behind_lacks : {kept : ℕ → Bool} (i root size needed free : ℕ) → CanWriteThawed kept old blocks inodes i off bytes → size_of (current_words old) i ≤ off → root ≡ root_of (current_words old) i → size ≡ size_of (current_words old) i →
       needed ≡ nodes_here root size → free ≡ length (members blocks) → free < needed → LacksBlocks (current_words old) kept (need (current_words old) (writes i off (length bytes))) (record { need = needed; free = free })
   behind_lacks zero root size needed free can = λ behind one two counted is fewer. not_inodes _ can
   behind_lacks (suc n) root size needed free can = λ behind one two counted is fewer.
@@ -173,7 +173,7 @@ module _ (old : Memory) (blocks inodes : Set) (off : ℕ) (bytes : List ℕ) whe
         fewer = fewer;
       }
 
-  pub behind_can : {kept : ℕ → Bool} (i root size needed : ℕ) (path : WordPath) → CanWrite kept old blocks inodes i off bytes → size_of (current_words old) i ≤ off → root ≡ root_of (current_words old) i → size ≡ size_of (current_words old) i →
+  pub behind_can : {kept : ℕ → Bool} (i root size needed : ℕ) (path : WordPath) → CanWriteThawed kept old blocks inodes i off bytes → size_of (current_words old) i ≤ off → root ≡ root_of (current_words old) i → size ≡ size_of (current_words old) i →
       needed ≡ nodes_here root size → needed ≤ length (members blocks) → path ≡ inode_path (height_of (root_of (current_words old) 0)) i 1 → CanPrepare kept old (members blocks) i path off (off + length bytes)
   behind_can zero root size needed path can = λ behind one two counted enough is. not_inodes _ can
   behind_can (suc n) root size needed path can = λ behind one two counted enough is.
@@ -184,7 +184,7 @@ module _ (old : Memory) (blocks inodes : Set) (off : ℕ) (bytes : List ℕ) whe
     pub prepared_base : {kept : ℕ → Bool} (i : ℕ) → PreparesWith kept old middle (members blocks) (members after) i off (off + length bytes) bytes → length middle.base ≡ length old.base
     prepared_base i prepared = ap length (base-adds old middle _ prepared.adds.part.adds)
 
-    pub prepared_room : {kept : ℕ → Bool} (i : ℕ) → CanWrite kept old blocks inodes i off bytes → size_of (current_words old) i ≤ off → PreparesWith kept old middle (members blocks) (members after) i off (off + length bytes) bytes → 3 ≤ room_in middle
+    pub prepared_room : {kept : ℕ → Bool} (i : ℕ) → CanWriteThawed kept old blocks inodes i off bytes → size_of (current_words old) i ≤ off → PreparesWith kept old middle (members blocks) (members after) i off (off + length bytes) bytes → 3 ≤ room_in middle
     prepared_room zero can = λ behind prepared. not_inodes _ can
     prepared_room (suc n) can = λ behind prepared.
         let left = room_after_quiet Same 2 (prep_stores (size_of (current_words old) (suc n)) off (off + length bytes) (need_for (current_words old) (suc n) off (off + length bytes))) old middle prepared.adds.part in
@@ -197,13 +197,13 @@ module _ (old : Memory) (blocks inodes : Set) (off : ℕ) (bytes : List ℕ) whe
         enough needed behind room left a b c = omega (arith, a, b, c)
 
     module _ (new : Memory) (path : WordPath) (place : ℕ) where
-      pub behind_performs_at : {kept : ℕ → Bool} (i : ℕ) → CanWrite kept old blocks inodes i off bytes → size_of (current_words old) i ≤ off → CanPrepare kept old (members blocks) i path off (off + length bytes) →
+      pub behind_performs_at : {kept : ℕ → Bool} (i : ℕ) → CanWriteThawed kept old blocks inodes i off bytes → size_of (current_words old) i ≤ off → CanPrepare kept old (members blocks) i path off (off + length bytes) →
           ContentStandsAt (current_words old) 0 (8 * i + 2) place → PreparesWith kept old middle (members blocks) (members after) i off (off + length bytes) bytes → Adds middle new (commit place (off + length bytes)) →
           PerformsThawed kept old new (writes i off (length bytes)) (WritesFile i off bytes)
       behind_performs_at zero can = λ behind prepares stands prepared stored. not_inodes _ can
       behind_performs_at (suc n) can = λ behind prepares stands prepared stored. behind_performs old blocks inodes n off bytes can behind middle new after path place prepares stands prepared stored
 
-      pub behind_exact_at : {kept : ℕ → Bool} (i : ℕ) → CanWrite kept old blocks inodes i off bytes → size_of (current_words old) i ≤ off → CanPrepare kept old (members blocks) i path off (off + length bytes) →
+      pub behind_exact_at : {kept : ℕ → Bool} (i : ℕ) → CanWriteThawed kept old blocks inodes i off bytes → size_of (current_words old) i ≤ off → CanPrepare kept old (members blocks) i path off (off + length bytes) →
           ContentStandsAt (current_words old) 0 (8 * i + 2) place → PreparesWith kept old middle (members blocks) (members after) i off (off + length bytes) bytes → Adds middle new (commit place (off + length bytes)) →
           length after ≡ length blocks → AreExact (current_words new) kept after inodes
       behind_exact_at zero can = λ behind prepares stands prepared stored room. not_inodes _ can

@@ -28,7 +28,7 @@ use Rattle.bp_cow.proofs.CommitTaking.{commit_performs, stores_few}
 use Rattle.bp_cow.proofs.FewCopies.{few_copies}
 use Rattle.bp_cow.proofs.RunThere.{run_cover, run_need}
 use Rattle.bp_cow.proofs.RunWrites.{run_bytes, run_changes, run_size}
-use Rattle.bp_calls.specs.CanWrite.{CanWrite}
+use Rattle.bp_calls.specs.CanWrite.{CanWriteThawed}
 use Rattle.bp_calls.specs.Space.{LacksBlocks}
 use Rattle.bp_calls.specs.TouchedBelow.{WritesBelow}
 use Rattle.bp_calls.specs.WritesFile.{WritesFile}
@@ -74,7 +74,7 @@ record CanCommitRun (kept : ℕ → Bool) (memory : Memory) (blocks : Set) (i : 
   pub room : copied_count (current_words memory) touched ≤ length (members blocks) → HasRoom memory touched
   pub loose : HasLooseCover (current_words memory) kept touched
 
-module _ {kept : ℕ → Bool} (old : Memory) (blocks inodes : Set) (n : ℕ) (touched : Touched) (run : Run) (is : IsRunAlone (current_words old) (suc n) touched run) (asks : CanWrite kept old blocks inodes (suc n) run.off run.bytes.now) where
+module _ {kept : ℕ → Bool} (old : Memory) (blocks inodes : Set) (n : ℕ) (touched : Touched) (run : Run) (is : IsRunAlone (current_words old) (suc n) touched run) (asks : CanWriteThawed kept old blocks inodes (suc n) run.off run.bytes.now) where
   abbrev image : Image
   image = current_words old
 
@@ -170,19 +170,19 @@ module _ {kept : ℕ → Bool} (old : Memory) (blocks inodes : Set) (n : ℕ) (t
 -- ---- by the number of the inode
 
 module _ {kept : ℕ → Bool} (old : Memory) (blocks inodes : Set) (touched : Touched) (run : Run) where
-  not_inodes : (P : Type 0) → CanWrite kept old blocks inodes 0 run.off run.bytes.now → P
+  not_inodes : (P : Type 0) → CanWriteThawed kept old blocks inodes 0 run.off run.bytes.now → P
   not_inodes P asks = absurd (omega (arith, asks.file))
 
-  can_at : (i : ℕ) → IsRunAlone (current_words old) i touched run → CanWrite kept old blocks inodes i run.off run.bytes.now → CanCommitRun kept old blocks i touched run
+  can_at : (i : ℕ) → IsRunAlone (current_words old) i touched run → CanWriteThawed kept old blocks inodes i run.off run.bytes.now → CanCommitRun kept old blocks i touched run
   can_at zero is asks = not_inodes _ asks
   can_at (suc n) is asks = below_can old blocks inodes n touched run is asks
 
   module _ (new : Memory) (after : Set) (small : (i : ℕ) → slice_index run.bytes.now i < 256) (done : CommitsTouched (size_of (current_words old)) kept touched old new blocks after) where
-    performs_at : (i : ℕ) → IsRunAlone (current_words old) i touched run → CanWrite kept old blocks inodes i run.off run.bytes.now → PerformsThawed kept old new (writes i run.off (length run.bytes.now)) (WritesFile i run.off run.bytes.now)
+    performs_at : (i : ℕ) → IsRunAlone (current_words old) i touched run → CanWriteThawed kept old blocks inodes i run.off run.bytes.now → PerformsThawed kept old new (writes i run.off (length run.bytes.now)) (WritesFile i run.off run.bytes.now)
     performs_at zero is asks = not_inodes _ asks
     performs_at (suc n) is asks = below_performs old blocks inodes n touched run is asks new after small done
 
-    exact_at : (i : ℕ) → IsRunAlone (current_words old) i touched run → CanWrite kept old blocks inodes i run.off run.bytes.now → length after ≡ length blocks → AreExact (current_words new) kept after inodes
+    exact_at : (i : ℕ) → IsRunAlone (current_words old) i touched run → CanWriteThawed kept old blocks inodes i run.off run.bytes.now → length after ≡ length blocks → AreExact (current_words new) kept after inodes
     exact_at zero is asks = λ room. not_inodes _ asks
     exact_at (suc n) is asks = λ room. below_exact old blocks inodes n touched run is asks new after small done room
 
@@ -199,8 +199,8 @@ module _ {kept : ℕ → Bool} (old : Memory) (blocks inodes : Set) (i off : ℕ
   from_run : (P : ℕ → List ℕ → Type 0) → P run.off run.bytes.now → P off bytes
   from_run P there = subst (λ o. P o bytes) write.touches.is.from (subst (λ (bs : List ℕ). P run.off bs) write.touches.is.bytes_are there)
 
-  asks : CanWrite kept old blocks inodes i run.off run.bytes.now
-  asks = of_run (CanWrite kept old blocks inodes i) write.can
+  asks : CanWriteThawed kept old blocks inodes i run.off run.bytes.now
+  asks = of_run (CanWriteThawed kept old blocks inodes i) write.can
 
   alone : IsRunAlone (current_words old) i touched run
   alone = record {

@@ -42,10 +42,16 @@ pub record IsPatchIn (image : Image) (patch : Patch) : Type 0 where
   pub is_file : IsFile image patch.inode
   pub within : patch.off + length patch.bytes ≤ size_of image patch.inode
 
--- The image is well formed, the sets are exact, and the patches lie in files, so many at most. Some of them has a byte,
--- and all have no more than one call writes. Nothing is left to thaw. The log has room for the change, where enough
--- blocks are free.
-pub record CanOverwrite (kept : ℕ → Bool) (memory : Memory) (blocks inodes : Set) (patches : List Patch) : Type 0 where
+-- The patches lie in files, so many at most. Some of them has a byte, and all have no more than one call writes.
+pub record CanOverwrite (image : Image) (patches : List Patch) : Type 0 where
+  pub few : length patches ≤ max_pieces
+  pub each : Each (IsPatchIn image) patches
+  pub some : 1 ≤ byte_count patches
+  pub short : byte_count patches ≤ max_batch
+
+-- The same, where the image is well formed, the sets are exact, and nothing is left to thaw. The log has room for the
+-- change, where enough blocks are free.
+pub record CanOverwriteThawed (kept : ℕ → Bool) (memory : Memory) (blocks inodes : Set) (patches : List Patch) : Type 0 where
   pub well_formed : IsWellFormed (current_words memory)
   pub exact : AreExact (current_words memory) kept blocks inodes
   pub few : length patches ≤ max_pieces

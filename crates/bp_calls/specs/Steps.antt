@@ -1,6 +1,6 @@
 -- What stands before a name is entered in a directory.
 use Rattle.std.specs.Prelude.{◌≡◌, ◌≢◌, ℕ, ◌+◌, ◌≤◌, [], None, length}
-use Rattle.bp_append.specs.Prepared.{need_for}
+use Rattle.bp_append.specs.Prepared.{HasLooseEnd, need_for}
 use Rattle.bp_free.specs.Set.{Set, members}
 use Rattle.bp_layout.specs.Directory.{Name, IsName, empty_slot, slot_named}
 use Rattle.bp_layout.specs.Free.{IsFreeInode}
@@ -50,13 +50,14 @@ abbrev pub entry_need_for : Image → ℕ → ℕ
 entry_need_for image i = need_for image i (size_of image i) (size_of image i + entry_size)
 
 -- Directory i lacks the name, no entry is empty, and as many blocks are free as the directory lacks for one entry more.
--- The set of blocks is exact, with one of inodes.
-pub record CanPutBehind (memory : Memory) (blocks : Set) (i : ℕ) (name : Name) : Type 0 where
+-- The set of blocks is exact, with one of inodes, and no block is kept with the end of the directory.
+pub record CanPutBehind (kept : ℕ → Bool) (memory : Memory) (blocks : Set) (i : ℕ) (name : Name) : Type 0 where
   pub lacks : LacksName (current_words memory) i name
   pub none : empty_slot (current_words memory) i ≡ None
   pub inodes : Set
-  pub exact : AreExact (current_words memory) none_kept blocks inodes
+  pub exact : AreExact (current_words memory) kept blocks inodes
   pub enough : entry_need_for (current_words memory) i ≤ length (members blocks)
+  pub loose : HasLooseEnd (current_words memory) kept i
   pub room : entering_room (entry_need_for (current_words memory) i) ≤ room_in memory
 
 -- the same, and inode j is free for it

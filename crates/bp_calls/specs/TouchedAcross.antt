@@ -9,7 +9,7 @@ use Rattle.bp_layout.specs.Inode.{root_of, size_of}
 use Rattle.bp_layout.specs.Nodes.{height_with}
 use Rattle.bp_layout.specs.WordPaths.{inode_path}
 use Rattle.bp_layout.specs.Words.{Image, height_of}
-use Rattle.bp_calls.specs.CanWrite.{CanWrite}
+use Rattle.bp_calls.specs.CanWrite.{CanWriteThawed}
 use Rattle.pm_region.specs.Memory.{Memory, current_words}
 
 -- the word of the size of inode i alone, with the value that it is given
@@ -37,7 +37,7 @@ pub record TouchesAcross (image : Image) (i off end : ℕ) (bytes : List ℕ) (t
 -- the size.
 pub record WritesAcross (memory : Memory) (blocks inodes : Set) (i off : ℕ) (bytes : List ℕ)
     (touched : Touched) : Type 0 where
-  pub can : CanWrite memory blocks inodes i off bytes
+  pub can : CanWriteThawed memory blocks inodes i off bytes
   pub below : off < size_of (current_words memory) i
   pub past : size_of (current_words memory) i < off + length bytes
   pub touches : TouchesAcross (current_words memory) i off (off + length bytes)

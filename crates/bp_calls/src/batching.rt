@@ -1,18 +1,21 @@
 //! Bytes into several files at once.
 
 ghost use Rattle.std.specs.Prelude.{◌≡◌, ◌≤◌, length, IfErr, OnErr, OnOk};
+ghost use Rattle.bp_calls.specs.Mounted.{IsMounted};
 ghost use Rattle.bp_calls.specs.Overwritten.{
   AreRuns,
   CanOverwrite,
+  CanOverwriteThawed,
   IsPatchIn,
   patch_seen,
   patches_seen,
   stretches_of,
 };
-ghost use Rattle.bp_calls.specs.Space.{LacksBlocks};
+ghost use Rattle.bp_calls.specs.Space.{HasRoomWhereFree, LacksBlocks, LacksSpace};
 ghost use Rattle.bp_calls.specs.TouchedBelow.{IsRunFor};
 ghost use Rattle.bp_changes.specs.Overwrites.{OverwritesFiles};
-ghost use Rattle.bp_commit.specs.Performs.{PerformsThawed};
+ghost use Rattle.bp_changes.specs.Thawed.{AfterThaw};
+ghost use Rattle.bp_commit.specs.Performs.{Performs, PerformsThawed};
 ghost use Rattle.bp_layout.specs.Members.{Each};
 ghost use Rattle.bp_layout.specs.Need.{need};
 ghost use Rattle.bp_layout.specs.Need.Change.{overwrites};
@@ -71,7 +74,7 @@ fn runs_of<'a, R: Region>(region: &R, patches: &[Patch<'a>]) -> ArrayVec<Run<'a>
 ///
 /// Where fewer blocks are free than are copied. Nothing has changed then.
 fn overlay<R: Region>(parts: &mut Parts<R>, patches: &[Patch<'_>]) -> Result<(), NoSpace>
-    requires can { CanOverwrite (kept_of parts.old) (R.memory parts.old.region) parts.old.blocks parts.old.inodes
+    requires can { CanOverwriteThawed (kept_of parts.old) (R.memory parts.old.region) parts.old.blocks parts.old.inodes
         (patches_seen patches.now) }
     requires exact { IsExact (current_words (R.memory parts.old.region)) parts.old }
     ensures performs { OnOk result (PerformsThawed (kept_of parts.old) (R.memory parts.old.region)
@@ -87,7 +90,26 @@ fn overlay<R: Region>(parts: &mut Parts<R>, patches: &[Patch<'_>]) -> Result<(),
     commit_below(parts, &touched)
 }
 
-/// Writes bytes into files, below their sizes. Not yet behind a thaw.
-pub fn batch<R: Region>(parts: &mut Parts<R>, patches: &[Patch<'_>]) -> Result<(), NoSpace> {
+/// Writes bytes into files, below their sizes, all of them by one store alone in its epoch. Where two patches give the
+/// same byte, that of the later one stands.
+///
+/// # Errors
+///
+/// `NoSpace` exactly where fewer blocks are free than are copied: each block on the ways to the bytes, from the word
+/// that covers all of them down, once, and those that are thawed. Nothing has changed then.
+pub fn batch<R: Region>(parts: &mut Parts<R>, patches: &[Patch<'_>]) -> Result<(), NoSpace>
+    requires mounted { IsMounted (current_words (R.memory parts.old.region)) parts.old }
+    requires can { CanOverwrite (current_words (R.memory parts.old.region)) (patches_seen patches.now) }
+    requires room { HasRoomWhereFree (R.memory parts.old.region) (kept_of parts.old) parts.old.blocks
+        (overwrites (stretches_of (patches_seen patches.now))) }
+    ensures performs { OnOk result (Performs (kept_of parts.old) (R.memory parts.old.region) (R.memory parts.new.region)
+        (overwrites (stretches_of (patches_seen patches.now)))
+        (AfterThaw (OverwritesFiles (patches_seen patches.now)))) }
+    ensures frozen { parts.new.frozen ≡ parts.old.frozen }
+    ensures exact { IsExact (current_words (R.memory parts.new.region)) parts.new }
+    ensures refused { IfErr result (LacksSpace (current_words (R.memory parts.old.region)) (kept_of parts.old)
+        (overwrites (stretches_of (patches_seen patches.now)))) }
+    ensures same { OnErr result (parts.new ≡ parts.old) }
+{
     overlay(parts, patches)
 }

@@ -7,6 +7,7 @@ ghost use Rattle.bp_calls.specs.Growth.{stores_behind_growth};
 ghost use Rattle.bp_calls.specs.Mounted.{IsMounted};
 ghost use Rattle.bp_calls.specs.Space.{HasRoomWhereFree, LacksSpace};
 ghost use Rattle.bp_calls.specs.Steps.{CanEnter, LacksName, name_need};
+ghost use Rattle.bp_changes.specs.Thawed.{AfterThaw};
 ghost use Rattle.bp_free.specs.Set.{IsLeast, members, without};
 ghost use Rattle.bp_layout.specs.Directory.{IsName, empty_slot, slot_named};
 ghost use Rattle.bp_layout.specs.Free.{IsLeastFree};
@@ -116,7 +117,8 @@ pub fn create_in<R: Region>(
         (enters dir (entrant_of free)) }
     ensures performs { OnOk result ((free : Option ℕ) → IsLeastFree (current_words (R.memory parts.old.region)) free
         → Performs (kept_of parts.old) (R.memory parts.old.region) (R.memory parts.new.region)
-        (enters dir (entrant_of free)) (EntersName dir name.now kind)) }
+        (enters dir (entrant_of free)) (AfterThaw (EntersName dir name.now kind))) }
+    ensures frozen { parts.new.frozen ≡ parts.old.frozen }
     ensures exact { IsExact (current_words (R.memory parts.new.region)) parts.new }
     ensures refused { IfErr result (λ lacks. (free : Option ℕ)
         → IsLeastFree (current_words (R.memory parts.old.region)) free
@@ -165,7 +167,8 @@ pub fn create<R: Region>(
         (enters dir (entrant_of free)) }
     ensures performs { OnOk result ((free : Option ℕ) → IsLeastFree (current_words (R.memory parts.old.region)) free
         → Performs (kept_of parts.old) (R.memory parts.old.region) (R.memory parts.new.region)
-        (enters dir (entrant_of free)) (EntersName dir name.now kind)) }
+        (enters dir (entrant_of free)) (AfterThaw (EntersName dir name.now kind))) }
+    ensures frozen { parts.new.frozen ≡ parts.old.frozen }
     ensures exact { IsExact (current_words (R.memory parts.new.region)) parts.new }
     ensures refused { IfErr result (λ lacks. (free : Option ℕ)
         → IsLeastFree (current_words (R.memory parts.old.region)) free

@@ -84,10 +84,10 @@ fn entry_bytes(inode: u32, name: &[u8]) -> [u8; ENTRY_SIZE as usize]
 /// Writes an entry behind the last one of a directory, where nobody sees it: the directory's tree is prepared for one
 /// entry more.
 pub fn put_behind<R: Region>(parts: &mut Parts<R>, dir: u32, tree: Tree, inode: u32, name: &[u8])
-    requires can { CanPutBehind (R.memory parts.old.region) parts.old.blocks dir name.now }
+    requires can { CanPutBehind (kept_of parts.old) (R.memory parts.old.region) parts.old.blocks dir name.now }
     requires root { tree.root ≡ root_of (current_words (R.memory parts.old.region)) dir }
     requires size { tree.size ≡ size_of (current_words (R.memory parts.old.region)) dir }
-    ensures puts { PutsBehind (R.memory parts.old.region) (R.memory parts.new.region) (members parts.old.blocks)
+    ensures puts { PutsBehind (kept_of parts.old) (R.memory parts.old.region) (R.memory parts.new.region) (members parts.old.blocks)
         (members parts.new.blocks) dir inode name.now }
     ensures blocks { length parts.new.blocks ≡ length parts.old.blocks }
     ensures inodes { parts.new.inodes ≡ parts.old.inodes }

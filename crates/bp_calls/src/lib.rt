@@ -27,4 +27,6 @@ pub use listing::list;
 pub use reading::{links, read, stat};
 pub use removing::remove;
 pub use resizing::truncate;
+pub use targets::{Targets, entry_path, push_end};
+pub use thawing::thaw_before;
 pub use writing::write;

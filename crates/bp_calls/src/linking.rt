@@ -6,6 +6,7 @@ ghost use Rattle.bp_calls.specs.Growth.{stores_behind_growth};
 ghost use Rattle.bp_calls.specs.Mounted.{IsMounted};
 ghost use Rattle.bp_calls.specs.Space.{HasRoomWhereFree, LacksSpace};
 ghost use Rattle.bp_calls.specs.Steps.{CanLink, CanLinkBehind, CanShare, entering_room, name_need};
+ghost use Rattle.bp_changes.specs.Thawed.{AfterThaw};
 ghost use Rattle.bp_free.specs.Set.{Set};
 ghost use Rattle.bp_layout.specs.Directory.{IsName, empty_slot, slot_named};
 ghost use Rattle.bp_layout.specs.Inode.{IsDirectory, IsFile};
@@ -107,7 +108,8 @@ pub fn link_in<R: Region>(
     requires file { IsFile (current_words (R.memory parts.old.region)) i }
     requires room { HasRoomWhereFree (R.memory parts.old.region) (kept_of parts.old) parts.old.blocks (enters dir linked) }
     ensures performs { OnOk result (Performs (kept_of parts.old) (R.memory parts.old.region) (R.memory parts.new.region)
-        (enters dir linked) (LinksEntry dir name.now i)) }
+        (enters dir linked) (AfterThaw (LinksEntry dir name.now i))) }
+    ensures frozen { parts.new.frozen ≡ parts.old.frozen }
     ensures exact { IsExact (current_words (R.memory parts.new.region)) parts.new }
     ensures refused { IfErr result (λ lacks. LacksSpace (current_words (R.memory parts.old.region)) (kept_of parts.old)
         (enters dir linked) lacks) }

@@ -88,6 +88,7 @@ pub fn remove<R: Region>(parts: &mut Parts<R>, dir: u32, slot: u64) -> Result<()
     requires room { HasRoomWhereFree (R.memory parts.old.region) (kept_of parts.old) parts.old.blocks (leaves dir slot) }
     ensures performs { OnOk result (Performs (kept_of parts.old) (R.memory parts.old.region) (R.memory parts.new.region)
         (leaves dir slot) (AfterThaw (λ image after. RemovesEntry image after dir slot))) }
+    ensures frozen { parts.new.frozen ≡ parts.old.frozen }
     ensures exact { IsExact (current_words (R.memory parts.new.region)) parts.new }
     ensures refused { IfErr result (LacksSpace (current_words (R.memory parts.old.region)) (kept_of parts.old)
         (leaves dir slot)) }

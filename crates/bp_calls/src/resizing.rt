@@ -144,7 +144,8 @@ pub fn truncate<R: Region>(parts: &mut Parts<R>, i: u32, size: u64) -> Result<()
     requires changed { size ≢ size_of (current_words (R.memory parts.old.region)) i }
     requires room { HasRoomWhereFree (R.memory parts.old.region) (kept_of parts.old) parts.old.blocks (resizes i size) }
     ensures performs { OnOk result (Performs (kept_of parts.old) (R.memory parts.old.region) (R.memory parts.new.region)
-        (resizes i size) (ResizesFile i size)) }
+        (resizes i size) (AfterThaw (ResizesFile i size))) }
+    ensures frozen { parts.new.frozen ≡ parts.old.frozen }
     ensures exact { IsExact (current_words (R.memory parts.new.region)) parts.new }
     ensures refused { IfErr result (LacksSpace (current_words (R.memory parts.old.region)) (kept_of parts.old)
         (resizes i size)) }

@@ -1,30 +1,31 @@
 //! The words near which a change stores, before it is made.
 
-ghost use Rattle.std.specs.Prelude.{◌≡◌, ℕ, suc, ◌+◌, ◌*◌, ◌<◌, ◌≤◌};
+ghost use Rattle.std.specs.Prelude.{◌≡◌, ℕ, suc, ◌+◌, ◌*◌, ◌<◌, ◌≤◌, [], ◌∷◌, ◌++◌, length};
 ghost use Rattle.bp_changes.specs.Effects.{CanUnlink};
 ghost use Rattle.bp_layout.specs.Directory.{entry_count, inumber_at};
 ghost use Rattle.bp_layout.specs.Inode.{root_of, size_of};
 ghost use Rattle.bp_layout.specs.Need.Change.{leaves, resizes};
 ghost use Rattle.bp_layout.specs.Reached.{IsReached};
-ghost use Rattle.bp_layout.specs.Thaw.{targets};
+ghost use Rattle.bp_layout.specs.Thaw.{end_path_now, root_path_now, targets};
 ghost use Rattle.bp_layout.specs.WellFormed.{IsWellFormed};
 ghost use Rattle.bp_layout.specs.WordPaths.{tree_path};
-ghost use Rattle.bp_layout.specs.Words.{height_of};
-ghost use Rattle.bp_limits.specs.Limits.{entry_words};
+ghost use Rattle.bp_layout.specs.Words.{Image, height_of};
+ghost use Rattle.bp_limits.specs.Limits.{entry_words, max_height};
 ghost use Rattle.bp_thaw.specs.Thaws.{paths_in};
 ghost use Rattle.pm_region.specs.Memory.{current_words};
 
 use arrayvec::ArrayVec;
 use bp_inodes::{root_path, size_path, tree_of};
 use bp_limits::ENTRY_SIZE;
-use bp_tree::{Slots, word_path};
+use bp_tree::{Slots, Tree, word_path};
 use pm_region::Region;
+use pm_words::span;
 
 /// The ways to these words. No change has more than eight.
-pub(crate) type Targets = ArrayVec<Slots, 8>;
+pub type Targets = ArrayVec<Slots, 8>;
 
 /// The path of the inumber of an entry.
-pub(crate) fn entry_path<R: Region>(region: &R, dir: u32, slot: u64) -> Slots
+pub fn entry_path<R: Region>(region: &R, dir: u32, slot: u64) -> Slots
     requires well_formed { IsWellFormed (current_words (R.memory region.now)) }
     requires reached { IsReached (current_words (R.memory region.now)) dir }
     requires some { 1 ≤ dir }
@@ -62,4 +63,38 @@ pub(crate) fn shrinking<R: Region>(region: &R, i: u32) -> Targets
     let mut targets = Targets::new();
     targets.push(size_path(region, i));
     targets
+}
+
+/// The path of the word of the byte at the size of a tree, or that of its root word where it is empty or too low for
+/// the byte, given the path of its root word.
+fn end_path(root: &Slots, tree: Tree) -> Slots
+    requires low { 0 < tree.size → height_of tree.root ≤ max_height }
+    requires short { length root.now.items ≤ 6 }
+    ensures { (image : Image) (t : ℕ) → root.now.items ≡ root_path_now image t → tree.root ≡ root_of image t →
+        tree.size ≡ size_of image t → result.items ≡ end_path_now image t }
+{
+    let mut path = *root;
+    if tree.size == 0 || span(tree.height()) <= tree.size {
+        return path;
+    }
+    let within = word_path(tree, tree.size);
+    match path.try_extend_from_slice(within.as_slice()) {
+        Ok(()) => path,
+        Err(_) => unreachable!(),
+    }
+}
+
+/// Adds the words near which bytes come behind the size of a tree, given the path of its root word: that word, and the
+/// one of the byte at the size.
+pub fn push_end(targets: &mut Targets, root: &Slots, tree: Tree)
+    requires low { 0 < tree.size → height_of tree.root ≤ max_height }
+    requires short { length root.now.items ≤ 6 }
+    requires few { length targets.old.items ≤ 6 }
+    ensures { (image : Image) (t : ℕ) → root.now.items ≡ root_path_now image t → tree.root ≡ root_of image t →
+        tree.size ≡ size_of image t →
+        paths_in targets.new ≡ paths_in targets.old ++ root_path_now image t ∷ end_path_now image t ∷ [] }
+{
+    let end = end_path(root, tree);
+    targets.push(*root);
+    targets.push(end);
 }

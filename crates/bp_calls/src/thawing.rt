@@ -22,7 +22,7 @@ use pm_region::Region;
 /// # Errors
 ///
 /// Where fewer blocks are free than are taken in all. Nothing has changed then.
-pub(crate) fn thaw_before<R: Region>(
+pub fn thaw_before<R: Region>(
     parts: &mut Parts<R>,
     targets: &Targets,
     more: u32,

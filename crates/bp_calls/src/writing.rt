@@ -1,9 +1,11 @@
 //! Bytes into a file: three ways, by where they lie to its size.
 
 ghost use Rattle.std.specs.Prelude.{◌≡◌, ◌+◌, ◌≤◌, length, IfErr, OnErr, OnOk};
-ghost use Rattle.bp_calls.specs.CanWrite.{CanWrite};
+ghost use Rattle.bp_calls.specs.CanWrite.{CanWrite, CanWriteThawed};
+ghost use Rattle.bp_calls.specs.Mounted.{IsMounted};
+ghost use Rattle.bp_changes.specs.Thawed.{AfterThaw};
 ghost use Rattle.bp_shapes.specs.Sets.{IsExact, kept_of};
-ghost use Rattle.bp_calls.specs.Space.{LacksBlocks, LacksSpace};
+ghost use Rattle.bp_calls.specs.Space.{HasRoomWhereFree, LacksBlocks, LacksSpace};
 ghost use Rattle.bp_calls.specs.WritesFile.{WritesFile};
 ghost use Rattle.bp_layout.specs.Inode.{size_of};
 ghost use Rattle.bp_layout.specs.Need.{need};
@@ -33,7 +35,7 @@ fn write_behind<R: Region>(
     off: u64,
     bytes: &[u8],
 ) -> Result<(), NoSpace>
-    requires can { CanWrite (kept_of parts.old) (R.memory parts.old.region) parts.old.blocks parts.old.inodes i off bytes.now }
+    requires can { CanWriteThawed (kept_of parts.old) (R.memory parts.old.region) parts.old.blocks parts.old.inodes i off bytes.now }
     requires exact { IsExact (current_words (R.memory parts.old.region)) parts.old }
     requires behind { size_of (current_words (R.memory parts.old.region)) i ≤ off }
     ensures performs { OnOk result (PerformsThawed (kept_of parts.old) (R.memory parts.old.region) (R.memory parts.new.region)
@@ -69,7 +71,7 @@ fn write_below<R: Region>(
     off: u64,
     bytes: &[u8],
 ) -> Result<(), NoSpace>
-    requires can { CanWrite (kept_of parts.old) (R.memory parts.old.region) parts.old.blocks parts.old.inodes i off bytes.now }
+    requires can { CanWriteThawed (kept_of parts.old) (R.memory parts.old.region) parts.old.blocks parts.old.inodes i off bytes.now }
     requires exact { IsExact (current_words (R.memory parts.old.region)) parts.old }
     requires below { off + length bytes.now ≤ size_of (current_words (R.memory parts.old.region)) i }
     ensures performs { OnOk result (PerformsThawed (kept_of parts.old) (R.memory parts.old.region) (R.memory parts.new.region)
@@ -93,10 +95,13 @@ fn write_below<R: Region>(
 /// `NoSpace` exactly where fewer blocks are free than it needs: those for bytes past the size, and those that are
 /// copied for bytes below it. Nothing has changed then.
 pub fn write<R: Region>(parts: &mut Parts<R>, i: u32, off: u64, bytes: &[u8]) -> Result<(), NoSpace>
-    requires can { CanWrite (kept_of parts.old) (R.memory parts.old.region) parts.old.blocks parts.old.inodes i off bytes.now }
-    requires exact { IsExact (current_words (R.memory parts.old.region)) parts.old }
+    requires mounted { IsMounted (current_words (R.memory parts.old.region)) parts.old }
+    requires can { CanWrite (current_words (R.memory parts.old.region)) i off bytes.now }
+    requires room { HasRoomWhereFree (R.memory parts.old.region) (kept_of parts.old) parts.old.blocks
+        (writes i off (length bytes.now)) }
     ensures performs { OnOk result (Performs (kept_of parts.old) (R.memory parts.old.region) (R.memory parts.new.region)
-        (writes i off (length bytes.now)) (WritesFile i off bytes.now)) }
+        (writes i off (length bytes.now)) (AfterThaw (WritesFile i off bytes.now))) }
+    ensures frozen { parts.new.frozen ≡ parts.old.frozen }
     ensures exact { IsExact (current_words (R.memory parts.new.region)) parts.new }
     ensures refused { IfErr result (LacksSpace (current_words (R.memory parts.old.region)) (kept_of parts.old)
         (writes i off (length bytes.now))) }

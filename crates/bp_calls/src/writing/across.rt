@@ -2,7 +2,7 @@
 //! of the others with the size.
 
 ghost use Rattle.std.specs.Prelude.{◌≡◌, ◌+◌, ◌<◌, ◌≤◌, length, IfErr, OnErr, OnOk};
-ghost use Rattle.bp_calls.specs.CanWrite.{CanWrite};
+ghost use Rattle.bp_calls.specs.CanWrite.{CanWriteThawed};
 ghost use Rattle.bp_calls.specs.Space.{LacksSpace};
 ghost use Rattle.bp_calls.specs.TouchedAcross.{IsRunAcross, WritesAcross};
 ghost use Rattle.bp_calls.specs.WritesFile.{WritesFile};
@@ -91,7 +91,7 @@ pub(crate) fn write_across<R: Region>(
     off: u64,
     bytes: &[u8],
 ) -> Result<(), NoSpace>
-    requires can { CanWrite (kept_of parts.old) (R.memory parts.old.region) parts.old.blocks parts.old.inodes i off bytes.now }
+    requires can { CanWriteThawed (kept_of parts.old) (R.memory parts.old.region) parts.old.blocks parts.old.inodes i off bytes.now }
     requires exact { IsExact (current_words (R.memory parts.old.region)) parts.old }
     requires below { off < size_of (current_words (R.memory parts.old.region)) i }
     requires past { size_of (current_words (R.memory parts.old.region)) i < off + length bytes.now }

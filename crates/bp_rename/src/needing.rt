@@ -25,7 +25,8 @@ pub(crate) fn slot_across<R: Region>(region: &R, to_move: &Move<'_>) -> Option<u
     }
 }
 
-/// What [`need`] tells, given what [`slot_across`] does.
+/// How many blocks a rename needs once nothing is left to thaw, given what [`slot_across`] tells. No block has to be free
+/// for it.
 pub(crate) fn need_with<R: Region>(region: &R, to_move: &Move<'_>, empty: Option<u64>) -> u32
     requires can { CanRename (current_words (R.memory region.now)) to_move.now }
     requires empty { IsSlotAcross (current_words (R.memory region.now)) to_move.now empty }
@@ -36,12 +37,4 @@ pub(crate) fn need_with<R: Region>(region: &R, to_move: &Move<'_>, empty: Option
         None if to_move.from_dir == to_move.to_dir => need_within(region, to_move),
         None => need_across(region, to_move, empty),
     }
-}
-
-/// How many blocks a rename needs. No block has to be free for it.
-pub fn need<R: Region>(region: &R, to_move: &Move<'_>) -> u32
-    requires can { CanRename (current_words (R.memory region.now)) to_move.now }
-    ensures { result ≡ need (current_words (R.memory region.now)) (change_of to_move.now) }
-{
-    need_with(region, to_move, slot_across(region, to_move))
 }

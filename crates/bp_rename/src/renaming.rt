@@ -2,6 +2,7 @@
 
 ghost use Rattle.std.specs.Prelude.{◌≡◌, IfErr, OnErr, OnOk};
 ghost use Rattle.bp_calls.specs.Space.{HasRoomWhereFree, LacksSpace};
+ghost use Rattle.bp_changes.specs.Thawed.{AfterThaw};
 ghost use Rattle.bp_rename.specs.CanRename.{CanRename, IsSlotAcross, change_of};
 ghost use Rattle.bp_rename.specs.RenamesEntry.{RenamesEntry};
 ghost use Rattle.bp_shapes.specs.Sets.{IsExact, kept_of};
@@ -32,7 +33,8 @@ pub fn rename_in<R: Region>(
     requires exact { IsExact (current_words (R.memory parts.old.region)) parts.old }
     requires room { HasRoomWhereFree (R.memory parts.old.region) (kept_of parts.old) parts.old.blocks (change_of to_move.now) }
     ensures performs { OnOk result (Performs (kept_of parts.old) (R.memory parts.old.region) (R.memory parts.new.region)
-        (change_of to_move.now) (RenamesEntry to_move.now)) }
+        (change_of to_move.now) (AfterThaw (RenamesEntry to_move.now))) }
+    ensures frozen { parts.new.frozen ≡ parts.old.frozen }
     ensures exact { IsExact (current_words (R.memory parts.new.region)) parts.new }
     ensures refused { IfErr result (LacksSpace (current_words (R.memory parts.old.region)) (kept_of parts.old)
         (change_of to_move.now)) }
@@ -56,13 +58,15 @@ pub fn rename_in<R: Region>(
 ///
 /// # Errors
 ///
-/// Where fewer blocks are free than are needed.
+/// `NoSpace` exactly where fewer blocks are free than it needs, those that are thawed among them. Nothing has changed
+/// then.
 pub fn rename<R: Region>(parts: &mut Parts<R>, to_move: &Move<'_>) -> Result<(), NoSpace>
     requires can { CanRename (current_words (R.memory parts.old.region)) to_move.now }
     requires exact { IsExact (current_words (R.memory parts.old.region)) parts.old }
     requires room { HasRoomWhereFree (R.memory parts.old.region) (kept_of parts.old) parts.old.blocks (change_of to_move.now) }
     ensures performs { OnOk result (Performs (kept_of parts.old) (R.memory parts.old.region) (R.memory parts.new.region)
-        (change_of to_move.now) (RenamesEntry to_move.now)) }
+        (change_of to_move.now) (AfterThaw (RenamesEntry to_move.now))) }
+    ensures frozen { parts.new.frozen ≡ parts.old.frozen }
     ensures exact { IsExact (current_words (R.memory parts.new.region)) parts.new }
     ensures refused { IfErr result (LacksSpace (current_words (R.memory parts.old.region)) (kept_of parts.old)
         (change_of to_move.now)) }

@@ -45,8 +45,8 @@ roomy made behind copied needed words room left a b c d e = omega (arith, a, b, 
 
 -- a run and a word make what is touched
 pub touches_across : (image : Image) (i off end : ℕ) (bytes : List ℕ) (touched : Touched) (run : Run) → touched.runs.now ≡ run ∷ [] → IsRunAcross image i off end bytes run → IsSizeWord image i end touched.words.now →
-    TouchesAcross image i off end bytes touched
-touches_across image i off end bytes touched run one is sized = record { run = run; one = one; is = is; sized = sized.path; value = sized.value }
+    touched.trees.now ≡ [] → TouchesAcross image i off end bytes touched
+touches_across image i off end bytes touched run one is sized none = record { run = run; one = one; is = is; sized = sized.path; value = sized.value; no_trees = none }
 
 module _ (old : Memory) (blocks inodes : Set) (off : ℕ) (bytes : List ℕ) (touched : Touched) where
   abbrev image : Image

@@ -33,6 +33,7 @@ use Rattle.bp_calls.proofs.AcrossTouched.{across_end, across_run, across_shape, 
 use Rattle.bp_calls.proofs.SizesWith.{size_with_here, size_with_other, sizes_with}
 use Rattle.bp_calls.proofs.PreparedSets.{live_before, prepared_exact, prepared_forest, prepared_sets, sizes_low, still_free}
 use Rattle.bp_layout.specs.Thaw.{none_kept}
+use Rattle.bp_cow.proofs.CallerLaws.{no_trees}
 
 module _ (old middle : Memory) (blocks inodes after : Set) (n off : ℕ) (bytes : List ℕ) (touched : Touched) (across : WritesAcross old blocks inodes (suc n) off bytes touched)
     (prepared : PreparesWith none_kept old middle (members blocks) (members after) (suc n) (size_of (current_words old) (suc n)) (off + length bytes) (drop (size_of (current_words old) (suc n) - off) bytes)) where
@@ -179,6 +180,7 @@ module _ (old middle : Memory) (blocks inodes after : Set) (n off : ℕ) (bytes 
       below = omega (arith, across_end old blocks inodes n off bytes touched across, bound_here, across.past);
       counts = omega (arith, bound_here, across.touches.is.size);
     });
+    trees = no_trees (IsTreeIn mid bound) across.touches.no_trees;
     apart = λ i k low few same. omega (arith, low, few, across_words old blocks inodes n off bytes touched across);
     beside = λ r i k has low first last.
         only_word (λ p. trail_of p (length p) ≢ trail_of (run_path r k) (length (run_path r k))) (λ same. longer r k has same) i low;

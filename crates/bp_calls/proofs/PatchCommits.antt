@@ -46,7 +46,7 @@ overwrites_now : (image : Image) (stretches : List Stretch) → cover_now image 
 overwrites_now image stretches =
     exists_as (is_there_now image) (is_there_after image (overwrites stretches)) (λ path. or_false (is_there_now image path)) [] (common_all (all_touched image (overwrites stretches)))
 
-module _ {kept : ℕ → Bool} (old : Memory) (blocks inodes : Set) (patches : List Patch) (touched : Touched) (asks : CanOverwriteThawed kept old blocks inodes patches) (are : AreRuns (current_words old) patches touched.runs.now) (none : touched.words.now ≡ []) where
+module _ {kept : ℕ → Bool} (old : Memory) (blocks inodes : Set) (patches : List Patch) (touched : Touched) (asks : CanOverwriteThawed kept old blocks inodes patches) (are : AreRuns (current_words old) patches touched.runs.now) (none : touched.words.now ≡ []) (bare : touched.trees.now ≡ []) where
   abbrev image : Image
   image = current_words old
 
@@ -57,16 +57,16 @@ module _ {kept : ℕ → Bool} (old : Memory) (blocks inodes : Set) (patches : L
   wf = asks.well_formed
 
   no_word : length touched.words.now ≡ 0
-  no_word = no_words image wf patches touched are none asks.few asks.each asks.some asks.short
+  no_word = no_words image wf patches touched are none bare asks.few asks.each asks.some asks.short
 
   shape : IsTouched touched
-  shape = patches_shape image wf patches touched are none asks.few asks.each asks.some asks.short
+  shape = patches_shape image wf patches touched are none bare asks.few asks.each asks.some asks.short
 
   at : (run : Run) → Has touched.runs.now run → IsInFile image run
-  at = run_at image wf patches touched are none asks.few asks.each asks.some asks.short
+  at = run_at image wf patches touched are none bare asks.few asks.each asks.some asks.short
 
   pub overwrite_can : CanCommit (current_words old) (size_of (current_words old)) kept touched (has blocks)
-  overwrite_can = patches_can image wf patches touched are none asks.few asks.each asks.some asks.short (has blocks) asks.exact.free_blocks
+  overwrite_can = patches_can image wf patches touched are none bare asks.few asks.each asks.some asks.short (has blocks) asks.exact.free_blocks
 
   -- one of the runs, of which there is one at least
   first : (run : Run) × Has touched.runs.now run

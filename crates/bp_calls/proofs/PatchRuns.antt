@@ -20,6 +20,7 @@ use Rattle.bp_calls.specs.Overwritten.AreRuns.{none, empty, more}
 use Rattle.bp_calls.specs.TouchedBelow.{IsRunFor}
 use Rattle.bp_calls.specs.declared.batching.Patch.{Patch as GivenPatch}
 use Rattle.bp_calls.proofs.RunCommits.{IsRunOf, run_in, run_is}
+use Rattle.bp_cow.proofs.CallerLaws.{no_trees}
 
 -- a run in the tree of a file, below its size
 pub record IsInFile (image : Image) (run : Run) : Type 0 where
@@ -83,7 +84,7 @@ module _ (image : Image) where
 
 -- ---- what a commit asks
 
-module _ (image : Image) (wf : IsWellFormed image) (patches : List Patch) (touched : Touched) (are : AreRuns image patches touched.runs.now) (none : touched.words.now ≡ []) (few : length patches ≤ max_pieces) (each : Each (IsPatchIn image) patches)
+module _ (image : Image) (wf : IsWellFormed image) (patches : List Patch) (touched : Touched) (are : AreRuns image patches touched.runs.now) (none : touched.words.now ≡ []) (bare : touched.trees.now ≡ []) (few : length patches ≤ max_pieces) (each : Each (IsPatchIn image) patches)
     (some : 1 ≤ byte_count patches) (short : byte_count patches ≤ max_batch) where
   pub run_at : (run : Run) → Has touched.runs.now run → IsInFile image run
   run_at = runs_in image patches touched.runs.now are each short
@@ -97,6 +98,7 @@ module _ (image : Image) (wf : IsWellFormed image) (patches : List Patch) (touch
       record {
         runs = λ run has. let at = run_at run has in run_is image wf at.inode at.reached run at.of;
         few_runs = omega (arith, few, runs_few image patches touched.runs.now are);
+        trees = no_trees (λ tree. tree.height ≤ max_height) bare;
         few = omega (arith, no_words);
         words = λ i here. absurd (omega (arith, here, no_words));
         short = λ i here. absurd (omega (arith, here, no_words));
@@ -106,7 +108,7 @@ module _ (image : Image) (wf : IsWellFormed image) (patches : List Patch) (touch
 
   pub patches_can : {kept : ℕ → Bool} (free : ℕ → Bool) → AreFreeBlocks image kept free → CanCommit image (size_of image) kept touched free
   patches_can free exact =
-      runs_can image wf touched patches_shape free exact no_words (λ run has. let at = run_at run has in run_in image wf at.inode at.reached run at.of)
+      runs_can image wf touched patches_shape free exact (no_trees (IsTreeIn image (size_of image)) bare) no_words (λ run has. let at = run_at run has in run_in image wf at.inode at.reached run at.of)
 
 -- ---- one patch after the other
 

@@ -65,6 +65,7 @@ writes_now image i off len below = now ∙ sym (ap by none)
 record IsRunAlone (image : Image) (i : ℕ) (touched : Touched) (run : Run) : Type 0 where
   pub one : touched.runs.now ≡ run ∷ []
   pub no_words : touched.words.now ≡ []
+  pub no_trees : touched.trees.now ≡ []
   pub of : IsRunOf image i run
 
 -- what a commit of the run asks
@@ -98,6 +99,7 @@ module _ {kept : ℕ → Bool} (old : Memory) (blocks inodes : Set) (n : ℕ) (t
   shape = record {
     runs = λ r has. subst IsRun (only r has) (run_is image wf n asks.reached run is.of);
     few_runs = omega (arith, ap (λ (rs : List Run). length rs) is.one);
+    trees = no_trees (λ tree. tree.height ≤ max_height) is.no_trees;
     few = omega (arith, none);
     words = λ i here. absurd (omega (arith, here, none));
     short = λ i here. absurd (omega (arith, here, none));
@@ -106,7 +108,7 @@ module _ {kept : ℕ → Bool} (old : Memory) (blocks inodes : Set) (n : ℕ) (t
   }
 
   can : CanCommit image (size_of image) kept touched (has blocks)
-  can = runs_can image wf touched shape (has blocks) asks.exact.free_blocks none (λ r has. subst (IsRunIn image (size_of image)) (only r has) (run_in image wf n asks.reached run is.of))
+  can = runs_can image wf touched shape (has blocks) asks.exact.free_blocks (no_trees (IsTreeIn image (size_of image)) is.no_trees) none (λ r has. subst (IsRunIn image (size_of image)) (only r has) (run_in image wf n asks.reached run is.of))
 
   copies_need : copied_count image touched ≡ need image (writes (suc n) run.off (length run.bytes.now))
   copies_need = run_need image wf (size_of image) touched (has blocks) can run n is.one is.no_words asks.reached is.of.root is.of.height is.of.some is.of.below
@@ -206,6 +208,7 @@ module _ {kept : ℕ → Bool} (old : Memory) (blocks inodes : Set) (i off : ℕ
   alone = record {
     one = write.touches.one;
     no_words = write.touches.no_words;
+    no_trees = write.touches.no_trees;
     of = record {
       root = write.touches.is.root;
       height = write.touches.is.height;

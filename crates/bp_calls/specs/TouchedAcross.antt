@@ -32,6 +32,7 @@ pub record TouchesAcross (image : Image) (i off end : ℕ) (bytes : List ℕ) (t
   pub is : IsRunAcross image i off end bytes run
   pub sized : word_paths touched ≡ inode_path (height_of (root_of image 0)) i 2 ∷ []
   pub value : word_values touched ≡ end ∷ []
+  pub no_trees : touched.trees.now ≡ []
 
 -- Bytes that begin below the size of a file and end past it, and what is touched for them: those below the size, and
 -- the size.

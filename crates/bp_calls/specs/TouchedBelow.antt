@@ -24,6 +24,7 @@ pub record TouchesBelow (image : Image) (i off : ℕ) (bytes : List ℕ) (touche
   pub run : Run
   pub one : touched.runs.now ≡ run ∷ []
   pub no_words : touched.words.now ≡ []
+  pub no_trees : touched.trees.now ≡ []
   pub is : IsRunFor image i off bytes run
 
 -- bytes that end below the size of a file or with it, and what is touched for them

@@ -44,8 +44,13 @@ pub(crate) fn run_for<'a, R: Region>(
 pub fn touched_by<'a>(runs: &'a [Run<'a>]) -> Touched<'a>
     ensures runs { result.runs.now ≡ runs.now }
     ensures words { result.words.now ≡ [] }
+    ensures trees { result.trees.now ≡ [] }
 {
-    Touched { words: &[], runs }
+    Touched {
+        words: &[],
+        runs,
+        trees: &[],
+    }
 }
 
 /// Commits what is touched below the sizes of files, where enough blocks are free.

@@ -33,10 +33,11 @@ use Rattle.bp_cow.proofs.Values.{after-others, after-run}
 use Rattle.bp_calls.proofs.RunCommits.{IsRunOf, laid_inside, run_in, run_is}
 use Rattle.bp_calls.proofs.TreeTrails.{same_word}
 use Rattle.bp_layout.specs.Thaw.{none_kept}
+use Rattle.bp_cow.proofs.CallerLaws.{no_trees}
 
 -- ---- what is asked
 
-module _ (image : Image) (wf : IsWellFormed image) (n : ℕ) (reached : IsReached image (suc n)) (touched : Touched) (run : Run) (one : touched.runs.now ≡ run ∷ []) (none : length touched.words.now ≡ 0)
+module _ (image : Image) (wf : IsWellFormed image) (n : ℕ) (reached : IsReached image (suc n)) (touched : Touched) (run : Run) (one : touched.runs.now ≡ run ∷ []) (none : length touched.words.now ≡ 0) (bare : touched.trees.now ≡ [])
     (of : IsRunOf image (suc n) run) where
   leaves : leaves_of touched.runs.now ≡ run_leaves run
   leaves = ap leaves_of one ∙ omega arith
@@ -52,6 +53,7 @@ module _ (image : Image) (wf : IsWellFormed image) (n : ℕ) (reached : IsReache
   run_shape = record {
     runs = λ r has. subst IsRun (one_run r has) (run_is image wf n reached run of);
     few_runs = omega (arith, ap (λ (runs : List Run). length runs) one);
+    trees = no_trees (λ tree. tree.height ≤ max_height) bare;
     few = omega (arith, none);
     words = λ i here. absurd (omega (arith, here, none));
     short = λ i here. absurd (omega (arith, here, none));
@@ -60,7 +62,7 @@ module _ (image : Image) (wf : IsWellFormed image) (n : ℕ) (reached : IsReache
   }
 
   pub run_commit : (free : ℕ → Bool) → AreFreeBlocks image none_kept free → CanCommit image (size_of image) touched free
-  run_commit free exact = run_can image wf touched run_shape free exact run one none (run_in image wf n reached run of)
+  run_commit free exact = run_can image wf touched run_shape free exact (no_trees (IsTreeIn image (size_of image)) bare) run one none (run_in image wf n reached run of)
 
   -- all paths are as long, so none begins another
   pub run_apart : NoneBegins (all_paths touched)

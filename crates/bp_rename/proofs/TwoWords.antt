@@ -24,10 +24,11 @@ pick a b zero = a
 pick a b (suc i) = b
 
 -- what is touched by two words and no run
-pub touches_two : {first second : WordPath} {one two : ℕ} → (touched : Touched) (words : List (ArrayVec ℕ × ℕ)) → touched.words.now ≡ words → touched.runs.now ≡ [] → AreTwo words first second one two →
+pub touches_two : {first second : WordPath} {one two : ℕ} → (touched : Touched) (words : List (ArrayVec ℕ × ℕ)) → touched.words.now ≡ words → touched.runs.now ≡ [] → touched.trees.now ≡ [] → AreTwo words first second one two →
     TouchesTwo touched first second one two
-touches_two touched words e none are = record {
+touches_two touched words e none bare are = record {
   none = none;
+  no_trees = bare;
   paths = ap (λ (ws : List (ArrayVec ℕ × ℕ)). map (λ word. word.0.items) ws) e ∙ are.paths;
   values = ap (λ (ws : List (ArrayVec ℕ × ℕ)). map (λ word. word.1) ws) e ∙ are.values;
 }
@@ -86,6 +87,7 @@ module _ (image : Image) (touched : Touched) (t k u l one two : ℕ) (is : Touch
     pub two_are : AreContent image bound touched (pick t u) (pick k l)
     two_are = record {
       none = is.none;
+      no_trees = is.no_trees;
       some = omega (arith, two_count);
       few = omega (arith, two_count);
       reached = λ i here. reaches i;

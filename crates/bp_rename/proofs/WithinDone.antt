@@ -63,7 +63,7 @@ module _ (memory : Memory) (n s j : ℕ) (name : Name) (can : CanRespell (curren
     (blocks inodes : Set) (exact : AreExact (current_words memory) none_kept blocks inodes) (room : HasRoomFor memory none_kept (respells (suc n) s (length name))) where
   pub within_ready : CanCommit (current_words memory) (size_of (current_words memory)) touched (has blocks)
   within_ready =
-      run_commit (current_words memory) can.well_formed n can.reached touched is.run is.one (no_words (current_words memory) n s j name can touched is) (name_run (current_words memory) n s j name can touched is)
+      run_commit (current_words memory) can.well_formed n can.reached touched is.run is.one (no_words (current_words memory) n s j name can touched is) is.no_trees (name_run (current_words memory) n s j name can touched is)
       (has blocks) exact.free_blocks
 
   few : run_leaves is.run ≤ 257
@@ -90,7 +90,7 @@ module _ (old new : Memory) (n s j : ℕ) (name : Name) (can : CanRespell (curre
   -- the word of the length
   length_word : entry_word (current_words new) (suc n) s 1 ≡ length name
   length_word =
-      run_words (current_words old) can.well_formed n can.reached touched is.run is.one (no_words (current_words old) n s j name can touched is) (name_run (current_words old) n s j name can touched is)
+      run_words (current_words old) can.well_formed n can.reached touched is.run is.one (no_words (current_words old) n s j name can touched is) is.no_trees (name_run (current_words old) n s j name can touched is)
       (has blocks) exact.free_blocks can.names.directory (current_words new) (IsTurned (job_of touched) (length (commit_cover (current_words old) touched))) done.words
       (32 * s + 1) (omega (arith, is.is.from)) (omega (arith, ends)) (omega (arith, can.names.in_size))
       ∙ sym (run_word-inside is.run (32 * s + 1) (content_word (current_words old) (root_of (current_words old) (suc n)) (32 * s + 1)) (word_bytes (length name)) (omega (arith, is.is.from)) (omega (arith, ends)) refl same)
@@ -107,7 +107,7 @@ module _ (old new : Memory) (n s j : ℕ) (name : Name) (can : CanRespell (curre
       each : (o : ℕ) → o < length name → byte (current_words new) (root_of (current_words new) (suc n)) (256 * s + 16 + o) ≡ get_or name o 0
       each o low =
           let at : 256 * s + 16 + o - is.run.off ≡ 8 + o = omega (arith, is.is.from) in
-          run_given (current_words old) can.well_formed n can.reached touched is.run is.one (no_words (current_words old) n s j name can touched is) (name_run (current_words old) n s j name can touched is)
+          run_given (current_words old) can.well_formed n can.reached touched is.run is.one (no_words (current_words old) n s j name can touched is) is.no_trees (name_run (current_words old) n s j name can touched is)
           (has blocks) exact.free_blocks can.names.directory (current_words new) (IsTurned (job_of touched) (length (commit_cover (current_words old) touched))) done.words
           (256 * s + 16 + o) is.is.small (omega (arith, is.is.from)) (omega (arith, ends, low)) (omega (arith, low, can.form.short, can.names.in_size))
           ∙ ap (slice_index is.run.bytes.now) at ∙ is.is.bytes_are (8 + o) (omega (arith, low)) ∙ name_byte name o
@@ -118,7 +118,7 @@ module _ (old new : Memory) (n s j : ℕ) (name : Name) (can : CanRespell (curre
   pub within_respells : RespellsEntry (current_words old) (current_words new) (suc n) s j
   within_respells =
       commit_respells (current_words old) (current_words new) (changes_of (current_words old) (job_of touched)) (suc n) s j can.well_formed can.reached can.names
-      (run_only (current_words old) can.well_formed n can.reached touched is.run is.one (no_words (current_words old) n s j name can touched is) (name_run (current_words old) n s j name can touched is)
+      (run_only (current_words old) can.well_formed n can.reached touched is.run is.one (no_words (current_words old) n s j name can touched is) is.no_trees (name_run (current_words old) n s j name can touched is)
       (has blocks) exact.free_blocks can.names.directory (current_words new) (IsTurned (job_of touched) (length (commit_cover (current_words old) touched))) done.words
       (λ t l. (t ≡ suc n) × (32 * s + 1 ≤ l) × (l < 32 * s + 32))
       (λ k first last. (refl, omega (arith, first, is.is.from), omega (arith, last, ends, few_of))))

@@ -62,13 +62,13 @@ module _ (image : Image) (n s j : ℕ) (name : Name) (can : CanRespell image (su
   no_words = ap (λ ws. length ws) is.no_words
 
   pub within_shape : IsTouched touched
-  within_shape = run_shape image can.well_formed n can.reached touched is.run is.one no_words name_run
+  within_shape = run_shape image can.well_formed n can.reached touched is.run is.one no_words is.no_trees name_run
 
   pub within_inside : LeadsInside image touched
-  within_inside = run_inside image can.well_formed n can.reached touched is.run is.one no_words name_run
+  within_inside = run_inside image can.well_formed n can.reached touched is.run is.one no_words is.no_trees name_run
 
   pub within_apart : NoneBegins (all_paths touched)
-  within_apart = run_apart image can.well_formed n can.reached touched is.run is.one no_words name_run
+  within_apart = run_apart image can.well_formed n can.reached touched is.run is.one no_words is.no_trees name_run
 
   -- ---- the paths
 

@@ -25,5 +25,6 @@ pub record AreTwo (words : List (ArrayVec ℕ × ℕ)) (first second : WordPath)
 -- These words alone are touched, in this order, and get these values.
 pub record TouchesTwo (touched : Touched) (first second : WordPath) (one two : ℕ) : Type 0 where
   pub none : touched.runs.now ≡ []
+  pub no_trees : touched.trees.now ≡ []
   pub paths : word_paths touched ≡ first ∷ second ∷ []
   pub values : word_values touched ≡ one ∷ two ∷ []

@@ -37,6 +37,11 @@ pub(crate) fn entry_path<R: Region>(region: &R, dir: u32, slot: u64) -> Slots
 pub(crate) fn touched_two(words: &[(Slots, u64); 2]) -> Touched<'_>
     ensures words { result.words.now ≡ words.now }
     ensures none { result.runs.now ≡ [] }
+    ensures trees { result.trees.now ≡ [] }
 {
-    Touched { words, runs: &[] }
+    Touched {
+        words,
+        runs: &[],
+        trees: &[],
+    }
 }

@@ -110,6 +110,7 @@ pub(crate) fn write_across<R: Region>(
     let touched = Touched {
         words: &sized,
         runs: &runs,
+        trees: &[],
     };
     write_touched(parts, i, off, bytes, &touched)
 }

@@ -54,7 +54,7 @@ barrier-requires g c =
 
 pub commit-requires : goal.commit-requires
 commit-requires g c κs inside =
-    let touches = touches_two c.touched_two-touched.result c.words_into-words.result c.touched_two-touched.ensures.words c.touched_two-touched.ensures.none c.words_into-words.ensures in
+    let touches = touches_two c.touched_two-touched.result c.words_into-words.result c.touched_two-touched.ensures.words c.touched_two-touched.ensures.none c.touched_two-touched.ensures.trees c.words_into-words.ensures in
     let old : Memory = g.R.Region.memory c.args.parts.now.region in
     let third : Memory = g.R.Region.memory c.put_name.new.region in
     let mid : Memory = g.R.Region.memory c.barrier.new.self in
@@ -73,7 +73,7 @@ commit-requires g c κs inside =
 
 pub returns-clause-performs : goal.returns-clause-performs
 returns-clause-performs g c =
-    let touches = touches_two c.touched_two-touched.result c.words_into-words.result c.touched_two-touched.ensures.words c.touched_two-touched.ensures.none c.words_into-words.ensures in
+    let touches = touches_two c.touched_two-touched.result c.words_into-words.result c.touched_two-touched.ensures.words c.touched_two-touched.ensures.none c.touched_two-touched.ensures.trees c.words_into-words.ensures in
     let old : Memory = g.R.Region.memory c.args.parts.now.region in
     let third : Memory = g.R.Region.memory c.put_name.new.region in
     let mid : Memory = g.R.Region.memory c.barrier.new.self in
@@ -86,7 +86,7 @@ returns-clause-performs g c =
 
 pub returns-clause-exact : goal.returns-clause-exact
 returns-clause-exact g c =
-    let touches = touches_two c.touched_two-touched.result c.words_into-words.result c.touched_two-touched.ensures.words c.touched_two-touched.ensures.none c.words_into-words.ensures in
+    let touches = touches_two c.touched_two-touched.result c.words_into-words.result c.touched_two-touched.ensures.words c.touched_two-touched.ensures.none c.touched_two-touched.ensures.trees c.words_into-words.ensures in
     let old : Memory = g.R.Region.memory c.args.parts.now.region in
     let third : Memory = g.R.Region.memory c.put_name.new.region in
     let mid : Memory = g.R.Region.memory c.barrier.new.self in

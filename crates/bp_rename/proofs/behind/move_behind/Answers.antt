@@ -23,13 +23,13 @@ overflow_cast-inode g c =
 
 pub put_behind-requires-clause-can : goal.put_behind-requires-clause-can
 put_behind-requires-clause-can g c =
-    let touches = touches_two c.touched_two-touched.result c.words_behind-words.result c.touched_two-touched.ensures.words c.touched_two-touched.ensures.none c.words_behind-words.ensures in
+    let touches = touches_two c.touched_two-touched.result c.words_behind-words.result c.touched_two-touched.ensures.words c.touched_two-touched.ensures.none c.touched_two-touched.ensures.trees c.words_behind-words.ensures in
     can_put (g.R.Region.memory c.args.parts.now.region) c.args.to_move.now c.args.parts.now.blocks c.args.parts.now.inodes c.requires.can c.requires.other c.requires.new c.requires.none
     c.touched_two-touched.result touches c.requires.exact.sets c.requires.enough c.requires.room
 
 pub commit-requires : goal.commit-requires
 commit-requires g c κs inside =
-    let touches = touches_two c.touched_two-touched.result c.words_behind-words.result c.touched_two-touched.ensures.words c.touched_two-touched.ensures.none c.words_behind-words.ensures in
+    let touches = touches_two c.touched_two-touched.result c.words_behind-words.result c.touched_two-touched.ensures.words c.touched_two-touched.ensures.none c.touched_two-touched.ensures.trees c.words_behind-words.ensures in
     let old : Memory = g.R.Region.memory c.args.parts.now.region in
     let mid : Memory = g.R.Region.memory c.put_behind.new.parts.region in
     let move = c.args.to_move.now in
@@ -50,7 +50,7 @@ commit-requires g c κs inside =
 
 pub returns-clause-performs : goal.returns-clause-performs
 returns-clause-performs g c =
-    let touches = touches_two c.touched_two-touched.result c.words_behind-words.result c.touched_two-touched.ensures.words c.touched_two-touched.ensures.none c.words_behind-words.ensures in
+    let touches = touches_two c.touched_two-touched.result c.words_behind-words.result c.touched_two-touched.ensures.words c.touched_two-touched.ensures.none c.touched_two-touched.ensures.trees c.words_behind-words.ensures in
     let old : Memory = g.R.Region.memory c.args.parts.now.region in
     let mid : Memory = g.R.Region.memory c.put_behind.new.parts.region in
     let move = c.args.to_move.now in
@@ -63,7 +63,7 @@ returns-clause-performs g c =
 
 pub returns-clause-exact : goal.returns-clause-exact
 returns-clause-exact g c =
-    let touches = touches_two c.touched_two-touched.result c.words_behind-words.result c.touched_two-touched.ensures.words c.touched_two-touched.ensures.none c.words_behind-words.ensures in
+    let touches = touches_two c.touched_two-touched.result c.words_behind-words.result c.touched_two-touched.ensures.words c.touched_two-touched.ensures.none c.touched_two-touched.ensures.trees c.words_behind-words.ensures in
     let old : Memory = g.R.Region.memory c.args.parts.now.region in
     let mid : Memory = g.R.Region.memory c.put_behind.new.parts.region in
     let move = c.args.to_move.now in

@@ -20,22 +20,22 @@ need_prep-behind-requires-clause-fits g c =
 
 pub need_cover-requires-clause-touched : goal.need_cover-requires-clause-touched
 need_cover-requires-clause-touched g c =
-    let touches = touches_two c.touched_two.result c.words_behind.result c.touched_two.ensures.words c.touched_two.ensures.none c.words_behind.ensures in
+    let touches = touches_two c.touched_two.result c.words_behind.result c.touched_two.ensures.words c.touched_two.ensures.none c.touched_two.ensures.trees c.words_behind.ensures in
     touched_shape (current_words (g.R.Region.memory c.args.region.now)) c.args.to_move.now c.requires.can c.requires.other c.requires.none c.touched_two.result touches
 
 pub need_cover-requires-clause-in_range : goal.need_cover-requires-clause-in_range
 need_cover-requires-clause-in_range g c =
-    let touches = touches_two c.touched_two.result c.words_behind.result c.touched_two.ensures.words c.touched_two.ensures.none c.words_behind.ensures in
+    let touches = touches_two c.touched_two.result c.words_behind.result c.touched_two.ensures.words c.touched_two.ensures.none c.touched_two.ensures.trees c.words_behind.ensures in
     touched_inside (current_words (g.R.Region.memory c.args.region.now)) c.args.to_move.now c.requires.can c.requires.other c.requires.none c.touched_two.result touches
 
 pub need_cover-requires-clause-apart : goal.need_cover-requires-clause-apart
 need_cover-requires-clause-apart g c =
-    let touches = touches_two c.touched_two.result c.words_behind.result c.touched_two.ensures.words c.touched_two.ensures.none c.words_behind.ensures in
+    let touches = touches_two c.touched_two.result c.words_behind.result c.touched_two.ensures.words c.touched_two.ensures.none c.touched_two.ensures.trees c.words_behind.ensures in
     touched_apart (current_words (g.R.Region.memory c.args.region.now)) c.args.to_move.now c.requires.can c.requires.other c.requires.none c.touched_two.result touches
 
 pub overflow_add-result : goal.overflow_add-result
 overflow_add-result g c =
-    let touches = touches_two c.touched_two.result c.words_behind.result c.touched_two.ensures.words c.touched_two.ensures.none c.words_behind.ensures in
+    let touches = touches_two c.touched_two.result c.words_behind.result c.touched_two.ensures.words c.touched_two.ensures.none c.touched_two.ensures.trees c.words_behind.ensures in
     let image = current_words (g.R.Region.memory c.args.region.now) in
     let can = c.requires.can in
     let made = entry_need_is image c.args.to_move.now.to_dir c.tree_of-target.result.root c.tree_of-target.result.size c.tree_of-target.ensures.root c.tree_of-target.ensures.size in
@@ -45,7 +45,7 @@ overflow_add-result g c =
 
 pub returns : goal.returns
 returns g c =
-    let touches = touches_two c.touched_two.result c.words_behind.result c.touched_two.ensures.words c.touched_two.ensures.none c.words_behind.ensures in
+    let touches = touches_two c.touched_two.result c.words_behind.result c.touched_two.ensures.words c.touched_two.ensures.none c.touched_two.ensures.trees c.words_behind.ensures in
     let image = current_words (g.R.Region.memory c.args.region.now) in
     let can = c.requires.can in
     let made = entry_need_is image c.args.to_move.now.to_dir c.tree_of-target.result.root c.tree_of-target.result.size c.tree_of-target.ensures.root c.tree_of-target.ensures.size in

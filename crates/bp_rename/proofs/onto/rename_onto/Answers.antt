@@ -25,7 +25,7 @@ overflow_cast-replaced g c =
 
 pub commit-requires : goal.commit-requires
 commit-requires g c κs within =
-    let touches = touches_two c.touched_two-touched.result c.words_onto-words.result c.touched_two-touched.ensures.words c.touched_two-touched.ensures.none c.words_onto-words.ensures in
+    let touches = touches_two c.touched_two-touched.result c.words_onto-words.result c.touched_two-touched.ensures.words c.touched_two-touched.ensures.none c.touched_two-touched.ensures.trees c.words_onto-words.ensures in
     let old : Memory = g.R.Region.memory c.args.parts.now.region in
     let can = ready old c.args.to_move.now c.args.slot c.requires.can c.requires.onto
     c.touched_two-touched.result touches c.args.parts.now.blocks c.args.parts.now.inodes c.requires.exact.sets c.requires.room in
@@ -37,7 +37,7 @@ commit-requires g c κs within =
 
 pub get-inode-requires-clause-sound : goal.get-inode-requires-clause-sound
 get-inode-requires-clause-sound g c =
-    let touches = touches_two c.touched_two-touched.result c.words_onto-words.result c.touched_two-touched.ensures.words c.touched_two-touched.ensures.none c.words_onto-words.ensures in
+    let touches = touches_two c.touched_two-touched.result c.words_onto-words.result c.touched_two-touched.ensures.words c.touched_two-touched.ensures.none c.touched_two-touched.ensures.trees c.words_onto-words.ensures in
     let old : Memory = g.R.Region.memory c.args.parts.now.region in
     let new : Memory = g.R.Region.memory c.commit.new.parts.region in
     let formed = onto_well_formed old new c.args.to_move.now c.args.slot c.requires.can c.requires.onto
@@ -54,7 +54,7 @@ get-inode-requires-clause-some g c =
 
 pub get-inode-requires-clause-there : goal.get-inode-requires-clause-there
 get-inode-requires-clause-there g c =
-    let touches = touches_two c.touched_two-touched.result c.words_onto-words.result c.touched_two-touched.ensures.words c.touched_two-touched.ensures.none c.words_onto-words.ensures in
+    let touches = touches_two c.touched_two-touched.result c.words_onto-words.result c.touched_two-touched.ensures.words c.touched_two-touched.ensures.none c.touched_two-touched.ensures.trees c.words_onto-words.ensures in
     let old : Memory = g.R.Region.memory c.args.parts.now.region in
     let new : Memory = g.R.Region.memory c.commit.new.parts.region in
     let named : c.inumber-replaced.result ≡ inumber_at (current_words old) c.args.to_move.now.to_dir c.args.slot =
@@ -64,7 +64,7 @@ get-inode-requires-clause-there g c =
 
 pub get-inode-requires-clause-least : goal.get-inode-requires-clause-least
 get-inode-requires-clause-least g c =
-    let touches = touches_two c.touched_two-touched.result c.words_onto-words.result c.touched_two-touched.ensures.words c.touched_two-touched.ensures.none c.words_onto-words.ensures in
+    let touches = touches_two c.touched_two-touched.result c.words_onto-words.result c.touched_two-touched.ensures.words c.touched_two-touched.ensures.none c.touched_two-touched.ensures.trees c.words_onto-words.ensures in
     let old : Memory = g.R.Region.memory c.args.parts.now.region in
     let new : Memory = g.R.Region.memory c.commit.new.parts.region in
     let named : c.inumber-replaced.result ≡ inumber_at (current_words old) c.args.to_move.now.to_dir c.args.slot =
@@ -74,7 +74,7 @@ get-inode-requires-clause-least g c =
 
 pub get-inode-requires-clause-most : goal.get-inode-requires-clause-most
 get-inode-requires-clause-most g c =
-    let touches = touches_two c.touched_two-touched.result c.words_onto-words.result c.touched_two-touched.ensures.words c.touched_two-touched.ensures.none c.words_onto-words.ensures in
+    let touches = touches_two c.touched_two-touched.result c.words_onto-words.result c.touched_two-touched.ensures.words c.touched_two-touched.ensures.none c.touched_two-touched.ensures.trees c.words_onto-words.ensures in
     let old : Memory = g.R.Region.memory c.args.parts.now.region in
     let new : Memory = g.R.Region.memory c.commit.new.parts.region in
     let named : c.inumber-replaced.result ≡ inumber_at (current_words old) c.args.to_move.now.to_dir c.args.slot =
@@ -84,7 +84,7 @@ get-inode-requires-clause-most g c =
 
 pub give_back-requires-clause-sound : goal.give_back-requires-clause-sound
 give_back-requires-clause-sound g c =
-    let touches = touches_two c.touched_two-touched.result c.words_onto-words.result c.touched_two-touched.ensures.words c.touched_two-touched.ensures.none c.words_onto-words.ensures in
+    let touches = touches_two c.touched_two-touched.result c.words_onto-words.result c.touched_two-touched.ensures.words c.touched_two-touched.ensures.none c.touched_two-touched.ensures.trees c.words_onto-words.ensures in
     let old : Memory = g.R.Region.memory c.args.parts.now.region in
     let new : Memory = g.R.Region.memory c.commit.new.parts.region in
     let named : c.inumber-replaced.result ≡ inumber_at (current_words old) c.args.to_move.now.to_dir c.args.slot =
@@ -94,7 +94,7 @@ give_back-requires-clause-sound g c =
 
 pub give_back-requires-clause-taken : goal.give_back-requires-clause-taken
 give_back-requires-clause-taken g c =
-    let touches = touches_two c.touched_two-touched.result c.words_onto-words.result c.touched_two-touched.ensures.words c.touched_two-touched.ensures.none c.words_onto-words.ensures in
+    let touches = touches_two c.touched_two-touched.result c.words_onto-words.result c.touched_two-touched.ensures.words c.touched_two-touched.ensures.none c.touched_two-touched.ensures.trees c.words_onto-words.ensures in
     let old : Memory = g.R.Region.memory c.args.parts.now.region in
     let new : Memory = g.R.Region.memory c.commit.new.parts.region in
     let named : c.inumber-replaced.result ≡ inumber_at (current_words old) c.args.to_move.now.to_dir c.args.slot =
@@ -104,7 +104,7 @@ give_back-requires-clause-taken g c =
 
 pub give-requires-clause-in_range : goal.give-requires-clause-in_range
 give-requires-clause-in_range g c =
-    let touches = touches_two c.touched_two-touched.result c.words_onto-words.result c.touched_two-touched.ensures.words c.touched_two-touched.ensures.none c.words_onto-words.ensures in
+    let touches = touches_two c.touched_two-touched.result c.words_onto-words.result c.touched_two-touched.ensures.words c.touched_two-touched.ensures.none c.touched_two-touched.ensures.trees c.words_onto-words.ensures in
     let old : Memory = g.R.Region.memory c.args.parts.now.region in
     let named : c.inumber-replaced.result ≡ inumber_at (current_words old) c.args.to_move.now.to_dir c.args.slot =
     c.inumber-replaced.ensures ∙ ap (λ root. inumber_in (current_words old) root c.args.slot) c.tree_of-target.ensures.root in
@@ -114,7 +114,7 @@ give-requires-clause-in_range g c =
 
 pub give-requires-clause-taken : goal.give-requires-clause-taken
 give-requires-clause-taken g c =
-    let touches = touches_two c.touched_two-touched.result c.words_onto-words.result c.touched_two-touched.ensures.words c.touched_two-touched.ensures.none c.words_onto-words.ensures in
+    let touches = touches_two c.touched_two-touched.result c.words_onto-words.result c.touched_two-touched.ensures.words c.touched_two-touched.ensures.none c.touched_two-touched.ensures.trees c.words_onto-words.ensures in
     let old : Memory = g.R.Region.memory c.args.parts.now.region in
     let named : c.inumber-replaced.result ≡ inumber_at (current_words old) c.args.to_move.now.to_dir c.args.slot =
     c.inumber-replaced.ensures ∙ ap (λ root. inumber_in (current_words old) root c.args.slot) c.tree_of-target.ensures.root in
@@ -153,7 +153,7 @@ set-requires g c =
 -- what had the name has another one
 pub returns-then-names-gt0 : goal.returns-then-names-gt0
 returns-then-names-gt0 g c =
-    let touches = touches_two c.touched_two-touched.result c.words_onto-words.result c.touched_two-touched.ensures.words c.touched_two-touched.ensures.none c.words_onto-words.ensures in
+    let touches = touches_two c.touched_two-touched.result c.words_onto-words.result c.touched_two-touched.ensures.words c.touched_two-touched.ensures.none c.touched_two-touched.ensures.trees c.words_onto-words.ensures in
     let old : Memory = g.R.Region.memory c.args.parts.now.region in
     let new : Memory = g.R.Region.memory c.commit.new.parts.region in
     let named : c.inumber-replaced.result ≡ inumber_at (current_words old) c.args.to_move.now.to_dir c.args.slot =
@@ -179,7 +179,7 @@ returns-then-names-gt0 g c =
 -- the name was its last
 pub returns : goal.returns
 returns g c =
-    let touches = touches_two c.touched_two-touched.result c.words_onto-words.result c.touched_two-touched.ensures.words c.touched_two-touched.ensures.none c.words_onto-words.ensures in
+    let touches = touches_two c.touched_two-touched.result c.words_onto-words.result c.touched_two-touched.ensures.words c.touched_two-touched.ensures.none c.touched_two-touched.ensures.trees c.words_onto-words.ensures in
     let old : Memory = g.R.Region.memory c.args.parts.now.region in
     let new : Memory = g.R.Region.memory c.commit.new.parts.region in
     let named : c.inumber-replaced.result ≡ inumber_at (current_words old) c.args.to_move.now.to_dir c.args.slot =

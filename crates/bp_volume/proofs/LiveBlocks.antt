@@ -1,13 +1,12 @@
 -- Each block but the first that a volume does not find free is live in the first tree, where no block is kept: a search over
 -- the inodes that have names finds the pointer to it.
-use Rattle.std.proofs.Common.{◌≡◌, ◌≢◌, ◌⊎◌, ℕ, zero, suc, ◌+◌, ◌-◌, ◌*◌, ◌<◌, ◌≤◌, List, [], ◌∷◌, length, Bool, true, false, true≢false, refl, sym, ◌∙◌, ap, subst, arith, inl, inr}
+use Rattle.std.proofs.Common.{◌≡◌, ◌≢◌, ◌⊎◌, ℕ, zero, suc, ◌+◌, ◌-◌, ◌*◌, ◌/◌, ◌<◌, ◌≤◌, List, [], ◌∷◌, length, Bool, true, false, true≢false, refl, sym, ◌∙◌, ap, subst, arith, inl, inr}
 use Rattle.std.proofs.Math.Nat.{le-mul_of_pos_right}
 use Rattle.std.proofs.lemmas.Bool.{cases_eq, cases_lt}
-use Rattle.bp_calls.proofs.CountLaws.{reached_counted}
 use Rattle.bp_free.specs.Set.{has}
 use Rattle.bp_free.specs.declared.parts.Parts.{Parts}
 use Rattle.bp_layout.specs.Free.{AreFreeBlocks}
-use Rattle.bp_layout.specs.Inode.{root_of, size_of}
+use Rattle.bp_layout.specs.Inode.{inode_count, root_of, size_of}
 use Rattle.bp_layout.specs.Members.{Each, Has}
 use Rattle.bp_layout.specs.Names.{HasNames, IsNamed}
 use Rattle.bp_layout.specs.Reached.{IsLiveBlock, IsReached}
@@ -16,6 +15,8 @@ use Rattle.bp_layout.specs.Thaw.{none_kept}
 use Rattle.bp_layout.specs.Tree.{HasBlock, covered, node}
 use Rattle.bp_layout.specs.WellFormed.{IsWellFormed}
 use Rattle.bp_layout.specs.Words.{Image, block_count, height_of}
+use Rattle.bp_layout.proofs.FewLeaves.{few_inodes}
+use Rattle.bp_layout.proofs.Reached.{reached-in_file}
 use Rattle.bp_scan.specs.Scanned.{AreOthersLive}
 use Rattle.bp_shapes.specs.Sets.{IsExact}
 use Rattle.bp_walk.proofs.LiveSlots.{covered_some}
@@ -97,6 +98,14 @@ module _ (image : Image) (root size block : ℕ) where
 -- ---- the blocks of all trees
 
 module _ {R : Type 0} (image : Image) (wf : IsWellFormed image) (parts : Parts R) (exact : IsExact image parts) where
+  -- each inode that is reached is counted
+  counted : (t : ℕ) → IsReached image t → t < length parts.counts
+  counted t reached =
+      let low : t < inode_count image = reached-in_file image wf t reached in
+      let few : size_of image 0 / 64 ≤ 64 * block_count image =
+      few_inodes image (root_of image 0) (size_of image 0) (wf.sound 0 inode_file) wf.full_inode_file (omega (arith, wf.formatted.sized.at_least)) wf.inode_blocks in
+      omega (arith, low, few, exact.count_room)
+
   -- all but the first two inodes are reached by a name
   by_name : (t : ℕ) → 2 ≤ t → IsReached image t → (e : ℕ × ℕ) × IsNamed image t e
   by_name _ low inode_file = absurd (omega (arith, low))
@@ -117,7 +126,7 @@ module _ {R : Type 0} (image : Image) (wf : IsWellFormed image) (parts : Parts R
       go (inl is) _ _ = inl (subst (IsReached image) (sym is) inode_file)
       go (inr a) (inl is) _ = inl (subst (IsReached image) (sym is) root_directory)
       go (inr a) (inr b) (inl low) = decide_named t (omega (arith, a, b)) (exact.counts.each t low)
-      go (inr a) (inr b) (inr high) = inr (λ reached. let low : t < length parts.counts = reached_counted image parts exact wf t reached in absurd (omega (arith, low, high)))
+      go (inr a) (inr b) (inr high) = inr (λ reached. let low : t < length parts.counts = counted t reached in absurd (omega (arith, low, high)))
 
   -- inode t has the block, and is reached
   abbrev Holds : ℕ → ℕ → Type 0
@@ -136,7 +145,7 @@ module _ {R : Type 0} (image : Image) (wf : IsWellFormed image) (parts : Parts R
     where
       go : Below (Holds block) (length parts.counts) ⊎ (Below (Holds block) (length parts.counts) → ⊥) → IsLiveBlock image block ⊎ (IsLiveBlock image block → ⊥)
       go (inl found) = inl (record { tree = found.0; reached = found.2.0; has = found.2.1 })
-      go (inr none) = inr (λ live. none (live.tree, reached_counted image parts exact wf live.tree live.reached, (live.reached, live.has)))
+      go (inr none) = inr (λ live. none (live.tree, counted live.tree live.reached, (live.reached, live.has)))
 
   pub others_live : AreFreeBlocks image none_kept (has parts.blocks) → AreOthersLive image (has parts.blocks)
   others_live free block low high taken = go (decide_live block)

@@ -53,13 +53,15 @@ fn may_snap<R: Region>(region: &R) -> Result<(), FsError>
     ensures refused { IfErr result
         (λ error. Tells (current_words (R.memory region.now)) snap (refused (refusal_of error))) }
 {
-    if version(region) == Version::One {
-        return Err(FsError::OldVersion);
+    match version(region) {
+        Version::One => Err(FsError::OldVersion),
+        Version::Two => {
+            if has_second(region) {
+                return Err(FsError::HasSnap);
+            }
+            Ok(())
+        }
     }
-    if has_second(region) {
-        return Err(FsError::HasSnap);
-    }
-    Ok(())
 }
 
 /// Stores the root word and the size of the first tree as those of the second. The size comes last, since it tells that there

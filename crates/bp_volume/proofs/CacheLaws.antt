@@ -1,5 +1,5 @@
 -- What a call does to the names that a cache of directories knows.
-use Rattle.std.proofs.Common.{◌≡◌, ℕ, sym, ◌∙◌, ap₂}
+use Rattle.std.proofs.Common.{◌≡◌, ℕ, refl, sym, ◌∙◌, ap₂}
 use Rattle.std.specs.Prelude.{Result, Ok, Err, MatchResult, OnErr, OnOk, unwrap_or}
 use Rattle.bp_cache.specs.Cache.{IsCacheOf}
 use Rattle.bp_cache.specs.Changes.{KeepsAllNames, NameEnters, WasNamed}

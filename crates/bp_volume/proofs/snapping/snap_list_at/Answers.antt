@@ -4,6 +4,7 @@ use Rattle.bp_layout.specs.Words.{Image}
 use Rattle.bp_plain.specs.Calls.Call.{list}
 use Rattle.bp_scan.proofs.BothScans.{second_words}
 use Rattle.bp_tree.proofs.RegionWords.{length_now}
+use Rattle.bp_volume.specs.Seen.{list_answer_of}
 use Rattle.bp_volume.specs.Told.{Tells}
 use Rattle.bp_volume.proofs.SafeLaws.{long_words}
 use Rattle.bp_volume.proofs.SecondAsking.{no_list, second_list}
@@ -21,5 +22,5 @@ list_at-requires-clause-well_formed g c =
 
 pub returns : goal.returns
 returns g c =
-    second_list _ c.requires (sym c.has_second.ensures ∙ c.if-not-has_second.false) c.args.text.now _
-    (subst (λ (image : Image). Tells image (list c.args.text.now) _) (second_words _ (g.R.Region.memory c.args.region.now) c.second-second.ensures) c.list_at.ensures.told)
+    second_list _ c.requires (sym c.has_second.ensures ∙ c.if-not-has_second.false) c.args.text.now (list_answer_of c.list_at.result)
+    (subst (λ (image : Image). Tells image (list c.args.text.now) (list_answer_of c.list_at.result)) (second_words _ (g.R.Region.memory c.args.region.now) c.second-second.ensures) c.list_at.ensures.told)

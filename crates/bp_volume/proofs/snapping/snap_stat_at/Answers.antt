@@ -4,6 +4,7 @@ use Rattle.bp_layout.specs.Words.{Image}
 use Rattle.bp_plain.specs.Calls.Call.{stat}
 use Rattle.bp_scan.proofs.BothScans.{second_words}
 use Rattle.bp_tree.proofs.RegionWords.{length_now}
+use Rattle.bp_volume.specs.Seen.{stat_answer_of}
 use Rattle.bp_volume.specs.Told.{Tells}
 use Rattle.bp_volume.proofs.SafeLaws.{long_words}
 use Rattle.bp_volume.proofs.SecondAsking.{no_stat, second_stat}
@@ -21,5 +22,5 @@ stat_at-requires-clause-well_formed g c =
 
 pub returns : goal.returns
 returns g c =
-    second_stat _ c.requires (sym c.has_second.ensures ∙ c.if-not-has_second.false) c.args.text.now _
-    (subst (λ (image : Image). Tells image (stat c.args.text.now) _) (second_words _ (g.R.Region.memory c.args.region.now) c.second-second.ensures) c.stat_at.ensures.told)
+    second_stat _ c.requires (sym c.has_second.ensures ∙ c.if-not-has_second.false) c.args.text.now (stat_answer_of c.stat_at.result)
+    (subst (λ (image : Image). Tells image (stat c.args.text.now) (stat_answer_of c.stat_at.result)) (second_words _ (g.R.Region.memory c.args.region.now) c.second-second.ensures) c.stat_at.ensures.told)

@@ -1,6 +1,6 @@
 -- What a call does to the names that a cache of directories knows.
-use Rattle.std.proofs.Common.{◌≡◌, ℕ, refl, sym, ◌∙◌, ap₂}
-use Rattle.std.specs.Prelude.{Result, Ok, Err, MatchResult, OnErr, OnOk, unwrap_or}
+use Rattle.std.proofs.Common.{◌≡◌, ℕ, true≢false, refl, sym, ◌∙◌, ap, ap₂}
+use Rattle.std.specs.Prelude.{Result, Ok, Err, MatchResult, OnErr, OnOk, is_err, unwrap_or}
 use Rattle.bp_cache.specs.Cache.{IsCacheOf}
 use Rattle.bp_cache.specs.Changes.{KeepsAllNames, NameEnters, WasNamed}
 use Rattle.bp_cache.specs.declared.cache.DirectoryCache.{DirectoryCache}
@@ -15,6 +15,8 @@ use Rattle.bp_changes.proofs.KeepsDirectories as files
 use Rattle.bp_changes.proofs.KeepsDirectories.{directories-same}
 use Rattle.bp_changes.proofs.SameMeaning.{well_formed-same}
 use Rattle.bp_free.specs.declared.parts.NoSpace.{NoSpace}
+use Rattle.bp_plain.specs.Calls.Refusal.{no_space}
+use Rattle.bp_plain.specs.Seen.{refusal_of}
 use Rattle.bp_plain.specs.declared.errors.FsError.{FsError}
 use Rattle.bp_layout.specs.Directory.{Name, empty_slot, entry_count}
 use Rattle.bp_layout.specs.Inode.{IsDirectory}
@@ -112,3 +114,10 @@ cache_thawed old middle cache wf shape right = cache_kept old middle cache (mean
 pub on_ok_was : {P : Type 0} (inner : Result (Unit {0}) NoSpace) (v : Unit {0}) → MatchResult inner (λ x. ◌≡◌ {A = Result (Unit {0}) FsError} (Ok v) (Ok x)) (λ _. ⊥) → OnOk inner P → P
 on_ok_was (Ok x) v maps holds = holds
 on_ok_was (Err lacks) v maps holds = absurd maps
+
+-- one that was refused has changed nothing, so what the cache knew is right still
+pub cache_refused : (old new : Memory) (cache : DirectoryCache) (inner : Result (Unit {0}) NoSpace) (error : FsError) →
+    MatchResult inner (λ x. ◌≡◌ {A = Result (Unit {0}) FsError} (Err error) (Ok x)) (λ lacks. refusal_of error ≡ no_space lacks.need lacks.free) →
+    OnErr inner (new ≡ old) → IsCacheOf (current_words old) cache → IsCacheOf (current_words new) cache
+cache_refused old new cache (Ok x) error maps same right = absurd (true≢false (ap is_err maps))
+cache_refused old new cache (Err lacks) error maps same right = rw same right

@@ -4,7 +4,7 @@ use Rattle.bp_free.specs.declared.parts.Parts.{Parts}
 use Rattle.bp_layout.specs.Need.Change.{leaves}
 use Rattle.bp_shapes.specs.Sets.{kept_of}
 use Rattle.bp_volume.specs.Carried.CarriesOut.{changed, unchanged}
-use Rattle.bp_volume.proofs.CacheLaws.{cache_thawed, on_ok_was}
+use Rattle.bp_volume.proofs.CacheLaws.{cache_refused, cache_thawed, on_ok_was}
 use Rattle.bp_volume.proofs.ChangeLaws.{carried_lacks, lacks_space, performs_call}
 use Rattle.bp_volume.proofs.FewThawed.{few_room, performs_room}
 use Rattle.bp_volume.proofs.LeavingLaws.{file_leaves, leaves_few, name_lost, unlink_makes}
@@ -55,3 +55,8 @@ returns-clause-right g c =
     let known = cache_thawed _ _ _ c.requires.ready.well_formed.first done.effect.thawed c.file_entry.ensures.right in
     c.leave.ensures _ _ known
     (name_leaves _ _ c.requires.ready.well_formed.first c.in_ok-file.file _ (record { dir = c.at.ensures.dir; name = c.at.ensures.name; slot = c.at.ensures.slot }) (file_leaves _ c.args.text.now _ _ _ c.in_ok-file.ensures.found c.in_ok-file.ensures.file) c.in_ok-file.ensures.named done.effect)
+
+pub returns-in_err-map_err-clause-right : goal.returns-in_err-map_err-clause-right
+returns-in_err-map_err-clause-right g c =
+    cache_refused (g.R.Region.memory c.args.parts.now.region) (g.R.Region.memory c.remove.new.parts.region) _ c.remove.result _ c.in_err-map_err.ensures.cases
+    (on_err_weaker c.remove.result (ap (λ (parts : Parts g.row.R.Denot). g.R.Region.memory parts.region)) c.remove.ensures.same) c.file_entry.ensures.right

@@ -1,10 +1,10 @@
 -- Calls that write bytes into several files at once: why they are refused, and what they make of the plain tree.
-use Rattle.std.proofs.Common.{◌≡◌, ◌≢◌, ◌⊎◌, ℕ, ◌+◌, ◌≤◌, ◌<◌, ◌==◌, List, [], ◌∷◌, ◌++◌, length, map, Bool, true, false, refl, sym, ◌∙◌, ap, ap₂, subst, Option, None, Some, inl, inr, arith, true≢false}
+use Rattle.std.proofs.Common.{◌≡◌, ◌⊎◌, ℕ, ◌+◌, ◌≤◌, ◌<◌, ◌==◌, List, [], ◌∷◌, length, map, Bool, true, false, refl, sym, ◌∙◌, ap, ap₂, Option, None, Some, inl, inr, arith, true≢false}
 use Rattle.std.specs.Prelude.{nat_lt, is_none, unwrap_or}
 use Rattle.std.specs.List.{fold, list_any, sum_by}
 use Rattle.std.proofs.lemmas.Bool.{cases_lt, lt-ltb, le-ltb}
 use Rattle.bp_layout.specs.Inode.{kind_of, size_of}
-use Rattle.bp_layout.specs.Lookup.{Path, lookup}
+use Rattle.bp_layout.specs.Lookup.{Path}
 use Rattle.bp_layout.specs.Members.{Each}
 use Rattle.bp_layout.specs.Need.{Change, Stretch}
 use Rattle.bp_layout.specs.Need.Change.{overwrites}
@@ -14,7 +14,7 @@ use Rattle.bp_layout.specs.Words.{Image}
 use Rattle.bp_changes.specs.Overwrites.{Patch}
 use Rattle.bp_stands.specs.Pieces.{ArePatches, PieceFinds}
 use Rattle.bp_stands.specs.Pieces.ArePatches.{none as no_patch, more as more_patches}
-use Rattle.bp_calls.specs.Overwritten.{IsPatchIn, byte_count, stretch_of, stretches_of}
+use Rattle.bp_calls.specs.Overwritten.{IsPatchIn, byte_count, stretches_of}
 use Rattle.bp_limits.specs.Limits.{max_batch}
 use Rattle.bp_plain.specs.Calls.{Piece, Refusal}
 use Rattle.bp_plain.specs.Calls.Answer.{done}

@@ -10,7 +10,7 @@ use Rattle.bp_limits.specs.Limits.{call_room}
 use Rattle.bp_layout.specs.Directory.{empty_slot}
 use Rattle.bp_layout.specs.Inode.{size_of}
 use Rattle.bp_layout.specs.Members.{Each}
-use Rattle.bp_layout.specs.Need.{Beyond, Change, Entrant, Stretch, beyond, common, common_all, content_path_at, cover_of, entered_at, entry_path_at, existing_from, need, new_entry, new_inodes, prefixes_from, stretch_paths, touched_at}
+use Rattle.bp_layout.specs.Need.{Beyond, Change, Stretch, beyond, common, content_path_at, cover_of, entered_at, entry_path_at, existing_from, need, new_entry, new_inodes, prefixes_from, stretch_paths, touched_at}
 use Rattle.bp_layout.specs.Need.Change.{writes, resizes, enters, leaves, replaces, moves, respells, overwrites}
 use Rattle.bp_layout.specs.Need.Entrant.{taken, grown, linked}
 use Rattle.bp_layout.specs.Same.{Same}

@@ -1,5 +1,5 @@
 -- What a change makes of an image that means the same as a first one, it makes of the first: of the plain tree, and of what the first is asked for.
-use Rattle.std.proofs.Common.{◌≡◌, ◌≢◌, ℕ, List, [], ◌∷◌, ◌++◌, Some, None, sym, ◌∙◌, subst}
+use Rattle.std.proofs.Common.{◌≡◌, ℕ, List, [], ◌∷◌, ◌++◌, Some, None, sym, ◌∙◌, subst}
 use Rattle.bp_calls.specs.Created.{EntersName, LinksEntry}
 use Rattle.bp_calls.specs.OnTrees.{GainsName, GetsBytes, GetsPieces, GetsSize, LosesName, SharesName}
 use Rattle.bp_calls.specs.Resized.{ResizesFile}
@@ -17,7 +17,6 @@ use Rattle.bp_changes.proofs.ReachedOn.{names_on, reached_on}
 use Rattle.bp_changes.proofs.SameMeaning.{name-same, names-back, same-by_meaning, view-same, well_formed-same}
 use Rattle.bp_layout.specs.Below.{rest_below}
 use Rattle.bp_layout.specs.Directory.{EntryNames, Name, inumber_at, name_at}
-use Rattle.bp_layout.specs.Inode.{size_of}
 use Rattle.bp_layout.specs.Lookup.{Path, lookup}
 use Rattle.bp_layout.specs.Reached.{IsReached}
 use Rattle.bp_layout.specs.Reached.IsReached.{named, root_directory}

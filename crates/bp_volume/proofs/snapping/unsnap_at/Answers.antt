@@ -1,5 +1,4 @@
-use Rattle.std.proofs.Common.{◌≡◌, ◌*◌, ◌∙◌, ap, refl, sym, true}
-use Rattle.bp_layout.specs.Trees.{has_snapshot}
+use Rattle.std.proofs.Common.{◌*◌, ◌∙◌, ap, refl, sym}
 use Rattle.bp_volume.specs.Snapped.Unsnaps.{refused}
 use Rattle.bp_volume.proofs.SnapLaws.{unsnap_none, unsnapped_blocks, unsnapped_well}
 use Rattle.bp_volume.proofs.snapping.unsnap_at.Goals as goal

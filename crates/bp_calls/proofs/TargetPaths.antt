@@ -1,6 +1,13 @@
 -- The ways to the words near which a change stores.
-use Rattle.std.proofs.Common.{◌≡◌, ℕ, zero, suc, ◌+◌, ◌-◌, ◌*◌, ◌/◌, ◌^◌, ◌<◌, ◌≤◌, List, [], ◌∷◌, ◌++◌, Bool, true, false, ◌||◌, flat_map, length, refl, sym, ◌∙◌, ap, subst, arith, inl, inr, pow-suc}
-use Rattle.std.proofs.lemmas.Bool.{le-ltb}
+use Rattle.std.proofs.Common.{◌≡◌, ℕ, zero, suc, ◌+◌, ◌-◌, ◌*◌, ◌/◌, ◌^◌, ◌<◌, ◌≤◌, List, [], ◌∷◌, ◌++◌, ◌⊎◌, Bool, true, false, ◌||◌, flat_map, length, refl, sym, ◌∙◌, ap, subst, arith, inl, inr, pow-suc}
+use Rattle.std.specs.List.{take}
+use Rattle.std.proofs.lemmas.Bool.{cases_lt, le-ltb}
+use Rattle.std.proofs.lemmas.List.{take-take}
+use Rattle.std.proofs.Math.Seq.{take-length}
+use Rattle.bp_layout.specs.Need.{common_all, cover_of}
+use Rattle.bp_cow.proofs.CommonPaths.{Begins, HasExistingFront, all-begin, existing}
+use Rattle.bp_thaw.specs.Fronts.{IsPointerPath}
+use Rattle.bp_thaw.proofs.PointerPaths.{front_path}
 use Rattle.bp_layout.proofs.Reached.{reached-in_file}
 use Rattle.bp_changes.specs.Effects.{CanUnlink}
 use Rattle.bp_layout.specs.Directory.{EntryNames, entry_count, inumber_at}
@@ -64,6 +71,36 @@ pub inode_way : (image : Image) → IsWellFormed image → (i f : ℕ) → IsRea
 inode_way image wf i f reached low =
     let inside : i < inode_count image = reached-in_file image wf i reached in
     content_way image wf 0 (8 * i + f) inode_file (omega (arith, inside, low))
+
+-- ---- a cover
+
+-- the path of a pointer is the way to it
+pub pointer_way : (image : Image) (path : WordPath) → IsPointerPath image path → IsWay image path
+pointer_way image path of = record { tree = of.tree; depth = of.depth; index = of.index; reached = of.reached; low = omega (arith, of.low); few = of.few; is = of.is }
+
+-- a front of a way, or all of it, is one
+front_way : (image : Image) → IsWellFormed image → (path : WordPath) (n : ℕ) → IsWay image path → n ≤ length path → IsWay image (take n path)
+front_way image wf path n way low = go (cases_lt n (length path))
+  where
+    go : (n < length path) ⊎ (length path ≤ n) → IsWay image (take n path)
+    go (inl less) = pointer_way image (take n path) (front_path image wf path n way less)
+    go (inr most) =
+        let all : n ≡ length path = omega (arith, low, most) in
+        subst (IsWay image) (sym (ap (λ m. take m path) all ∙ take-length path)) way
+
+-- so is the cover of some ways, of which this is one
+pub cover_way : (image : Image) → IsWellFormed image → (paths : List WordPath) (path : WordPath) → Has paths path → IsWay image path → IsWay image (cover_of (is_there_now image) paths)
+cover_way image wf paths path among way =
+    subst (IsWay image) (sym (far.is ∙ part)) (front_way image wf path far.count way (omega (arith, far.far.low, begins.long)))
+  where
+    begins : Begins (common_all paths) path
+    begins = all-begin paths path among
+
+    far : HasExistingFront (is_there_now image) [] (common_all paths)
+    far = existing (is_there_now image) [] (common_all paths)
+
+    part : take far.count (common_all paths) ≡ take far.count path
+    part = ap (take far.count) (sym begins.same) ∙ take-take far.count (length (common_all paths)) path far.far.low
 
 -- ---- where a name leaves
 

@@ -1,7 +1,13 @@
 -- The ways to the words near which a change stores.
 use Rattle.std.proofs.Common.{◌≡◌, ◌≢◌, ◌⊎◌, ℕ, zero, suc, ◌+◌, ◌-◌, ◌*◌, ◌/◌, ◌^◌, ◌<◌, ◌≤◌, List, [], ◌∷◌, ◌++◌, Bool, true, false, nat_lt, ◌&&◌, ◌||◌, if◌then◌else◌, flat_map, length, refl, sym, ◌∙◌, ap, ap₂, subst, arith, inl, inr, pow-suc}
-use Rattle.std.proofs.lemmas.Bool.{le-ltb, lt-ltb, ltb-true}
-use Rattle.std.proofs.lemmas.List.{append-nil}
+use Rattle.std.proofs.lemmas.Bool.{le-ltb, lt-ltb, ltb-true, cases_lt}
+use Rattle.std.proofs.lemmas.List.{append-nil, take-take}
+use Rattle.std.specs.List.{take}
+use Rattle.std.proofs.Math.Seq.{take-length}
+use Rattle.bp_layout.specs.Need.{common_all, cover_of}
+use Rattle.bp_cow.proofs.CommonPaths.{Begins, HasExistingFront, all-begin, existing}
+use Rattle.bp_thaw.specs.Fronts.{IsPointerPath}
+use Rattle.bp_thaw.proofs.PointerPaths.{front_path}
 use Rattle.bp_layout.proofs.Reached.{reached-in_file}
 use Rattle.bp_changes.specs.Effects.{CanUnlink}
 use Rattle.bp_layout.specs.Directory.{EntryNames, entry_count, inumber_at}
@@ -112,6 +118,36 @@ end_below_root image t root size is long some below =
     let less : nat_lt (size_of image t) (span (heights_now image t)) ≡ true = lt-ltb _ _ (subst (λ s. s < span (heights_now image t)) long (subst (λ r. size < span (height_of r)) is below)) in
     ap₂ (λ r s. root_path_now image t ++ digits (suc (height_of r)) (s / 8)) is long
     ∙ root_then (heights_now image 0) t (suc (heights_now image t)) (size_of image t / 8) ∙ rw (more, less) refl
+
+-- ---- a cover
+
+-- the path of a pointer is the way to it
+pub pointer_way : (image : Image) (path : WordPath) → IsPointerPath image path → IsWay image path
+pointer_way image path of = record { tree = of.tree; depth = of.depth; index = of.index; reached = of.reached; low = omega (arith, of.low); few = of.few; is = of.is }
+
+-- a front of a way, or all of it, is one
+front_way : (image : Image) → IsWellFormed image → (path : WordPath) (n : ℕ) → IsWay image path → n ≤ length path → IsWay image (take n path)
+front_way image wf path n way low = go (cases_lt n (length path))
+  where
+    go : (n < length path) ⊎ (length path ≤ n) → IsWay image (take n path)
+    go (inl less) = pointer_way image (take n path) (front_path image wf path n way less)
+    go (inr most) =
+        let all : n ≡ length path = omega (arith, low, most) in
+        subst (IsWay image) (sym (ap (λ m. take m path) all ∙ take-length path)) way
+
+-- so is the cover of some ways, of which this is one
+pub cover_way : (image : Image) → IsWellFormed image → (paths : List WordPath) (path : WordPath) → Has paths path → IsWay image path → IsWay image (cover_of (is_there_now image) paths)
+cover_way image wf paths path among way =
+    subst (IsWay image) (sym (far.is ∙ part)) (front_way image wf path far.count way (omega (arith, far.far.low, begins.long)))
+  where
+    begins : Begins (common_all paths) path
+    begins = all-begin paths path among
+
+    far : HasExistingFront (is_there_now image) [] (common_all paths)
+    far = existing (is_there_now image) [] (common_all paths)
+
+    part : take far.count (common_all paths) ≡ take far.count path
+    part = ap (take far.count) (sym begins.same) ∙ take-take far.count (length (common_all paths)) path far.far.low
 
 -- ---- where a name leaves
 

@@ -63,7 +63,7 @@ or_more : (image : Image) (i s : ℕ) (path : WordPath) → is_there_after image
 or_more image i s path there = or_none (is_there_now image path) there
 
 -- a word of a reached inode is there
-inode_path-now : (image : Image) → IsWellFormed image → (i f : ℕ) → IsReached image i → f < 8 → AllThere (is_there_now image) [] (inode_path (height_of (root_of image 0)) i f)
+pub inode_path-now : (image : Image) → IsWellFormed image → (i f : ℕ) → IsReached image i → f < 8 → AllThere (is_there_now image) [] (inode_path (height_of (root_of image 0)) i f)
 inode_path-now image wf i f reached low =
     there_as (is_there_after image (leaves i 0)) (is_there_now image) (or_more image i 0) [] (inode_path (height_of (root_of image 0)) i f) (inode_path-there image (leaves i 0) wf refl i f reached low)
 

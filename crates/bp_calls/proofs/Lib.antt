@@ -52,6 +52,8 @@ pub mod ThawedParts
 pub mod TargetPaths
 pub mod ThawedRoom
 pub mod LeavingThawed
+pub mod ThawedShows
+pub mod NothingKept
 pub mod FewNames
 pub mod GrowthPerforms
 pub mod NewNames

@@ -55,6 +55,8 @@ pub mod SameWrites
 pub mod ThawedRoom
 pub mod ThawedNeed
 pub mod LeavingThawed
+pub mod ThawedShows
+pub mod NothingKept
 pub mod FewNames
 pub mod GrowthPerforms
 pub mod NewNames

@@ -1,6 +1,7 @@
 -- A write across the size of a file, by the number of its inode: what its parts ask and give.
-use Rattle.std.proofs.Common.{◌≡◌, ℕ, zero, suc, ◌+◌, ◌-◌, ◌*◌, ◌/◌, ◌<◌, ◌≤◌, Bool, List, ◌++◌, [], ◌∷◌, length, take, drop, slice_index, sym, ◌∙◌, ap, subst, subst₂, inl, inr, arith}
+use Rattle.std.proofs.Common.{◌≡◌, ℕ, zero, suc, ◌+◌, ◌-◌, ◌*◌, ◌/◌, ◌<◌, ◌≤◌, Bool, List, ◌++◌, [], ◌∷◌, length, take, drop, slice_index, refl, sym, ◌∙◌, ap, subst, subst₂, inl, inr, arith}
 use Rattle.std.proofs.lemmas.List.{append-nil, length-append}
+use Rattle.arrayvec.specs.ArrayVec.{ArrayVec}
 use Rattle.bp_free.specs.Set.{Set, members}
 use Rattle.bp_layout.specs.Inode.{root_of, size_of}
 use Rattle.bp_layout.specs.Need.{need}
@@ -44,18 +45,23 @@ roomy : (made behind copied needed words room left : ℕ) → room ≤ left + (2
     (block_words + 1) * copied + words + 1 + 2 ≤ left
 roomy made behind copied needed words room left a b c d e = omega (arith, a, b, c, d, e)
 
+-- the word of the size, with the path that was read
+pub sized_word : (image : Image) (i end : ℕ) (path : ArrayVec ℕ) → path.items ≡ inode_path (height_of (root_of image 0)) i 2 → {words : List (ArrayVec ℕ × ℕ)} → words ≡ (path, end) ∷ [] → IsSizeWord image i end words
+sized_word image i end path is words = subst (λ (ws : List (ArrayVec ℕ × ℕ)). IsSizeWord image i end ws) (sym words) (record { path = ap (λ (p : List ℕ). p ∷ []) is; value = refl })
+
 -- a run and a word make what is touched
 pub touches_across : (image : Image) (i off end : ℕ) (bytes : List ℕ) (touched : Touched) (run : Run) → touched.runs.now ≡ run ∷ [] → IsRunAcross image i off end bytes run → IsSizeWord image i end touched.words.now →
     touched.trees.now ≡ [] → TouchesAcross image i off end bytes touched
 touches_across image i off end bytes touched run one is sized none = record { run = run; one = one; is = is; sized = sized.path; value = sized.value; no_trees = none }
 
+-- the nodes that are made, by the root word and the size that were read
+abbrev made_for : Image → ℕ → ℕ → ℕ → ℕ
+made_for image end root size = length (nodes_for image root size size end)
+
+made_is : (image : Image) (end i root size : ℕ) → root ≡ root_of image i → size ≡ size_of image i → made_for image end root size ≡ need_for image i (size_of image i) end
+made_is image end i root size one two = ap (λ r. made_for image end r size) one ∙ ap (made_for image end (root_of image i)) two
+
 module _ {kept : ℕ → Bool} (old : Memory) (blocks inodes : Set) (off : ℕ) (bytes : List ℕ) (touched : Touched) where
-  abbrev image : Image
-  image = current_words old
-
-  abbrev end : ℕ
-  end = off + length bytes
-
   not_inodes : (P : Type 0) → WritesAcross kept old blocks inodes 0 off bytes touched → P
   not_inodes P across = absurd (omega (arith, across.can.file))
 
@@ -81,33 +87,26 @@ module _ {kept : ℕ → Bool} (old : Memory) (blocks inodes : Set) (off : ℕ) 
   at_apart zero across = not_inodes _ across
   at_apart (suc n) across = across_apart old blocks inodes n off bytes touched across
 
-  -- the nodes that are made, by the root word and the size that were read
-  abbrev made_for : ℕ → ℕ → ℕ
-  made_for root size = length (nodes_for (current_words old) root size size (off + length bytes))
-
-  made_is : (i root size : ℕ) → root ≡ root_of (current_words old) i → size ≡ size_of (current_words old) i → made_for root size ≡ need_for (current_words old) i (size_of (current_words old) i) (off + length bytes)
-  made_is i root size one two = ap (λ r. made_for r size) one ∙ ap (made_for (root_of (current_words old) i)) two
-
   pub at_few : (i root size : ℕ) → WritesAcross kept old blocks inodes i off bytes touched → root ≡ root_of (current_words old) i → size ≡ size_of (current_words old) i →
       length (nodes_for (current_words old) root size size (off + length bytes)) + copied_count (current_words old) touched ≤ 320
   at_few zero root size across = not_inodes _ across
   at_few (suc n) root size across = λ one two.
-      omega (arith, made_is (suc n) root size one two, across_few old blocks inodes n off bytes touched across (current_words old))
+      omega (arith, made_is (current_words old) (off + length bytes) (suc n) root size one two, across_few old blocks inodes n off bytes touched across (current_words old))
 
   -- so many blocks it takes
   pub at_needs : (i root size made copied : ℕ) → WritesAcross kept old blocks inodes i off bytes touched → root ≡ root_of (current_words old) i → size ≡ size_of (current_words old) i →
       made ≡ length (nodes_for (current_words old) root size size (off + length bytes)) → copied ≡ copied_count (current_words old) touched → made + copied ≡ need (current_words old) (writes i off (length bytes))
   at_needs zero root size made copied across = not_inodes _ across
   at_needs (suc n) root size made copied across = λ one two counted also.
-      omega (arith, across_needs old blocks inodes n off bytes touched across, made_is (suc n) root size one two, counted, also)
+      omega (arith, across_needs old blocks inodes n off bytes touched across, made_is (current_words old) (off + length bytes) (suc n) root size one two, counted, also)
 
   -- the ways to the end of the file are loose
   end_loose : (n : ℕ) → WritesAcross kept old blocks inodes (suc n) off bytes touched → thawed (current_words old) kept (writes (suc n) off (length bytes)) ≡ [] → HasLooseEnd (current_words old) kept (suc n)
   end_loose n across clear =
-      loose_end image across.can.well_formed kept (suc n) across.can.reached
-      (loose-on image kept (targets image (writes (suc n) off (length bytes))) clear (end_path_now image (suc n))
-      (subst (λ ps. Has ps (end_path_now image (suc n))) (sym (across_targets image across.can.well_formed n across.can.reached off (length bytes) across.below across.past)) (inr (inr (inl refl))))
-      (length (root_path_now image (suc n)) - 1))
+      loose_end (current_words old) across.can.well_formed kept (suc n) across.can.reached
+      (loose-on (current_words old) kept (targets (current_words old) (writes (suc n) off (length bytes))) clear (end_path_now (current_words old) (suc n))
+      (subst (λ ps. Has ps (end_path_now (current_words old) (suc n))) (sym (across_targets (current_words old) across.can.well_formed n across.can.reached off (length bytes) across.below across.past)) (inr (inr (inl refl))))
+      (length (root_path_now (current_words old) (suc n)) - 1))
 
   pub at_prepare : (i size : ℕ) (path : WordPath) → WritesAcross kept old blocks inodes i off bytes touched → thawed (current_words old) kept (writes i off (length bytes)) ≡ [] → HasRoomThawed old blocks (writes i off (length bytes)) →
       need (current_words old) (writes i off (length bytes)) ≤ length (members blocks) → size ≡ size_of (current_words old) i → path ≡ inode_path (height_of (root_of (current_words old) 0)) i 1 →

@@ -9,7 +9,7 @@ use Rattle.bp_layout.specs.Reached.IsReached.{inode_file}
 use Rattle.bp_layout.specs.WellFormed.{IsWellFormed}
 use Rattle.bp_layout.specs.WordPaths.{WordPath, address, digits, inode_path}
 use Rattle.bp_layout.specs.Need.Change.{writes}
-use Rattle.bp_layout.specs.Tree.{IsLivePointer, IsLiveWord, node}
+use Rattle.bp_layout.specs.Tree.{IsLivePointer, IsLiveWord, node, word_at}
 use Rattle.bp_layout.proofs.Addresses.{address_from-digits}
 use Rattle.bp_layout.proofs.ThawLaws.{loose-on}
 use Rattle.bp_layout.proofs.TreeLaws.{live_above, live_content, live_pointer_word}
@@ -252,6 +252,7 @@ module _ {kept : ℕ → Bool} (old middle : Memory) (blocks inodes after : Set)
         (live_pointer_word _ _ (height_of (root_of image 0)) leaf_number (live_above _ _ (height_of (root_of image 0)) (8 * suc n + 1) (live_content _ _ (8 * suc n + 1) (omega (arith, in_image))))))
 
     node_stays : (d : ℕ) → suc d ≡ height_of (root_of image 0) → node mid (root_of mid 0) d (leaf_number / 512) ≡ node image (root_of image 0) d (leaf_number / 512)
+    unfolding word_at
     node_stays zero high = ap block_of root_stays
     node_stays (suc d) high =
         ap block_of

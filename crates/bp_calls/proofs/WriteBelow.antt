@@ -73,6 +73,7 @@ record IsRunAlone (image : Image) (i : ℕ) (touched : Touched) (run : Run) : Ty
 record CanCommitRun (kept : ℕ → Bool) (memory : Memory) (blocks : Set) (i : ℕ) (touched : Touched) (run : Run) : Type 0 where
   pub can : CanCommit (current_words memory) (size_of (current_words memory)) kept touched (has blocks)
   pub need_is : copied_count (current_words memory) touched ≡ need (current_words memory) (writes i run.off (length run.bytes.now))
+  pub few : copied_count (current_words memory) touched ≤ 320
   pub cover_is : commit_cover (current_words memory) touched ≡ cover_now (current_words memory) (writes i run.off (length run.bytes.now))
   pub room : HasRoomThawed memory blocks (writes i run.off (length run.bytes.now)) → copied_count (current_words memory) touched ≤ length (members blocks) → HasRoom memory touched
   pub loose : thawed (current_words memory) kept (writes i run.off (length run.bytes.now)) ≡ [] → HasLooseCover (current_words memory) kept touched
@@ -129,6 +130,7 @@ module _ {kept : ℕ → Bool} (old : Memory) (blocks inodes : Set) (n : ℕ) (t
   below_can = record {
     can = can;
     need_is = copies_need;
+    few = let most = few_copies image (size_of image) touched (has blocks) wf can run is.one in omega (arith, most, few_leaves run asks.short, none);
     cover_is = cover_is ∙ sym (writes_now image (suc n) run.off (length run.bytes.now) is.of.below);
     loose = below_loose;
     room = λ asked enough.
@@ -237,6 +239,9 @@ module _ {kept : ℕ → Bool} (old : Memory) (blocks inodes : Set) (i off : ℕ
   -- so many blocks it takes, and near its cover it stores
   pub write_needs : copied_count (current_words old) touched ≡ need (current_words old) (writes i off (length bytes))
   write_needs = from_run (λ o bs. copied_count (current_words old) touched ≡ need (current_words old) (writes i o (length bs))) ready.need_is
+
+  pub write_few : copied_count (current_words old) touched ≤ 320
+  write_few = ready.few
 
   pub write_cover : commit_cover (current_words old) touched ≡ cover_now (current_words old) (writes i off (length bytes))
   write_cover = from_run (λ o bs. commit_cover (current_words old) touched ≡ cover_now (current_words old) (writes i o (length bs))) ready.cover_is

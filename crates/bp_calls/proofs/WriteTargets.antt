@@ -1,8 +1,10 @@
 -- The words near which bytes come into a file, and the ways to them: below its size, behind it, and across it.
-use Rattle.std.proofs.Common.{◌≡◌, ◌≢◌, ◌⊎◌, ℕ, zero, suc, ◌+◌, ◌-◌, ◌*◌, ◌/◌, ◌%◌, ◌^◌, ◌<◌, ◌≤◌, min, max, List, [], ◌∷◌, ◌++◌, Bool, true, false, nat_lt, if◌then◌else◌, flat_map, fold, length, map, refl, sym, ◌∙◌, ap, ap₂, subst, arith, inl, inr, append_assoc}
+use Rattle.std.proofs.Common.{◌≡◌, ◌≢◌, ◌⊎◌, ℕ, zero, suc, ◌+◌, ◌-◌, ◌*◌, ◌/◌, ◌%◌, ◌^◌, ◌<◌, ◌≤◌, min, max, List, [], ◌∷◌, ◌++◌, Bool, true, false, nat_lt, if◌then◌else◌, flat_map, fold, take, length, map, refl, sym, ◌∙◌, ap, ap₂, subst, arith, inl, inr, append_assoc}
 use Rattle.std.specs.List.{range_with_len}
 use Rattle.std.proofs.lemmas.Bool.{cases_lt, eq-eqb, le-ltb, lt-ltb, ne_eqb}
+use Rattle.std.proofs.lemmas.List.{append-nil, length-append}
 use Rattle.std.proofs.lemmas.List.Sums.{fold-append}
+use Rattle.std.proofs.Math.Seq.{take-append_seam}
 use Rattle.bp_layout.specs.Inode.{kind_of, root_of, size_of}
 use Rattle.bp_layout.specs.Members.{Has}
 use Rattle.bp_layout.specs.Need.{Beyond, Change, beyond, common, common_all, content_path_at, cover_of, existing_from, touched_at}
@@ -43,11 +45,7 @@ fold_goes f front slot each (k ∷ ks) p goes = fold_goes f front slot each ks (
 -- and another one by another slot
 common_apart : (front : WordPath) (slot other : ℕ) (p q : WordPath) → slot ≢ other → GoesOn front slot p → GoesOn front other q → common p q ≡ front
 common_apart front slot other p q apart one two =
-    ap₂ common one.is two.is ∙ common_front front (slot ∷ one.rest) (other ∷ two.rest) ∙ rw (ne_eqb slot other apart) (append_nil_of front)
-  where
-    append_nil_of : (xs : WordPath) → xs ++ [] ≡ xs
-    append_nil_of [] = refl
-    append_nil_of (x ∷ xs) = ap (λ (r : WordPath). x ∷ r) (append_nil_of xs)
+    ap₂ common one.is two.is ∙ common_front front (slot ∷ one.rest) (other ∷ two.rest) ∙ rw (ne_eqb slot other apart) (append-nil front)
 
 common_leaf : (f : ℕ → WordPath) (front : WordPath) (slot other : ℕ) (last : WordPath) → slot ≢ other → ((k : ℕ) → GoesOn front slot (f k)) → GoesOn front other last → (from count : ℕ) →
     common_all (map f (range_with_len from (suc count)) ++ last ∷ []) ≡ front
@@ -131,6 +129,7 @@ module _ (image : Image) (wf : IsWellFormed image) (n : ℕ) (reached : IsReache
         record { rest = []; is = ap (λ k. digits (heights_now image 0) k ++ (8 * suc n + f) % 512 ∷ []) same }
 
     content_goes : (k : ℕ) → GoesOn leaf ((8 * suc n + 1) % 512) (content_path_at (heights_now image) (suc n) k)
+    unfolding inode_goes
     content_goes k =
         let root = inode_goes 1 (omega arith) in
         record {
@@ -144,7 +143,8 @@ module _ (image : Image) (wf : IsWellFormed image) (n : ℕ) (reached : IsReache
     pub across_covered : off < size_of image (suc n) → size_of image (suc n) < off + len → cover_now image (writes (suc n) off len) ≡ leaf_path (heights_now image 0) (suc n)
     across_covered below past =
         ap₂ covered (lt-ltb off (size_of image (suc n)) below) (lt-ltb (size_of image (suc n)) (off + len) past)
-        ∙ ap (existing_from (is_there_now image) []) (common_leaf (content_path_at (heights_now image) (suc n)) leaf ((8 * suc n + 1) % 512) ((8 * suc n + 2) % 512) size_way (omega arith) content_goes (inode_goes 2 (omega arith)) (off / 8) _)
+        ∙ ap (existing_from (is_there_now image) []) (common_leaf (content_path_at (heights_now image) (suc n)) leaf ((8 * suc n + 1) % 512) ((8 * suc n + 2) % 512) size_way (omega arith) content_goes (inode_goes 2 (omega arith)) (off / 8)
+        ((min (off + len) (size_of image (suc n)) - 1) / 8 - off / 8))
         ∙ existing-all (is_there_now image) [] leaf leaf_there
 
     pub across_targets : off < size_of image (suc n) → size_of image (suc n) < off + len → targets image (writes (suc n) off len) ≡ behind_cover (leaf_path (heights_now image 0) (suc n))
@@ -182,6 +182,20 @@ module _ (image : Image) (wf : IsWellFormed image) (n : ℕ) (reached : IsReache
         go (inl past) = behind_ways (cover_now image (writes (suc n) off len)) (covering_way some) path (subst (λ ps. Has ps path) (past_targets past) has)
         go (inr within) = alone (subst (λ ps. Has ps path) (below_targets within) has)
 
+-- ---- paths as they are read
+
+pub root_path_is : (image : Image) (i : ℕ) → 1 ≤ i → inode_path (heights_now image 0) i 1 ≡ root_path_now image i
+root_path_is image zero some = absurd (omega (arith, some))
+root_path_is image (suc n) some = sym (append-nil (inode_path (heights_now image 0) (suc n) 1))
+
+-- the word of the size stands in the leaf of the inode
+pub leaf_front : (height i : ℕ) → take (length (inode_path height i 2) - 1) (inode_path height i 2) ≡ leaf_path height i
+leaf_front height i =
+    let front : List ℕ = digits height ((8 * i + 2) / 512) in
+    let long : length (front ++ (8 * i + 2) % 512 ∷ []) - 1 ≡ length front = omega (arith, length-append front ((8 * i + 2) % 512 ∷ [])) in
+    let same : (8 * i + 2) / 512 ≡ (8 * i + 1) / 512 = omega arith in
+    ap (λ n. take n (front ++ (8 * i + 2) % 512 ∷ [])) long ∙ take-append_seam front ((8 * i + 2) % 512 ∷ []) ∙ ap (digits height) same
+
 -- ---- by the number of the inode
 
 -- a file is not the inode file
@@ -189,12 +203,12 @@ pub file_some : (image : Image) (i : ℕ) → kind_of image i ≡ 1 → 1 ≤ i
 file_some image zero kind = absurd (omega (arith, kind))
 file_some image (suc n) kind = omega arith
 
-module _ (image : Image) (wf : IsWellFormed image) where
-  -- behind a cover come the ways to the end
-  abbrev pub with_end : WordPath → ℕ → List WordPath
-  with_end cover i = cover ∷ root_path_now image i ∷ end_path_now image i ∷ []
+-- behind a cover come the ways to the end
+abbrev pub with_end : Image → WordPath → ℕ → List WordPath
+with_end image cover i = cover ∷ root_path_now image i ∷ end_path_now image i ∷ []
 
-  pub growing_at : (i size : ℕ) → 1 ≤ i → IsReached image i → size_of image i < size → targets image (resizes i size) ≡ with_end (inode_path (heights_now image 0) i 2) i
+module _ (image : Image) (wf : IsWellFormed image) where
+  pub growing_at : (i size : ℕ) → 1 ≤ i → IsReached image i → size_of image i < size → targets image (resizes i size) ≡ with_end image (inode_path (heights_now image 0) i 2) i
   growing_at zero size some reached longer = absurd (omega (arith, some))
   growing_at (suc n) size some reached longer = growing_targets image wf n reached size longer
 
@@ -202,11 +216,11 @@ module _ (image : Image) (wf : IsWellFormed image) where
   growing_ways_at zero size some reached longer = absurd (omega (arith, some))
   growing_ways_at (suc n) size some reached longer = growing_ways image wf n reached size longer
 
-  pub behind_at : (i off len : ℕ) → 1 ≤ i → IsReached image i → size_of image i ≤ off → 1 ≤ len → targets image (writes i off len) ≡ with_end (inode_path (heights_now image 0) i 2) i
+  pub behind_at : (i off len : ℕ) → 1 ≤ i → IsReached image i → size_of image i ≤ off → 1 ≤ len → targets image (writes i off len) ≡ with_end image (inode_path (heights_now image 0) i 2) i
   behind_at zero off len some reached behind more = absurd (omega (arith, some))
   behind_at (suc n) off len some reached behind more = behind_targets image wf n reached off len behind (omega (arith, behind, more))
 
-  pub across_at : (i off len : ℕ) → 1 ≤ i → IsReached image i → off < size_of image i → size_of image i < off + len → targets image (writes i off len) ≡ with_end (leaf_path (heights_now image 0) i) i
+  pub across_at : (i off len : ℕ) → 1 ≤ i → IsReached image i → off < size_of image i → size_of image i < off + len → targets image (writes i off len) ≡ with_end image (leaf_path (heights_now image 0) i) i
   across_at zero off len some reached below past = absurd (omega (arith, some))
   across_at (suc n) off len some reached below past = across_targets image wf n reached off len below past
 

@@ -185,7 +185,8 @@ fn grow_file<R: Region>(parts: &mut Parts<R>, i: u32, size: u64) -> Result<(), N
 ///
 /// # Errors
 ///
-/// `NoSpace` exactly where fewer blocks are free than it needs: a tree that gets higher takes a block for each level.
+/// `NoSpace` exactly where fewer blocks are free than it needs: one for each block on the ways to what it stores to that is
+/// kept for the snapshot, and one for each level by which a tree gets higher. Nothing has changed then.
 pub fn truncate<R: Region>(parts: &mut Parts<R>, i: u32, size: u64) -> Result<(), NoSpace>
     requires mounted { IsMounted (current_words (R.memory parts.old.region)) parts.old }
     requires reached { IsReached (current_words (R.memory parts.old.region)) i }

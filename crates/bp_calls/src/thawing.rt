@@ -57,10 +57,11 @@ pub fn thaw_before<R: Region>(
     ensures same { OnErr result (parts.new ≡ parts.old) }
 {
     let need = thaw_need(parts, targets) + more;
-    let free = parts.blocks.count();
-    if free < need {
-        return Err(NoSpace { need, free });
+    match enough_free(parts, need) {
+        Ok(()) => {
+            thaw(parts, targets);
+            Ok(())
+        }
+        Err(lacks) => Err(lacks),
     }
-    thaw(parts, targets);
-    Ok(())
 }

@@ -160,8 +160,9 @@ fn write_thawed<R: Region>(parts: &mut Parts<R>, i: u32, off: u64, bytes: &[u8])
 ///
 /// # Errors
 ///
-/// `NoSpace` exactly where fewer blocks are free than it needs: those for bytes past the size, and those that are
-/// copied for bytes below it. Nothing has changed then.
+/// `NoSpace` exactly where fewer blocks are free than it needs: one for each block on the ways to what it stores to that is
+/// kept for the snapshot, those for bytes past the size, and those that are copied for bytes below it. Nothing has
+/// changed then.
 pub fn write<R: Region>(parts: &mut Parts<R>, i: u32, off: u64, bytes: &[u8]) -> Result<(), NoSpace>
     requires mounted { IsMounted (current_words (R.memory parts.old.region)) parts.old }
     requires can { CanWrite (current_words (R.memory parts.old.region)) i off bytes.now }

@@ -73,8 +73,8 @@ pub(crate) fn need_across<R: Region>(parts: &Parts<R>, i: u32, off: u64, bytes: 
     let (below, _) = bytes.split_at((tree.size - off) as usize);
     let sized = [(size_path(&parts.region, i), end)];
     let runs = [run_across(&parts.region, i, tree, off, below, end)];
-    let touched = touched_across(&sized, &runs);
-    need_prep(&parts.region, tree, tree.size, end) + need_cover(&parts.region, &touched)
+    let copied = need_cover(&parts.region, &touched_across(&sized, &runs));
+    need_prep(&parts.region, tree, tree.size, end) + copied
 }
 
 /// Writes bytes across the size of a file, given what is touched for them. Its tree is prepared for those behind the
@@ -126,6 +126,5 @@ pub(crate) fn write_across<R: Region>(parts: &mut Parts<R>, i: u32, off: u64, by
     let (below, _) = bytes.split_at((tree.size - off) as usize);
     let sized = [(size_path(&parts.region, i), end)];
     let runs = [run_across(&parts.region, i, tree, off, below, end)];
-    let touched = touched_across(&sized, &runs);
-    write_touched(parts, i, off, bytes, &touched);
+    write_touched(parts, i, off, bytes, &touched_across(&sized, &runs));
 }

@@ -1,7 +1,6 @@
-use Rattle.std.proofs.Common.{length, ◌∙◌, ap₂, arith}
+use Rattle.std.proofs.Common.{arith}
 use Rattle.bp_shapes.specs.Sets.{kept_of}
 use Rattle.bp_append.specs.Prepared.{CanPrepare}
-use Rattle.bp_layout.specs.Nodes.{nodes_for}
 use Rattle.bp_layout.specs.Reached.IsReached.{inode_file}
 use Rattle.bp_layout.proofs.Reached.{reached-in_file}
 use Rattle.bp_free.specs.Set.{members}

@@ -12,7 +12,7 @@ pub commit-requires : goal.commit-requires
 commit-requires g c κs within =
     let memory = g.R.Region.memory in
     let write : WritesBelow (kept_of c.args.parts.now) (memory c.args.parts.now.region) c.args.parts.now.blocks c.args.parts.now.inodes c.args.i c.args.off c.args.bytes.now c.touched_by-touched.result = record {
-      can = write_into _ _ _ _ _ c.requires.can;
+      can = write_into _ _ _ _ _ _ c.requires.can;
       below = c.requires.below;
       touches = record { run = c.run_for.result; one = c.touched_by-touched.ensures.runs; no_words = c.touched_by-touched.ensures.words; no_trees = c.touched_by-touched.ensures.trees; is = c.run_for.ensures };
     } in (
@@ -28,7 +28,7 @@ pub returns-clause-performs : goal.returns-clause-performs
 returns-clause-performs g c =
     let memory = g.R.Region.memory in
     let write : WritesBelow (kept_of c.args.parts.now) (memory c.args.parts.now.region) c.args.parts.now.blocks c.args.parts.now.inodes c.args.i c.args.off c.args.bytes.now c.touched_by-touched.result = record {
-      can = write_into _ _ _ _ _ c.requires.can;
+      can = write_into _ _ _ _ _ _ c.requires.can;
       below = c.requires.below;
       touches = record { run = c.run_for.result; one = c.touched_by-touched.ensures.runs; no_words = c.touched_by-touched.ensures.words; no_trees = c.touched_by-touched.ensures.trees; is = c.run_for.ensures };
     } in
@@ -39,7 +39,7 @@ pub returns-clause-exact : goal.returns-clause-exact
 returns-clause-exact g c =
     let memory = g.R.Region.memory in
     let write : WritesBelow (kept_of c.args.parts.now) (memory c.args.parts.now.region) c.args.parts.now.blocks c.args.parts.now.inodes c.args.i c.args.off c.args.bytes.now c.touched_by-touched.result = record {
-      can = write_into _ _ _ _ _ c.requires.can;
+      can = write_into _ _ _ _ _ _ c.requires.can;
       below = c.requires.below;
       touches = record { run = c.run_for.result; one = c.touched_by-touched.ensures.runs; no_words = c.touched_by-touched.ensures.words; no_trees = c.touched_by-touched.ensures.trees; is = c.run_for.ensures };
     } in

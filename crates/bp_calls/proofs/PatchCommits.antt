@@ -1,5 +1,5 @@
 -- A commit of patches: what it asks, and that the change of their stretches is performed.
-use Rattle.std.proofs.Common.{◌≡◌, ℕ, ◌+◌, ◌*◌, ◌<◌, ◌≤◌, List, [], length, Bool, sym, ◌∙◌, ap, subst, arith, true, false, ◌||◌, ◌++◌, ◌∷◌, refl, inl, inr, ◌-◌}
+use Rattle.std.proofs.Common.{◌≡◌, ℕ, ◌+◌, ◌<◌, ◌≤◌, List, [], length, Bool, sym, ◌∙◌, ap, subst, arith, true, false, ◌||◌, ◌++◌, ◌∷◌, refl, inl, inr, ◌-◌}
 use Rattle.bp_free.specs.Set.{Set, has, members}
 use Rattle.bp_layout.specs.Free.{AreFreeBlocks, HasFree}
 use Rattle.bp_layout.specs.Inode.{size_of}

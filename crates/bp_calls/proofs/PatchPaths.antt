@@ -1,14 +1,13 @@
 -- The words of patches are those that the change of their stretches touches; so a commit of them has its cover and its copies.
-use Rattle.std.proofs.Common.{◌≡◌, ◌≢◌, ℕ, zero, suc, ◌+◌, ◌-◌, ◌*◌, ◌/◌, ◌<◌, ◌≤◌, List, [], ◌∷◌, ◌++◌, length, map, take, true, refl, sym, ◌∙◌, ap, ap₂, subst, arith}
+use Rattle.std.proofs.Common.{◌≡◌, ℕ, zero, suc, ◌+◌, ◌-◌, ◌/◌, ◌<◌, ◌≤◌, List, [], ◌++◌, length, map, take, true, refl, sym, ◌∙◌, ap, ap₂, subst, arith}
 use Rattle.std.specs.Prelude.{flat_map}
 use Rattle.std.specs.List.{range_with_len}
 use Rattle.std.proofs.lemmas.Bool.{eq-eqb, ne_eqb}
 use Rattle.std.proofs.lemmas.List.{append-nil, take-take}
-use Rattle.bp_layout.specs.Inode.{kind_of, root_of, size_of}
+use Rattle.bp_layout.specs.Inode.{kind_of, root_of}
 use Rattle.bp_layout.specs.Members.{Each, Has}
 use Rattle.bp_layout.specs.Need.{Change, common_all, content_path_at, copied, cover, cover_of, is_there_after, need, stretch_paths, touched}
 use Rattle.bp_layout.specs.Need.Change.{overwrites}
-use Rattle.bp_layout.specs.Reached.{IsReached}
 use Rattle.bp_layout.specs.Thaw.{cover_now, is_there_now}
 use Rattle.bp_layout.specs.WellFormed.{IsWellFormed}
 use Rattle.bp_layout.specs.WordPaths.{WordPath, digits, inode_path, is_pointed}

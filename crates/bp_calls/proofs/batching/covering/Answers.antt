@@ -1,4 +1,4 @@
-use Rattle.std.proofs.Common.{◌≡◌, ℕ, List, [], ◌∷◌, ◌++◌, map, ◌∙◌, ap}
+use Rattle.std.proofs.Common.{ℕ, List, [], ◌∷◌, ◌++◌, map, ◌∙◌, ap}
 use Rattle.arrayvec.specs.ArrayVec.{ArrayVec}
 use Rattle.bp_calls.proofs.batching.covering.Goals as goal
 

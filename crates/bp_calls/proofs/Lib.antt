@@ -50,7 +50,10 @@ pub mod Unthawed
 pub mod CountLaws
 pub mod ThawedParts
 pub mod TargetPaths
+pub mod WriteTargets
+pub mod SameWrites
 pub mod ThawedRoom
+pub mod ThawedNeed
 pub mod LeavingThawed
 pub mod ThawedShows
 pub mod NothingKept

@@ -43,6 +43,7 @@ returns g c =
     }) in
     record {
       performs = done.0;
+      frozen = c.prep.ensures.frozen;
       exact = exact_file _ _ c.args.parts.now _ c.requires.exact (rw c.prep.ensures.inodes done.1) c.prep.ensures.frozen c.prep.ensures.counts c.args.i
           c.requires.can.well_formed done.0.effect.changes;
     }

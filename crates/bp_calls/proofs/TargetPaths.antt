@@ -1,8 +1,7 @@
 -- The ways to the words near which a change stores.
-use Rattle.std.proofs.Common.{◌≡◌, ◌≢◌, ◌⊎◌, ℕ, zero, suc, ◌+◌, ◌-◌, ◌*◌, ◌/◌, ◌^◌, ◌<◌, ◌≤◌, List, [], ◌∷◌, ◌++◌, Bool, true, false, nat_lt, ◌&&◌, ◌||◌, if◌then◌else◌, flat_map, length, refl, sym, ◌∙◌, ap, ap₂, subst, arith, inl, inr, pow-suc}
+use Rattle.std.proofs.Common.{◌≡◌, ◌≢◌, ◌⊎◌, ℕ, zero, suc, ◌+◌, ◌-◌, ◌*◌, ◌/◌, ◌^◌, ◌<◌, ◌≤◌, List, [], ◌∷◌, ◌++◌, Bool, true, false, nat_lt, ◌&&◌, ◌||◌, if◌then◌else◌, flat_map, take, length, refl, sym, ◌∙◌, ap, ap₂, subst, arith, inl, inr, pow-suc}
 use Rattle.std.proofs.lemmas.Bool.{le-ltb, lt-ltb, ltb-true, cases_lt}
 use Rattle.std.proofs.lemmas.List.{append-nil, take-take}
-use Rattle.std.specs.List.{take}
 use Rattle.std.proofs.Math.Seq.{take-length}
 use Rattle.bp_layout.specs.Need.{common_all, cover_of}
 use Rattle.bp_cow.proofs.CommonPaths.{Begins, HasExistingFront, all-begin, existing}
@@ -10,10 +9,10 @@ use Rattle.bp_thaw.specs.Fronts.{IsPointerPath}
 use Rattle.bp_thaw.proofs.PointerPaths.{front_path}
 use Rattle.bp_layout.proofs.Reached.{reached-in_file}
 use Rattle.bp_changes.specs.Effects.{CanUnlink}
-use Rattle.bp_layout.specs.Directory.{EntryNames, entry_count, inumber_at}
+use Rattle.bp_layout.specs.Directory.{entry_count}
 use Rattle.bp_layout.specs.Inode.{ContentStandsAt, inode_count, kind_of, root_of, size_of}
 use Rattle.bp_layout.specs.Members.{Has}
-use Rattle.bp_layout.specs.Need.{Beyond, Change, beyond, entry_path, is_there_after}
+use Rattle.bp_layout.specs.Need.{Beyond, beyond, is_there_after}
 use Rattle.bp_layout.specs.Need.Change.{leaves, resizes}
 use Rattle.bp_layout.specs.Reached.{IsReached}
 use Rattle.bp_layout.specs.Reached.IsReached.{inode_file}
@@ -104,11 +103,11 @@ root_then h (suc i) d k = ap (λ (p : WordPath). p ++ digits d k) (append-nil (i
 pub end_at_root : (image : Image) (t root size : ℕ) → root ≡ root_of image t → size ≡ size_of image t → (size ≡ 0) ⊎ (span (height_of root) ≤ size) → root_path_now image t ≡ end_path_now image t
 end_at_root image t root size is long (inl none) = rw (le-ltb 0 (size_of image t) (omega (arith, none, long))) refl
 end_at_root image t root size is long (inr past) =
-    (by (nat_lt 0 (size_of image t)) (le-ltb (size_of image t) (span (heights_now image t)) (subst (λ s. span (heights_now image t) ≤ s) long (subst (λ r. span (height_of r) ≤ size) is past))))
+    by (nat_lt 0 (size_of image t)) _ _ (le-ltb (size_of image t) (span (heights_now image t)) (subst (λ s. span (heights_now image t) ≤ s) long (subst (λ r. span (height_of r) ≤ size) is past)))
   where
-    by : (a : Bool) {b : Bool} {deep above : WordPath} → b ≡ false → above ≡ (if a && b then deep else above)
-    by true e = rw e refl
-    by false e = refl
+    by : (a : Bool) {b : Bool} (deep above : WordPath) → b ≡ false → above ≡ (if a && b then deep else above)
+    by true deep above e = rw e refl
+    by false deep above e = refl
 
 -- and of another
 pub end_below_root : (image : Image) (t root size : ℕ) → root ≡ root_of image t → size ≡ size_of image t → size ≢ 0 → size < span (height_of root) →

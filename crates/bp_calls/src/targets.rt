@@ -70,16 +70,27 @@ pub(crate) fn shrinking<R: Region>(region: &R, i: u32) -> Targets
     targets
 }
 
+/// The same path.
+fn copy_of(path: &Slots) -> Slots
+    ensures { result.items ≡ path.now.items }
+{
+    let mut copy = Slots::new();
+    match copy.try_extend_from_slice(path.as_slice()) {
+        Ok(()) => copy,
+        Err(_) => unreachable!(),
+    }
+}
+
 /// A word, and those near which bytes come behind the size of a file.
-fn with_end<R: Region>(region: &R, i: u32, word: &Slots) -> Targets
+fn with_end<R: Region>(region: &R, i: u32, word: Slots) -> Targets
     requires well_formed { IsWellFormed (current_words (R.memory region.now)) }
     requires reached { IsReached (current_words (R.memory region.now)) i }
     requires some { 1 ≤ i }
-    ensures { paths_in result ≡ word.now.items ∷ root_path_now (current_words (R.memory region.now)) i
+    ensures { paths_in result ≡ word.items ∷ root_path_now (current_words (R.memory region.now)) i
         ∷ end_path_now (current_words (R.memory region.now)) i ∷ [] }
 {
     let mut targets = Targets::new();
-    targets.push(*word);
+    targets.push(word);
     push_end(&mut targets, &root_path(region, i), tree_of(region, i));
     targets
 }
@@ -94,7 +105,7 @@ pub(crate) fn lengthening<R: Region>(region: &R, i: u32) -> Targets
     ensures writes { (off len : ℕ) → size_of (current_words (R.memory region.now)) i ≤ off → 1 ≤ len →
         paths_in result ≡ targets (current_words (R.memory region.now)) (writes i off len) }
 {
-    with_end(region, i, &size_path(region, i))
+    with_end(region, i, size_path(region, i))
 }
 
 /// Where a file gets bytes on both sides of its size: the pointer to the leaf with its inode, below which stand both the
@@ -109,7 +120,7 @@ fn crossing<R: Region>(region: &R, i: u32) -> Targets
 {
     let mut leaf = size_path(region, i);
     leaf.pop();
-    with_end(region, i, &leaf)
+    with_end(region, i, leaf)
 }
 
 /// Where a file gets bytes below its size: the word that covers them.
@@ -150,7 +161,7 @@ fn end_path(root: &Slots, tree: Tree) -> Slots
     ensures { (image : Image) (t : ℕ) → root.now.items ≡ root_path_now image t → tree.root ≡ root_of image t →
         tree.size ≡ size_of image t → result.items ≡ end_path_now image t }
 {
-    let mut path = *root;
+    let mut path = copy_of(root);
     if tree.size == 0 || span(tree.height()) <= tree.size {
         return path;
     }
@@ -172,6 +183,6 @@ pub fn push_end(targets: &mut Targets, root: &Slots, tree: Tree)
         paths_in targets.new ≡ paths_in targets.old ++ root_path_now image t ∷ end_path_now image t ∷ [] }
 {
     let end = end_path(root, tree);
-    targets.push(*root);
+    targets.push(copy_of(root));
     targets.push(end);
 }

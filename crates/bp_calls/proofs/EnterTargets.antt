@@ -1,5 +1,5 @@
 -- The ways to the words near which a name comes into a directory, and what is not kept once they are thawed.
-use Rattle.std.proofs.Common.{◌≡◌, ◌≢◌, ◌⊎◌, ℕ, Bool, false, suc, ◌+◌, ◌*◌, ◌/◌, ◌<◌, List, [], ◌∷◌, ◌++◌, length, flat_map, Option, None, Some, refl, sym, ◌∙◌, ap, subst, arith, inl, inr}
+use Rattle.std.proofs.Common.{◌≡◌, ◌≢◌, ◌⊎◌, ℕ, Bool, false, zero, suc, ◌+◌, ◌-◌, ◌*◌, ◌/◌, ◌<◌, List, [], ◌∷◌, ◌++◌, length, flat_map, Option, None, Some, refl, sym, ◌∙◌, ap, ap₂, subst, arith, inl, inr}
 use Rattle.std.proofs.lemmas.List.{append-nil}
 use Rattle.bp_append.specs.Prepared.{HasLooseEnd}
 use Rattle.bp_append.proofs.EndWays.{loose_end}
@@ -14,7 +14,7 @@ use Rattle.bp_layout.specs.Reached.IsReached.{inode_file}
 use Rattle.bp_layout.specs.Thaw.{cover_now, end_path_now, end_targets, heights_now, is_there_now, root_path_now, targets, thawed}
 use Rattle.bp_layout.specs.Tree.{node}
 use Rattle.bp_layout.specs.WellFormed.{IsWellFormed}
-use Rattle.bp_layout.specs.WordPaths.{WordPath, inode_path, tree_path}
+use Rattle.bp_layout.specs.WordPaths.{WordPath, digits, inode_path, tree_path}
 use Rattle.bp_layout.specs.Words.{Image, height_of}
 use Rattle.bp_layout.proofs.MemberLaws.{has-behind, has-front}
 use Rattle.bp_layout.proofs.ThawLaws.{loose-on}
@@ -37,6 +37,15 @@ entrant_ways image (taken j) = inode_path (heights_now image 0) j 0 ∷ []
 entrant_ways image grown = root_path_now image 0 ∷ end_path_now image 0 ∷ []
 entrant_ways image linked = []
 
+-- the path of a root word, as it is made
+pub root_path_at : (image : Image) (t : ℕ) → t ≢ 0 → inode_path (heights_now image 0) t 1 ≡ root_path_now image t
+root_path_at image zero some = absurd (some refl)
+root_path_at image (suc i) some = sym (append-nil (inode_path (heights_now image 0) (suc i) 1))
+
+-- and that of the first word of an inode
+pub row_path_at : (image : Image) (j root offset : ℕ) → root ≡ root_of image 0 → offset ≡ 64 * j → digits (suc (height_of root)) (offset / 8) ≡ inode_path (heights_now image 0) j 0
+row_path_at image j root offset is at = ap₂ (λ r n. digits (suc (height_of r)) n) is (omega (arith, at))
+
 -- an inode that is taken is one of the file's
 abbrev pub IsEntrant : Image → Entrant → Type 0
 IsEntrant image (taken j) = j < inode_count image
@@ -58,7 +67,7 @@ module _ (image : Image) (wf : IsWellFormed image) (i : ℕ) (reached : IsReache
   entered_cover e = cover_of-one (is_there_now image) (entered_at (heights_now image) i (empty_slot image i)) (entered_whole (empty_slot image i) refl)
 
   ways_with : (found : Option ℕ) (more : List Beyond) (last : List WordPath) →
-      entered_at (heights_now image) i found ∷ flat_map (end_targets image) (new_entry image i found ++ more) ++ last ≡ entry_ways image i found ++ flat_map (end_targets image) more ++ last
+      entered_at (heights_now image) i found ∷ flat_map (end_targets image) (new_entry image i found ++ more) ++ last ≡ entry_ways image i found ++ (flat_map (end_targets image) more ++ last)
   ways_with None more last = refl
   ways_with (Some s) more last = refl
 
@@ -68,6 +77,10 @@ module _ (image : Image) (wf : IsWellFormed image) (i : ℕ) (reached : IsReache
       ap (λ (p : WordPath). p ∷ flat_map (end_targets image) (new_entry image i (empty_slot image i) ++ record { tree = 0; from = size_of image 0; to = size_of image 0 + 4096 } ∷ []) ++ []) (entered_cover grown)
       ∙ ways_with (empty_slot image i) (record { tree = 0; from = size_of image 0; to = size_of image 0 + 4096 } ∷ []) []
   enter_targets linked = ap (λ (p : WordPath). p ∷ flat_map (end_targets image) (new_entry image i (empty_slot image i) ++ []) ++ []) (entered_cover linked) ∙ ways_with (empty_slot image i) [] []
+
+  -- those of the entry are told by a name more of a file
+  pub more_targets : (e : Entrant) → targets image (enters i linked) ++ entrant_ways image e ≡ targets image (enters i e)
+  more_targets e = ap (λ (ps : List WordPath). ps ++ entrant_ways image e) (enter_targets linked ∙ append-nil (entry_ways image i (empty_slot image i))) ∙ sym (enter_targets e)
 
   -- ---- each is a way
 

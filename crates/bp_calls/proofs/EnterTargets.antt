@@ -1,12 +1,12 @@
 -- The ways to the words near which a name comes into a directory, and what is not kept once they are thawed.
-use Rattle.std.proofs.Common.{◌≡◌, ◌≢◌, ◌⊎◌, ℕ, Bool, false, zero, suc, ◌+◌, ◌-◌, ◌*◌, ◌/◌, ◌<◌, List, [], ◌∷◌, ◌++◌, length, flat_map, Option, None, Some, refl, sym, ◌∙◌, ap, ap₂, subst, arith, inl, inr}
+use Rattle.std.proofs.Common.{◌≡◌, ◌≢◌, ℕ, Bool, false, zero, suc, ◌+◌, ◌-◌, ◌*◌, ◌/◌, ◌<◌, List, [], ◌∷◌, ◌++◌, length, flat_map, Option, None, Some, refl, sym, ◌∙◌, ap, ap₂, subst, arith, inl, inr}
 use Rattle.std.proofs.lemmas.List.{append-nil}
 use Rattle.bp_append.specs.Prepared.{HasLooseEnd}
 use Rattle.bp_append.proofs.EndWays.{loose_end}
 use Rattle.bp_layout.specs.Directory.{empty_slot, entry_count}
 use Rattle.bp_layout.specs.Inode.{inode_count, kind_of, root_of, size_of}
 use Rattle.bp_layout.specs.Members.{Has}
-use Rattle.bp_layout.specs.Need.{Beyond, Entrant, cover_of, entered_at, is_there_after, new_entry}
+use Rattle.bp_layout.specs.Need.{Beyond, Entrant, entered_at, is_there_after, new_entry}
 use Rattle.bp_layout.specs.Need.Change.{enters, leaves}
 use Rattle.bp_layout.specs.Need.Entrant.{grown, linked, taken}
 use Rattle.bp_layout.specs.Reached.{IsReached}

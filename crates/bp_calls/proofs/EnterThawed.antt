@@ -1,6 +1,5 @@
 -- A change is ready behind its thaw, and a name that comes in behind one comes in as before.
-use Rattle.std.proofs.Common.{◌≡◌, ℕ, Bool, ◌+◌, ◌/◌, ◌<◌, ◌≤◌, List, [], length, Option, None, Some, sym, ◌∙◌, ap, subst, arith}
-use Rattle.bp_changes.specs.SameMeaning.{SameMeaning}
+use Rattle.std.proofs.Common.{◌≡◌, ℕ, ◌+◌, ◌/◌, ◌<◌, ◌≤◌, List, length, Option, None, Some, sym, ◌∙◌, subst, arith}
 use Rattle.bp_changes.specs.Thawed.{SameShape}
 use Rattle.bp_changes.proofs.ReachedOn.{reached_on}
 use Rattle.bp_changes.proofs.SameMeaning.{reached-back}

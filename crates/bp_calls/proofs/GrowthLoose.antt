@@ -1,9 +1,9 @@
 -- What is not kept stays so where the inode file gets one more leaf, and neither is that leaf.
-use Rattle.std.proofs.Common.{◌≡◌, ◌≢◌, ℕ, Bool, false, zero, suc, ◌+◌, ◌-◌, ◌*◌, ◌/◌, ◌%◌, ◌<◌, ◌≤◌, List, refl, sym, ◌∙◌, ap, subst, subst₂, arith, inl, inr, Some, None}
+use Rattle.std.proofs.Common.{◌≡◌, ◌≢◌, ℕ, Bool, false, ◌+◌, ◌-◌, ◌*◌, ◌/◌, ◌%◌, ◌<◌, ◌≤◌, List, refl, sym, ◌∙◌, ap, subst, arith, inl, inr, Some}
 use Rattle.bp_append.specs.Prepared.{HasLooseEnd}
 use Rattle.bp_append.proofs.NeedLaws.{tall_enough}
 use Rattle.bp_layout.specs.Directory.{entry_count, empty_slot}
-use Rattle.bp_layout.specs.Inode.{ContentStandsAt, RootPlace, inode_count, kind_of, root_of, size_of}
+use Rattle.bp_layout.specs.Inode.{RootPlace, inode_count, kind_of, root_of, size_of}
 use Rattle.bp_layout.specs.Inode.RootPlace.{top, inode}
 use Rattle.bp_layout.specs.Members.{Has}
 use Rattle.bp_layout.specs.Reached.{IsReached}

@@ -1,5 +1,5 @@
 -- An entry is put behind the last one of a directory: what that asks of a preparation, and that it reads back.
-use Rattle.std.proofs.Common.{◌≡◌, ℕ, Bool, zero, suc, ◌+◌, ◌-◌, ◌*◌, ◌/◌, ◌%◌, ◌^◌, ◌<◌, ◌≤◌, List, length, refl, sym, ◌∙◌, arith, le_trans}
+use Rattle.std.proofs.Common.{◌≡◌, ℕ, Bool, zero, suc, ◌+◌, ◌*◌, ◌/◌, ◌%◌, ◌^◌, ◌<◌, ◌≤◌, List, length, refl, sym, ◌∙◌, arith, le_trans}
 use Rattle.bp_limits.specs.declared.version.Version.TheVariants.{One}
 use Rattle.bp_limits.proofs.Versions.{size_least}
 use Rattle.bp_layout.specs.Formatted.{version_of}

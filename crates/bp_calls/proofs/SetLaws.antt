@@ -8,7 +8,7 @@ use Rattle.bp_layout.specs.Words.{Image}
 use Rattle.bp_layout.specs.Tree.{HasBlock}
 use Rattle.bp_layout.specs.Inode.{kind_of, root_of, size_of, ContentStandsAt}
 use Rattle.bp_layout.specs.Directory.{Name, IsName, slot_named}
-use Rattle.bp_layout.specs.Reached.{IsReached, IsLiveBlock, IsFreeBlock}
+use Rattle.bp_layout.specs.Reached.{IsReached, IsLiveBlock}
 use Rattle.bp_layout.specs.WellFormed.{IsWellFormed}
 use Rattle.bp_layout.specs.Free.{AreFreeBlocks, AreFreeInodes, IsFreeInode}
 use Rattle.bp_layout.proofs.SmallTrees.{empty_has_none}

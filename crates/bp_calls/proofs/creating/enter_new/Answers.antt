@@ -1,5 +1,4 @@
-use Rattle.std.proofs.Common.{sym, ◌∙◌, arith}
-use Rattle.pm_region.specs.Memory.{current_words}
+use Rattle.std.proofs.Common.{sym, ◌∙◌}
 use Rattle.bp_free.specs.Set.{members}
 use Rattle.bp_calls.specs.Created.{EntersName}
 use Rattle.bp_calls.proofs.NewNames.{none_performs, none_ready, some_enters, some_performs}

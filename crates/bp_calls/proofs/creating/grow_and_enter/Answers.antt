@@ -1,8 +1,4 @@
-use Rattle.std.proofs.Common.{◌≡◌, ◌∙◌, sym, subst}
-use Rattle.bp_free.specs.Set.{Set, has, members}
-use Rattle.bp_shapes.specs.Sets.{AreExact}
-use Rattle.bp_layout.specs.Need.Change.{enters}
-use Rattle.pm_region.specs.Memory.{current_words}
+use Rattle.std.proofs.Common.{◌∙◌, sym}
 use Rattle.bp_calls.proofs.NewNames.{can_grow, grown_enters, grown_performs, grown_slot}
 use Rattle.bp_calls.proofs.creating.grow_and_enter.Goals as goal
 

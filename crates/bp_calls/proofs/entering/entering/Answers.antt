@@ -1,4 +1,4 @@
-use Rattle.std.proofs.Common.{◌≡◌, ℕ, List, [], ◌∷◌, ◌++◌, map, Option, None, Some, suc, ◌+◌, ◌*◌, ◌≤◌, length, sym, ◌∙◌, ap, arith}
+use Rattle.std.proofs.Common.{ℕ, List, [], ◌∷◌, ◌++◌, map, Option, suc, ◌+◌, ◌*◌, ◌≤◌, length, sym, ◌∙◌, ap, arith}
 use Rattle.arrayvec.specs.ArrayVec.{ArrayVec}
 use Rattle.std.proofs.lemmas.List.{length-map}
 use Rattle.bp_layout.specs.Inode.{root_of}

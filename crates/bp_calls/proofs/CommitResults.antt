@@ -24,3 +24,8 @@ ok_one (Err e) a so = tt
 pub by_one : {T E : Type 0} {A P : E → Type 0} (result : Result T E) → IfErr result A → ((e : E) → A e → P e) → IfErr result P
 by_one (Ok x) a so = tt
 by_one (Err e) a so = so e a
+
+-- what never errs meets what is asked of an error
+pub err_never : {T E : Type 0} {A : E → Type 0} (P : Type 0) (result : Result T E) → IfErr result A → ((e : E) → A e → ⊥) → OnErr result P
+err_never P (Ok x) a never = tt
+err_never P (Err e) a never = absurd (never e a)

@@ -1,6 +1,6 @@
 -- Where no block is kept nothing is thawed: a call needs what its change needs, and what it does at once is what it does
 -- behind a thaw.
-use Rattle.std.proofs.Common.{◌≡◌, ℕ, ◌≤◌, [], length, refl, sym, ◌∙◌, ap, subst, arith}
+use Rattle.std.proofs.Common.{◌≡◌, ◌≤◌, [], length, refl, sym, ◌∙◌, ap, subst, arith}
 use Rattle.bp_calls.specs.Mounted.{IsMounted}
 use Rattle.bp_calls.specs.Space.{HasRoomThawed, HasRoomWhereFree, LacksBlocks, LacksSpace}
 use Rattle.bp_calls.proofs.ThawedParts.{nothing_kept}

@@ -1,0 +1,19 @@
+use Rattle.std.proofs.Common.{length}
+use Rattle.bp_calls.specs.WritesFile.{WritesFile}
+use Rattle.bp_calls.proofs.SameWrites.{write_behind_thaw}
+use Rattle.bp_calls.proofs.ThawedParts.{mounted_thawed, performed_thawed}
+use Rattle.bp_layout.specs.Need.Change.{writes}
+use Rattle.bp_calls.proofs.writing.write.Goals as goal
+
+pub write_thawed-requires-clause-can : goal.write_thawed-requires-clause-can
+write_thawed-requires-clause-can g c =
+    write_behind_thaw g.R.Region.memory c.args.parts.now c.thaw_write.new.parts c.requires.mounted c.args.i c.args.off c.args.bytes.now c.requires.can c.in-Ok.ensures.thaws c.in-Ok.ensures.room
+
+pub write_thawed-requires-clause-exact : goal.write_thawed-requires-clause-exact
+write_thawed-requires-clause-exact g c =
+    (mounted_thawed g.R.Region.memory (writes c.args.i c.args.off (length c.args.bytes.now)) c.args.parts.now c.thaw_write.new.parts c.requires.mounted c.requires.can.reached c.in-Ok.ensures.thaws).exact
+
+pub returns-in-Ok-clause-performs : goal.returns-in-Ok-clause-performs
+returns-in-Ok-clause-performs g c =
+    performed_thawed g.R.Region.memory (writes c.args.i c.args.off (length c.args.bytes.now)) c.args.parts.now c.thaw_write.new.parts c.requires.mounted c.requires.can.reached c.in-Ok.ensures.thaws
+    c.write_thawed.new.parts (WritesFile c.args.i c.args.off c.args.bytes.now) c.write_thawed.ensures.performs

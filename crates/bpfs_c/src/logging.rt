@@ -1,6 +1,6 @@
 //! The log, which is the caller's to carry, event by event; and the words.
 
-ghost use Rattle.std.specs.Prelude.{◌≡◌, length};
+ghost use Rattle.std.specs.Prelude.{◌≡◌, ◌≤◌, ◌<◌, ◌+◌, drop, length, slice_range, take};
 ghost use Rattle.pm_region.specs.Memory.{current_words};
 ghost use Rattle.bpfs_c.specs.Events.{HasEvents, IsDrained, events_of, seen_event};
 ghost use Rattle.bpfs_c.specs.Serves.{Looked};
@@ -10,7 +10,7 @@ use crate::codes::{CLOSED, OK, OUT_OF_RANGE};
 use crate::handle::Handle;
 use pm_epochs::Event;
 use pm_raw::RawRegion;
-use pm_region::Region;
+use pm_region::{HEAD_WORDS, Region};
 use std::alloc::Global;
 
 /// The kind of a store of a word.
@@ -111,6 +111,33 @@ pub extern "C" fn bpfs_drain(alloc: Global, handle: &mut Handle) -> u32
     OK
 }
 
+/// Copies so many of a region's words from this one on, one by one.
+fn copy_head(region: &RawRegion, first: u32, count: usize, into: &mut [u64])
+    requires room { count ≤ length into.old }
+    requires in_range { first + count ≤ length region.now.base }
+    ensures front { take count into.new ≡ slice_range (current_words region.now) first (first + count) }
+    ensures rest { drop count into.new ≡ drop count into.old }
+{
+    for i in 0..count {
+        into[i] = region.load(first + i as u32);
+    }
+}
+
+/// Fills what is behind the first so many words with a region's words behind so many from this one on.
+fn copy_behind(region: &RawRegion, first: u32, count: usize, into: &mut [u64])
+    requires room { count ≤ length into.old }
+    requires in_range { first + length into.old ≤ length region.now.base }
+    requires behind_head { count < length into.old → HEAD_WORDS ≤ first + count }
+    ensures front { take count into.new ≡ take count into.old }
+    ensures rest { drop count into.new
+        ≡ slice_range (current_words region.now) (first + count) (first + length into.old) }
+{
+    let rest = into.len() - count;
+    if 0 < rest {
+        into[count..].copy_from_slice(region.load_words(first + count as u32, rest as u32));
+    }
+}
+
 /// Copies a region's words from this one on, where there are so many.
 fn copy_words(region: &RawRegion, first: u32, into: &mut [u64]) -> u32
     ensures { TellsWords (current_words region.now) first into.old result into.new }
@@ -119,8 +146,10 @@ fn copy_words(region: &RawRegion, first: u32, into: &mut [u64]) -> u32
     if words < first || ((words - first) as usize) < into.len() {
         return OUT_OF_RANGE;
     }
-    let count = into.len() as u32;
-    into.copy_from_slice(region.load_words(first, count));
+    // The words of the head are read one by one alone.
+    let head = (HEAD_WORDS.saturating_sub(first) as usize).min(into.len());
+    copy_head(region, first, head, into);
+    copy_behind(region, first, head, into);
     OK
 }
 

@@ -1,6 +1,6 @@
 //! The log, which is the caller's to carry, event by event; and the words.
 
-ghost use Rattle.std.specs.Prelude.{◌≡◌, ◌≤◌, ◌<◌, ◌+◌, drop, length, slice_range, take};
+ghost use Rattle.std.specs.Prelude.{◌≡◌, ◌≤◌, ◌<◌, ◌+◌, ◌^◌, length, slice_range};
 ghost use Rattle.pm_region.specs.Memory.{current_words};
 ghost use Rattle.bpfs_c.specs.Events.{HasEvents, IsDrained, events_of, seen_event};
 ghost use Rattle.bpfs_c.specs.Serves.{Looked};
@@ -111,31 +111,29 @@ pub extern "C" fn bpfs_drain(alloc: Global, handle: &mut Handle) -> u32
     OK
 }
 
-/// Copies so many of a region's words from this one on, one by one.
-fn copy_head(region: &RawRegion, first: u32, count: usize, into: &mut [u64])
-    requires room { count ≤ length into.old }
-    requires in_range { first + count ≤ length region.now.base }
-    ensures front { take count into.new ≡ slice_range (current_words region.now) first (first + count) }
-    ensures rest { drop count into.new ≡ drop count into.old }
+/// Copies a region's words from this one on, one by one.
+fn copy_by_word(region: &RawRegion, first: u32, into: &mut [u64])
+    requires in_range { first + length into.old ≤ length region.now.base }
+    requires fits { first + length into.old < 2 ^ 32 }
+    ensures { into.new ≡ slice_range (current_words region.now) first (first + length into.old) }
 {
-    for i in 0..count {
+    for i in 0..into.len() {
         into[i] = region.load(first + i as u32);
     }
 }
 
-/// Fills what is behind the first so many words with a region's words behind so many from this one on.
-fn copy_behind(region: &RawRegion, first: u32, count: usize, into: &mut [u64])
-    requires room { count ≤ length into.old }
+/// Copies a region's words from this one on, which stand behind its head.
+fn copy_run(region: &RawRegion, first: u32, into: &mut [u64])
     requires in_range { first + length into.old ≤ length region.now.base }
-    requires behind_head { count < length into.old → HEAD_WORDS ≤ first + count }
-    ensures front { take count into.new ≡ take count into.old }
-    ensures rest { drop count into.new
-        ≡ slice_range (current_words region.now) (first + count) (first + length into.old) }
+    requires fits { first + length into.old < 2 ^ 32 }
+    requires behind_head { 0 < length into.old → HEAD_WORDS ≤ first }
+    ensures { into.new ≡ slice_range (current_words region.now) first (first + length into.old) }
 {
-    let rest = into.len() - count;
-    if 0 < rest {
-        into[count..].copy_from_slice(region.load_words(first + count as u32, rest as u32));
+    if into.is_empty() {
+        return;
     }
+    let count = into.len() as u32;
+    into.copy_from_slice(region.load_words(first, count));
 }
 
 /// Copies a region's words from this one on, where there are so many.
@@ -146,10 +144,11 @@ fn copy_words(region: &RawRegion, first: u32, into: &mut [u64]) -> u32
     if words < first || ((words - first) as usize) < into.len() {
         return OUT_OF_RANGE;
     }
-    // The words of the head are read one by one alone.
+    // The words of the head are read one by one.
     let head = (HEAD_WORDS.saturating_sub(first) as usize).min(into.len());
-    copy_head(region, first, head, into);
-    copy_behind(region, first, head, into);
+    let (front, rest) = into.split_at_mut(head);
+    copy_by_word(region, first, front);
+    copy_run(region, first + head as u32, rest);
     OK
 }
 

@@ -25,6 +25,11 @@ pub by_two : {T E : Type 0} {A B P : E → Type 0} (result : Result T E) → IfE
 by_two (Ok x) a b so = tt
 by_two (Err e) a b so = so e a b
 
+-- one that is
+pub ok_one : {T E A B : Type 0} (result : Result T E) → OnOk result A → (A → B) → OnOk result B
+ok_one (Ok x) a so = so a
+ok_one (Err e) a so = tt
+
 -- one that is known of an error
 pub by_one : {T E : Type 0} {A P : E → Type 0} (result : Result T E) → IfErr result A → ((e : E) → A e → P e) → IfErr result P
 by_one (Ok x) a so = tt

@@ -59,6 +59,9 @@ pub mod ThawedShows
 pub mod NothingKept
 pub mod FewNames
 pub mod GrowthPerforms
+pub mod GrowthLoose
+pub mod EnterTargets
+pub mod EnterThawed
 pub mod NewNames
 pub mod ShareLaws
 pub mod WrittenStands

@@ -50,11 +50,11 @@ content_way image wf t k reached below =
     let fits = (wf.sound t reached).fits in
     record { tree = t; depth = suc (height_of (root_of image t)); index = k; reached = reached; low = omega arith; few = few_digits (suc (height_of (root_of image t))) k (omega (arith, fits, below)); is = refl }
 
-there_as : (p q : WordPath → Bool) → ((path : WordPath) → p path ≡ true → q path ≡ true) → (here path : WordPath) → AllThere p here path → AllThere q here path
+pub there_as : (p q : WordPath → Bool) → ((path : WordPath) → p path ≡ true → q path ≡ true) → (here path : WordPath) → AllThere p here path → AllThere q here path
 there_as p q alike here [] all = tt
 there_as p q alike here (slot ∷ path) all = (alike here all.0, there_as p q alike (here ++ slot ∷ []) path all.1)
 
-or_none : (b : Bool) → ((b || false) || false) ≡ true → b ≡ true
+pub or_none : (b : Bool) → ((b || false) || false) ≡ true → b ≡ true
 or_none true e = refl
 or_none false e = e
 

@@ -3,12 +3,13 @@ use Rattle.std.proofs.Common.{◌≡◌, ◌*◌, ◌+◌, ◌<◌, ◌≤◌, �
 use Rattle.bp_calls.specs.CanGrow.{CanGrowFile}
 use Rattle.bp_calls.specs.CanWrite.{CanWrite, CanWriteInto, CanWriteThawed}
 use Rattle.bp_calls.specs.Mounted.{IsMounted}
-use Rattle.bp_calls.specs.Space.{HasRoomThawed}
+use Rattle.bp_calls.specs.Space.{HasRoomThawed, HasRoomWhereFree}
+use Rattle.bp_calls.proofs.NothingKept.{clear_at_once, room_at_once}
 use Rattle.bp_calls.specs.ThawsFor.{ThawsFor}
 use Rattle.bp_calls.proofs.ThawedParts.{mounted_thawed, thawed_clear}
 use Rattle.bp_changes.proofs.Formatted.{version_stays}
 use Rattle.bp_changes.proofs.ReachedOn.{reached_on}
-use Rattle.bp_free.specs.Set.{Set}
+use Rattle.bp_free.specs.Set.{Set, members}
 use Rattle.bp_free.specs.declared.parts.Parts.{Parts}
 use Rattle.bp_layout.specs.Formatted.{version_of}
 use Rattle.bp_layout.specs.Inode.{IsFile, size_of}
@@ -41,6 +42,21 @@ write_mounted image parts i off bytes mounted can = record {
   some = can.some;
   short = can.short;
   fits = can.fits;
+}
+
+-- where no block is kept it may be written at once
+pub write_at_once : {R : Type 0} (memory : R → Memory) (parts : Parts R) (i off : ℕ) (bytes : List ℕ) → IsMounted (current_words (memory parts.region)) parts → CanWrite (current_words (memory parts.region)) i off bytes → length (members parts.frozen) ≡ 0 →
+    HasRoomWhereFree (memory parts.region) (kept_of parts) parts.blocks (writes i off (length bytes)) → CanWriteThawed (kept_of parts) (memory parts.region) parts.blocks parts.inodes i off bytes
+write_at_once memory parts i off bytes mounted can none room = record {
+  well_formed = mounted.well_formed;
+  exact = mounted.exact.sets;
+  reached = can.reached;
+  file = can.file;
+  some = can.some;
+  short = can.short;
+  fits = can.fits;
+  clear = clear_at_once memory (writes i off (length bytes)) parts mounted none;
+  room = room_at_once memory (writes i off (length bytes)) parts mounted none room;
 }
 
 module _ {R : Type 0} (memory : R → Memory) (old new : Parts R) (mounted : IsMounted (current_words (memory old.region)) old) where

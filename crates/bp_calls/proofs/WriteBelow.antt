@@ -31,7 +31,9 @@ use Rattle.bp_cow.proofs.FewCopies.{few_copies}
 use Rattle.bp_cow.proofs.RunThere.{run_cover, run_need}
 use Rattle.bp_cow.proofs.RunWrites.{run_bytes, run_changes, run_size}
 use Rattle.bp_calls.specs.CanWrite.{CanWriteInto}
-use Rattle.bp_calls.specs.Space.{HasRoomThawed}
+use Rattle.bp_calls.specs.Space.{HasRoomThawed, LacksBlocks}
+use Rattle.bp_calls.proofs.FreeCounts.{free_members}
+use Rattle.bp_layout.specs.Free.{HasFree}
 use Rattle.bp_calls.specs.TouchedBelow.{WritesBelow}
 use Rattle.bp_calls.specs.WritesFile.{WritesFile}
 use Rattle.bp_calls.proofs.RunCommits.{IsRunOf, run_loose, commit_exact, commit_writes_file, few_leaves, run_in, run_is, run_open}
@@ -246,18 +248,19 @@ module _ {kept : ℕ → Bool} (old : Memory) (blocks inodes : Set) (i off : ℕ
   pub write_cover : commit_cover (current_words old) touched ≡ cover_now (current_words old) (writes i off (length bytes))
   write_cover = from_run (λ o bs. commit_cover (current_words old) touched ≡ cover_now (current_words old) (writes i o (length bs))) ready.cover_is
 
-  pub write_commits : thawed (current_words old) kept (writes i off (length bytes)) ≡ [] → HasRoomThawed old blocks (writes i off (length bytes)) → need (current_words old) (writes i off (length bytes)) ≤ length (members blocks) →
-      block_count (current_words old) ≤ length blocks → CanCommitIn (size_of (current_words old)) kept old touched blocks
-  write_commits clear asked enough fits =
-      let some : copied_count (current_words old) touched ≤ length (members blocks) = omega (arith, write_needs, enough) in
-      record {
-        well_formed = write.can.well_formed;
-        can = write_can;
-        loose = ready.loose (of_run (λ o bs. thawed (current_words old) kept (writes i o (length bs)) ≡ []) clear);
-        fits = fits;
-        some = some;
-        room = ready.room (of_run (λ o bs. HasRoomThawed old blocks (writes i o (length bs))) asked) some;
-      }
+  pub write_room : HasRoomThawed old blocks (writes i off (length bytes)) → copied_count (current_words old) touched ≤ length (members blocks) → HasRoom old touched
+  write_room asked = ready.room (of_run (λ o bs. HasRoomThawed old blocks (writes i o (length bs))) asked)
+
+  pub write_loose : thawed (current_words old) kept (writes i off (length bytes)) ≡ [] → HasLooseCover (current_words old) kept touched
+  write_loose clear = ready.loose (of_run (λ o bs. thawed (current_words old) kept (writes i o (length bs)) ≡ []) clear)
+
+  pub write_lacks : (copies free : ℕ) → copies ≡ copied_count (current_words old) touched → free ≡ length (members blocks) → free < copies →
+      LacksBlocks (current_words old) kept (need (current_words old) (writes i off (length bytes))) (record { need = copies; free = free })
+  write_lacks copies free counted number fewer = record {
+    needed = sym (counted ∙ write_needs);
+    free = subst (HasFree (current_words old) kept) (sym number) (free_members (current_words old) kept blocks write.can.exact.free_blocks write.can.exact.block_room);
+    fewer = fewer;
+  }
 
   module _ (new : Memory) (after : Set) (small : (k : ℕ) → slice_index bytes k < 256) (done : CommitsTouched (size_of (current_words old)) kept touched old new blocks after) where
     run_small : (k : ℕ) → slice_index run.bytes.now k < 256

@@ -26,6 +26,7 @@ pub(crate) fn enough_free<R: Region>(parts: &Parts<R>, need: u32) -> Result<(), 
     requires { IsMounted (current_words (R.memory parts.now.region)) parts.now }
     ensures enough { OnOk result (need ≤ length (members parts.now.blocks)) }
     ensures refused { IfErr result (LacksBlocks (current_words (R.memory parts.now.region)) (kept_of parts.now) need) }
+    ensures free { IfErr result (λ lacks. lacks.free ≡ length (members parts.now.blocks)) }
 {
     let free = parts.blocks.count();
     if free < need {

@@ -15,43 +15,6 @@ use Rattle.bp_shapes.specs.Sets.{kept_of}
 use Rattle.pm_region.specs.Memory.{current_words}
 use Rattle.bp_calls.proofs.writing.thaw_write.Goals as goal
 
-pub returns-then-count-eq0-clause-thaws : goal.returns-then-count-eq0-clause-thaws
-returns-then-count-eq0-clause-thaws g c =
-    let image = current_words (g.R.Region.memory c.args.parts.now.region) in
-    let change = writes c.args.i c.args.off (length c.args.bytes.now) in
-    let more = c.need_write-need.result in
-    let reached = c.requires.can.reached in
-    let needs : need image change ≡ more = sym c.need_write-need.ensures.need in
-    on_ok_weaker c.enough_free.result (unthawed_ways g.R.Region.memory change more c.args.parts.now needs c.requires.room c.requires.mounted reached (sym c.count.ensures ∙ c.if-count-eq0.true)
-    (write_ways_at image c.requires.mounted.well_formed c.args.i c.args.off (length c.args.bytes.now) (file_some image c.args.i c.requires.can.file) reached c.requires.can.some)) c.enough_free.ensures.enough
-
-pub returns-then-count-eq0-clause-room : goal.returns-then-count-eq0-clause-room
-returns-then-count-eq0-clause-room g c =
-    let image = current_words (g.R.Region.memory c.args.parts.now.region) in
-    let change = writes c.args.i c.args.off (length c.args.bytes.now) in
-    let more = c.need_write-need.result in
-    let reached = c.requires.can.reached in
-    let needs : need image change ≡ more = sym c.need_write-need.ensures.need in
-    on_ok_weaker c.enough_free.result (unthawed_room g.R.Region.memory change more c.args.parts.now needs c.requires.room c.requires.mounted reached (sym c.count.ensures ∙ c.if-count-eq0.true)) c.enough_free.ensures.enough
-
-pub returns-then-count-eq0-clause-enough : goal.returns-then-count-eq0-clause-enough
-returns-then-count-eq0-clause-enough g c =
-    let image = current_words (g.R.Region.memory c.args.parts.now.region) in
-    let change = writes c.args.i c.args.off (length c.args.bytes.now) in
-    let more = c.need_write-need.result in
-    let reached = c.requires.can.reached in
-    let needs : need image change ≡ more = sym c.need_write-need.ensures.need in
-    on_ok_weaker c.enough_free.result (unthawed_enough g.R.Region.memory change more c.args.parts.now needs c.requires.room c.requires.mounted reached (sym c.count.ensures ∙ c.if-count-eq0.true)) c.enough_free.ensures.enough
-
-pub returns-then-count-eq0-clause-refused : goal.returns-then-count-eq0-clause-refused
-returns-then-count-eq0-clause-refused g c =
-    let image = current_words (g.R.Region.memory c.args.parts.now.region) in
-    let change = writes c.args.i c.args.off (length c.args.bytes.now) in
-    let more = c.need_write-need.result in
-    let reached = c.requires.can.reached in
-    let needs : need image change ≡ more = sym c.need_write-need.ensures.need in
-    by_one c.enough_free.result c.enough_free.ensures.refused (lacks_unthawed g.R.Region.memory change more c.args.parts.now needs c.requires.room c.requires.mounted reached (sym c.count.ensures ∙ c.if-count-eq0.true))
-
 pub thaw_before-requires-clause-ways : goal.thaw_before-requires-clause-ways
 thaw_before-requires-clause-ways g c =
     let image = current_words (g.R.Region.memory c.args.parts.now.region) in

@@ -1,11 +1,9 @@
-use Rattle.std.proofs.Common.{ℕ, ◌<◌, slice_index, refl, arith}
-use Rattle.bp_calls.specs.CanWrite.{CanWriteInto}
+use Rattle.std.proofs.Common.{refl, arith}
 use Rattle.bp_calls.specs.TouchedBelow.{WritesBelow}
 use Rattle.bp_calls.proofs.CountLaws.{exact_file}
 use Rattle.bp_calls.proofs.SameWrites.{write_into}
 use Rattle.bp_calls.proofs.WriteBelow.{write_commits, write_exact, write_performs}
 use Rattle.bp_shapes.specs.Sets.{kept_of}
-use Rattle.pm_region.specs.Memory.{current_words}
 use Rattle.bp_calls.proofs.writing.write_below.Goals as goal
 
 pub commit-requires : goal.commit-requires

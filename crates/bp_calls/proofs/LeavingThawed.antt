@@ -1,5 +1,5 @@
 -- What may leave before a thaw may leave behind it.
-use Rattle.std.proofs.Common.{◌≡◌, ℕ, sym, subst}
+use Rattle.std.proofs.Common.{ℕ, sym, subst}
 use Rattle.bp_changes.specs.Effects.{CanUnlink}
 use Rattle.bp_changes.specs.SameMeaning.{SameMeaning}
 use Rattle.bp_changes.proofs.ReachedOn.{names_on, reached_on}

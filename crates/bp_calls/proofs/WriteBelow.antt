@@ -1,5 +1,5 @@
 -- A write below the size of a file: what it asks of a commit, and that it is performed.
-use Rattle.std.proofs.Common.{◌≡◌, ◌⊎◌, ℕ, zero, suc, ◌+◌, ◌-◌, ◌<◌, ◌≤◌, List, [], ◌∷◌, length, slice_index, refl, sym, ◌∙◌, ap, subst, inl, inr, arith, le_trans, Bool, ◌||◌, ◌==◌, ◌++◌, fold, flat_map, if◌then◌else◌}
+use Rattle.std.proofs.Common.{◌≡◌, ◌⊎◌, ℕ, zero, suc, ◌+◌, ◌-◌, ◌<◌, ◌≤◌, List, [], ◌∷◌, length, slice_index, refl, sym, ◌∙◌, ap, subst, inl, inr, arith, Bool, ◌||◌, ◌==◌, ◌++◌, fold, flat_map, if◌then◌else◌}
 use Rattle.std.proofs.lemmas.Bool.{cases_eq, le-ltb}
 use Rattle.std.proofs.lemmas.List.{take_all}
 use Rattle.bp_free.specs.Set.{Set, has, members}
@@ -37,10 +37,10 @@ use Rattle.bp_layout.specs.Free.{HasFree}
 use Rattle.bp_calls.specs.TouchedBelow.{WritesBelow}
 use Rattle.bp_calls.specs.WritesFile.{WritesFile}
 use Rattle.bp_calls.proofs.RunCommits.{IsRunOf, run_loose, commit_exact, commit_writes_file, few_leaves, run_in, run_is, run_open}
-use Rattle.bp_layout.specs.Thaw.{cover_now, heights_now, is_there_now, targets, thawed}
+use Rattle.bp_layout.specs.Thaw.{cover_now, is_there_now, targets, thawed}
 use Rattle.std.specs.List.{list_any}
 use Rattle.bp_layout.proofs.ThawLaws.{loose-on}
-use Rattle.bp_layout.specs.Need.{Beyond, beyond, cover, cover_of, is_there, pointed, prepared_for, same_node, touched_at}
+use Rattle.bp_layout.specs.Need.{Beyond, beyond, cover, cover_of, pointed, prepared_for, same_node, touched_at}
 use Rattle.bp_layout.specs.Nodes.{TreeNode, height_with, is_present}
 use Rattle.bp_layout.specs.WordPaths.{WordPath}
 use Rattle.bp_calls.proofs.PatchCommits.{exists_as, or_false}

@@ -1,19 +1,18 @@
 -- The words near which bytes come into a file, and the ways to them: below its size, behind it, and across it.
-use Rattle.std.proofs.Common.{◌≡◌, ◌≢◌, ◌⊎◌, ℕ, zero, suc, ◌+◌, ◌-◌, ◌*◌, ◌/◌, ◌%◌, ◌^◌, ◌<◌, ◌≤◌, min, max, List, [], ◌∷◌, ◌++◌, Bool, true, false, nat_lt, if◌then◌else◌, flat_map, fold, take, length, map, refl, sym, ◌∙◌, ap, ap₂, subst, arith, inl, inr, append_assoc}
+use Rattle.std.proofs.Common.{◌≡◌, ◌≢◌, ◌⊎◌, ℕ, zero, suc, ◌+◌, ◌-◌, ◌*◌, ◌/◌, ◌%◌, ◌<◌, ◌≤◌, min, max, List, [], ◌∷◌, ◌++◌, Bool, nat_lt, if◌then◌else◌, flat_map, fold, take, length, map, refl, sym, ◌∙◌, ap, ap₂, subst, arith, inl, inr, append_assoc}
 use Rattle.std.specs.List.{range_with_len}
 use Rattle.std.proofs.lemmas.Bool.{cases_lt, eq-eqb, le-ltb, lt-ltb, ne_eqb}
 use Rattle.std.proofs.lemmas.List.{append-nil, length-append}
 use Rattle.std.proofs.lemmas.List.Sums.{fold-append}
 use Rattle.std.proofs.Math.Seq.{take-append_seam}
-use Rattle.bp_layout.specs.Inode.{kind_of, root_of, size_of}
+use Rattle.bp_layout.specs.Inode.{kind_of, size_of}
 use Rattle.bp_layout.specs.Members.{Has}
-use Rattle.bp_layout.specs.Need.{Beyond, Change, beyond, common, common_all, content_path_at, cover_of, existing_from, touched_at}
+use Rattle.bp_layout.specs.Need.{Change, common, common_all, content_path_at, cover_of, existing_from, touched_at}
 use Rattle.bp_layout.specs.Need.Change.{resizes, writes}
 use Rattle.bp_layout.specs.Reached.{IsReached}
-use Rattle.bp_layout.specs.Reached.IsReached.{inode_file}
 use Rattle.bp_layout.specs.Thaw.{cover_now, end_path_now, end_targets, heights_now, is_there_now, root_path_now, targets}
 use Rattle.bp_layout.specs.WellFormed.{IsWellFormed}
-use Rattle.bp_layout.specs.WordPaths.{WordPath, digits, inode_path, tree_path}
+use Rattle.bp_layout.specs.WordPaths.{WordPath, digits, inode_path}
 use Rattle.bp_layout.specs.Words.{Image}
 use Rattle.bp_layout.proofs.MemberLaws.{has-behind}
 use Rattle.bp_cow.proofs.LeafCover.{leaf_path}

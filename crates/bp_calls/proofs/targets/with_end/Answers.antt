@@ -1,4 +1,4 @@
-use Rattle.std.proofs.Common.{◌≡◌, suc, ◌+◌, ◌*◌, ◌≤◌, length, arith, ℕ, List, [], ◌∷◌, ◌++◌, map, ◌∙◌, ap}
+use Rattle.std.proofs.Common.{suc, ◌+◌, ◌*◌, ◌≤◌, length, arith, ℕ, List, [], ◌∷◌, ◌++◌, map, ◌∙◌, ap}
 use Rattle.arrayvec.specs.ArrayVec.{ArrayVec}
 use Rattle.bp_layout.specs.Thaw.{end_path_now, heights_now, root_path_now}
 use Rattle.bp_layout.specs.Reached.IsReached.{inode_file}

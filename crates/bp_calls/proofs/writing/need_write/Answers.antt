@@ -1,4 +1,4 @@
-use Rattle.std.proofs.Common.{◌≡◌, ◌+◌, ◌≤◌, length, sym, ◌∙◌, arith}
+use Rattle.std.proofs.Common.{◌+◌, ◌≤◌, length, sym, ◌∙◌, arith}
 use Rattle.bp_append.proofs.FewNeeded.{few_needed}
 use Rattle.bp_calls.proofs.WriteBehind.{behind_needs}
 use Rattle.bp_layout.specs.Inode.{size_of}

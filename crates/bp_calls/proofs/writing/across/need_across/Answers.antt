@@ -1,4 +1,4 @@
-use Rattle.std.proofs.Common.{◌≡◌, ◌+◌, ◌≤◌, length, ◌∙◌, arith}
+use Rattle.std.proofs.Common.{◌+◌, length, arith}
 use Rattle.bp_calls.specs.TouchedAcross.{WritesAcross}
 use Rattle.bp_calls.proofs.AcrossCalls.{at_apart, at_few, at_inside, at_needs, at_shape, sized_word, splits_at, touches_across}
 use Rattle.bp_calls.proofs.SameWrites.{write_mounted}

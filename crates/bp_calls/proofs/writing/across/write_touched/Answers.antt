@@ -1,4 +1,4 @@
-use Rattle.std.proofs.Common.{◌≡◌, ◌/◌, ℕ, length, refl, sym, ◌∙◌, ap, subst, arith}
+use Rattle.std.proofs.Common.{◌/◌, length, refl, sym, ◌∙◌, ap, subst, arith}
 use Rattle.bp_calls.proofs.SizesWith.{sizes_with}
 use Rattle.bp_cow.specs.Commit.{CanCommitIn, CommitsTouched}
 use Rattle.pm_region.specs.Memory.{current_words}

@@ -1,6 +1,6 @@
 -- Where the way to the byte at the size of a tree is loose, no node with that byte is kept, nor the block that holds the
 -- tree's root word.
-use Rattle.std.proofs.Common.{◌≡◌, ◌≢◌, ℕ, zero, suc, ◌+◌, ◌-◌, ◌*◌, ◌/◌, ◌%◌, ◌<◌, ◌≤◌, [], ◌∷◌, ◌++◌, length, Bool, true, false, nat_lt, if◌then◌else◌, refl, sym, ◌∙◌, ap, subst, arith, append_assoc, mul-le-mul_right, lt_of_le_of_lt, lt_of_lt_of_le, le_trans, le_of_lt, inl, inr}
+use Rattle.std.proofs.Common.{◌≡◌, ◌≢◌, ℕ, zero, suc, ◌+◌, ◌-◌, ◌*◌, ◌/◌, ◌%◌, ◌<◌, ◌≤◌, [], ◌∷◌, ◌++◌, length, Bool, true, false, ◌&&◌, nat_lt, if◌then◌else◌, refl, sym, ◌∙◌, ap, subst, arith, append_assoc, mul-le-mul_right, lt_of_le_of_lt, lt_of_lt_of_le, le_trans, le_of_lt, inl, inr}
 use Rattle.std.proofs.lemmas.Bool.{and_from, cases_lt, lt-ltb}
 use Rattle.std.proofs.lemmas.List.{length-append}
 use Rattle.std.proofs.Math.Nat.{div-mul-le_self, lt-div-mul-add, div-lt_iff_lt-mul}
@@ -146,7 +146,7 @@ module _ (image : Image) (wf : IsWellFormed image) where
 
         front : (u : ℕ) → u ≢ 0 → IsLoose image kept (length (root_path_now image u) - 1) (end_path_now image u) → is_kept_at image kept (digits (heights_now image 0) ((8 * u + 1) / 512)) ≡ false
         front zero some is = absurd (some refl)
-        front (suc i) some is = either i (nat_lt (size_of image (suc i)) (span (heights_now image (suc i)))) is
+        front (suc i) some is = either i (nat_lt 0 (size_of image (suc i)) && nat_lt (size_of image (suc i)) (span (heights_now image (suc i)))) is
 
     -- so that with its root word
     pub loose_root : (place : ℕ) → t ≢ 0 → RootPlace image t place → kept (place / 512) ≡ false

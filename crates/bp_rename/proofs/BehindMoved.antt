@@ -262,7 +262,7 @@ module _ {kept : ℕ → Bool} (old middle : Memory) (move : Move) (blocks inode
   behind_loose clear =
       still_loose image mid touched behind_can.shape (size_path image j) (touched_size image move can other none touched is) same_blocks
       (covers ∙ sym (behind_cover image can.well_formed i s j (size_of image j + 256) can.source can.entry.in_size can.entry.directory can.target touched is))
-      (touched_loose image move can other none touched is clear)
+      kept (touched_loose image move can other none touched is kept clear)
 
   few_stores : prep_stores (size_of image j) (size_of image j) (size_of image j + 256) (need_for image j (size_of image j) (size_of image j + 256)) + commit_stores mid touched ≤
       most_stores_thawed (need image (moves move.from_dir move.from_slot move.to_dir))

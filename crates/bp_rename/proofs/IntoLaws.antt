@@ -1,5 +1,5 @@
 -- A name moves into an empty entry of another directory: the name is written there first, where nobody sees it.
-use Rattle.std.proofs.Common.{◌≡◌, ◌≢◌, ℕ, suc, ◌+◌, ◌-◌, ◌*◌, ◌/◌, ◌<◌, ◌≤◌, [], ◌∷◌, ◌++◌, Bool, false, None, Some, refl, sym, ◌∙◌, ap, ap₂, subst₂, arith}
+use Rattle.std.proofs.Common.{◌≡◌, ◌≢◌, ℕ, suc, ◌+◌, ◌-◌, ◌*◌, ◌/◌, ◌<◌, ◌≤◌, [], ◌∷◌, ◌++◌, length, Bool, false, None, Some, refl, sym, ◌∙◌, ap, ap₂, subst₂, arith}
 use Rattle.pm_epochs.specs.declared.event.Event.TheVariants.{Barrier}
 use Rattle.pm_epochs.specs.May.{AnyAt, EachMay}
 use Rattle.pm_epochs.proofs.CrashLaws.{IsClosed-barrier, quiet-barrier}
@@ -73,7 +73,7 @@ module _ (old third mid : Memory) (move : Move) (s entry : ℕ) (can : CanRename
   into_trees = rw words (spare_trees (current_words old) (current_words third) can.well_formed (each_after (AnyAt (IsSpare (current_words old))) 0 31 old third all_spare))
 
   -- where the block of the entry is not kept the name may be stored there
-  module _ {kept : ℕ → Bool} (loose : kept (entry / 512) ≡ false) where
+  module _ (kept : ℕ → Bool) (loose : kept (entry / 512) ≡ false) where
     abbrev Inside : ℕ → Type 0
     Inside p = IsSpare (current_words old) p × IsOpen (current_words old) kept [] p
 
@@ -113,6 +113,9 @@ module _ (old third mid : Memory) (move : Move) (s entry : ℕ) (can : CanRename
 
   pub mid_formed : IsWellFormed (current_words mid)
   mid_formed = prepared_well_formed (current_words old) (current_words mid) can.well_formed into_trees.prepared
+
+  pub mid_whole : length (current_words mid) ≡ length (current_words old)
+  mid_whole = into_trees.prepared.meaning.trees.whole
 
   on : (t : ℕ) → IsReached (current_words old) t → IsReached (current_words mid) t
   on = reached_after (current_words old) (current_words mid) can.well_formed into_trees.prepared

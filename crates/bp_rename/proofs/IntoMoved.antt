@@ -118,7 +118,7 @@ module _ {kept : ℕ → Bool} (old third mid : Memory) (move : Move) (s entry :
   pub into_room : HasRoom mid touched
   into_room =
       let few = copied_few (current_words mid) (size_of (current_words mid)) touched (has blocks) formed into_ready in
-      let left = room_after_quiet Same 1 31 old mid (into_taking old third mid move s entry can new_name other found entry_at spells spelled ends loose).part in
+      let left = room_after_quiet Same 1 31 old mid (into_taking old third mid move s entry can new_name other found entry_at spells spelled ends kept loose).part in
       omega (arith, few, count, leaves, into_copies, room, left)
 
   -- the pointers on the way to the empty entry stay
@@ -134,7 +134,7 @@ module _ {kept : ℕ → Bool} (old third mid : Memory) (move : Move) (s entry :
   pub into_mid_loose : thawed (current_words old) kept (moves move.from_dir move.from_slot move.to_dir) ≡ [] → HasLooseCover (current_words mid) kept touched
   into_mid_loose clear =
       still_loose (current_words old) (current_words mid) touched into_ready.shape (path_of (word_paths touched) 0) (has-word touched into_ready.shape 0 (omega (arith, count))) same_blocks
-      (covers ∙ sym (into_cover (current_words old) move s can other found touched is)) (into_loose (current_words old) move s can other found touched is clear)
+      (covers ∙ sym (into_cover (current_words old) move s can other found touched is)) kept (into_loose (current_words old) move s can other found touched is kept clear)
 
   module _ (new : Memory) (left : Set) (done : CommitsTouched (size_of (current_words mid)) kept touched mid new blocks left) (as_long : length left ≡ length blocks) where
     apart_from_file : (i : ℕ) → pick move.to_dir move.from_dir i ≡ 0 → ⊥
@@ -206,7 +206,7 @@ module _ {kept : ℕ → Bool} (old third mid : Memory) (move : Move) (s entry :
     pub into_performs : PerformsThawed kept old new (moves move.from_dir move.from_slot move.to_dir) (RenamesEntry move)
     into_performs =
         commit_performs_after old mid new (moves move.from_dir move.from_slot move.to_dir) (RenamesEntry move) (size_of (current_words mid)) touched blocks left [] 1 31
-        (into_taking old third mid move s entry can new_name other found entry_at spells spelled ends loose) done
+        (into_taking old third mid move s entry can new_name other found entry_at spells spelled ends kept loose) done
         (λ b live. inl (live_before_too (current_words old) (current_words mid) can.well_formed trees.prepared b live))
         (λ b there. (exact.free_blocks.free b there, λ never. never)) covers (omega arith)
         (let few = stores_few (current_words mid) (size_of (current_words mid)) touched (has blocks) formed into_ready in omega (arith, few, leaves, count, into_copies))

@@ -60,8 +60,8 @@ module _ (image : Image) (wf : IsWellFormed image) (change : Change) (t k : ℕ)
 
 module _ (image : Image) (wf : IsWellFormed image) (touched : Touched) (shape : IsTouched touched) (path : WordPath) (in_paths : Has (all_paths touched) path)
     (live : (d : ℕ) → d < length path → IsTreePointer image (size_of image) (trail_of path d)) where
-  pub cover_loose : {kept : ℕ → Bool} (change : Change) → commit_cover image touched ≡ cover_now image change → thawed image kept change ≡ [] → HasLooseCover image kept touched
-  cover_loose {kept} change covers clear =
+  pub cover_loose : (kept : ℕ → Bool) (change : Change) → commit_cover image touched ≡ cover_now image change → thawed image kept change ≡ [] → HasLooseCover image kept touched
+  cover_loose kept change covers clear =
       loose_cover kept image wf touched shape path in_paths live
       (loose-on image kept (targets image change) clear (commit_cover image touched) (inl (sym covers)) (length (commit_cover image touched) - 1))
 
@@ -77,7 +77,7 @@ block_stays old mid bound p one top same =
     ∙ sym (ap block_of (word-tree old one.tree one.depth one.index))
     ∙ ap (block_on old) one.named
 
-module _ {kept : ℕ → Bool} (old mid : Image) (touched : Touched) (shape : IsTouched touched) (path : WordPath) (in_paths : Has (all_paths touched) path)
+module _ (old mid : Image) (touched : Touched) (shape : IsTouched touched) (path : WordPath) (in_paths : Has (all_paths touched) path)
     (same : (d : ℕ) → d < length path → block_on mid (trail_of path d) ≡ block_on old (trail_of path d)) (covers : commit_cover mid touched ≡ commit_cover old touched) where
   places : (n : ℕ) → length (commit_cover old touched) ≡ n → place_on old (trail_of (end_path touched 0) n) ≡ place_on mid (trail_of (end_path touched 0) n)
   places zero e = refl
@@ -88,8 +88,8 @@ module _ {kept : ℕ → Bool} (old mid : Image) (touched : Touched) (shape : Is
       ap (block_on old) (sym begins) ∙ sym (same d (omega (arith, alike.0))) ∙ ap (block_on mid) begins in
       ap (λ b. 512 * b + slice_index (end_path touched 0) d) stays
 
-  pub still_loose : HasLooseCover old kept touched → HasLooseCover mid kept touched
-  still_loose loose =
+  pub still_loose : (kept : ℕ → Bool) → HasLooseCover old kept touched → HasLooseCover mid kept touched
+  still_loose kept loose =
       let word : cover_word old touched ≡ cover_word mid touched =
       cover_address touched shape old ∙ places (length (commit_cover old touched)) refl
       ∙ ap (λ (p : WordPath). place_on mid (trail_of (end_path touched 0) (length p))) (sym covers) ∙ sym (cover_address touched shape mid) in

@@ -136,9 +136,9 @@ module _ (image : Image) (move : Move) (r : ℕ) (can : CanRename image move) (o
         ∙ sym (now_whole image can.well_formed (replaces move.from_dir move.from_slot move.to_dir r) move.from_dir (32 * move.from_slot + 0) can.source can.entry.directory low_source (inl refl))
 
     -- so it may be stored to where nothing is left to thaw
-    pub onto_loose : {kept : ℕ → Bool} → thawed image kept (replaces move.from_dir move.from_slot move.to_dir r) ≡ [] → HasLooseCover image kept touched
-    onto_loose clear =
+    pub onto_loose : (kept : ℕ → Bool) → thawed image kept (replaces move.from_dir move.from_slot move.to_dir r) ≡ [] → HasLooseCover image kept touched
+    onto_loose kept clear =
         let some : 0 < length touched.words.now = omega (arith, are.some) in
         cover_loose image can.well_formed touched onto_shape (path_of (word_paths touched) 0) (has-word touched onto_shape 0 some)
         (λ d low. words_fronts image (size_of image) (wf_forest image can.well_formed) touched (pick move.from_dir move.to_dir) (pick (32 * move.from_slot + 0) (32 * r + 0)) are 0 d some low)
-        (replaces move.from_dir move.from_slot move.to_dir r) onto_now clear
+        kept (replaces move.from_dir move.from_slot move.to_dir r) onto_now clear

@@ -67,8 +67,8 @@ module _ (image : Image) (move : Move) (can : CanRename image move) where
         go (inr (inr never)) = absurd never
 
     -- where nothing is left to thaw the block of the empty entry is not kept
-    pub slot_loose : {kept : ℕ → Bool} → thawed image kept (moves move.from_dir move.from_slot move.to_dir) ≡ [] → (entry : ℕ) → ContentStandsAt image move.to_dir (32 * s + 0) entry → kept (entry / 512) ≡ false
-    slot_loose {kept} clear entry stands =
+    pub slot_loose : (kept : ℕ → Bool) → thawed image kept (moves move.from_dir move.from_slot move.to_dir) ≡ [] → (entry : ℕ) → ContentStandsAt image move.to_dir (32 * s + 0) entry → kept (entry / 512) ≡ false
+    slot_loose kept clear entry stands =
         let among : Has (targets image (moves move.from_dir move.from_slot move.to_dir)) (inumber_path image move.to_dir s) =
         subst (λ (ps : List WordPath). Has ps (inumber_path image move.to_dir s)) (sym into_targets) (inr (inl refl)) in
         let here : node image (root_of image move.to_dir) (height_of (root_of image move.to_dir)) ((32 * s + 0) / 512) ≡ entry / 512 = omega (arith, stands.at) in
@@ -100,8 +100,8 @@ module _ (image : Image) (move : Move) (can : CanRename image move) where
         go (inr (inr (inr never))) = absurd never
 
     -- where nothing is left to thaw an entry may be put there
-    pub end_loose : {kept : ℕ → Bool} → thawed image kept (moves move.from_dir move.from_slot move.to_dir) ≡ [] → HasLooseEnd image kept move.to_dir
-    end_loose {kept} clear =
+    pub end_loose : (kept : ℕ → Bool) → thawed image kept (moves move.from_dir move.from_slot move.to_dir) ≡ [] → HasLooseEnd image kept move.to_dir
+    end_loose kept clear =
         let among : Has (targets image (moves move.from_dir move.from_slot move.to_dir)) (end_path_now image move.to_dir) =
         subst (λ (ps : List WordPath). Has ps (end_path_now image move.to_dir)) (sym behind_targets) (inr (inr (inl refl))) in
         loose_end image can.well_formed kept move.to_dir can.target

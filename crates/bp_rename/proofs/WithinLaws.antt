@@ -138,8 +138,8 @@ module _ (image : Image) (n s j : ℕ) (name : Name) (can : CanRespell image (su
       ∙ sym (now_whole image can.well_formed (respells (suc n) s (length name)) (suc n) (32 * s + 1) can.reached can.names.directory low (inl refl))
 
   -- so it may be stored to where nothing is left to thaw
-  pub within_loose : {kept : ℕ → Bool} → thawed image kept (respells (suc n) s (length name)) ≡ [] → HasLooseCover image kept touched
-  within_loose {kept} clear =
+  pub within_loose : (kept : ℕ → Bool) → thawed image kept (respells (suc n) s (length name)) ≡ [] → HasLooseCover image kept touched
+  within_loose kept clear =
       run_loose image can.well_formed n can.reached is.run name_run kept touched within_shape (subst (λ runs. Has runs is.run) (sym is.one) (inl refl))
       (loose-on image kept (targets image (respells (suc n) s (length name))) clear (commit_cover image touched) (inl (sym within_now)) (length (commit_cover image touched) - 1))
 
@@ -170,9 +170,9 @@ module _ (image : Image) (s j : ℕ) (name : Name) (touched : Touched) where
   within_now_at zero can is = absurd (omega (arith, can.names.directory))
   within_now_at (suc n) can is = within_now image n s j name can touched is
 
-  pub within_loose_at : {kept : ℕ → Bool} (i : ℕ) → CanRespell image i s j name → TouchesName image i s name touched → thawed image kept (respells i s (length name)) ≡ [] → HasLooseCover image kept touched
-  within_loose_at zero can is clear = absurd (omega (arith, can.names.directory))
-  within_loose_at (suc n) can is clear = within_loose image n s j name can touched is clear
+  pub within_loose_at : (i : ℕ) → CanRespell image i s j name → TouchesName image i s name touched → (kept : ℕ → Bool) → thawed image kept (respells i s (length name)) ≡ [] → HasLooseCover image kept touched
+  within_loose_at zero can is kept clear = absurd (omega (arith, can.names.directory))
+  within_loose_at (suc n) can is kept clear = within_loose image n s j name can touched is kept clear
 
 -- ---- of a move
 

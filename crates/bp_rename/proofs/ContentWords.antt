@@ -1,5 +1,5 @@
 -- Content words that are committed, each in a tree: what they ask, and what the commit makes of an image.
-use Rattle.std.proofs.Common.{◌≡◌, ◌≢◌, ℕ, zero, suc, ◌+◌, ◌-◌, ◌*◌, ◌/◌, ◌%◌, ◌<◌, ◌≤◌, List, [], ◌++◌, length, Bool, None, Some, refl, sym, ◌∙◌, ap, subst, subst₂, arith, lt_of_lt_of_le}
+use Rattle.std.proofs.Common.{◌≡◌, ◌≢◌, ℕ, zero, suc, ◌+◌, ◌-◌, ◌*◌, ◌/◌, ◌%◌, ◌<◌, ◌≤◌, List, [], ◌++◌, length, Bool, refl, sym, ◌∙◌, ap, subst, subst₂, arith, lt_of_lt_of_le}
 use Rattle.std.specs.List.{All}
 use Rattle.std.proofs.lemmas.List.{length-append, length-take}
 use Rattle.std.proofs.lemmas.List.Elements.{All-append, All-get_or}
@@ -20,7 +20,7 @@ use Rattle.bp_shapes.proofs.ForestLaws.{skeleton, word-tree}
 use Rattle.bp_shapes.proofs.FreeSets.{content_fronts, content_no_pointer}
 use Rattle.bp_tree.proofs.Digits.{length-digits}
 use Rattle.bp_tree.proofs.PathLaws.{small_digits}
-use Rattle.bp_cow.specs.CanCommit.{CanCommit}
+use Rattle.bp_cow.specs.CanCommit.{CanCommit, IsTreeIn}
 use Rattle.bp_cow.specs.Committed.{IsCommitted, after_commit, changes_of}
 use Rattle.bp_cow.specs.Cover.{LeadsInside, end_path, end_path_of}
 use Rattle.bp_cow.specs.Touched.{IsTouched, NoneBegins, all_paths, job_of, path_of, touched_trail, word_paths}

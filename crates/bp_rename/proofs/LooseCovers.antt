@@ -1,6 +1,6 @@
 -- Where nothing is left to thaw, the block that holds the word of the cover is not kept. It is so behind a preparation
 -- too, where the pointers on the way to that word stay.
-use Rattle.std.proofs.Common.{◌≡◌, ℕ, zero, suc, ◌+◌, ◌-◌, ◌*◌, ◌/◌, ◌<◌, ◌≤◌, List, [], ◌∷◌, length, take, Bool, true, false, ◌||◌, refl, sym, ◌∙◌, ap, subst, arith, inl, slice_index}
+use Rattle.std.proofs.Common.{◌≡◌, ℕ, zero, suc, ◌+◌, ◌-◌, ◌*◌, ◌/◌, ◌<◌, ◌≤◌, [], length, take, Bool, true, false, ◌||◌, refl, sym, ◌∙◌, ap, subst, arith, inl, slice_index}
 use Rattle.bp_layout.specs.Inode.{kind_of, root_of, size_of}
 use Rattle.bp_layout.specs.Members.{Has}
 use Rattle.bp_layout.specs.Need.{Change, common_all, is_there_after, touched_at}

@@ -1,14 +1,15 @@
 -- The words near which a rename stores, and the ways to them.
-use Rattle.std.proofs.Common.{◌≡◌, ◌≢◌, ◌⊎◌, ℕ, suc, ◌+◌, ◌-◌, ◌*◌, ◌/◌, ◌%◌, ◌<◌, List, [], ◌∷◌, ◌++◌, flat_map, length, Bool, false, Option, None, Some, refl, sym, ◌∙◌, ap, subst, arith, inl, inr}
+use Rattle.std.proofs.Common.{◌≡◌, ◌≢◌, ◌⊎◌, ℕ, zero, suc, ◌+◌, ◌-◌, ◌*◌, ◌/◌, ◌<◌, ◌≤◌, List, [], ◌∷◌, ◌++◌, flat_map, length, Bool, false, Option, None, Some, refl, sym, ◌∙◌, ap, subst, arith, inl, inr}
 use Rattle.std.proofs.lemmas.Bool.{cases_eq}
 use Rattle.bp_layout.specs.Directory.{empty_slot}
 use Rattle.bp_layout.specs.Inode.{ContentStandsAt, root_of, size_of}
 use Rattle.bp_layout.specs.Members.{Has}
 use Rattle.bp_layout.specs.Need.{Change, entered_at, entry_path_at, new_entry, touched_at}
 use Rattle.bp_layout.specs.Need.Change.{moves, replaces, respells}
-use Rattle.bp_layout.specs.Thaw.{IsLoose, cover_now, end_path_now, end_targets, heights_now, root_path_now, slot_target, targets, thawed}
+use Rattle.bp_layout.specs.Thaw.{cover_now, end_path_now, end_targets, heights_now, root_path_now, slot_target, targets, thawed}
 use Rattle.bp_layout.specs.Tree.{node}
-use Rattle.bp_layout.specs.WordPaths.{WordPath}
+use Rattle.bp_layout.specs.WordPaths.{WordPath, inode_path, tree_path}
+use Rattle.std.proofs.lemmas.List.{append-nil}
 use Rattle.bp_layout.specs.Words.{Image, height_of}
 use Rattle.bp_layout.proofs.ThawLaws.{loose-on}
 use Rattle.bp_thaw.specs.Fronts.{IsWay}
@@ -23,6 +24,11 @@ use Rattle.bp_rename.specs.TouchesTwo.{inumber_path, size_path}
 use Rattle.bp_rename.specs.declared.moving.Move.{Move}
 use Rattle.bp_rename.proofs.LooseCovers.{now_way}
 use Rattle.bp_rename.proofs.Renames.{across_change, onto_change, within_change}
+
+-- the path of the root word of a tree but the inode file
+pub root_is : (h t : ℕ) → 1 ≤ t → inode_path h t 1 ≡ tree_path h t 0 0
+root_is h zero some = absurd (omega (arith, some))
+root_is h (suc n) some = sym (append-nil (inode_path h (suc n) 1))
 
 module _ (image : Image) (move : Move) (can : CanRename image move) where
   low_source : 8 * (32 * move.from_slot + 0) < size_of image move.from_dir

@@ -59,4 +59,4 @@ renamed_after old new move can after map from to shows from_is to_is outside =
     subst (λ (n : Name). Shows new (with_moved map (from ++ n ∷ []) (to ++ move.name.now ∷ []))) name
     (renamed_moves after.middle new move (rename_on old after.middle move can after.thawed) after.effect map from to (shows_thawed old after.middle can.well_formed same map shows)
     (found_thawed old after.middle can.well_formed same from move.from_dir from_is) (found_thawed old after.middle can.well_formed same to move.to_dir to_is)
-    (subst (λ (n : Name). rest_below (from ++ n ∷ []) ≡ None) (sym name) outside))
+    (subst (λ (n : Name). rest_below (from ++ n ∷ []) to ≡ None) (sym name) outside))

@@ -1,5 +1,5 @@
 -- A name has been spelled anew: that it is performed, and that the sets are exact.
-use Rattle.std.proofs.Common.{◌≡◌, ◌≢◌, ℕ, Bool, zero, suc, ◌+◌, ◌-◌, ◌*◌, ◌/◌, ◌<◌, ◌≤◌, List, [], ◌∷◌, length, get_or, slice_index, refl, sym, ◌∙◌, ap, subst, arith, inl, le-ltb, le_trans, lt-ltb}
+use Rattle.std.proofs.Common.{◌≡◌, ◌≢◌, ℕ, Bool, zero, suc, ◌+◌, ◌-◌, ◌*◌, ◌/◌, ◌<◌, ◌≤◌, List, length, get_or, slice_index, refl, sym, ◌∙◌, ap, subst, arith, inl, le-ltb, lt-ltb}
 use Rattle.pm_words.proofs.Bytes.{word_of_bytes}
 use Rattle.pm_words.specs.Bytes.{word_bytes}
 use Rattle.bp_free.specs.Set.{Set, has}

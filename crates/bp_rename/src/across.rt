@@ -112,7 +112,11 @@ pub(crate) fn need_across<R: Region>(region: &R, to_move: &Move<'_>, slot: Optio
 }
 
 /// The words near which it stores, given that directory's least empty slot.
-pub(crate) fn targets_across<R: Region>(region: &R, to_move: &Move<'_>, slot: Option<u64>) -> Targets
+pub(crate) fn targets_across<R: Region>(
+    region: &R,
+    to_move: &Move<'_>,
+    slot: Option<u64>,
+) -> Targets
     requires can { CanRename (current_words (R.memory region.now)) to_move.now }
     requires new { to_move.now.to_slot ≡ None }
     requires other { to_move.now.from_dir ≢ to_move.now.to_dir }

@@ -22,8 +22,7 @@ use bp_calls::thaw_before;
 use bp_free::{NoSpace, Parts};
 use pm_region::Region;
 
-/// Thaws what is kept near the words of a rename, given what [`slot_across`] tells, and how many blocks it needs behind
-/// that.
+/// Thaws what is kept near the words of a rename that takes `more` blocks after that, given what [`slot_across`] tells.
 ///
 /// # Errors
 ///
@@ -32,29 +31,29 @@ fn thaw_rename<R: Region>(
     parts: &mut Parts<R>,
     to_move: &Move<'_>,
     empty: Option<u64>,
-    need: u32,
+    more: u32,
 ) -> Result<(), NoSpace>
     requires can { CanRename (current_words (R.memory parts.old.region)) to_move.now }
     requires empty { IsSlotAcross (current_words (R.memory parts.old.region)) to_move.now empty }
     requires exact { IsExact (current_words (R.memory parts.old.region)) parts.old }
-    requires need { need ≡ need (current_words (R.memory parts.old.region)) (change_of to_move.now) }
-    requires few { need < 2 ^ 31 }
+    requires need { more ≡ need (current_words (R.memory parts.old.region)) (change_of to_move.now) }
+    requires few { more < 2 ^ 31 }
     requires room { HasRoomWhereFree (R.memory parts.old.region) (kept_of parts.old) parts.old.blocks (change_of to_move.now) }
     ensures thaws { OnOk result (ThawsFor R.memory (targets (current_words (R.memory parts.old.region))
         (change_of to_move.now)) parts.old parts.new) }
-    ensures enough { OnOk result (need ≤ length (members parts.new.blocks)) }
-    ensures room { OnOk result (room_for need ≤ room_in (R.memory parts.new.region) + 2) }
+    ensures enough { OnOk result (more ≤ length (members parts.new.blocks)) }
+    ensures room { OnOk result (room_for more ≤ room_in (R.memory parts.new.region) + 2) }
     ensures refused { IfErr result (LacksSpace (current_words (R.memory parts.old.region)) (kept_of parts.old)
         (change_of to_move.now)) }
     ensures same { OnErr result (parts.new ≡ parts.old) }
 {
     if parts.frozen.count() > 0 {
         let targets = targets_with(&parts.region, to_move, empty);
-        return thaw_before(parts, &targets, need);
+        return thaw_before(parts, &targets, more);
     }
     let free = parts.blocks.count();
-    if free < need {
-        return Err(NoSpace { need, free });
+    if free < more {
+        return Err(NoSpace { need: more, free });
     }
     Ok(())
 }

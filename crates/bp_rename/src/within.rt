@@ -94,11 +94,7 @@ pub(crate) fn need_within<R: Region>(region: &R, to_move: &Move<'_>) -> u32
 }
 
 /// The word near which it stores, by the bytes of its entry: that of the cover.
-fn targets_spelled<R: Region>(
-    region: &R,
-    to_move: &Move<'_>,
-    bytes: &[u8; MAX_NAME + 8],
-) -> Targets
+fn targets_spelled<R: Region>(region: &R, to_move: &Move<'_>, bytes: &[u8; MAX_NAME + 8]) -> Targets
     requires can { CanRename (current_words (R.memory region.now)) to_move.now }
     requires new { to_move.now.to_slot ≡ None }
     requires here { to_move.now.from_dir ≡ to_move.now.to_dir }

@@ -1,4 +1,4 @@
-use Rattle.std.proofs.Common.{◌≡◌, ◌+◌, ◌*◌, ◌≤◌, refl, arith}
+use Rattle.std.proofs.Common.{◌+◌, ◌*◌, refl, arith}
 use Rattle.pm_epochs.specs.May.{AnyAt}
 use Rattle.bp_shapes.specs.Sets.{kept_of}
 use Rattle.pm_region.specs.Memory.{Memory, current_words}
@@ -54,8 +54,8 @@ barrier-requires g c =
     let left = room_after (AnyAt (IsWithin (c.entry_place-entry.result + 1) 31)) 31 old third c.put_name.ensures.stores in
     omega (arith, c.requires.room, left)
 
-pub commit-requires-clause-can : goal.commit-requires-clause-can
-commit-requires-clause-can g c κs inside =
+pub commit-requires : goal.commit-requires
+commit-requires g c κs inside =
     let touches = touches_two c.touched_two-touched.result c.words_into-words.result c.touched_two-touched.ensures.words c.touched_two-touched.ensures.none c.touched_two-touched.ensures.trees c.words_into-words.ensures in
     let old : Memory = g.R.Region.memory c.args.parts.now.region in
     let third : Memory = g.R.Region.memory c.put_name.new.region in
@@ -74,7 +74,8 @@ commit-requires-clause-can g c κs inside =
     let formed = mid_formed old third mid move c.args.slot c.entry_place-entry.result c.requires.can c.requires.new c.requires.other c.requires.found stands c.put_name.ensures.stores c.put_name.ensures.name c.barrier.ensures in
     let fits = into_fits old third mid move c.args.slot c.entry_place-entry.result c.requires.can c.requires.new c.requires.other c.requires.found stands c.put_name.ensures.stores c.put_name.ensures.name c.barrier.ensures
     c.touched_two-touched.result touches c.args.parts.now.blocks c.args.parts.now.inodes c.requires.exact.sets c.requires.room loose in
-    (inside, record { well_formed = formed; can = ready; loose = unkept; fits = fits; some = omega (arith, count, c.requires.enough); room = room })
+    let whole = mid_whole old third mid move c.args.slot c.entry_place-entry.result c.requires.can c.requires.new c.requires.other c.requires.found stands c.put_name.ensures.stores c.put_name.ensures.name c.barrier.ensures in
+    (inside, (record { well_formed = formed; can = ready; loose = unkept; fits = fits; some = omega (arith, count, c.requires.enough); room = room }, record { room = omega (arith, c.requires.exact.frozen_room, whole); same = λ b. refl }))
 
 pub returns-clause-performs : goal.returns-clause-performs
 returns-clause-performs g c =
@@ -112,14 +113,3 @@ returns-clause-exact g c =
     (into_counts old third mid move c.args.slot c.entry_place-entry.result c.requires.can c.requires.new c.requires.other c.requires.found stands c.put_name.ensures.stores c.put_name.ensures.name c.barrier.ensures
     c.touched_two-touched.result touches c.args.parts.now.blocks c.args.parts.now.inodes c.requires.exact.sets c.requires.room loose
     new c.commit.new.parts.blocks c.commit.ensures.commits c.commit.ensures.size c.args.parts.now.counts c.requires.exact.counts)
-
-pub commit-requires-clause-kept : goal.commit-requires-clause-kept
-commit-requires-clause-kept g c =
-    let touches = touches_two c.touched_two-touched.result c.words_into-words.result c.touched_two-touched.ensures.words c.touched_two-touched.ensures.none c.touched_two-touched.ensures.trees c.words_into-words.ensures in
-    let old : Memory = g.R.Region.memory c.args.parts.now.region in
-    let third : Memory = g.R.Region.memory c.put_name.new.region in
-    let mid : Memory = g.R.Region.memory c.barrier.new.self in
-    let move = c.args.to_move.now in
-    let stands = entry_stands (current_words old) move.to_dir c.args.slot c.entry_place-entry.result c.tree_of-target.result.root c.tree_of-target.ensures.root c.entry_place-entry.ensures.place c.entry_place-entry.ensures.present in
-    let whole = mid_whole old third mid move c.args.slot c.entry_place-entry.result c.requires.can c.requires.new c.requires.other c.requires.found stands c.put_name.ensures.stores c.put_name.ensures.name c.barrier.ensures in
-    record { room = omega (arith, c.requires.exact.frozen_room, whole); same = λ b. refl }

@@ -1,4 +1,4 @@
-use Rattle.std.proofs.Common.{◌+◌, ◌*◌, ◌^◌, ◌<◌, ◌≤◌, ◌∙◌, arith}
+use Rattle.std.proofs.Common.{◌∙◌, arith}
 use Rattle.pm_region.specs.Memory.{current_words}
 use Rattle.bp_rename.proofs.IntoDone.{into_apart, into_inside, into_need, into_shape, into_few}
 use Rattle.bp_rename.proofs.TwoWords.{touches_two}

@@ -1,4 +1,4 @@
-use Rattle.std.proofs.Common.{◌≡◌, ℕ, List, [], ◌∷◌, ◌++◌, map, sym, ◌∙◌, ap, ap₂}
+use Rattle.std.proofs.Common.{ℕ, List, [], ◌∷◌, ◌++◌, map, sym, ◌∙◌, ap, ap₂}
 use Rattle.arrayvec.specs.ArrayVec.{ArrayVec}
 use Rattle.pm_region.specs.Memory.{current_words}
 use Rattle.bp_calls.proofs.Refusals.{found_empty}

@@ -1,4 +1,4 @@
-use Rattle.std.proofs.Common.{◌+◌, ◌*◌, ◌^◌, ◌<◌, ◌≤◌, ◌∙◌, arith}
+use Rattle.std.proofs.Common.{◌∙◌, arith}
 use Rattle.pm_region.specs.Memory.{current_words}
 use Rattle.bp_rename.proofs.OntoLaws.{onto_apart, onto_inside, onto_need, onto_shape, onto_few}
 use Rattle.bp_rename.proofs.TwoWords.{touches_two}

@@ -1,4 +1,4 @@
-use Rattle.std.proofs.Common.{◌≡◌, ◌-◌, ◌/◌, ◌≤◌, length, slice_index, refl, sym, ◌∙◌, ap, arith}
+use Rattle.std.proofs.Common.{◌≡◌, ◌-◌, ◌/◌, length, slice_index, refl, sym, ◌∙◌, ap, arith}
 use Rattle.bp_free.specs.Set.{Set}
 use Rattle.std.proofs.lemmas.List.{length-set}
 use Rattle.bp_layout.specs.Directory.{inumber_at, inumber_in}
@@ -25,8 +25,8 @@ overflow_cast-replaced g c =
     let few = replaced_few (current_words old) c.args.to_move.now c.args.slot c.requires.can c.requires.onto in
     omega (arith, named, few)
 
-pub commit-requires-clause-can : goal.commit-requires-clause-can
-commit-requires-clause-can g c κs within =
+pub commit-requires : goal.commit-requires
+commit-requires g c κs within =
     let touches = touches_two c.touched_two-touched.result c.words_onto-words.result c.touched_two-touched.ensures.words c.touched_two-touched.ensures.none c.touched_two-touched.ensures.trees c.words_onto-words.ensures in
     let old : Memory = g.R.Region.memory c.args.parts.now.region in
     let can = ready old c.args.to_move.now c.args.slot c.requires.can c.requires.onto
@@ -37,10 +37,7 @@ commit-requires-clause-can g c κs within =
     c.touched_two-touched.result touches (kept_of c.args.parts.now) c.requires.clear in
     let count = onto_need (current_words old) c.args.to_move.now c.args.slot c.requires.can c.requires.onto
     c.touched_two-touched.result touches in
-    (within, record { well_formed = c.requires.can.well_formed; can = can; loose = loose; fits = omega (arith, c.requires.exact.sets.block_room); some = omega (arith, count, c.requires.enough); room = room })
-
-pub commit-requires-clause-kept : goal.commit-requires-clause-kept
-commit-requires-clause-kept g c = record { room = omega (arith, c.requires.exact.frozen_room); same = λ b. refl }
+    (within, (record { well_formed = c.requires.can.well_formed; can = can; loose = loose; fits = omega (arith, c.requires.exact.sets.block_room); some = omega (arith, count, c.requires.enough); room = room }, record { room = omega (arith, c.requires.exact.frozen_room); same = λ b. refl }))
 
 pub get-inode-requires-clause-sound : goal.get-inode-requires-clause-sound
 get-inode-requires-clause-sound g c =

@@ -34,17 +34,17 @@ pub rename_thawed-requires-clause-enough : goal.rename_thawed-requires-clause-en
 rename_thawed-requires-clause-enough g c =
     let memory = g.R.Region.memory in
     let image = current_words (memory c.args.parts.now.region) in
-    let as : c.need_with-need.result ≡ need (current_words (memory c.thaw_rename.new.parts.region)) (change_of c.args.to_move.now) =
+    let same : c.need_with-need.result ≡ need (current_words (memory c.thaw_rename.new.parts.region)) (change_of c.args.to_move.now) =
     c.need_with-need.ensures.need ∙ sym (need-shape image (current_words (memory c.thaw_rename.new.parts.region)) c.requires.can.well_formed c.in-Ok.ensures.thaws.thaws.shape (change_of c.args.to_move.now) (rename_of image c.args.to_move.now c.requires.can)) in
-    subst (λ n. n ≤ length (members c.thaw_rename.new.parts.blocks)) as c.in-Ok.ensures.enough
+    subst (λ n. n ≤ length (members c.thaw_rename.new.parts.blocks)) same c.in-Ok.ensures.enough
 
 pub rename_thawed-requires-clause-room : goal.rename_thawed-requires-clause-room
 rename_thawed-requires-clause-room g c =
     let memory = g.R.Region.memory in
     let image = current_words (memory c.args.parts.now.region) in
-    let as : c.need_with-need.result ≡ need (current_words (memory c.thaw_rename.new.parts.region)) (change_of c.args.to_move.now) =
+    let same : c.need_with-need.result ≡ need (current_words (memory c.thaw_rename.new.parts.region)) (change_of c.args.to_move.now) =
     c.need_with-need.ensures.need ∙ sym (need-shape image (current_words (memory c.thaw_rename.new.parts.region)) c.requires.can.well_formed c.in-Ok.ensures.thaws.thaws.shape (change_of c.args.to_move.now) (rename_of image c.args.to_move.now c.requires.can)) in
-    subst (λ n. room_for n ≤ room_in (memory c.thaw_rename.new.parts.region) + 2) as c.in-Ok.ensures.room
+    subst (λ n. room_for n ≤ room_in (memory c.thaw_rename.new.parts.region) + 2) same c.in-Ok.ensures.room
 
 pub returns-in-Ok-clause-performs : goal.returns-in-Ok-clause-performs
 returns-in-Ok-clause-performs g c =

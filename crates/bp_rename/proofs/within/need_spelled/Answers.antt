@@ -1,4 +1,4 @@
-use Rattle.std.proofs.Common.{◌^◌, ◌<◌, ◌≤◌, ◌∙◌, arith}
+use Rattle.std.proofs.Common.{◌∙◌, arith}
 use Rattle.pm_region.specs.Memory.{current_words}
 use Rattle.bp_rename.specs.CanRename.{moved_inode}
 use Rattle.bp_rename.proofs.WithinLaws.{respells_can, within_apart_at, within_few_at, within_inside_at, within_need_at, within_shape_at}

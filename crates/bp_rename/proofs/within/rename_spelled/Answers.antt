@@ -1,4 +1,4 @@
-use Rattle.std.proofs.Common.{◌≡◌, ◌≤◌, refl, arith}
+use Rattle.std.proofs.Common.{refl, arith}
 use Rattle.bp_shapes.specs.Sets.{kept_of}
 use Rattle.pm_region.specs.Memory.{Memory, current_words}
 use Rattle.bp_rename.specs.CanRename.{moved_inode}
@@ -9,8 +9,8 @@ use Rattle.bp_rename.proofs.WithinDone.{within_counts_at, within_exact_at, withi
 use Rattle.bp_rename.proofs.WithinLaws.{respells_can, within_loose_at, within_need_at}
 use Rattle.bp_rename.proofs.within.rename_spelled.Goals as goal
 
-pub commit-requires-clause-can : goal.commit-requires-clause-can
-commit-requires-clause-can g c κs inside =
+pub commit-requires : goal.commit-requires
+commit-requires g c κs inside =
     let old : Memory = g.R.Region.memory c.args.parts.now.region in
     let move = c.args.to_move.now in
     let j = moved_inode (current_words old) move in
@@ -19,7 +19,7 @@ commit-requires-clause-can g c κs inside =
     let room = within_room_at old move.from_slot j move.name.now c.touched_by-touched.result c.args.parts.now.blocks c.args.parts.now.inodes c.requires.exact.sets move.from_dir c.requires.room can (record { run = c.name_run.result; one = c.touched_by-touched.ensures.runs; no_words = c.touched_by-touched.ensures.words; no_trees = c.touched_by-touched.ensures.trees; is = c.name_run.ensures }) in
     let loose = within_loose_at (current_words old) move.from_slot j move.name.now c.touched_by-touched.result move.from_dir can (record { run = c.name_run.result; one = c.touched_by-touched.ensures.runs; no_words = c.touched_by-touched.ensures.words; no_trees = c.touched_by-touched.ensures.trees; is = c.name_run.ensures }) (kept_of c.args.parts.now) c.requires.clear in
     let count = within_need_at (current_words old) move.from_slot j move.name.now c.touched_by-touched.result move.from_dir can (record { run = c.name_run.result; one = c.touched_by-touched.ensures.runs; no_words = c.touched_by-touched.ensures.words; no_trees = c.touched_by-touched.ensures.trees; is = c.name_run.ensures }) in
-    (inside, record { well_formed = c.requires.can.well_formed; can = ready; loose = loose; fits = omega (arith, c.requires.exact.sets.block_room); some = omega (arith, count, c.requires.enough); room = room })
+    (inside, (record { well_formed = c.requires.can.well_formed; can = ready; loose = loose; fits = omega (arith, c.requires.exact.sets.block_room); some = omega (arith, count, c.requires.enough); room = room }, record { room = omega (arith, c.requires.exact.frozen_room); same = λ b. refl }))
 
 pub returns-clause-performs : goal.returns-clause-performs
 returns-clause-performs g c =
@@ -48,6 +48,3 @@ returns-clause-exact g c =
     new c.commit.new.parts.blocks c.commit.ensures.commits c.commit.ensures.size move.from_dir c.requires.room can (record { run = c.name_run.result; one = c.touched_by-touched.ensures.runs; no_words = c.touched_by-touched.ensures.words; no_trees = c.touched_by-touched.ensures.trees; is = c.name_run.ensures }))
     (within_counts_at old move.from_slot j move.name.now c.touched_by-touched.result c.args.parts.now.blocks c.args.parts.now.inodes c.requires.exact.sets
     new c.commit.new.parts.blocks c.commit.ensures.commits c.commit.ensures.size move.from_dir c.requires.room can (record { run = c.name_run.result; one = c.touched_by-touched.ensures.runs; no_words = c.touched_by-touched.ensures.words; no_trees = c.touched_by-touched.ensures.trees; is = c.name_run.ensures }) c.args.parts.now.counts c.requires.exact.counts)
-
-pub commit-requires-clause-kept : goal.commit-requires-clause-kept
-commit-requires-clause-kept g c = record { room = omega (arith, c.requires.exact.frozen_room); same = λ b. refl }

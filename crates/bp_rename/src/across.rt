@@ -53,7 +53,7 @@ fn need_into<R: Region>(region: &R, to_move: &Move<'_>, slot: u64) -> u32
     need_cover(region, &touched_two(&words_into(region, to_move, slot)))
 }
 
-/// The words near which it stores: that of the cover, and the inumber of the empty entry.
+/// The words near which a name moves into an empty entry: that of the cover, and the inumber of that entry.
 fn targets_into<R: Region>(region: &R, to_move: &Move<'_>, slot: u64) -> Targets
     requires can { CanRename (current_words (R.memory region.now)) to_move.now }
     requires other { to_move.now.from_dir ≢ to_move.now.to_dir }
@@ -111,7 +111,7 @@ pub(crate) fn need_across<R: Region>(region: &R, to_move: &Move<'_>, slot: Optio
     }
 }
 
-/// The words near which it stores, given that directory's least empty slot.
+/// The words near which a name moves to another directory, in which it is new, given that directory's least empty slot.
 pub(crate) fn targets_across<R: Region>(
     region: &R,
     to_move: &Move<'_>,

@@ -57,7 +57,8 @@ pub(crate) fn need_behind<R: Region>(region: &R, to_move: &Move<'_>) -> u32
     behind + need_cover(region, &touched_two(&words_behind(region, to_move)))
 }
 
-/// The words near which it stores: that of the cover, and those at the end of the new directory.
+/// The words near which a name moves behind the last entry of its new directory: that of the cover, and those at the end of
+/// that directory.
 pub(crate) fn targets_behind<R: Region>(region: &R, to_move: &Move<'_>) -> Targets
     requires can { CanRename (current_words (R.memory region.now)) to_move.now }
     requires other { to_move.now.from_dir ≢ to_move.now.to_dir }

@@ -50,7 +50,7 @@ pub(crate) fn need_onto<R: Region>(region: &R, to_move: &Move<'_>, slot: u64) ->
     need_cover(region, &touched_two(&words_onto(region, to_move, slot)))
 }
 
-/// The word near which it stores: that of the cover.
+/// The word near which a rename onto an entry stores: that of the cover.
 pub(crate) fn targets_onto<R: Region>(region: &R, to_move: &Move<'_>, slot: u64) -> Targets
     requires can { CanRename (current_words (R.memory region.now)) to_move.now }
     requires onto { to_move.now.to_slot ≡ Some slot }

@@ -93,7 +93,7 @@ pub(crate) fn need_within<R: Region>(region: &R, to_move: &Move<'_>) -> u32
     need_spelled(region, to_move, &bytes)
 }
 
-/// The word near which it stores, by the bytes of its entry: that of the cover.
+/// The word near which a name is spelled anew, by the bytes of its entry: that of the cover.
 fn targets_spelled<R: Region>(region: &R, to_move: &Move<'_>, bytes: &[u8; MAX_NAME + 8]) -> Targets
     requires can { CanRename (current_words (R.memory region.now)) to_move.now }
     requires new { to_move.now.to_slot ≡ None }
@@ -108,7 +108,7 @@ fn targets_spelled<R: Region>(region: &R, to_move: &Move<'_>, bytes: &[u8; MAX_N
     targets
 }
 
-/// The word near which it stores: that of the cover.
+/// The word near which a name is spelled anew: that of the cover.
 pub(crate) fn targets_within<R: Region>(region: &R, to_move: &Move<'_>) -> Targets
     requires can { CanRename (current_words (R.memory region.now)) to_move.now }
     requires new { to_move.now.to_slot ≡ None }

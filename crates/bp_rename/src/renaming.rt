@@ -26,7 +26,7 @@ use pm_region::Region;
 ///
 /// # Errors
 ///
-/// `NoSpace` exactly where fewer blocks are free than both take. Nothing has changed then.
+/// `NoSpace` exactly where fewer blocks are free than that takes and `more`. Nothing has changed then.
 fn thaw_rename<R: Region>(
     parts: &mut Parts<R>,
     to_move: &Move<'_>,
@@ -113,8 +113,8 @@ pub fn rename_in<R: Region>(
     }
 }
 
-/// Moves a name, by one store alone in its epoch. Where the new name stood, that file or empty directory has a name less,
-/// and its blocks and its inode come back where it has none left.
+/// Moves a name, by one store alone in its epoch. Where the new name stood, that file or empty directory has a name less.
+/// Where it has none left its inode comes back, and so do its blocks that are not kept.
 ///
 /// # Errors
 ///

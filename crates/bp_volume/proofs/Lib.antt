@@ -35,3 +35,7 @@ pub mod WholeLaws
 pub mod SharingLaws
 pub mod ToldNames
 pub mod CachedLaws
+pub mod SuperLaws
+pub mod LiveBlocks
+pub mod SnapLaws
+pub mod SecondAsking

@@ -1,5 +1,5 @@
 -- What may be written into a file before a thaw may be written behind it, and so with a size that it is to get.
-use Rattle.std.proofs.Common.{◌+◌, ◌<◌, ◌≤◌, ℕ, Bool, List, length, sym, ◌∙◌, subst}
+use Rattle.std.proofs.Common.{◌≡◌, ◌+◌, ◌<◌, ◌≤◌, ℕ, Bool, List, length, sym, ◌∙◌, subst}
 use Rattle.bp_calls.specs.CanGrow.{CanGrowFile}
 use Rattle.bp_calls.specs.CanWrite.{CanWrite, CanWriteInto, CanWriteThawed}
 use Rattle.bp_calls.specs.Mounted.{IsMounted}

@@ -1,4 +1,4 @@
-use Rattle.std.proofs.Common.{◌≡◌, ◌<◌, ◌≤◌, length, sym, ◌∙◌, arith}
+use Rattle.std.proofs.Common.{length, sym, ◌∙◌, arith}
 use Rattle.std.proofs.lemmas.Result.{on_ok_weaker}
 use Rattle.bp_calls.specs.WritesFile.{WritesFile}
 use Rattle.bp_calls.proofs.CommitResults.{by_one, by_two, never_at}
@@ -6,7 +6,6 @@ use Rattle.bp_calls.proofs.NothingKept.{lacks_at_once, performed_at_once}
 use Rattle.bp_calls.proofs.SameWrites.{write_at_once, write_behind_thaw}
 use Rattle.bp_calls.proofs.ThawedParts.{mounted_thawed, performed_thawed}
 use Rattle.bp_layout.specs.Need.Change.{writes}
-use Rattle.pm_region.specs.Memory.{current_words}
 use Rattle.bp_calls.proofs.writing.write.Goals as goal
 
 -- ---- where no block is kept

@@ -79,7 +79,7 @@ module _ (image : Image) (n off len : ℕ) (below : off < size_of image (suc n))
 
 -- ---- the call
 
-module _ (old : Memory) (blocks inodes : Set) (n off : ℕ) (bytes : List ℕ) (touched : Touched) (across : WritesAcross old blocks inodes (suc n) off bytes touched) where
+module _ {kept : ℕ → Bool} (old : Memory) (blocks inodes : Set) (n off : ℕ) (bytes : List ℕ) (touched : Touched) (across : WritesAcross kept old blocks inodes (suc n) off bytes touched) where
   abbrev image : Image
   image = current_words old
 

@@ -1,5 +1,5 @@
 -- One more leaf of the inode file: what its preparation asks, and what it leaves.
-use Rattle.std.proofs.Common.{◌≡◌, ℕ, Bool, suc, ◌+◌, ◌-◌, ◌*◌, ◌/◌, ◌<◌, ◌≤◌, [], ◌∷◌, length, refl, sym, ◌∙◌, ap, subst, subst₂, arith, le_trans}
+use Rattle.std.proofs.Common.{◌≡◌, ℕ, Bool, suc, ◌+◌, ◌*◌, ◌/◌, ◌<◌, ◌≤◌, [], ◌∷◌, length, refl, sym, ◌∙◌, ap, subst, subst₂, arith, le_trans}
 use Rattle.bp_limits.specs.declared.version.Version.TheVariants.{One}
 use Rattle.bp_limits.proofs.Versions.{size_least}
 use Rattle.bp_layout.specs.Formatted.{version_of}

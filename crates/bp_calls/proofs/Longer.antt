@@ -1,5 +1,5 @@
 -- A file gets longer, with zeros behind its bytes: what its preparation asks, and what it leaves with the store of the size.
-use Rattle.std.proofs.Common.{◌≡◌, ℕ, zero, suc, ◌+◌, ◌-◌, ◌*◌, ◌/◌, ◌<◌, ◌≤◌, List, [], ◌∷◌, length, Bool, true, false, refl, sym, ◌∙◌, ap, subst, arith, inl, inr}
+use Rattle.std.proofs.Common.{◌≡◌, ℕ, zero, suc, ◌+◌, ◌-◌, ◌*◌, ◌/◌, ◌<◌, ◌≤◌, List, [], ◌∷◌, length, Bool, true, false, refl, sym, ◌∙◌, ap, ap₂, subst, arith, inl, inr}
 use Rattle.std.specs.Prelude.{nat_le, if◌then◌else◌, slice_index}
 use Rattle.std.proofs.lemmas.Bool.{lt-ltb}
 use Rattle.std.proofs.lemmas.List.{append-nil, length-append}
@@ -20,6 +20,9 @@ use Rattle.bp_layout.specs.Inode.{ContentStandsAt, kind_of, root_of, size_of}
 use Rattle.bp_layout.specs.Need.{need}
 use Rattle.bp_layout.specs.Need.Change.{resizes}
 use Rattle.bp_layout.specs.WordPaths.{WordPath, inode_path}
+use Rattle.bp_layout.specs.Nodes.{nodes_for}
+use Rattle.bp_layout.specs.Reached.{IsReached}
+use Rattle.bp_layout.specs.WellFormed.{IsWellFormed}
 use Rattle.bp_layout.specs.Words.{Image, height_of}
 use Rattle.bp_limits.specs.Limits.{max_height}
 use Rattle.bp_shapes.specs.Sets.{AreExact}
@@ -33,6 +36,13 @@ use Rattle.bp_calls.proofs.Unthawed.{prepared_room_thawed}
 
 only_grows : (image : Image) (i size : ℕ) → size_of image i < size → OnlyGrows image (resizes i size) i size size
 only_grows image i size longer = record { prepares = rw (lt-ltb (size_of image i) size longer) refl; no_inodes = refl; touches = refl }
+
+-- so many blocks it takes, told by the root word and the size of its tree
+pub growing_needs : (image : Image) → IsWellFormed image → (i size root long : ℕ) → IsReached image i → kind_of image i ≡ 1 → size_of image i < size → root ≡ root_of image i → long ≡ size_of image i →
+    need image (resizes i size) ≡ length (nodes_for image root long size size)
+growing_needs image wf zero size root long reached file longer one two = absurd (omega (arith, file))
+growing_needs image wf (suc n) size root long reached file longer one two =
+    only_need image (resizes (suc n) size) n size size wf reached (only_grows image (suc n) size longer) ∙ sym (ap₂ (λ r s. length (nodes_for image r s size size)) one two)
 
 -- the bytes behind the file's own are 0
 none_given : (from o : ℕ) → given from [] o ≡ 0
@@ -59,7 +69,7 @@ module _ {kept : ℕ → Bool} (old : Memory) (blocks inodes : Set) (n size : �
       loose_end image can.well_formed kept (suc n) can.reached
       (loose (end_path_now image (suc n)) (subst (λ ps. Has ps (end_path_now image (suc n))) (sym ends) (inr (inr (inl refl)))) (length (root_path_now image (suc n)) - 1))
 
-  can_prepare : (path : WordPath) → path ≡ inode_path (height_of (root_of image 0)) (suc n) 1 → need_for image (suc n) size size ≤ length (members blocks) → CanPrepare kept old (members blocks) (suc n) path size size
+  can_prepare : (path : WordPath) → path ≡ inode_path (height_of (root_of image 0)) (suc n) 1 → need image (resizes (suc n) size) ≤ length (members blocks) → CanPrepare kept old (members blocks) (suc n) path size size
   can_prepare path leads enough = record {
     well = can.well_formed;
     reached = can.reached;
@@ -71,8 +81,8 @@ module _ {kept : ℕ → Bool} (old : Memory) (blocks inodes : Set) (n size : �
     usable = usable_members image blocks inodes can.exact (length old.base / 512) (omega (arith, length_now old));
     are_free = members_free image blocks inodes can.exact;
     loose = end_loose;
-    enough = enough;
-    room = let room = can.room (omega (arith, needs, enough)) in
+    enough = omega (arith, enough, needs);
+    room = let room = can.room enough in
         prepared_room_thawed _ _ _ _ needs (room_behind_whole (size_of image (suc n)) size size max_height) room;
   }
 
@@ -122,7 +132,7 @@ pub record Grew (kept : ℕ → Bool) (old middle new : Memory) (blocks rest : S
   pub stored : Adds middle new (commit place size)
 
 module _ {kept : ℕ → Bool} (old : Memory) (blocks inodes : Set) where
-  pub prepares : (i size : ℕ) → CanGrowFile kept old blocks inodes i size → (path : WordPath) → path ≡ inode_path (height_of (root_of (current_words old) 0)) i 1 → need_for (current_words old) i size size ≤ length (members blocks) →
+  pub prepares : (i size : ℕ) → CanGrowFile kept old blocks inodes i size → (path : WordPath) → path ≡ inode_path (height_of (root_of (current_words old) 0)) i 1 → need (current_words old) (resizes i size) ≤ length (members blocks) →
       CanPrepare kept old (members blocks) i path size size
   prepares zero size can = absurd (no_file (current_words old) can.file)
   prepares (suc n) size can = can_prepare old blocks inodes n size can

@@ -1,7 +1,7 @@
 -- The runs of patches: they lie in files, and what a commit of them asks.
-use Rattle.std.proofs.Common.{◌≡◌, ◌⊎◌, ℕ, zero, suc, ◌+◌, ◌-◌, ◌*◌, ◌/◌, ◌<◌, ◌≤◌, List, [], ◌∷◌, ◌++◌, get_or, length, take, Bool, refl, sym, ◌∙◌, ap, subst, inl, inr, arith}
+use Rattle.std.proofs.Common.{◌≡◌, ℕ, zero, suc, ◌+◌, ◌*◌, ◌<◌, ◌≤◌, List, [], ◌∷◌, ◌++◌, get_or, length, take, Bool, refl, sym, ◌∙◌, ap, subst, inl, inr, arith}
 use Rattle.std.proofs.lemmas.List.{map-append, take_more}
-use Rattle.bp_limits.specs.Limits.{max_batch, max_pieces}
+use Rattle.bp_limits.specs.Limits.{max_batch, max_height, max_pieces}
 use Rattle.bp_layout.specs.Free.{AreFreeBlocks}
 use Rattle.bp_layout.specs.Inode.{kind_of, root_of, size_of}
 use Rattle.bp_layout.specs.Members.{Each, Has}
@@ -12,7 +12,7 @@ use Rattle.bp_layout.specs.Words.{Image, height_of}
 use Rattle.bp_changes.specs.Overwrites.{Patch}
 use Rattle.bp_cow.specs.declared.touched.Run.{Run}
 use Rattle.bp_cow.specs.declared.touched.Touched.{Touched}
-use Rattle.bp_cow.specs.CanCommit.{CanCommit}
+use Rattle.bp_cow.specs.CanCommit.{CanCommit, IsTreeIn}
 use Rattle.bp_cow.specs.Touched.{IsTouched, leaves_of}
 use Rattle.bp_cow.proofs.CallerLaws.{runs_can}
 use Rattle.bp_calls.specs.Overwritten.{AreRuns, IsPatchIn, byte_count, patch_seen, patches_seen}
@@ -65,7 +65,7 @@ module _ (image : Image) where
   some_run _ _ (empty {patch} {patches} {runs} no_byte rest) some = some_run patches runs rest (omega (arith, some, no_byte))
   some_run _ _ (more {patch} {patches} {run = first} {runs} here for_it rest) some = (first, inl refl)
 
-  runs_few : (patches : List Patch) (runs : List Run) → AreRuns image patches runs → length runs ≤ length patches
+  pub runs_few : (patches : List Patch) (runs : List Run) → AreRuns image patches runs → length runs ≤ length patches
   runs_few _ _ none = omega arith
   runs_few _ _ (empty {patch} {patches} {runs} no_byte rest) = omega (arith, runs_few patches runs rest)
   runs_few _ _ (more {patch} {patches} {run = first} {runs} here for_it rest) = omega (arith, runs_few patches runs rest)

@@ -61,6 +61,10 @@ module _ {kept : ℕ → Bool} (image : Image) (blocks inodes : Set) (exact : Ar
   pub not_some : members inodes ≡ [] → (i : ℕ) → IsLeastFree image (Some i) → ⊥
   not_some none i (a_least free least) = has_members inodes i (exact.free_inodes.all i free) none
 
+  pub is_none : members inodes ≡ [] → (free : Option ℕ) → IsLeastFree image free → free ≡ None
+  is_none none None told = refl
+  is_none none (Some i) told = absurd (not_some none i told)
+
   least_of : (i : ℕ) → (has inodes i ≡ true) × ((k : ℕ) → k < i → has inodes k ≡ false) → IsLeastFree image (Some i)
   least_of i (is, first) = a_least (exact.free_inodes.free i is) (λ j free. go j free (cases_lt j i))
     where

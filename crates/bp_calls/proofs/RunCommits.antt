@@ -1,5 +1,5 @@
 -- A commit with a run of a file's bytes, alone or with words beside it: what it asks, and what it makes of the file and of the sets.
-use Rattle.std.proofs.Common.{◌≡◌, ◌⊎◌, ℕ, Bool, suc, ◌+◌, ◌-◌, ◌*◌, ◌/◌, ◌^◌, ◌<◌, ◌≤◌, max, take, List, length, slice_index, Some, refl, sym, ◌∙◌, ap, subst, inl, inr, arith, lt-ltb, le-ltb, le-leb}
+use Rattle.std.proofs.Common.{◌≡◌, ◌⊎◌, ℕ, Bool, suc, ◌+◌, ◌-◌, ◌*◌, ◌/◌, ◌^◌, ◌<◌, ◌≤◌, max, take, List, length, slice_index, refl, sym, ◌∙◌, ap, subst, inl, inr, arith, lt-ltb, le-ltb, le-leb}
 use Rattle.std.proofs.lemmas.Bool.{cases_lt, lt-leb}
 use Rattle.std.proofs.lemmas.List.{get_or-take, length-take}
 use Rattle.std.proofs.lemmas.List.Elements.{All-get_or}

@@ -1,14 +1,14 @@
 -- The sets of free numbers stay exact: over a preparation, and where the new inode is taken out.
-use Rattle.std.proofs.Common.{◌≡◌, ◌≢◌, ◌⊎◌, ℕ, ◌+◌, ◌*◌, ◌<◌, ◌≤◌, Bool, true, false, length, set, None, sym, ◌∙◌, ap, subst, inl, inr, true≢false}
+use Rattle.std.proofs.Common.{◌≡◌, ◌≢◌, ◌⊎◌, ℕ, zero, suc, [], ◌∷◌, ◌+◌, ◌*◌, ◌<◌, ◌≤◌, Bool, true, false, length, set, None, sym, ◌∙◌, ap, subst, inl, inr, true≢false}
 use Rattle.std.proofs.lemmas.Bool.{cases_eq, cases_lt}
 use Rattle.std.proofs.lemmas.List.{length-set}
-use Rattle.bp_free.specs.Set.{Set, has, without}
+use Rattle.bp_free.specs.Set.{Set, has, with, without}
 use Rattle.bp_free.proofs.Members.{has_without_same, has_without_other, has_past}
 use Rattle.bp_layout.specs.Words.{Image}
 use Rattle.bp_layout.specs.Tree.{HasBlock}
 use Rattle.bp_layout.specs.Inode.{kind_of, root_of, size_of, ContentStandsAt}
 use Rattle.bp_layout.specs.Directory.{Name, IsName, slot_named}
-use Rattle.bp_layout.specs.Reached.{IsReached, IsLiveBlock, IsFreeBlock}
+use Rattle.bp_layout.specs.Reached.{IsReached, IsLiveBlock}
 use Rattle.bp_layout.specs.WellFormed.{IsWellFormed}
 use Rattle.bp_layout.specs.Free.{AreFreeBlocks, AreFreeInodes, IsFreeInode}
 use Rattle.bp_layout.proofs.SmallTrees.{empty_has_none}
@@ -24,6 +24,12 @@ use Rattle.bp_calls.proofs.AfterLaws.{IsPrepared, reached_before, reached_after}
 
 pub length_without : (numbers : Set) (i : ℕ) → length (without numbers i) ≡ length numbers
 length_without numbers i = length-set numbers i false
+
+-- a number that is taken out and put back
+pub put_back : (numbers : Set) (i : ℕ) → has numbers i ≡ true → with (without numbers i) i ≡ numbers
+put_back [] i is = absurd (true≢false (sym is))
+put_back (x ∷ xs) zero is = ap (λ b. b ∷ xs) (sym is)
+put_back (x ∷ xs) (suc i) is = ap (λ ys. x ∷ ys) (put_back xs i is)
 
 -- what is in lies below the room
 pub in_room : (numbers : Set) (i : ℕ) → has numbers i ≡ true → i < length numbers

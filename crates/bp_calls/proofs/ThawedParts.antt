@@ -1,16 +1,16 @@
 -- The parts of a file system are exact over a thaw, and what a change behind it then makes is made of both.
-use Rattle.std.proofs.Common.{◌≡◌, ◌⊎◌, ℕ, zero, suc, ◌+◌, ◌*◌, ◌/◌, ◌<◌, ◌≤◌, List, [], ◌∷◌, length, filter, Bool, true, false, ◌&&◌, refl, sym, ◌∙◌, ap, subst, arith}
+use Rattle.std.proofs.Common.{◌≡◌, ℕ, ◌+◌, ◌*◌, ◌/◌, ◌≤◌, List, [], ◌∷◌, length, filter, Bool, true, false, ◌&&◌, refl, sym, ◌∙◌, ap, subst, arith}
 use Rattle.bp_calls.specs.Mounted.{IsMounted}
 use Rattle.bp_calls.specs.ThawsFor.{HasRoomToThaw, ThawsFor, thaw_count}
 use Rattle.bp_calls.proofs.CountLaws.{exact_with}
 use Rattle.bp_calls.proofs.SetLaws.{free_inodes_stay}
 use Rattle.bp_changes.specs.SameMeaning.{SameMeaning}
-use Rattle.bp_changes.specs.Thawed.{AfterThaw, SameShape}
+use Rattle.bp_changes.specs.Thawed.{AfterThaw}
 use Rattle.bp_changes.proofs.Named.{meaning_counts}
 use Rattle.bp_changes.proofs.ReachedOn.{reached_on}
 use Rattle.bp_changes.proofs.SameMeaning.{reached-back, well_formed-same}
 use Rattle.bp_changes.proofs.ShapeLaws.{IsOfReached, targets-shape}
-use Rattle.bp_commit.specs.Performs.{Performs, PerformsThawed, room_for}
+use Rattle.bp_commit.specs.Performs.{Performs, PerformsThawed}
 use Rattle.bp_commit.proofs.PerformsLaws.{performs_thawed}
 use Rattle.bp_free.specs.Set.{Set, has, members}
 use Rattle.bp_free.specs.declared.parts.Parts.{Parts}
@@ -19,14 +19,12 @@ use Rattle.bp_layout.specs.Free.{AreFreeInodes}
 use Rattle.bp_layout.specs.Members.{Has}
 use Rattle.bp_layout.specs.Names.{AreCounts}
 use Rattle.bp_layout.specs.Need.{Change}
-use Rattle.bp_layout.specs.Reached.{IsReached}
 use Rattle.bp_layout.specs.Reached.IsReached.{inode_file}
 use Rattle.bp_layout.specs.Same.{Same}
 use Rattle.bp_layout.specs.Thaw.{fronts_of, is_kept_at, is_there_now, targets, thawed, thawed_on}
-use Rattle.bp_layout.specs.WellFormed.{IsWellFormed}
 use Rattle.bp_layout.specs.WordPaths.{WordPath, address}
-use Rattle.bp_layout.specs.Words.{Image, block_count, block_of, word}
-use Rattle.bp_shapes.specs.Sets.{AreExact, IsExact, kept_of}
+use Rattle.bp_layout.specs.Words.{Image, block_of, word}
+use Rattle.bp_shapes.specs.Sets.{AreExact, kept_of}
 use Rattle.bp_thaw.specs.Fronts.{IsWay}
 use Rattle.bp_thaw.specs.Thaws.{CanThaw, Thaws}
 use Rattle.bp_thaw.proofs.Whole.{thaws_nothing}

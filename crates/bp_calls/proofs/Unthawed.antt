@@ -36,5 +36,5 @@ pub prepared_room_thawed : (needed made asked room : ℕ) → needed ≡ made �
 prepared_room_thawed needed made asked room a b c = omega (arith, a, b, c)
 
 -- where blocks are copied behind it
-pub across_room : (needed made copies asked room : ℕ) → needed ≡ made + copies → asked ≤ 512 * suc max_height → room_for needed ≤ room → 512 * made + asked + 4 ≤ room
+pub across_room : (needed made copies asked room : ℕ) → needed ≡ made + copies → asked ≤ 512 * suc max_height → room_for needed ≤ room + 2 → 512 * made + asked + 4 ≤ room
 across_room needed made copies asked room a b c = omega (arith, a, b, c)

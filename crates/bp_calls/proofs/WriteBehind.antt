@@ -1,12 +1,13 @@
 -- A write behind the size of a file: what it asks of a preparation, and that it is performed.
-use Rattle.std.proofs.Common.{◌≡◌, ◌⊎◌, ℕ, zero, suc, ◌+◌, ◌-◌, ◌*◌, ◌<◌, ◌≤◌, max, List, length, slice_index, refl, sym, ◌∙◌, ap, subst, inl, inr, arith, lt-ltb, le-ltb, le-leb, Bool, ◌∷◌, []}
+use Rattle.std.proofs.Common.{◌≡◌, ◌⊎◌, ℕ, zero, suc, ◌+◌, ◌-◌, ◌*◌, ◌<◌, ◌≤◌, max, List, length, slice_index, refl, sym, ◌∙◌, ap, ap₂, subst, inl, inr, arith, lt-ltb, le-ltb, le-leb, Bool, ◌∷◌, []}
 use Rattle.bp_limits.specs.Limits.{max_height}
 use Rattle.std.proofs.lemmas.Bool.{cases_lt, lt-leb}
 use Rattle.std.proofs.lemmas.List.{append-nil, length-append}
 use Rattle.bp_free.specs.Set.{Set, members}
-use Rattle.bp_layout.specs.Free.{HasFree}
 use Rattle.bp_layout.specs.Same.{Same}
-use Rattle.bp_layout.specs.Inode.{root_of, size_of, ContentStandsAt}
+use Rattle.bp_layout.specs.Inode.{kind_of, root_of, size_of, ContentStandsAt}
+use Rattle.bp_layout.specs.Reached.{IsReached}
+use Rattle.bp_layout.specs.WellFormed.{IsWellFormed}
 use Rattle.bp_layout.specs.Need.{need}
 use Rattle.bp_layout.specs.Need.Change.{writes}
 use Rattle.bp_layout.specs.Nodes.{nodes_for}
@@ -26,9 +27,7 @@ use Rattle.bp_append.proofs.GrowsTree.{OnlyGrows, GrowsTree, only_need, grown_si
 use Rattle.bp_append.proofs.GrownEffect.{grown_changes, grown_bytes, grown_live, grown_stays, grown_taken}
 use Rattle.bp_calls.specs.CanWrite.{CanWriteThawed}
 use Rattle.bp_shapes.specs.Sets.{AreExact}
-use Rattle.bp_calls.specs.Space.{LacksBlocks}
 use Rattle.bp_calls.specs.WritesFile.{WritesFile, written_byte}
-use Rattle.bp_calls.proofs.FreeCounts.{free_members}
 use Rattle.bp_append.proofs.EndWays.{loose_end}
 use Rattle.bp_calls.proofs.TakenBlocks.{exact_taken, members_free, usable_members}
 use Rattle.bp_layout.specs.Thaw.{cover_now, end_path_now, root_path_now, targets}
@@ -68,6 +67,13 @@ only_grows image i off len behind some = record {
   no_inodes = refl;
   touches = rw (le-ltb off (size_of image i) behind, lt-ltb (size_of image i) (off + len) (omega (arith, behind, some))) refl;
 }
+
+-- so many blocks it takes, told by the root word and the size of its tree
+pub behind_needs : (image : Image) → IsWellFormed image → (i off len root size : ℕ) → IsReached image i → kind_of image i ≡ 1 → size_of image i ≤ off → 1 ≤ len → root ≡ root_of image i → size ≡ size_of image i →
+    need image (writes i off len) ≡ length (nodes_for image root size off (off + len))
+behind_needs image wf zero off len root size reached file behind some one two = absurd (omega (arith, file))
+behind_needs image wf (suc n) off len root size reached file behind some one two =
+    only_need image (writes (suc n) off len) n off (off + len) wf reached (only_grows image (suc n) off len behind some) ∙ sym (ap₂ (λ r s. length (nodes_for image r s off (off + len))) one two)
 
 -- ---- the call
 
@@ -157,28 +163,13 @@ module _ {kept : ℕ → Bool} (old : Memory) (blocks inodes : Set) (n off : ℕ
 -- ---- by the number of the inode
 
 module _ (old : Memory) (blocks inodes : Set) (off : ℕ) (bytes : List ℕ) where
-  abbrev nodes_here : ℕ → ℕ → ℕ
-  nodes_here root size = length (nodes_for (current_words old) root size off (off + length bytes))
-
   not_inodes : {kept : ℕ → Bool} (P : Type 0) → CanWriteThawed kept old blocks inodes 0 off bytes → P
   not_inodes P can = absurd (omega (arith, can.file))
 
-  pub behind_lacks : {kept : ℕ → Bool} (i root size needed free : ℕ) → CanWriteThawed kept old blocks inodes i off bytes → size_of (current_words old) i ≤ off → root ≡ root_of (current_words old) i → size ≡ size_of (current_words old) i →
-      needed ≡ nodes_here root size → free ≡ length (members blocks) → free < needed → LacksBlocks (current_words old) kept (need (current_words old) (writes i off (length bytes))) (record { need = needed; free = free })
-  behind_lacks zero root size needed free can = λ behind one two counted is fewer. not_inodes _ can
-  behind_lacks (suc n) root size needed free can = λ behind one two counted is fewer.
-      record {
-        needed = behind_need old blocks inodes n off bytes can behind ∙ sym (counted ∙ ap (λ r. nodes_here r size) one ∙ ap (nodes_here (root_of (current_words old) (suc n))) two);
-        free = subst (HasFree (current_words old) _) (sym is) (free_members (current_words old) _ blocks can.exact.free_blocks can.exact.block_room);
-        fewer = fewer;
-      }
-
-  pub behind_can : {kept : ℕ → Bool} (i root size needed : ℕ) (path : WordPath) → CanWriteThawed kept old blocks inodes i off bytes → size_of (current_words old) i ≤ off → root ≡ root_of (current_words old) i → size ≡ size_of (current_words old) i →
-      needed ≡ nodes_here root size → needed ≤ length (members blocks) → path ≡ inode_path (height_of (root_of (current_words old) 0)) i 1 → CanPrepare kept old (members blocks) i path off (off + length bytes)
-  behind_can zero root size needed path can = λ behind one two counted enough is. not_inodes _ can
-  behind_can (suc n) root size needed path can = λ behind one two counted enough is.
-      behind_prepares old blocks inodes n off bytes can behind
-      (subst (λ k. k ≤ length (members blocks)) (counted ∙ ap (λ r. nodes_here r size) one ∙ ap (nodes_here (root_of (current_words old) (suc n))) two) enough) path is
+  pub behind_can : {kept : ℕ → Bool} (i : ℕ) (path : WordPath) → CanWriteThawed kept old blocks inodes i off bytes → size_of (current_words old) i ≤ off → need (current_words old) (writes i off (length bytes)) ≤ length (members blocks) →
+      path ≡ inode_path (height_of (root_of (current_words old) 0)) i 1 → CanPrepare kept old (members blocks) i path off (off + length bytes)
+  behind_can zero path can = λ behind enough is. not_inodes _ can
+  behind_can (suc n) path can = λ behind enough is. behind_prepares old blocks inodes n off bytes can behind (omega (arith, enough, behind_need old blocks inodes n off bytes can behind)) path is
 
   module _ (middle : Memory) (after : Set) where
     pub prepared_base : {kept : ℕ → Bool} (i : ℕ) → PreparesWith kept old middle (members blocks) (members after) i off (off + length bytes) bytes → length middle.base ≡ length old.base

@@ -1,9 +1,8 @@
 -- A write below the size of a file: what it asks of a commit, and that it is performed.
-use Rattle.std.proofs.Common.{◌≡◌, ◌⊎◌, ℕ, zero, suc, ◌+◌, ◌-◌, ◌<◌, ◌≤◌, List, [], ◌∷◌, length, slice_index, refl, sym, ◌∙◌, ap, subst, inl, inr, arith, le_trans, Bool, ◌||◌, ◌==◌, ◌++◌, fold, flat_map, if◌then◌else◌}
+use Rattle.std.proofs.Common.{◌≡◌, ◌⊎◌, ℕ, zero, suc, ◌+◌, ◌-◌, ◌<◌, ◌≤◌, List, [], ◌∷◌, length, slice_index, refl, sym, ◌∙◌, ap, subst, inl, inr, arith, Bool, ◌||◌, ◌==◌, ◌++◌, fold, flat_map, if◌then◌else◌}
 use Rattle.std.proofs.lemmas.Bool.{cases_eq, le-ltb}
 use Rattle.std.proofs.lemmas.List.{take_all}
 use Rattle.bp_free.specs.Set.{Set, has, members}
-use Rattle.bp_layout.specs.Free.{HasFree}
 use Rattle.bp_layout.specs.Inode.{root_of, size_of}
 use Rattle.bp_layout.specs.Members.{Has}
 use Rattle.bp_layout.specs.Need.{need}
@@ -18,26 +17,30 @@ use Rattle.bp_commit.specs.Performs.{PerformsThawed, room_for}
 use Rattle.pm_region.specs.Memory.{Memory, current_words, room_in}
 use Rattle.bp_cow.specs.declared.touched.Run.{Run}
 use Rattle.bp_cow.specs.declared.touched.Touched.{Touched}
-use Rattle.bp_cow.specs.CanCommit.{CanCommit, IsRunIn}
+use Rattle.bp_cow.specs.CanCommit.{CanCommit, IsRunIn, IsTreeIn}
 use Rattle.bp_cow.specs.Commit.{HasLooseCover, CommitsTouched, HasRoom}
-use Rattle.bp_cow.specs.Cover.{commit_cover, copied_count}
+use Rattle.bp_cow.specs.Cover.{LeadsInside, commit_cover, copied_count}
+use Rattle.bp_cow.proofs.CopiesNeed.{none-begins}
+use Rattle.bp_cow.proofs.JobLaws.{first-range}
 use Rattle.bp_cow.specs.Job.{IsTurned}
-use Rattle.bp_cow.specs.Touched.{IsRun, IsTouched, job_of, leaves_of, run_leaves}
-use Rattle.bp_cow.proofs.CallerLaws.{runs_can}
+use Rattle.bp_cow.specs.Touched.{IsRun, IsTouched, NoneBegins, all_paths, job_of, leaves_of, run_leaves}
+use Rattle.bp_cow.proofs.CallerLaws.{no_trees, runs_can}
+use Rattle.bp_limits.specs.Limits.{max_height}
 use Rattle.bp_cow.proofs.CommitTaking.{commit_performs, stores_few}
 use Rattle.bp_cow.proofs.FewCopies.{few_copies}
 use Rattle.bp_cow.proofs.RunThere.{run_cover, run_need}
 use Rattle.bp_cow.proofs.RunWrites.{run_bytes, run_changes, run_size}
-use Rattle.bp_calls.specs.CanWrite.{CanWriteThawed}
-use Rattle.bp_calls.specs.Space.{LacksBlocks}
+use Rattle.bp_calls.specs.CanWrite.{CanWriteInto}
+use Rattle.bp_calls.specs.Space.{HasRoomThawed, LacksBlocks}
+use Rattle.bp_calls.proofs.FreeCounts.{free_members}
+use Rattle.bp_layout.specs.Free.{HasFree}
 use Rattle.bp_calls.specs.TouchedBelow.{WritesBelow}
 use Rattle.bp_calls.specs.WritesFile.{WritesFile}
-use Rattle.bp_calls.proofs.FreeCounts.{free_members}
 use Rattle.bp_calls.proofs.RunCommits.{IsRunOf, run_loose, commit_exact, commit_writes_file, few_leaves, run_in, run_is, run_open}
-use Rattle.bp_layout.specs.Thaw.{cover_now, heights_now, is_there_now, targets}
+use Rattle.bp_layout.specs.Thaw.{cover_now, is_there_now, targets, thawed}
 use Rattle.std.specs.List.{list_any}
 use Rattle.bp_layout.proofs.ThawLaws.{loose-on}
-use Rattle.bp_layout.specs.Need.{Beyond, beyond, cover, cover_of, is_there, pointed, prepared_for, same_node, touched_at}
+use Rattle.bp_layout.specs.Need.{Beyond, beyond, cover, cover_of, pointed, prepared_for, same_node, touched_at}
 use Rattle.bp_layout.specs.Nodes.{TreeNode, height_with, is_present}
 use Rattle.bp_layout.specs.WordPaths.{WordPath}
 use Rattle.bp_calls.proofs.PatchCommits.{exists_as, or_false}
@@ -68,14 +71,16 @@ record IsRunAlone (image : Image) (i : ℕ) (touched : Touched) (run : Run) : Ty
   pub no_trees : touched.trees.now ≡ []
   pub of : IsRunOf image i run
 
--- what a commit of the run asks
+-- What a commit of the run asks. Where nothing is left to thaw its one store in place goes to no kept block.
 record CanCommitRun (kept : ℕ → Bool) (memory : Memory) (blocks : Set) (i : ℕ) (touched : Touched) (run : Run) : Type 0 where
   pub can : CanCommit (current_words memory) (size_of (current_words memory)) kept touched (has blocks)
   pub need_is : copied_count (current_words memory) touched ≡ need (current_words memory) (writes i run.off (length run.bytes.now))
-  pub room : copied_count (current_words memory) touched ≤ length (members blocks) → HasRoom memory touched
-  pub loose : HasLooseCover (current_words memory) kept touched
+  pub few : copied_count (current_words memory) touched ≤ 320
+  pub cover_is : commit_cover (current_words memory) touched ≡ cover_now (current_words memory) (writes i run.off (length run.bytes.now))
+  pub room : HasRoomThawed memory blocks (writes i run.off (length run.bytes.now)) → copied_count (current_words memory) touched ≤ length (members blocks) → HasRoom memory touched
+  pub loose : thawed (current_words memory) kept (writes i run.off (length run.bytes.now)) ≡ [] → HasLooseCover (current_words memory) kept touched
 
-module _ {kept : ℕ → Bool} (old : Memory) (blocks inodes : Set) (n : ℕ) (touched : Touched) (run : Run) (is : IsRunAlone (current_words old) (suc n) touched run) (asks : CanWriteThawed kept old blocks inodes (suc n) run.off run.bytes.now) where
+module _ {kept : ℕ → Bool} (old : Memory) (blocks inodes : Set) (n : ℕ) (touched : Touched) (run : Run) (is : IsRunAlone (current_words old) (suc n) touched run) (asks : CanWriteInto kept (current_words old) blocks inodes (suc n) run.off run.bytes.now) where
   abbrev image : Image
   image = current_words old
 
@@ -116,21 +121,23 @@ module _ {kept : ℕ → Bool} (old : Memory) (blocks inodes : Set) (n : ℕ) (t
   cover_is : commit_cover image touched ≡ cover image (writes (suc n) run.off (length run.bytes.now))
   cover_is = run_cover image wf (size_of image) touched (has blocks) can run n is.one is.no_words asks.reached is.of.root is.of.height is.of.some is.of.below
 
-  below_loose : HasLooseCover image kept touched
-  below_loose =
+  below_loose : thawed image kept (writes (suc n) run.off (length run.bytes.now)) ≡ [] → HasLooseCover image kept touched
+  below_loose clear =
       let among : Has (targets image (writes (suc n) run.off (length run.bytes.now))) (commit_cover image touched) =
       inl (writes_now image (suc n) run.off (length run.bytes.now) is.of.below ∙ sym cover_is) in
       run_loose image wf n asks.reached run is.of kept touched shape here
-      (loose-on image kept (targets image (writes (suc n) run.off (length run.bytes.now))) asks.clear (commit_cover image touched) among (length (commit_cover image touched) - 1))
+      (loose-on image kept (targets image (writes (suc n) run.off (length run.bytes.now))) clear (commit_cover image touched) among (length (commit_cover image touched) - 1))
 
   below_can : CanCommitRun kept old blocks (suc n) touched run
   below_can = record {
     can = can;
     need_is = copies_need;
+    few = let most = few_copies image (size_of image) touched (has blocks) wf can run is.one in omega (arith, most, few_leaves run asks.short, none);
+    cover_is = cover_is ∙ sym (writes_now image (suc n) run.off (length run.bytes.now) is.of.below);
     loose = below_loose;
-    room = λ enough.
+    room = λ asked enough.
         let few = few_copies image (size_of image) touched (has blocks) wf can run is.one in
-        let room : room_for (need image (writes (suc n) run.off (length run.bytes.now))) ≤ room_in old + 2 = asks.room (omega (arith, copies_need, enough)) in
+        let room : room_for (need image (writes (suc n) run.off (length run.bytes.now))) ≤ room_in old + 2 = asked (omega (arith, copies_need, enough)) in
         omega (arith, few, few_leaves run asks.short, none, copies_need, room);
   }
 
@@ -163,7 +170,7 @@ module _ {kept : ℕ → Bool} (old : Memory) (blocks inodes : Set) (n : ℕ) (t
         commit_performs old new (writes (suc n) run.off (length run.bytes.now)) (WritesFile (suc n) run.off run.bytes.now) (size_of image) touched blocks after done
         (run_cover image wf (size_of image) touched (has blocks) can run n is.one is.no_words asks.reached is.of.root is.of.height is.of.some is.of.below) copies_need
         (let few = stores_few image (size_of image) touched (has blocks) wf can in omega (arith, few, leaves, few_leaves run asks.short, none, copies_need))
-        (run_open image wf n asks.reached run is.of kept touched shape here below_loose done.taken)
+        (run_open image wf n asks.reached run is.of kept touched shape here done.loose done.taken)
         (well_formed-same image (current_words new) (suc n) wf changes) below_writes
 
     below_exact : length after ≡ length blocks → AreExact (current_words new) kept after inodes
@@ -172,19 +179,19 @@ module _ {kept : ℕ → Bool} (old : Memory) (blocks inodes : Set) (n : ℕ) (t
 -- ---- by the number of the inode
 
 module _ {kept : ℕ → Bool} (old : Memory) (blocks inodes : Set) (touched : Touched) (run : Run) where
-  not_inodes : (P : Type 0) → CanWriteThawed kept old blocks inodes 0 run.off run.bytes.now → P
+  not_inodes : (P : Type 0) → CanWriteInto kept (current_words old) blocks inodes 0 run.off run.bytes.now → P
   not_inodes P asks = absurd (omega (arith, asks.file))
 
-  can_at : (i : ℕ) → IsRunAlone (current_words old) i touched run → CanWriteThawed kept old blocks inodes i run.off run.bytes.now → CanCommitRun kept old blocks i touched run
+  can_at : (i : ℕ) → IsRunAlone (current_words old) i touched run → CanWriteInto kept (current_words old) blocks inodes i run.off run.bytes.now → CanCommitRun kept old blocks i touched run
   can_at zero is asks = not_inodes _ asks
   can_at (suc n) is asks = below_can old blocks inodes n touched run is asks
 
   module _ (new : Memory) (after : Set) (small : (i : ℕ) → slice_index run.bytes.now i < 256) (done : CommitsTouched (size_of (current_words old)) kept touched old new blocks after) where
-    performs_at : (i : ℕ) → IsRunAlone (current_words old) i touched run → CanWriteThawed kept old blocks inodes i run.off run.bytes.now → PerformsThawed kept old new (writes i run.off (length run.bytes.now)) (WritesFile i run.off run.bytes.now)
+    performs_at : (i : ℕ) → IsRunAlone (current_words old) i touched run → CanWriteInto kept (current_words old) blocks inodes i run.off run.bytes.now → PerformsThawed kept old new (writes i run.off (length run.bytes.now)) (WritesFile i run.off run.bytes.now)
     performs_at zero is asks = not_inodes _ asks
     performs_at (suc n) is asks = below_performs old blocks inodes n touched run is asks new after small done
 
-    exact_at : (i : ℕ) → IsRunAlone (current_words old) i touched run → CanWriteThawed kept old blocks inodes i run.off run.bytes.now → length after ≡ length blocks → AreExact (current_words new) kept after inodes
+    exact_at : (i : ℕ) → IsRunAlone (current_words old) i touched run → CanWriteInto kept (current_words old) blocks inodes i run.off run.bytes.now → length after ≡ length blocks → AreExact (current_words new) kept after inodes
     exact_at zero is asks = λ room. not_inodes _ asks
     exact_at (suc n) is asks = λ room. below_exact old blocks inodes n touched run is asks new after small done room
 
@@ -201,8 +208,8 @@ module _ {kept : ℕ → Bool} (old : Memory) (blocks inodes : Set) (i off : ℕ
   from_run : (P : ℕ → List ℕ → Type 0) → P run.off run.bytes.now → P off bytes
   from_run P there = subst (λ o. P o bytes) write.touches.is.from (subst (λ (bs : List ℕ). P run.off bs) write.touches.is.bytes_are there)
 
-  asks : CanWriteThawed kept old blocks inodes i run.off run.bytes.now
-  asks = of_run (CanWriteThawed kept old blocks inodes i) write.can
+  asks : CanWriteInto kept (current_words old) blocks inodes i run.off run.bytes.now
+  asks = of_run (CanWriteInto kept (current_words old) blocks inodes i) write.can
 
   alone : IsRunAlone (current_words old) i touched run
   alone = record {
@@ -225,16 +232,32 @@ module _ {kept : ℕ → Bool} (old : Memory) (blocks inodes : Set) (i off : ℕ
   pub write_can : CanCommit (current_words old) (size_of (current_words old)) kept touched (has blocks)
   write_can = ready.can
 
-  pub write_room : copied_count (current_words old) touched ≤ length (members blocks) → HasRoom old touched
-  write_room = ready.room
+  pub write_inside : LeadsInside (current_words old) touched
+  write_inside d alike = first-range (current_words old) (size_of (current_words old)) touched (has blocks) write.can.well_formed write_can d alike
 
-  pub write_loose : HasLooseCover (current_words old) kept touched
-  write_loose = ready.loose
+  pub write_apart : NoneBegins (all_paths touched)
+  write_apart = none-begins (current_words old) (size_of (current_words old)) touched (has blocks) write.can.well_formed write_can
+
+  -- so many blocks it takes, and near its cover it stores
+  pub write_needs : copied_count (current_words old) touched ≡ need (current_words old) (writes i off (length bytes))
+  write_needs = from_run (λ o bs. copied_count (current_words old) touched ≡ need (current_words old) (writes i o (length bs))) ready.need_is
+
+  pub write_few : copied_count (current_words old) touched ≤ 320
+  write_few = ready.few
+
+  pub write_cover : commit_cover (current_words old) touched ≡ cover_now (current_words old) (writes i off (length bytes))
+  write_cover = from_run (λ o bs. commit_cover (current_words old) touched ≡ cover_now (current_words old) (writes i o (length bs))) ready.cover_is
+
+  pub write_room : HasRoomThawed old blocks (writes i off (length bytes)) → copied_count (current_words old) touched ≤ length (members blocks) → HasRoom old touched
+  write_room asked = ready.room (of_run (λ o bs. HasRoomThawed old blocks (writes i o (length bs))) asked)
+
+  pub write_loose : thawed (current_words old) kept (writes i off (length bytes)) ≡ [] → HasLooseCover (current_words old) kept touched
+  write_loose clear = ready.loose (of_run (λ o bs. thawed (current_words old) kept (writes i o (length bs)) ≡ []) clear)
 
   pub write_lacks : (copies free : ℕ) → copies ≡ copied_count (current_words old) touched → free ≡ length (members blocks) → free < copies →
       LacksBlocks (current_words old) kept (need (current_words old) (writes i off (length bytes))) (record { need = copies; free = free })
   write_lacks copies free counted number fewer = record {
-    needed = sym (counted ∙ from_run (λ o bs. copied_count (current_words old) touched ≡ need (current_words old) (writes i o (length bs))) ready.need_is);
+    needed = sym (counted ∙ write_needs);
     free = subst (HasFree (current_words old) kept) (sym number) (free_members (current_words old) kept blocks write.can.exact.free_blocks write.can.exact.block_room);
     fewer = fewer;
   }

@@ -22,6 +22,17 @@ pub record CanWrite (image : Image) (i off : ℕ) (bytes : List ℕ) : Type 0 wh
   pub short : length bytes ≤ max_write
   pub fits : off + length bytes ≤ greatest_size (version_of image)
 
+-- The same, where the image is well formed and the sets are exact.
+pub record CanWriteInto (kept : ℕ → Bool) (image : Image) (blocks inodes : Set) (i off : ℕ) (bytes : List ℕ)
+    : Type 0 where
+  pub well_formed : IsWellFormed image
+  pub exact : AreExact image kept blocks inodes
+  pub reached : IsReached image i
+  pub file : IsFile image i
+  pub some : 1 ≤ length bytes
+  pub short : length bytes ≤ max_write
+  pub fits : off + length bytes ≤ greatest_size (version_of image)
+
 -- The same, where the image is well formed, the sets are exact, and nothing is left to thaw. The log has room for the
 -- change, where enough blocks are free.
 pub record CanWriteThawed (kept : ℕ → Bool) (memory : Memory) (blocks inodes : Set) (i off : ℕ) (bytes : List ℕ) : Type 0 where

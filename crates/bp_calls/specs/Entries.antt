@@ -1,6 +1,5 @@
 -- An entry behind the last one of a directory: its bytes, and what stands of it before the size takes it in.
-use Rattle.std.specs.Prelude.{◌≡◌, ℕ, ◌+◌, ◌-◌, ◌<◌, List, length, nat_lt, slice_index, if◌then◌else◌}
-use Rattle.bp_layout.specs.Thaw.{none_kept}
+use Rattle.std.specs.Prelude.{◌≡◌, ℕ, ◌+◌, ◌-◌, ◌<◌, List, length, nat_lt, slice_index, Bool, if◌then◌else◌}
 use Rattle.bp_append.specs.Prepared.{PreparesWith}
 use Rattle.bp_layout.specs.Directory.{Name, entry_count, inumber_in, name_in}
 use Rattle.bp_layout.specs.Inode.{root_of, size_of}

@@ -1,5 +1,5 @@
 -- The inode file gets one more leaf of inodes where none is free, and a call goes on behind that.
-use Rattle.std.specs.Prelude.{◌≡◌, ◌≢◌, ◌⊎◌, ℕ, suc, ◌+◌, ◌*◌, ◌<◌, ◌≤◌, List, length, Bool}
+use Rattle.std.specs.Prelude.{◌≡◌, ◌≢◌, ◌⊎◌, ℕ, suc, ◌+◌, ◌-◌, ◌*◌, ◌<◌, ◌≤◌, List, length, Bool}
 use Rattle.bp_changes.specs.SameMeaning.{SameMeaning}
 use Rattle.bp_free.specs.Set.{Set, members}
 use Rattle.bp_layout.specs.Inode.{root_of, size_of}
@@ -9,7 +9,7 @@ use Rattle.bp_layout.specs.Need.Change.{enters}
 use Rattle.bp_layout.specs.Need.Entrant.{grown}
 use Rattle.bp_layout.specs.Nodes.{height_with}
 use Rattle.bp_layout.specs.Reached.{IsReached}
-use Rattle.bp_layout.specs.Tree.{byte, word_at, HasBlock, IsLiveWord}
+use Rattle.bp_layout.specs.Tree.{byte, node, word_at, HasBlock, IsLivePointer, IsLiveWord}
 use Rattle.bp_layout.specs.WellFormed.{IsWellFormed}
 use Rattle.bp_layout.specs.Words.{Image, height_of}
 use Rattle.bp_limits.specs.Limits.{block_size, block_words}
@@ -44,6 +44,9 @@ pub record AddsInodes (old new : Image) (taken : List ℕ) : Type 0 where
   pub has_old : (b : ℕ) → HasBlock old (root_of old 0) (size_of old 0) b →
       HasBlock new (root_of new 0) (size_of new 0) b
   pub has_taken : (b : ℕ) → Has taken b → HasBlock new (root_of new 0) (size_of new 0) b
+  -- the nodes that it had stand as high above the leaves as they did
+  pub nodes : (d k : ℕ) → IsLivePointer (root_of old 0) (size_of old 0) d k → node old (root_of old 0) d k ≢ 0 →
+      node new (root_of new 0) (height_of (root_of new 0) - height_of (root_of old 0) + d) k ≡ node old (root_of old 0) d k
   pub roots : (u : ℕ) → IsReached old u → u ≢ 0 → root_of new u ≡ root_of old u
   pub words : (u d k : ℕ) → IsReached old u → u ≢ 0 → IsLiveWord (root_of old u) (size_of old u) (suc d) k →
       word_at new (root_of new u) (suc d) k ≡ word_at old (root_of old u) (suc d) k

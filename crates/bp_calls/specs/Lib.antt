@@ -14,6 +14,7 @@ pub mod GivenBack
 pub mod GivenUp
 pub mod Space
 pub mod ThawsFor
+pub mod ThawedFor
 pub mod CanWrite
 pub mod WritesFile
 pub mod Growth

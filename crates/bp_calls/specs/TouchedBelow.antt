@@ -6,7 +6,7 @@ use Rattle.bp_free.specs.Set.{Set}
 use Rattle.bp_layout.specs.Inode.{root_of, size_of}
 use Rattle.bp_layout.specs.WordPaths.{inode_path}
 use Rattle.bp_layout.specs.Words.{Image, height_of}
-use Rattle.bp_calls.specs.CanWrite.{CanWriteThawed}
+use Rattle.bp_calls.specs.CanWrite.{CanWriteInto}
 use Rattle.pm_region.specs.Memory.{Memory, current_words}
 
 -- the run of these bytes from an offset on, in the tree of inode i
@@ -30,6 +30,6 @@ pub record TouchesBelow (image : Image) (i off : ℕ) (bytes : List ℕ) (touche
 -- bytes that end below the size of a file or with it, and what is touched for them
 pub record WritesBelow (kept : ℕ → Bool) (memory : Memory) (blocks inodes : Set) (i off : ℕ)
     (bytes : List ℕ) (touched : Touched) : Type 0 where
-  pub can : CanWriteThawed kept memory blocks inodes i off bytes
+  pub can : CanWriteInto kept (current_words memory) blocks inodes i off bytes
   pub below : off + length bytes ≤ size_of (current_words memory) i
   pub touches : TouchesBelow (current_words memory) i off bytes touched

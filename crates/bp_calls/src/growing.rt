@@ -34,6 +34,7 @@ pub(crate) fn grow<R: Region>(parts: &mut Parts<R>)
     requires exact { IsExact (current_words (R.memory parts.old.region)) parts.old }
     ensures grows { GrowsInodes (kept_of parts.old) (R.memory parts.old.region) (R.memory parts.new.region) }
     ensures exact { IsExact (current_words (R.memory parts.new.region)) parts.new }
+    ensures frozen { parts.new.frozen ≡ parts.old.frozen }
     ensures left { length (members parts.old.blocks) ≡
         growth_need (current_words (R.memory parts.old.region)) + length (members parts.new.blocks) }
 {

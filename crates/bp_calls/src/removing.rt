@@ -55,6 +55,7 @@ fn take_out<R: Region>(parts: &mut Parts<R>, dir: u32, slot: u64)
     requires room { 3 ≤ room_in (R.memory parts.old.region) }
     ensures performs { PerformsThawed (kept_of parts.old) (R.memory parts.old.region) (R.memory parts.new.region)
         (leaves dir slot) (λ image after. RemovesEntry image after dir slot) }
+    ensures frozen { parts.new.frozen ≡ parts.old.frozen }
     ensures exact { IsExact (current_words (R.memory parts.new.region)) parts.new }
 {
     let directory = tree_of(&parts.region, dir);

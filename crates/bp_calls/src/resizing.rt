@@ -2,15 +2,15 @@
 
 ghost use Rattle.std.specs.Prelude.{◌≡◌, ◌≢◌, ◌<◌, ◌≤◌, [], IfErr, OnErr, OnOk, length};
 ghost use Rattle.bp_calls.specs.Mounted.{IsMounted};
-ghost use Rattle.bp_calls.specs.Space.{HasRoomWhereFree, LacksSpace};
+ghost use Rattle.bp_calls.specs.Space.{HasRoomThawed, HasRoomWhereFree, LacksSpace};
 ghost use Rattle.bp_calls.specs.ThawsFor.{ThawsFor};
 ghost use Rattle.bp_changes.specs.Thawed.{AfterThaw};
 ghost use Rattle.bp_layout.specs.Thaw.{targets, thawed};
 ghost use Rattle.bp_calls.specs.CanGrow.{CanGrowFile};
 ghost use Rattle.bp_calls.specs.Resized.{ResizesFile};
-ghost use Rattle.bp_append.specs.Prepared.{need_for};
 ghost use Rattle.bp_free.specs.Set.{members};
 ghost use Rattle.bp_layout.specs.Inode.{IsFile, root_of, size_of};
+ghost use Rattle.bp_layout.specs.Need.{need};
 ghost use Rattle.bp_layout.specs.Need.Change.{resizes};
 ghost use Rattle.bp_layout.specs.Reached.{IsReached};
 ghost use Rattle.bp_layout.specs.Formatted.{version_of};
@@ -20,14 +20,13 @@ ghost use Rattle.bp_commit.specs.Performs.{Performs, PerformsThawed};
 ghost use Rattle.pm_region.specs.Memory.{current_words, room_in};
 
 use crate::giving::give_back;
-use crate::targets::shrinking;
-use crate::thawing::thaw_before;
+use crate::targets::{lengthening, shrinking};
+use crate::thawing::{enough_free, thaw_before};
 use bp_append::{need_prep, prep};
 use bp_free::{NoSpace, Parts};
 use bp_inodes::{place, root_path, tree_of};
 use bp_inplace::commit_word;
 use bp_limits::SIZE_FIELD;
-use bp_tree::Tree;
 use pm_region::Region;
 
 /// Gives a file a size above its own, with zeros behind its bytes, once nothing is left to thaw and enough blocks are
@@ -35,9 +34,10 @@ use pm_region::Region;
 fn lengthen<R: Region>(parts: &mut Parts<R>, i: u32, size: u64)
     requires can { CanGrowFile (kept_of parts.old) (R.memory parts.old.region) parts.old.blocks parts.old.inodes i size }
     requires exact { IsExact (current_words (R.memory parts.old.region)) parts.old }
-    requires enough { need_for (current_words (R.memory parts.old.region)) i size size ≤ length (members parts.old.blocks) }
+    requires enough { need (current_words (R.memory parts.old.region)) (resizes i size) ≤ length (members parts.old.blocks) }
     ensures performs { PerformsThawed (kept_of parts.old) (R.memory parts.old.region) (R.memory parts.new.region)
         (resizes i size) (ResizesFile i size) }
+    ensures frozen { parts.new.frozen ≡ parts.old.frozen }
     ensures exact { IsExact (current_words (R.memory parts.new.region)) parts.new }
 {
     let size_place = place(&parts.region, i, SIZE_FIELD);
@@ -82,6 +82,7 @@ fn cut<R: Region>(parts: &mut Parts<R>, i: u32, size: u64)
     requires room { 3 ≤ room_in (R.memory parts.old.region) }
     ensures performs { PerformsThawed (kept_of parts.old) (R.memory parts.old.region) (R.memory parts.new.region)
         (resizes i size) (ResizesFile i size) }
+    ensures frozen { parts.new.frozen ≡ parts.old.frozen }
     ensures exact { IsExact (current_words (R.memory parts.new.region)) parts.new }
 {
     let tree = tree_of(&parts.region, i);
@@ -104,6 +105,7 @@ fn shrink_file<R: Region>(parts: &mut Parts<R>, i: u32, size: u64) -> Result<(),
     requires room { HasRoomWhereFree (R.memory parts.old.region) (kept_of parts.old) parts.old.blocks (resizes i size) }
     ensures performs { OnOk result (Performs (kept_of parts.old) (R.memory parts.old.region) (R.memory parts.new.region)
         (resizes i size) (AfterThaw (ResizesFile i size))) }
+    ensures frozen { parts.new.frozen ≡ parts.old.frozen }
     ensures exact { IsExact (current_words (R.memory parts.new.region)) parts.new }
     ensures refused { IfErr result (LacksSpace (current_words (R.memory parts.old.region)) (kept_of parts.old)
         (resizes i size)) }
@@ -118,16 +120,64 @@ fn shrink_file<R: Region>(parts: &mut Parts<R>, i: u32, size: u64) -> Result<(),
     }
 }
 
-/// Gives a file a size above its own. Not yet behind a thaw.
-fn grow_file<R: Region>(parts: &mut Parts<R>, i: u32, size: u64) -> Result<(), NoSpace> {
+/// Thaws what is kept on the ways to the size of a file that is to get longer, and to the end of its tree.
+///
+/// # Errors
+///
+/// `NoSpace` exactly where fewer blocks are free than that takes, with those that make the tree high enough. Nothing has
+/// changed then.
+fn thaw_end<R: Region>(parts: &mut Parts<R>, i: u32, size: u64) -> Result<(), NoSpace>
+    requires mounted { IsMounted (current_words (R.memory parts.old.region)) parts.old }
+    requires reached { IsReached (current_words (R.memory parts.old.region)) i }
+    requires file { IsFile (current_words (R.memory parts.old.region)) i }
+    requires longer { size_of (current_words (R.memory parts.old.region)) i < size }
+    requires fits { size ≤ greatest_size (version_of (current_words (R.memory parts.old.region))) }
+    requires room { HasRoomWhereFree (R.memory parts.old.region) (kept_of parts.old) parts.old.blocks (resizes i size) }
+    ensures thaws { OnOk result (ThawsFor R.memory (targets (current_words (R.memory parts.old.region)) (resizes i size))
+        parts.old parts.new) }
+    ensures room { OnOk result (HasRoomThawed (R.memory parts.new.region) parts.new.blocks (resizes i size)) }
+    ensures enough { OnOk result (need (current_words (R.memory parts.new.region)) (resizes i size)
+        ≤ length (members parts.new.blocks)) }
+    ensures refused { IfErr result (LacksSpace (current_words (R.memory parts.old.region)) (kept_of parts.old)
+        (resizes i size)) }
+    ensures same { OnErr result (parts.new ≡ parts.old) }
+{
     let tree = tree_of(&parts.region, i);
     let need = need_prep(&parts.region, tree, size, size);
-    let free = parts.blocks.count();
-    if free < need {
-        return Err(NoSpace { need, free });
+    if parts.frozen.count() == 0 {
+        return enough_free(parts, need);
     }
-    lengthen(parts, i, size);
-    Ok(())
+    let targets = lengthening(&parts.region, i);
+    thaw_before(parts, &targets, need)
+}
+
+/// Gives a file a size above its own. A tree that gets higher takes a block for each level.
+///
+/// # Errors
+///
+/// `NoSpace` exactly where fewer blocks are free than it needs. Nothing has changed then.
+fn grow_file<R: Region>(parts: &mut Parts<R>, i: u32, size: u64) -> Result<(), NoSpace>
+    requires mounted { IsMounted (current_words (R.memory parts.old.region)) parts.old }
+    requires reached { IsReached (current_words (R.memory parts.old.region)) i }
+    requires file { IsFile (current_words (R.memory parts.old.region)) i }
+    requires longer { size_of (current_words (R.memory parts.old.region)) i < size }
+    requires fits { size ≤ greatest_size (version_of (current_words (R.memory parts.old.region))) }
+    requires room { HasRoomWhereFree (R.memory parts.old.region) (kept_of parts.old) parts.old.blocks (resizes i size) }
+    ensures performs { OnOk result (Performs (kept_of parts.old) (R.memory parts.old.region) (R.memory parts.new.region)
+        (resizes i size) (AfterThaw (ResizesFile i size))) }
+    ensures frozen { parts.new.frozen ≡ parts.old.frozen }
+    ensures exact { IsExact (current_words (R.memory parts.new.region)) parts.new }
+    ensures refused { IfErr result (LacksSpace (current_words (R.memory parts.old.region)) (kept_of parts.old)
+        (resizes i size)) }
+    ensures same { OnErr result (parts.new ≡ parts.old) }
+{
+    match thaw_end(parts, i, size) {
+        Ok(()) => {
+            lengthen(parts, i, size);
+            Ok(())
+        }
+        Err(lacks) => Err(lacks),
+    }
 }
 
 /// Gives a file another size in bytes, by one store alone in its epoch: it ends there, or gets zeros behind its old
@@ -135,7 +185,8 @@ fn grow_file<R: Region>(parts: &mut Parts<R>, i: u32, size: u64) -> Result<(), N
 ///
 /// # Errors
 ///
-/// `NoSpace` exactly where fewer blocks are free than it needs: a tree that gets higher takes a block for each level.
+/// `NoSpace` exactly where fewer blocks are free than it needs: one for each block on the ways to what it stores to that is
+/// kept for the snapshot, and one for each level by which a tree gets higher. Nothing has changed then.
 pub fn truncate<R: Region>(parts: &mut Parts<R>, i: u32, size: u64) -> Result<(), NoSpace>
     requires mounted { IsMounted (current_words (R.memory parts.old.region)) parts.old }
     requires reached { IsReached (current_words (R.memory parts.old.region)) i }

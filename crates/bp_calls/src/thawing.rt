@@ -17,6 +17,24 @@ use bp_free::{NoSpace, Parts};
 use bp_thaw::{thaw, thaw_need};
 use pm_region::Region;
 
+/// Whether so many blocks are free, for a change that thaws nothing.
+///
+/// # Errors
+///
+/// Where fewer blocks are free.
+pub(crate) fn enough_free<R: Region>(parts: &Parts<R>, need: u32) -> Result<(), NoSpace>
+    requires { IsMounted (current_words (R.memory parts.now.region)) parts.now }
+    ensures enough { OnOk result (need ≤ length (members parts.now.blocks)) }
+    ensures refused { IfErr result (LacksBlocks (current_words (R.memory parts.now.region)) (kept_of parts.now) need) }
+    ensures free { IfErr result (λ lacks. lacks.free ≡ length (members parts.now.blocks)) }
+{
+    let free = parts.blocks.count();
+    if free < need {
+        return Err(NoSpace { need, free });
+    }
+    Ok(())
+}
+
 /// Thaws what is kept on the ways to some words, for a change that takes `more` blocks after that.
 ///
 /// # Errors
@@ -40,10 +58,11 @@ pub fn thaw_before<R: Region>(
     ensures same { OnErr result (parts.new ≡ parts.old) }
 {
     let need = thaw_need(parts, targets) + more;
-    let free = parts.blocks.count();
-    if free < need {
-        return Err(NoSpace { need, free });
+    match enough_free(parts, need) {
+        Ok(()) => {
+            thaw(parts, targets);
+            Ok(())
+        }
+        Err(lacks) => Err(lacks),
     }
-    thaw(parts, targets);
-    Ok(())
 }

@@ -1,5 +1,5 @@
 -- Content words that are committed, each in a tree: what they ask, and what the commit makes of an image.
-use Rattle.std.proofs.Common.{◌≡◌, ◌≢◌, ℕ, zero, suc, ◌+◌, ◌-◌, ◌*◌, ◌/◌, ◌%◌, ◌<◌, ◌≤◌, List, [], ◌++◌, length, Bool, None, Some, refl, sym, ◌∙◌, ap, subst, subst₂, arith, lt_of_lt_of_le}
+use Rattle.std.proofs.Common.{◌≡◌, ◌≢◌, ℕ, zero, suc, ◌+◌, ◌-◌, ◌*◌, ◌/◌, ◌%◌, ◌<◌, ◌≤◌, List, [], ◌++◌, length, Bool, refl, sym, ◌∙◌, ap, subst, subst₂, arith, lt_of_lt_of_le}
 use Rattle.std.specs.List.{All}
 use Rattle.std.proofs.lemmas.List.{length-append, length-take}
 use Rattle.std.proofs.lemmas.List.Elements.{All-append, All-get_or}
@@ -20,7 +20,7 @@ use Rattle.bp_shapes.proofs.ForestLaws.{skeleton, word-tree}
 use Rattle.bp_shapes.proofs.FreeSets.{content_fronts, content_no_pointer}
 use Rattle.bp_tree.proofs.Digits.{length-digits}
 use Rattle.bp_tree.proofs.PathLaws.{small_digits}
-use Rattle.bp_cow.specs.CanCommit.{CanCommit}
+use Rattle.bp_cow.specs.CanCommit.{CanCommit, IsTreeIn}
 use Rattle.bp_cow.specs.Committed.{IsCommitted, after_commit, changes_of}
 use Rattle.bp_cow.specs.Cover.{LeadsInside, end_path, end_path_of}
 use Rattle.bp_cow.specs.Touched.{IsTouched, NoneBegins, all_paths, job_of, path_of, touched_trail, word_paths}
@@ -32,7 +32,6 @@ use Rattle.bp_cow.proofs.CoverLaws.{some-ends}
 use Rattle.bp_cow.proofs.RunFronts.{trail_of-take}
 use Rattle.bp_cow.proofs.RunWrites.{digits_trail, root_path_trail}
 use Rattle.bp_cow.proofs.Values.{after-others, after-word}
-use Rattle.bp_layout.specs.Thaw.{none_kept}
 use Rattle.bp_calls.proofs.TreeTrails.{same_word}
 use Rattle.bp_cow.proofs.CallerLaws.{no_trees}
 
@@ -152,8 +151,8 @@ module _ (image : Image) (bound : ℕ → ℕ) (forest : IsForest image bound) (
       let deep : d < length (path_of (word_paths touched) 0) = subst (λ (p : WordPath). d < length p) first (omega (arith, long)) in
       (skeleton image bound forest wf.formatted.sized.whole).in_range _ (subst (λ p. IsTreePointer image bound (trail_of p d)) (sym first) (words_fronts 0 d (omega (arith, are.some)) deep))
 
-  module _ (sizes : (t : ℕ) → IsReached image t → size_of image t ≤ bound t) (free : ℕ → Bool) (exact : AreUnheld image (IsReached image) bound none_kept free) where
-    pub words_can : CanCommit image bound touched free
+  module _ {kept : ℕ → Bool} (sizes : (t : ℕ) → IsReached image t → size_of image t ≤ bound t) (free : ℕ → Bool) (exact : AreUnheld image (IsReached image) bound kept free) where
+    pub words_can : CanCommit image bound kept touched free
     words_can = record {
       shape = words_shape;
       forest = forest;
@@ -172,7 +171,7 @@ module _ (image : Image) (bound : ℕ → ℕ) (forest : IsForest image bound) (
 
   -- ---- what the commit makes
 
-  module _ (free : ℕ → Bool) (wf : IsWellFormed image) (can : CanCommit image bound touched free) where
+  module _ {kept : ℕ → Bool} (free : ℕ → Bool) (wf : IsWellFormed image) (can : CanCommit image bound kept touched free) where
     -- a touched word has its value
     pub words_value : (i : ℕ) → i < length touched.words.now →
         after_commit image (job_of touched) (tree_trail (height_of (word image 2)) (tree i) (suc (height_of (root_of image (tree i)))) (number i)) ≡ (job_of touched).value i

@@ -1,6 +1,6 @@
 -- Two content words that are committed together.
-use Rattle.std.proofs.Common.{◌≡◌, ◌≢◌, ℕ, zero, suc, ◌*◌, ◌%◌, ◌<◌, ◌≤◌, List, [], ◌∷◌, ◌++◌, length, Bool, true, false, slice_index, refl, sym, ◌∙◌, ap, subst, arith, inl, inr}
-use Rattle.std.specs.Prelude.{map, nat_le, None}
+use Rattle.std.proofs.Common.{◌≡◌, ◌≢◌, ℕ, zero, suc, ◌*◌, ◌%◌, ◌<◌, ◌≤◌, List, [], ◌∷◌, ◌++◌, length, slice_index, refl, sym, ◌∙◌, ap, arith, inl, inr}
+use Rattle.std.specs.Prelude.{map}
 use Rattle.arrayvec.specs.ArrayVec.{ArrayVec}
 use Rattle.std.proofs.lemmas.List.{length-map}
 use Rattle.bp_layout.specs.Inode.{root_of}
@@ -8,15 +8,12 @@ use Rattle.bp_layout.specs.Members.{Has}
 use Rattle.bp_layout.specs.Reached.{IsReached}
 use Rattle.bp_layout.specs.WordPaths.{WordPath, tree_path}
 use Rattle.bp_layout.specs.Words.{Image, height_of}
-use Rattle.bp_cow.specs.Cover.{commit_cover, copied_count}
-use Rattle.bp_cow.specs.Job.{copies_at, turned_for, turned_upto, ways}
+use Rattle.bp_cow.specs.Cover.{copied_count}
 use Rattle.bp_cow.specs.Touched.{IsTouched, NoneBegins, all_paths, job_of, leaves_of, path_of, run_paths, word_paths}
 use Rattle.bp_cow.specs.declared.touched.Touched.{Touched}
-use Rattle.bp_cow.proofs.CommitTaking.{turned_few}
-use Rattle.bp_cow.proofs.CoverOf.{cover_has, count_is}
-use Rattle.bp_cow.proofs.RunsLaws.{way-short}
 use Rattle.bp_rename.specs.TouchesTwo.{AreTwo, TouchesTwo}
 use Rattle.bp_rename.proofs.ContentWords.{AreContent}
+use Rattle.bp_rename.proofs.FewWays.{few_ways}
 
 -- the first for 0, and else the second
 abbrev pub pick : ℕ → ℕ → ℕ → ℕ
@@ -53,28 +50,8 @@ module _ (image : Image) (touched : Touched) (t k u l one two : ℕ) (is : Touch
   pub has_second : Has (all_paths touched) (tree_path (height_of (root_of image 0)) u (suc (height_of (root_of image u))) l)
   has_second = rw two_paths (inr (inl refl))
 
-  -- a way has at most 11 pointers
   pub two_few : IsTouched touched → NoneBegins (all_paths touched) → copied_count image touched ≤ 23
-  two_few shape apart = subst (λ n. n ≤ 23) (count_is touched shape image apart (length (commit_cover image touched)) (cover_has touched shape image)) (go (nat_le (length (commit_cover image touched)) (length ((job_of touched).way 0))) refl)
-    where
-      ways_two : ways (job_of touched) ≡ 2
-      ways_two = omega (arith, no_leaves, two_count)
-
-      one_way : (i : ℕ) → i < 2 → turned_for (job_of touched) (length (commit_cover image touched)) i (length ((job_of touched).way i)) ≤ 11
-      one_way i low =
-          let all = turned_few (job_of touched) (length (commit_cover image touched)) i (length ((job_of touched).way i)) in
-          let short : length ((job_of touched).way i) ≤ 11 = way-short touched shape i (omega (arith, low, ways_two)) in
-          omega (arith, all, short)
-
-      all : turned_upto (job_of touched) (length (commit_cover image touched)) (ways (job_of touched)) ≤ 22
-      all =
-          let former = one_way 0 (omega arith) in
-          let latter = one_way 1 (omega arith) in
-          subst (λ n. turned_upto (job_of touched) (length (commit_cover image touched)) n ≤ 22) (sym ways_two) (omega (arith, former, latter))
-
-      go : (x : Bool) → nat_le (length (commit_cover image touched)) (length ((job_of touched).way 0)) ≡ x → copies_at (job_of touched) (length (commit_cover image touched)) ≤ 23
-      go true e = rw e (omega (arith, all))
-      go false e = rw e (omega arith)
+  two_few shape apart = let few = few_ways image touched shape apart in omega (arith, few, no_leaves, two_count)
 
   pub first_value : (job_of touched).value 0 ≡ one
   first_value = ap (λ vs. slice_index vs 0) is.values

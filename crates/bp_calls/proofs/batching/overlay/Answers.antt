@@ -1,4 +1,4 @@
-use Rattle.std.proofs.Common.{◌≡◌, sym, subst}
+use Rattle.std.proofs.Common.{sym, subst}
 use Rattle.std.proofs.lemmas.Result.{on_err_weaker, on_ok_weaker}
 use Rattle.pm_region.specs.Memory.{Memory, current_words}
 use Rattle.bp_shapes.specs.Sets.{IsExact}
@@ -18,7 +18,7 @@ commit_below-requires-clause-can g c =
 pub commit_below-requires-clause-loose : goal.commit_below-requires-clause-loose
 commit_below-requires-clause-loose g c =
     overwrite_loose (g.R.Region.memory c.args.parts.now.region) c.args.parts.now.blocks c.args.parts.now.inodes (patches_seen c.args.patches.now) c.touched_by-touched.result c.requires.can
-    (rw (c.touched_by-touched.ensures.runs, c.as_slice.ensures.value) c.runs_of-runs.ensures) c.touched_by-touched.ensures.words
+    (rw (c.touched_by-touched.ensures.runs, c.as_slice.ensures.value) c.runs_of-runs.ensures) c.touched_by-touched.ensures.words c.touched_by-touched.ensures.trees
 
 pub commit_below-requires-clause-room : goal.commit_below-requires-clause-room
 commit_below-requires-clause-room g c =

@@ -1,5 +1,4 @@
 use Rattle.std.proofs.Common.{◌≡◌, ◌-◌, ◌*◌, ◌/◌, ◌+◌, ◌<◌, ◌≤◌, suc, le_antisymm, arith, ap, sym, ◌∙◌}
-use Rattle.bp_layout.specs.Pieces.{child, piece}
 use Rattle.bp_layout.specs.Tree.{span}
 use Rattle.bp_layout.specs.Words.{block_of, height_of}
 use Rattle.bp_layout.proofs.TreeLaws.{span-is}

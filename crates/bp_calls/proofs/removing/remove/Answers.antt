@@ -1,3 +1,4 @@
+use Rattle.std.proofs.Common.{◌∙◌}
 use Rattle.bp_changes.specs.Effects.{RemovesEntry}
 use Rattle.bp_layout.specs.Need.Change.{leaves}
 use Rattle.bp_layout.specs.Words.{Image}
@@ -23,3 +24,6 @@ pub returns-in-Ok-clause-performs : goal.returns-in-Ok-clause-performs
 returns-in-Ok-clause-performs g c =
     performed_thawed g.R.Region.memory (leaves c.args.dir c.args.slot) c.args.parts.now c.thaw_entry.new.parts c.requires.mounted c.requires.can.reached c.in-Ok.ensures.thaws
     c.take_out.new.parts (λ (image after : Image). RemovesEntry image after c.args.dir c.args.slot) c.take_out.ensures.performs
+
+pub returns-in-Ok-clause-frozen : goal.returns-in-Ok-clause-frozen
+returns-in-Ok-clause-frozen g c = c.take_out.ensures.frozen ∙ c.in-Ok.ensures.thaws.frozen

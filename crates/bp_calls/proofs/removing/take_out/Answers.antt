@@ -86,6 +86,7 @@ returns-then-names-gt0 g c =
     let more = other_name image c.args.dir c.args.slot c.inumber-inode.result can.unlink.reached can.unlink.entry _ (omega (arith, some, c.names-names.ensures, c.if-names-gt0.true)) (c.requires.mounted.exact.counts.each c.inumber-inode.result low) in
     record {
       performs = leaving_performs (memory c.args.parts.now.region) (memory c.commit_word.new.region) c.args.dir c.args.slot c.inumber-inode.result c.entry_place-entry.result can c.commit_word.ensures (kept_of c.args.parts.now) c.requires.clear;
+      frozen = refl;
       exact = exact_with _ _ c.args.parts.now _ c.requires.mounted.exact
           (named_exact (memory c.args.parts.now.region) (memory c.commit_word.new.region) c.args.dir c.args.slot c.inumber-inode.result c.entry_place-entry.result can c.commit_word.ensures c.args.parts.now.blocks c.args.parts.now.inodes c.requires.mounted.exact.sets more) refl
           (leaving_whole (memory c.args.parts.now.region) (memory c.commit_word.new.region) c.args.dir c.args.slot c.inumber-inode.result c.entry_place-entry.result can c.commit_word.ensures)
@@ -106,6 +107,7 @@ returns g c =
     let last = last_name image c.args.dir c.args.slot c.inumber-inode.result can.unlink.reached can.unlink.entry (subst (HasNames image c.inumber-inode.result) alone (c.requires.mounted.exact.counts.each c.inumber-inode.result low)) in
     record {
       performs = leaving_performs (memory c.args.parts.now.region) (memory c.commit_word.new.region) c.args.dir c.args.slot c.inumber-inode.result c.entry_place-entry.result can c.commit_word.ensures (kept_of c.args.parts.now) c.requires.clear;
+      frozen = refl;
       exact = exact_with _ _ c.args.parts.now _ c.requires.mounted.exact
           (rw c.give.ensures
           (leaving_exact (memory c.args.parts.now.region) (memory c.commit_word.new.region) c.args.dir c.args.slot c.inumber-inode.result c.entry_place-entry.result can c.commit_word.ensures c.args.parts.now.blocks c.args.parts.now.inodes c.requires.mounted.exact.sets last c.give_back.new.blocks

@@ -48,4 +48,4 @@ returns g c =
     c.tree_of-tree.ensures.root c.tree_of-tree.ensures.size shrinks c.commit_word.ensures
     (shrinking_loose (current_words (memory c.args.parts.now.region)) c.requires.mounted.well_formed c.args.i c.args.size c.requires.reached (omega (arith, c.requires.smaller)) (kept_of c.args.parts.now) c.place-size_place.result c.place-size_place.ensures.place c.requires.clear)
     c.give_back.ensures in
-    record { performs = done.0; exact = exact_file _ _ c.args.parts.now _ c.requires.mounted.exact done.1 refl refl c.args.i c.requires.mounted.well_formed done.0.effect.changes }
+    record { performs = done.0; frozen = refl; exact = exact_file _ _ c.args.parts.now _ c.requires.mounted.exact done.1 refl refl c.args.i c.requires.mounted.well_formed done.0.effect.changes }

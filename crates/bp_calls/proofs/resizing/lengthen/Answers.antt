@@ -1,7 +1,6 @@
-use Rattle.std.proofs.Common.{length, ◌∙◌, ap₂, arith}
+use Rattle.std.proofs.Common.{arith}
 use Rattle.bp_shapes.specs.Sets.{kept_of}
 use Rattle.bp_append.specs.Prepared.{CanPrepare}
-use Rattle.bp_layout.specs.Nodes.{nodes_for}
 use Rattle.bp_layout.specs.Reached.IsReached.{inode_file}
 use Rattle.bp_layout.proofs.Reached.{reached-in_file}
 use Rattle.bp_free.specs.Set.{members}
@@ -43,6 +42,7 @@ returns g c =
     }) in
     record {
       performs = done.0;
+      frozen = c.prep.ensures.frozen;
       exact = exact_file _ _ c.args.parts.now _ c.requires.exact (rw c.prep.ensures.inodes done.1) c.prep.ensures.frozen c.prep.ensures.counts c.args.i
           c.requires.can.well_formed done.0.effect.changes;
     }

@@ -1,4 +1,4 @@
-use Rattle.std.proofs.Common.{◌≡◌, ℕ, List, [], ◌∷◌, ◌++◌, map, sym, ◌∙◌, ap}
+use Rattle.std.proofs.Common.{ℕ, List, [], ◌∷◌, ◌++◌, map, sym, ◌∙◌, ap}
 use Rattle.arrayvec.specs.ArrayVec.{ArrayVec}
 use Rattle.bp_layout.specs.Directory.{inumber_at}
 use Rattle.pm_region.specs.Memory.{current_words}

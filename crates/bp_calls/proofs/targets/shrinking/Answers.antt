@@ -1,4 +1,4 @@
-use Rattle.std.proofs.Common.{◌≡◌, ℕ, List, [], ◌∷◌, ◌++◌, map, sym, ◌∙◌, ap}
+use Rattle.std.proofs.Common.{ℕ, List, [], ◌∷◌, ◌++◌, map, sym, ◌∙◌, ap}
 use Rattle.arrayvec.specs.ArrayVec.{ArrayVec}
 use Rattle.pm_region.specs.Memory.{current_words}
 use Rattle.bp_calls.proofs.TargetPaths.{shrinking_targets}

@@ -1,6 +1,6 @@
-use Rattle.std.proofs.Common.{◌∙◌}
+use Rattle.std.proofs.Common.{◌∙◌, arith}
 use Rattle.pm_region.specs.Memory.{current_words}
-use Rattle.bp_rename.proofs.IntoDone.{into_apart, into_inside, into_need, into_shape}
+use Rattle.bp_rename.proofs.IntoDone.{into_apart, into_inside, into_need, into_shape, into_few}
 use Rattle.bp_rename.proofs.TwoWords.{touches_two}
 use Rattle.bp_rename.proofs.across.need_into.Goals as goal
 
@@ -19,8 +19,14 @@ need_cover-requires-clause-apart g c =
     let touches = touches_two c.touched_two.result c.words_into.result c.touched_two.ensures.words c.touched_two.ensures.none c.touched_two.ensures.trees c.words_into.ensures in
     into_apart (current_words (g.R.Region.memory c.args.region.now)) c.args.to_move.now c.args.slot c.requires.can c.requires.other c.requires.found c.touched_two.result touches
 
-pub returns : goal.returns
-returns g c =
+pub returns-clause-need : goal.returns-clause-need
+returns-clause-need g c =
     let touches = touches_two c.touched_two.result c.words_into.result c.touched_two.ensures.words c.touched_two.ensures.none c.touched_two.ensures.trees c.words_into.ensures in
     c.need_cover.ensures
     ∙ into_need (current_words (g.R.Region.memory c.args.region.now)) c.args.to_move.now c.args.slot c.requires.can c.requires.other c.requires.found c.touched_two.result touches
+
+pub returns-clause-few : goal.returns-clause-few
+returns-clause-few g c =
+    let touches = touches_two c.touched_two.result c.words_into.result c.touched_two.ensures.words c.touched_two.ensures.none c.touched_two.ensures.trees c.words_into.ensures in
+    let few = into_few (current_words (g.R.Region.memory c.args.region.now)) c.args.to_move.now c.args.slot c.requires.can c.requires.other c.requires.found c.touched_two.result touches in
+    omega (arith, few, c.need_cover.ensures)

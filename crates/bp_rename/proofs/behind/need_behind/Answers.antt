@@ -43,11 +43,21 @@ overflow_add-result g c =
     let copies = touched_few image c.args.to_move.now can c.requires.other c.requires.none c.touched_two.result touches in
     omega (arith, made, few, copies, c.need_prep-behind.ensures, c.need_cover.ensures)
 
-pub returns : goal.returns
-returns g c =
+pub returns-clause-need : goal.returns-clause-need
+returns-clause-need g c =
     let touches = touches_two c.touched_two.result c.words_behind.result c.touched_two.ensures.words c.touched_two.ensures.none c.touched_two.ensures.trees c.words_behind.ensures in
     let image = current_words (g.R.Region.memory c.args.region.now) in
     let can = c.requires.can in
     let made = entry_need_is image c.args.to_move.now.to_dir c.tree_of-target.result.root c.tree_of-target.result.size c.tree_of-target.ensures.root c.tree_of-target.ensures.size in
     ap₂ (λ a b. a + b) (c.need_prep-behind.ensures ∙ made) c.need_cover.ensures
     ∙ sym (touched_needs image c.args.to_move.now can c.requires.other c.requires.none c.touched_two.result touches)
+
+pub returns-clause-few : goal.returns-clause-few
+returns-clause-few g c =
+    let touches = touches_two c.touched_two.result c.words_behind.result c.touched_two.ensures.words c.touched_two.ensures.none c.touched_two.ensures.trees c.words_behind.ensures in
+    let image = current_words (g.R.Region.memory c.args.region.now) in
+    let can = c.requires.can in
+    let made = entry_need_is image c.args.to_move.now.to_dir c.tree_of-target.result.root c.tree_of-target.result.size c.tree_of-target.ensures.root c.tree_of-target.ensures.size in
+    let few = few_behind image can.well_formed c.args.to_move.now.to_dir can.target in
+    let copies = touched_few image c.args.to_move.now can c.requires.other c.requires.none c.touched_two.result touches in
+    omega (arith, made, few, copies, c.need_prep-behind.ensures, c.need_cover.ensures)

@@ -14,3 +14,4 @@ pub mod Clear
 pub mod Whole
 pub mod ThawStores
 pub mod WayNumbers
+pub mod OneWay

@@ -6,6 +6,8 @@ mod copying;
 mod finding;
 mod linking;
 mod thawing;
+mod walking;
 mod ways;
 
 pub use thawing::{thaw, thaw_need};
+pub use walking::is_clear;

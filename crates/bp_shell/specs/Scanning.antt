@@ -12,10 +12,10 @@ use Rattle.bp_scan.specs.declared.totals.Totals.{Totals}
 
 -- The image is a file system, of which a scan found the blocks of the snapshot, those that are in neither tree, how many names
 -- each inode has in the first tree, and what it holds in all.
-pub record IsScanned (image : Image) (frozen blocks : Set) (counts : List ℕ) (totals : Totals) : Type 0 where
+pub record IsScanned (image : Image) (kept blocks : Set) (counts : List ℕ) (totals : Totals) : Type 0 where
   pub whole : IsFileSystem image
-  pub frozen : AreFrozen image (has frozen)
-  pub free : AreFreeBlocks image (has frozen) (has blocks)
+  pub frozen : AreFrozen image (has kept)
+  pub free : AreFreeBlocks image (has kept) (has blocks)
   pub block_room : length blocks ≡ block_count image
   pub named : AreCounts image counts
   pub inode_room : length counts ≡ block_inodes * block_count image

@@ -26,5 +26,5 @@ returns c =
     let whole : head + rest ≡ count = omega (arith, c.split_at_mut-front.ensures.front_len, c.split_at_mut-front.ensures.back_len) in
     let behind = ap (λ n. slice_range words (first + n) ((first + n) + rest)) is_head in
     let all : slice_range words first (first + head) ++ slice_range words (first + head) ((first + head) + rest) ≡ slice_range words first (first + count) =
-        slices_join words first head rest ∙ ap (λ n. slice_range words first (first + n)) whole in
+    slices_join words first head rest ∙ ap (λ n. slice_range words first (first + n)) whole in
     inl (omega (arith, length-current_words c.args.region.now), refl, ap₂ (λ left right. left ++ right) c.copy_by_word.ensures (c.copy_run.ensures ∙ behind) ∙ all)

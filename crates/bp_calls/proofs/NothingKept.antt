@@ -1,5 +1,5 @@
--- Where no block is kept nothing is thawed: a call needs what its change needs, and what it does at once is what it does
--- behind a thaw.
+-- Where nothing has to be thawed a call needs what its change needs, and what it does at once is what it does behind a
+-- thaw. So it is where no block is kept.
 use Rattle.std.proofs.Common.{◌≡◌, ◌≤◌, [], length, refl, sym, ◌∙◌, ap, subst, arith}
 use Rattle.bp_calls.specs.Mounted.{IsMounted}
 use Rattle.bp_calls.specs.Space.{HasRoomThawed, HasRoomWhereFree, LacksBlocks, LacksSpace}
@@ -44,12 +44,13 @@ shape_self image wf = record {
   present = λ t r n. refl;
 }
 
-module _ {R : Type 0} (memory : R → Memory) (change : Change) (old : Parts R) (mounted : IsMounted (current_words (memory old.region)) old) (none : length (members old.frozen) ≡ 0) where
-  pub clear_at_once : thawed (current_words (memory old.region)) (kept_of old) change ≡ []
-  clear_at_once = nothing_kept memory (targets (current_words (memory old.region)) change) old mounted none
+pub clear_at_once : {R : Type 0} (memory : R → Memory) (change : Change) (old : Parts R) → IsMounted (current_words (memory old.region)) old → length (members old.frozen) ≡ 0 →
+    thawed (current_words (memory old.region)) (kept_of old) change ≡ []
+clear_at_once memory change old mounted none = nothing_kept memory (targets (current_words (memory old.region)) change) old mounted none
 
+module _ {R : Type 0} (memory : R → Memory) (change : Change) (old : Parts R) (mounted : IsMounted (current_words (memory old.region)) old) (clear : thawed (current_words (memory old.region)) (kept_of old) change ≡ []) where
   need_at_once : full_need (current_words (memory old.region)) (kept_of old) change ≡ need (current_words (memory old.region)) change
-  need_at_once = omega (arith, ap length clear_at_once)
+  need_at_once = omega (arith, ap length clear)
 
   pub room_at_once : HasRoomWhereFree (memory old.region) (kept_of old) old.blocks change → HasRoomThawed (memory old.region) old.blocks change
   room_at_once room enough =
@@ -64,7 +65,7 @@ module _ {R : Type 0} (memory : R → Memory) (change : Change) (old : Parts R) 
       Performs (kept_of old) (memory old.region) new change (AfterThaw Effect)
   performed_at_once new Effect done =
       let same = shape_self (current_words (memory old.region)) mounted.well_formed in
-      let all = performs_unthawed (kept_of old) (memory old.region) new change Effect clear_at_once done in
+      let all = performs_unthawed (kept_of old) (memory old.region) new change Effect clear done in
       record {
         value = all.value;
         commit = all.commit;

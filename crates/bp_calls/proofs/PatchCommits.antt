@@ -212,7 +212,7 @@ module _ {R : Type 0} (memory : R → Memory) (patches : List Patch) (old : Part
     some = can.some;
     short = can.short;
     clear = clear_at_once memory (overwrites (stretches_of patches)) old mounted none;
-    room = room_at_once memory (overwrites (stretches_of patches)) old mounted none room;
+    room = room_at_once memory (overwrites (stretches_of patches)) old mounted (clear_at_once memory (overwrites (stretches_of patches)) old mounted none) room;
   }
 
   module _ (middle : Parts R) (done : ThawsFor memory (targets (current_words (memory old.region)) (overwrites (stretches_of patches))) old middle) where

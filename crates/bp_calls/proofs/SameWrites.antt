@@ -1,10 +1,10 @@
 -- What may be written into a file before a thaw may be written behind it, and so with a size that it is to get.
-use Rattle.std.proofs.Common.{◌+◌, ◌<◌, ◌≤◌, ℕ, Bool, List, length, sym, ◌∙◌, subst}
+use Rattle.std.proofs.Common.{◌≡◌, ◌+◌, ◌<◌, ◌≤◌, [], ℕ, Bool, List, length, sym, ◌∙◌, subst}
 use Rattle.bp_calls.specs.CanGrow.{CanGrowFile}
 use Rattle.bp_calls.specs.CanWrite.{CanWrite, CanWriteInto, CanWriteThawed}
 use Rattle.bp_calls.specs.Mounted.{IsMounted}
 use Rattle.bp_calls.specs.Space.{HasRoomThawed, HasRoomWhereFree}
-use Rattle.bp_calls.proofs.NothingKept.{clear_at_once, room_at_once}
+use Rattle.bp_calls.proofs.NothingKept.{room_at_once}
 use Rattle.bp_calls.specs.ThawsFor.{ThawsFor}
 use Rattle.bp_calls.proofs.ThawedParts.{mounted_thawed, thawed_clear}
 use Rattle.bp_changes.proofs.Formatted.{version_stays}
@@ -15,7 +15,7 @@ use Rattle.bp_layout.specs.Formatted.{version_of}
 use Rattle.bp_layout.specs.Inode.{IsFile, size_of}
 use Rattle.bp_layout.specs.Need.Change.{resizes, writes}
 use Rattle.bp_layout.specs.Reached.{IsReached}
-use Rattle.bp_layout.specs.Thaw.{targets}
+use Rattle.bp_layout.specs.Thaw.{targets, thawed}
 use Rattle.bp_layout.specs.Words.{Image}
 use Rattle.bp_limits.specs.Limits.{greatest_size}
 use Rattle.bp_shapes.specs.Sets.{kept_of}
@@ -45,9 +45,10 @@ write_mounted image parts i off bytes mounted can = record {
 }
 
 -- where no block is kept it may be written at once
-pub write_at_once : {R : Type 0} (memory : R → Memory) (parts : Parts R) (i off : ℕ) (bytes : List ℕ) → IsMounted (current_words (memory parts.region)) parts → CanWrite (current_words (memory parts.region)) i off bytes → length (members parts.frozen) ≡ 0 →
+pub write_at_once : {R : Type 0} (memory : R → Memory) (parts : Parts R) (i off : ℕ) (bytes : List ℕ) → IsMounted (current_words (memory parts.region)) parts → CanWrite (current_words (memory parts.region)) i off bytes →
+    thawed (current_words (memory parts.region)) (kept_of parts) (writes i off (length bytes)) ≡ [] →
     HasRoomWhereFree (memory parts.region) (kept_of parts) parts.blocks (writes i off (length bytes)) → CanWriteThawed (kept_of parts) (memory parts.region) parts.blocks parts.inodes i off bytes
-write_at_once memory parts i off bytes mounted can none room = record {
+write_at_once memory parts i off bytes mounted can clear room = record {
   well_formed = mounted.well_formed;
   exact = mounted.exact.sets;
   reached = can.reached;
@@ -55,8 +56,8 @@ write_at_once memory parts i off bytes mounted can none room = record {
   some = can.some;
   short = can.short;
   fits = can.fits;
-  clear = clear_at_once memory (writes i off (length bytes)) parts mounted none;
-  room = room_at_once memory (writes i off (length bytes)) parts mounted none room;
+  clear = clear;
+  room = room_at_once memory (writes i off (length bytes)) parts mounted clear room;
 }
 
 module _ {R : Type 0} (memory : R → Memory) (old new : Parts R) (mounted : IsMounted (current_words (memory old.region)) old) where

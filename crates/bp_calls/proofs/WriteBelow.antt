@@ -9,7 +9,7 @@ use Rattle.bp_layout.specs.Need.{need}
 use Rattle.bp_layout.specs.Need.Change.{writes}
 use Rattle.bp_layout.specs.Reached.{IsReached}
 use Rattle.bp_layout.specs.WellFormed.{IsWellFormed}
-use Rattle.bp_layout.specs.Words.{Image, block_count, height_of}
+use Rattle.bp_layout.specs.Words.{Image, height_of}
 use Rattle.bp_changes.specs.Effects.{ChangesFile}
 use Rattle.bp_changes.proofs.ChangesFile.{keeps, well_formed-same}
 use Rattle.bp_shapes.specs.Sets.{AreExact}
@@ -18,7 +18,7 @@ use Rattle.pm_region.specs.Memory.{Memory, current_words, room_in}
 use Rattle.bp_cow.specs.declared.touched.Run.{Run}
 use Rattle.bp_cow.specs.declared.touched.Touched.{Touched}
 use Rattle.bp_cow.specs.CanCommit.{CanCommit, IsRunIn, IsTreeIn}
-use Rattle.bp_cow.specs.Commit.{CanCommitIn, HasLooseCover, CommitsTouched, HasRoom}
+use Rattle.bp_cow.specs.Commit.{HasLooseCover, CommitsTouched, HasRoom}
 use Rattle.bp_cow.specs.Cover.{LeadsInside, commit_cover, copied_count}
 use Rattle.bp_cow.proofs.CopiesNeed.{none-begins}
 use Rattle.bp_cow.proofs.JobLaws.{first-range}

@@ -1,6 +1,6 @@
 //! Bytes into a file: three ways, by where they lie to its size.
 
-ghost use Rattle.std.specs.Prelude.{◌≡◌, ◌+◌, ◌<◌, ◌≤◌, length, IfErr, OnErr, OnOk};
+ghost use Rattle.std.specs.Prelude.{◌≡◌, ◌+◌, ◌<◌, ◌≤◌, [], length, true, IfErr, OnErr, OnOk};
 ghost use Rattle.bp_calls.specs.CanWrite.{CanWrite, CanWriteThawed};
 ghost use Rattle.bp_calls.specs.Mounted.{IsMounted};
 ghost use Rattle.bp_changes.specs.Thawed.{AfterThaw};
@@ -8,7 +8,7 @@ ghost use Rattle.bp_shapes.specs.Sets.{IsExact, kept_of};
 ghost use Rattle.bp_calls.specs.Space.{HasRoomThawed, HasRoomWhereFree, LacksBlocks, LacksSpace};
 ghost use Rattle.bp_calls.specs.ThawsFor.{ThawsFor};
 ghost use Rattle.bp_free.specs.Set.{members};
-ghost use Rattle.bp_layout.specs.Thaw.{targets};
+ghost use Rattle.bp_layout.specs.Thaw.{targets, thawed};
 ghost use Rattle.bp_calls.specs.WritesFile.{WritesFile};
 ghost use Rattle.bp_layout.specs.Inode.{root_of, size_of};
 ghost use Rattle.bp_layout.specs.Need.{need};
@@ -28,6 +28,7 @@ use bp_free::{NoSpace, Parts};
 use bp_inodes::{place, root_path, tree_of};
 use bp_inplace::commit_word;
 use bp_limits::SIZE_FIELD;
+use bp_thaw::thaw_need;
 use bp_tree::Tree;
 use pm_region::Region;
 
@@ -62,6 +63,20 @@ fn need_write<R: Region>(parts: &Parts<R>, i: u32, tree: Tree, off: u64, bytes: 
         return need_below(parts, i, off, bytes);
     }
     need_across(parts, i, off, bytes)
+}
+
+/// Whether nothing that is kept has to be thawed before bytes come into a file.
+fn is_clear<R: Region>(parts: &Parts<R>, i: u32, off: u64, bytes: &[u8]) -> bool
+    requires mounted { IsMounted (current_words (R.memory parts.now.region)) parts.now }
+    requires can { CanWrite (current_words (R.memory parts.now.region)) i off bytes.now }
+    ensures { result ≡ true →
+        thawed (current_words (R.memory parts.now.region)) (kept_of parts.now) (writes i off (length bytes.now)) ≡ [] }
+{
+    if parts.frozen.count() == 0 {
+        return true;
+    }
+    let targets = writing(parts, i, off, bytes);
+    thaw_need(parts, &targets) == 0
 }
 
 /// Thaws what is kept on the ways to the words near which bytes come into a file.
@@ -223,7 +238,7 @@ pub fn write<R: Region>(parts: &mut Parts<R>, i: u32, off: u64, bytes: &[u8]) ->
         (writes i off (length bytes.now))) }
     ensures same { OnErr result (parts.new ≡ parts.old) }
 {
-    if parts.frozen.count() == 0 {
+    if is_clear(parts, i, off, bytes) {
         return write_thawed(parts, i, off, bytes);
     }
     match thaw_write(parts, i, off, bytes) {

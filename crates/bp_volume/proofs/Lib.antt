@@ -7,6 +7,8 @@ pub mod CreateLaws
 pub mod AskingLaws
 pub mod ChangeLaws
 pub mod FewBlocks
+pub mod FewThawed
+pub mod ThawedLaws
 pub mod FileLaws
 pub mod FewStretches
 pub mod BatchLaws

@@ -1,10 +1,9 @@
 -- Calls that read the snapshot: what a call that reads the first tree answers of the image in which the second tree is the
 -- first, they answer of the image itself.
-use Rattle.std.proofs.Common.{◌≡◌, ◌≢◌, ◌⊎◌, ℕ, ◌≤◌, List, length, set, Bool, true, false, true≢false, Option, None, Some, refl, sym, ◌∙◌, ap, subst, arith, inl, inr}
+use Rattle.std.proofs.Common.{◌≡◌, ℕ, ◌≤◌, List, length, set, Bool, true, false, true≢false, Option, None, Some, refl, sym, ◌∙◌, ap, subst, arith}
 use Rattle.std.specs.FinMap.{get}
 use Rattle.std.specs.Prelude.{◌&&◌, is_none, nat_lt, not}
 use Rattle.std.proofs.lemmas.List.{set-get_or}
-use Rattle.bp_layout.specs.Formatted.{version_of}
 use Rattle.bp_layout.specs.Trees.{has_snapshot, snapshot_of}
 use Rattle.bp_layout.specs.Whole.{IsFileSystem}
 use Rattle.bp_layout.specs.Words.{Image, word}

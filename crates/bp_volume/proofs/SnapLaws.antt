@@ -1,6 +1,6 @@
 -- A snapshot is made by two words of the superblock: the first of them nobody sees, and the second makes the first tree the
 -- second one, too. It goes by one word.
-use Rattle.std.proofs.Common.{◌≡◌, ◌≢◌, ◌⊎◌, ℕ, zero, suc, take, ◌*◌, ◌/◌, ◌<◌, ◌≤◌, List, [], ◌∷◌, length, set, Bool, true, false, Option, None, Some, refl, sym, ◌∙◌, ap, subst, arith, inl, inr, get_or-set_same, get_or-set_other}
+use Rattle.std.proofs.Common.{◌≡◌, ◌≢◌, ◌⊎◌, ℕ, zero, suc, take, ◌/◌, ◌<◌, ◌≤◌, List, [], ◌∷◌, length, set, Bool, true, false, Option, None, Some, refl, sym, ◌∙◌, ap, subst, arith, inl, inr, get_or-set_same, get_or-set_other}
 use Rattle.std.specs.Prelude.{◌&&◌, is_none, is_some, nat_lt, not}
 use Rattle.std.proofs.lemmas.Bool.{lt-ltb}
 use Rattle.std.proofs.lemmas.List.{length-set}
@@ -16,7 +16,7 @@ use Rattle.pm_region.proofs.MemoryLaws.{current_words-adds}
 use Rattle.bp_changes.specs.Harmless.{Agrees, IsHarmless}
 use Rattle.bp_changes.proofs.Frame.{same-by_agreement}
 use Rattle.bp_changes.proofs.Stores.{harmless_here}
-use Rattle.bp_free.specs.Set.{Set, has}
+use Rattle.bp_free.specs.Set.{has}
 use Rattle.bp_free.specs.declared.parts.Parts.{Parts}
 use Rattle.bp_layout.specs.Formatted.{version_of}
 use Rattle.bp_layout.specs.Free.{AreFreeBlocks}
@@ -29,14 +29,13 @@ use Rattle.bp_layout.specs.WellFormed.{IsWellFormed}
 use Rattle.bp_layout.specs.Whole.{IsFileSystem, SameFiles}
 use Rattle.bp_layout.specs.Words.{Image, block_count, word}
 use Rattle.bp_layout.proofs.NoSecond.{alone_file_system, has_none, kept_none}
-use Rattle.bp_limits.specs.Limits.{is_two, super_root, super_size, version_at}
-use Rattle.bp_limits.specs.declared.version.Version.{Version}
+use Rattle.bp_limits.specs.Limits.{is_two, version_at}
 use Rattle.bp_limits.specs.declared.version.Version.TheVariants.{One, Two}
-use Rattle.bp_plain.specs.Calls.{Answer, Refusal}
+use Rattle.bp_plain.specs.Calls.{Answer}
 use Rattle.bp_plain.specs.Calls.Answer.{done, refused as is_refused}
 use Rattle.bp_plain.specs.Calls.Call.{snap, unsnap}
 use Rattle.bp_plain.specs.Calls.Refusal.{has_snap, no_snap, old_version}
-use Rattle.bp_plain.specs.Plain.{first, refusal, when}
+use Rattle.bp_plain.specs.Plain.{first, when}
 use Rattle.bp_plain.specs.PlainTree.{FileTree, PathMap}
 use Rattle.bp_plain.specs.Stands.{ShowsSnapshot, Stands}
 use Rattle.bp_scan.specs.Others.{HasOthers}

@@ -1,6 +1,6 @@
 -- Calls that store words of the superblock beside the first tree, as far as their mark: a quiet preparation, and then one store
 -- alone in its epoch.
-use Rattle.std.proofs.Common.{◌≡◌, ◌≢◌, ℕ, ◌*◌, ◌<◌, ◌≤◌, List, [], ◌∷◌, ◌++◌, Bool, true, false, None, Some, refl, sym, ◌∙◌, ap, subst, arith}
+use Rattle.std.proofs.Common.{◌≡◌, ◌≢◌, ℕ, ◌*◌, ◌<◌, ◌≤◌, List, [], ◌∷◌, ◌++◌, true, false, None, Some, refl, sym, ◌∙◌, ap, subst, arith}
 use Rattle.std.specs.Prelude.{◌&&◌, is_none, if◌then◌else◌}
 use Rattle.pm_epochs.specs.declared.event.Event.{Event}
 use Rattle.pm_epochs.specs.declared.event.Event.TheVariants.{Mark}
@@ -13,7 +13,6 @@ use Rattle.pm_region.specs.Safe.{AddsCommit, IsSafe}
 use Rattle.pm_region.proofs.MemoryLaws.{adds_both, capacity-adds, current_words-adds, current_words-with_room}
 use Rattle.pm_region.proofs.SafeLaws.{room_after_commit, safe_committed}
 use Rattle.bp_free.specs.declared.parts.Parts.{Parts}
-use Rattle.bp_layout.specs.Need.{Change}
 use Rattle.bp_layout.specs.Trees.{AreFrozen}
 use Rattle.bp_layout.specs.Whole.{IsFileSystem, SameFiles}
 use Rattle.bp_layout.specs.Words.{Image}

@@ -8,7 +8,7 @@ use Rattle.bp_shapes.specs.Sets.{IsExact, kept_of}
 use Rattle.bp_free.specs.declared.parts.Parts.{Parts}
 use Rattle.bp_layout.specs.Trees.{AreFrozen}
 use Rattle.bp_layout.specs.Whole.{IsFileSystem, SameFiles}
-use Rattle.bp_layout.specs.Words.{Image, block_count}
+use Rattle.bp_layout.specs.Words.{block_count}
 use Rattle.bp_limits.specs.Limits.{block_inodes, call_room}
 
 -- A crash at any moment leaves what some calls left. A call has its room, the words are a file

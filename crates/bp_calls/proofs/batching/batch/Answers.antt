@@ -6,7 +6,7 @@ use Rattle.bp_layout.specs.Need.Change.{overwrites}
 use Rattle.bp_changes.specs.Overwrites.{OverwritesFiles}
 use Rattle.bp_calls.specs.Overwritten.{patches_seen, stretches_of}
 use Rattle.bp_calls.proofs.CommitResults.{by_one, err_never}
-use Rattle.bp_calls.proofs.NothingKept.{lacks_at_once, performed_at_once}
+use Rattle.bp_calls.proofs.NothingKept.{clear_at_once, lacks_at_once, performed_at_once}
 use Rattle.bp_calls.proofs.PatchCommits.{overwrites_at_once, overwrites_lack_nothing, overwrites_performed, overwrites_thawed}
 use Rattle.bp_calls.proofs.batching.batch.Goals as goal
 
@@ -21,13 +21,13 @@ returns-then-count-eq0-clause-performs g c =
     let patches = patches_seen c.args.patches.now in
     let change : Change = overwrites (stretches_of patches) in
     let none : length (members c.args.parts.now.frozen) ≡ 0 = sym c.count.ensures ∙ c.if-count-eq0.true in
-    on_ok_weaker c.overlay.result (performed_at_once g.R.Region.memory change c.args.parts.now c.requires.mounted none (g.R.Region.memory c.overlay.new.parts.region) (OverwritesFiles patches)) c.overlay.ensures.performs
+    on_ok_weaker c.overlay.result (performed_at_once g.R.Region.memory change c.args.parts.now c.requires.mounted (clear_at_once g.R.Region.memory change c.args.parts.now c.requires.mounted none) (g.R.Region.memory c.overlay.new.parts.region) (OverwritesFiles patches)) c.overlay.ensures.performs
 
 pub returns-then-count-eq0-clause-refused : goal.returns-then-count-eq0-clause-refused
 returns-then-count-eq0-clause-refused g c =
     let change : Change = overwrites (stretches_of (patches_seen c.args.patches.now)) in
     let none : length (members c.args.parts.now.frozen) ≡ 0 = sym c.count.ensures ∙ c.if-count-eq0.true in
-    by_one c.overlay.result c.overlay.ensures.refused (lacks_at_once g.R.Region.memory change c.args.parts.now c.requires.mounted none)
+    by_one c.overlay.result c.overlay.ensures.refused (lacks_at_once g.R.Region.memory change c.args.parts.now c.requires.mounted (clear_at_once g.R.Region.memory change c.args.parts.now c.requires.mounted none))
 
 -- ---- behind a thaw
 

@@ -1,9 +1,8 @@
-use Rattle.std.proofs.Common.{◌≡◌, ◌+◌, ◌≤◌, List, length, sym, ◌∙◌, subst}
-use Rattle.std.proofs.lemmas.Result.{on_ok_weaker}
+use Rattle.std.proofs.Common.{◌≡◌, ◌+◌, ◌≤◌, List, length, sym, subst}
 use Rattle.bp_calls.specs.Space.{LacksBlocks}
 use Rattle.bp_calls.specs.ThawsFor.{HasRoomToThaw, ThawsFor, thaw_count}
 use Rattle.bp_calls.proofs.CommitResults.{by_one, ok_both}
-use Rattle.bp_calls.proofs.ThawedNeed.{has_enough, has_room, lacks_unthawed, unthawed_enough, unthawed_room, unthawed_ways}
+use Rattle.bp_calls.proofs.ThawedNeed.{has_enough, has_room}
 use Rattle.bp_calls.proofs.ThawedRoom.{lacks_all, room_to_thaw}
 use Rattle.bp_calls.proofs.WriteTargets.{file_some, write_ways_at}
 use Rattle.bp_free.specs.Set.{members}

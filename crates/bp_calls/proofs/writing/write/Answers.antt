@@ -1,4 +1,4 @@
-use Rattle.std.proofs.Common.{◌≡◌, ◌<◌, ◌≤◌, length, sym, ◌∙◌, arith}
+use Rattle.std.proofs.Common.{length, sym, ◌∙◌, arith}
 use Rattle.std.proofs.lemmas.Result.{on_ok_weaker}
 use Rattle.bp_calls.specs.WritesFile.{WritesFile}
 use Rattle.bp_calls.proofs.CommitResults.{by_one, by_two, never_at}
@@ -6,25 +6,24 @@ use Rattle.bp_calls.proofs.NothingKept.{lacks_at_once, performed_at_once}
 use Rattle.bp_calls.proofs.SameWrites.{write_at_once, write_behind_thaw}
 use Rattle.bp_calls.proofs.ThawedParts.{mounted_thawed, performed_thawed}
 use Rattle.bp_layout.specs.Need.Change.{writes}
-use Rattle.pm_region.specs.Memory.{current_words}
 use Rattle.bp_calls.proofs.writing.write.Goals as goal
 
--- ---- where no block is kept
+-- ---- where nothing has to be thawed
 
 pub write_thawed-requires-clause-can : goal.write_thawed-requires-clause-can
 write_thawed-requires-clause-can g c =
-    write_at_once g.R.Region.memory c.args.parts.now c.args.i c.args.off c.args.bytes.now c.requires.mounted c.requires.can (sym c.count.ensures ∙ c.if-count-eq0.true) c.requires.room
+    write_at_once g.R.Region.memory c.args.parts.now c.args.i c.args.off c.args.bytes.now c.requires.mounted c.requires.can (c.is_clear.ensures c.if-is_clear.true) c.requires.room
 
-pub returns-then-count-eq0-clause-performs : goal.returns-then-count-eq0-clause-performs
-returns-then-count-eq0-clause-performs g c =
+pub returns-then-is_clear-clause-performs : goal.returns-then-is_clear-clause-performs
+returns-then-is_clear-clause-performs g c =
     on_ok_weaker c.write_thawed.result
-    (performed_at_once g.R.Region.memory (writes c.args.i c.args.off (length c.args.bytes.now)) c.args.parts.now c.requires.mounted (sym c.count.ensures ∙ c.if-count-eq0.true)
+    (performed_at_once g.R.Region.memory (writes c.args.i c.args.off (length c.args.bytes.now)) c.args.parts.now c.requires.mounted (c.is_clear.ensures c.if-is_clear.true)
     (g.R.Region.memory c.write_thawed.new.parts.region) (WritesFile c.args.i c.args.off c.args.bytes.now)) c.write_thawed.ensures.performs
 
-pub returns-then-count-eq0-clause-refused : goal.returns-then-count-eq0-clause-refused
-returns-then-count-eq0-clause-refused g c =
+pub returns-then-is_clear-clause-refused : goal.returns-then-is_clear-clause-refused
+returns-then-is_clear-clause-refused g c =
     by_one c.write_thawed.result c.write_thawed.ensures.refused
-    (lacks_at_once g.R.Region.memory (writes c.args.i c.args.off (length c.args.bytes.now)) c.args.parts.now c.requires.mounted (sym c.count.ensures ∙ c.if-count-eq0.true))
+    (lacks_at_once g.R.Region.memory (writes c.args.i c.args.off (length c.args.bytes.now)) c.args.parts.now c.requires.mounted (c.is_clear.ensures c.if-is_clear.true))
 
 -- ---- behind a thaw
 

@@ -1,4 +1,4 @@
-use Rattle.std.proofs.Common.{◌≡◌, ◌∙◌, ◌<◌, ℕ, slice_index, sym, subst, arith}
+use Rattle.std.proofs.Common.{◌<◌, ℕ, slice_index, sym, subst, arith}
 use Rattle.std.proofs.lemmas.Result.{on_err_weaker, on_ok_weaker}
 use Rattle.pm_region.specs.Memory.{Memory, current_words}
 use Rattle.bp_shapes.specs.Sets.{IsExact, kept_of}

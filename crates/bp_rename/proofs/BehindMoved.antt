@@ -1,5 +1,5 @@
 -- A name moves behind the last entry of another directory: an entry is prepared there, and then one commit takes it in by the directory's size, and empties the old one.
-use Rattle.std.proofs.Common.{◌≡◌, ◌≢◌, ◌⊎◌, ℕ, zero, suc, ◌+◌, ◌*◌, ◌/◌, ◌<◌, ◌≤◌, List, [], ◌∷◌, ◌++◌, length, Bool, None, slice_index, unwrap_or, refl, sym, ◌∙◌, ap, ap₂, subst, subst₂, arith, inl, inr}
+use Rattle.std.proofs.Common.{◌≡◌, ◌≢◌, ◌⊎◌, ℕ, zero, suc, ◌+◌, ◌*◌, ◌/◌, ◌<◌, ◌≤◌, List, [], ◌∷◌, ◌++◌, length, Bool, None, slice_index, unwrap_or, refl, sym, ◌∙◌, ap, ap₂, subst, arith, inl, inr}
 use Rattle.std.proofs.lemmas.Bool.{cases_eq}
 use Rattle.std.proofs.lemmas.List.{length-append}
 use Rattle.pm_region.specs.Memory.{Memory, current_words, room_in}

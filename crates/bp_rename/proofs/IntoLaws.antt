@@ -1,5 +1,5 @@
 -- A name moves into an empty entry of another directory: the name is written there first, where nobody sees it.
-use Rattle.std.proofs.Common.{◌≡◌, ◌≢◌, ℕ, suc, ◌+◌, ◌-◌, ◌*◌, ◌/◌, ◌<◌, ◌≤◌, [], ◌∷◌, ◌++◌, length, Bool, false, None, Some, refl, sym, ◌∙◌, ap, ap₂, subst₂, arith}
+use Rattle.std.proofs.Common.{◌≡◌, ◌≢◌, ℕ, suc, ◌+◌, ◌-◌, ◌*◌, ◌/◌, ◌<◌, ◌≤◌, [], ◌∷◌, ◌++◌, length, Bool, false, None, Some, refl, sym, ◌∙◌, ap, ap₂, arith}
 use Rattle.pm_epochs.specs.declared.event.Event.TheVariants.{Barrier}
 use Rattle.pm_epochs.specs.May.{AnyAt, EachMay}
 use Rattle.pm_epochs.proofs.CrashLaws.{IsClosed-barrier, quiet-barrier}

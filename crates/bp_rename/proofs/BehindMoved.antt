@@ -1,5 +1,5 @@
 -- A name moves behind the last entry of another directory: an entry is prepared there, and then one commit takes it in by the directory's size, and empties the old one.
-use Rattle.std.proofs.Common.{◌≡◌, ◌≢◌, ◌⊎◌, ℕ, zero, suc, ◌+◌, ◌*◌, ◌/◌, ◌<◌, ◌≤◌, List, [], ◌∷◌, ◌++◌, length, Bool, None, slice_index, unwrap_or, refl, sym, ◌∙◌, ap, ap₂, subst, subst₂, arith, inl, inr}
+use Rattle.std.proofs.Common.{◌≡◌, ◌≢◌, ◌⊎◌, ℕ, zero, suc, ◌+◌, ◌*◌, ◌/◌, ◌<◌, ◌≤◌, List, [], ◌∷◌, ◌++◌, length, Bool, None, slice_index, unwrap_or, refl, sym, ◌∙◌, ap, ap₂, subst, arith, inl, inr}
 use Rattle.std.proofs.lemmas.Bool.{cases_eq}
 use Rattle.std.proofs.lemmas.List.{length-append}
 use Rattle.pm_region.specs.Memory.{Memory, current_words, room_in}
@@ -59,9 +59,10 @@ use Rattle.bp_calls.proofs.SizesWith.{size_with_here, size_with_other, sizes_wit
 use Rattle.bp_rename.specs.CanRename.{CanRename, moved_inode}
 use Rattle.bp_rename.specs.RenamesEntry.{RenamesEntry, new_slot}
 use Rattle.bp_rename.specs.RenamesEntry.RenamesEntry.{across}
-use Rattle.bp_rename.specs.TouchesTwo.{TouchesTwo, inumber_path, size_path}
+use Rattle.bp_rename.specs.TouchesTwo.{OtherTree, TouchesTwo, inumber_path, size_path}
 use Rattle.bp_rename.specs.declared.moving.Move.{Move}
 use Rattle.bp_rename.proofs.BehindTouched.{behind_are, behind_cover, behind_few, behind_needs, behind_whole_cover, not_inodes, size_fronts, touched_loose, touched_needs, touched_paths, touched_size}
+use Rattle.bp_rename.proofs.ListedTrees.{lists_stay}
 use Rattle.bp_rename.proofs.LooseCovers.{block_stays, still_loose}
 use Rattle.bp_rename.proofs.ContentWords.{AreContent, content_trail, size_given, size_kept, words_can, words_fronts, words_kept, words_only, words_value}
 use Rattle.bp_rename.proofs.Outside.{below_before}
@@ -82,7 +83,7 @@ moved_few image move can = few_inode image can.well_formed (moved_inode image mo
 
 -- the entry can be put there
 pub can_put : {kept : ℕ → Bool} (memory : Memory) (move : Move) (blocks inodes : Set) (can : CanRename (current_words memory) move) (other : move.from_dir ≢ move.to_dir) (new_name : move.to_slot ≡ None) (none : empty_slot (current_words memory) move.to_dir ≡ None)
-    (touched : Touched) (is : TouchesTwo touched (size_path (current_words memory) move.to_dir) (inumber_path (current_words memory) move.from_dir move.from_slot) (size_of (current_words memory) move.to_dir + 256) 0) →
+    (touched : Touched) (is : TouchesTwo (current_words memory) (OtherTree move.to_dir) touched (size_path (current_words memory) move.to_dir) (inumber_path (current_words memory) move.from_dir move.from_slot) (size_of (current_words memory) move.to_dir + 256) 0) →
     AreExact (current_words memory) kept blocks inodes → need (current_words memory) (moves move.from_dir move.from_slot move.to_dir) ≤ length (members blocks) →
     room_for (need (current_words memory) (moves move.from_dir move.from_slot move.to_dir)) ≤ room_in memory + 2 → HasLooseEnd (current_words memory) kept move.to_dir → CanPutBehind kept memory blocks move.to_dir move.name.now
 can_put memory move blocks inodes can other new_name none touched is exact enough room loose = record {
@@ -99,7 +100,7 @@ module _ {kept : ℕ → Bool} (old middle : Memory) (move : Move) (blocks inode
     (none : empty_slot (current_words old) move.to_dir ≡ None) (exact : AreExact (current_words old) kept blocks inodes)
     (room : room_for (need (current_words old) (moves move.from_dir move.from_slot move.to_dir)) ≤ room_in old + 2)
     (puts : PutsBehind kept old middle (members blocks) (members after) move.to_dir (moved_inode (current_words old) move) move.name.now) (as_long : length after ≡ length blocks)
-    (touched : Touched) (is : TouchesTwo touched (size_path (current_words old) move.to_dir) (inumber_path (current_words old) move.from_dir move.from_slot) (size_of (current_words old) move.to_dir + 256) 0) where
+    (touched : Touched) (is : TouchesTwo (current_words old) (OtherTree move.to_dir) touched (size_path (current_words old) move.to_dir) (inumber_path (current_words old) move.from_dir move.from_slot) (size_of (current_words old) move.to_dir + 256) 0) where
   abbrev image : Image
   image = current_words old
 
@@ -167,8 +168,13 @@ module _ {kept : ℕ → Bool} (old middle : Memory) (move : Move) (blocks inode
   entry_stays : inumber_path image i s ≡ inumber_path mid i s
   entry_stays = ap₂ (λ top root. tree_path (height_of top) i (suc (height_of root)) (32 * s + 0)) root_inodes (sym (puts.prepared.ready.roots i can.source other))
 
-  is_mid : TouchesTwo touched (size_path mid j) (inumber_path mid i s) (size_of image j + 256) 0
-  is_mid = subst₂ (λ p q. TouchesTwo touched p q (size_of image j + 256) 0) size_stays entry_stays is
+  is_mid : TouchesTwo mid (OtherTree j) touched (size_path mid j) (inumber_path mid i s) (size_of image j + 256) 0
+  is_mid = record {
+    none = is.none;
+    trees = lists_stay image mid (OtherTree j) touched.trees.now (ap height_of (sym root_inodes)) (λ t apart reached some. (on t reached, (puts.prepared.ready.roots t reached apart, puts.prepared.ready.sizes t reached))) is.trees;
+    paths = is.paths ∙ ap₂ (λ (p q : WordPath). p ∷ q ∷ []) size_stays entry_stays;
+    values = is.values;
+  }
 
   -- ---- the sizes that count
 
@@ -203,7 +209,7 @@ module _ {kept : ℕ → Bool} (old middle : Memory) (move : Move) (blocks inode
   behind_fits = omega (arith, sets.block_room)
 
   are : AreContent mid (sizes_with (current_words middle) touched) touched (pick 0 i) (pick (8 * j + 2) (32 * s + 0))
-  are = behind_are mid behind_formed i s j (size_of image j + 256) source entry.in_size entry.directory target touched is_mid (sizes_with mid touched) low
+  are = behind_are mid behind_formed i s j (size_of image j + 256) source entry.in_size entry.directory target touched is_mid (sizes_with mid touched) low (λ t apart. let same = bound_other t apart in omega (arith, same))
 
   pub behind_can : CanCommit (current_words middle) (sizes_with (current_words middle) touched) kept touched (has after)
   behind_can = words_can mid (sizes_with mid touched) forest touched (pick 0 i) (pick (8 * j + 2) (32 * s + 0)) are (λ t reached. low t) (has after) unheld
@@ -366,7 +372,7 @@ module _ {kept : ℕ → Bool} (old middle : Memory) (move : Move) (blocks inode
         cover_open kept mid behind_formed touched behind_can.shape (path_of (word_paths touched) 0) (has-word touched behind_can.shape 0 (omega (arith, count)))
         (λ d deep.
         words_fronts mid (size_of mid) (wf_forest mid behind_formed) touched (pick 0 i) (pick (8 * j + 2) (32 * s + 0))
-        (behind_are mid behind_formed i s j (size_of image j + 256) source entry.in_size entry.directory target touched is_mid (size_of mid) (λ t. omega arith)) 0 d (omega (arith, count)) deep)
+        (behind_are mid behind_formed i s j (size_of image j + 256) source entry.in_size entry.directory target touched is_mid (size_of mid) (λ t. omega arith) (λ t apart. omega arith)) 0 d (omega (arith, count)) deep)
         done.loose done.taken
 
     pub behind_performs : PerformsThawed kept old new (moves move.from_dir move.from_slot move.to_dir) (RenamesEntry move)

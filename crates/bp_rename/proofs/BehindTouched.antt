@@ -27,7 +27,7 @@ use Rattle.bp_cow.specs.Cover.{LeadsInside, commit_cover, copied_count, copied_p
 use Rattle.bp_cow.specs.Touched.{IsTouched, NoneBegins, all_paths, path_of}
 use Rattle.bp_cow.specs.declared.touched.Touched.{Touched}
 use Rattle.bp_rename.specs.CanRename.{CanRename}
-use Rattle.bp_rename.specs.TouchesTwo.{TouchesTwo, inumber_path, size_path}
+use Rattle.bp_rename.specs.TouchesTwo.{OtherTree, TouchesTwo, inumber_path, size_path}
 use Rattle.bp_rename.specs.declared.moving.Move.{Move}
 use Rattle.bp_rename.proofs.ContentWords.{AreContent, words_apart, words_fronts, words_inside, words_shape}
 use Rattle.bp_rename.proofs.LooseCovers.{cover_loose, now_whole}
@@ -41,7 +41,7 @@ not_inodes image t kind e = let two : kind_of image 0 ≡ 2 = subst (λ x. kind_
 -- ---- in any image: the size of inode j, and the inumber of an entry (i, s)
 
 module _ (image : Image) (wf : IsWellFormed image) (i s j size : ℕ) (source : IsReached image i) (in_size : s < entry_count image i) (directory : kind_of image i ≡ 2) (target : IsReached image j)
-    (touched : Touched) (is : TouchesTwo touched (size_path image j) (inumber_path image i s) size 0) where
+    (touched : Touched) (is : TouchesTwo image (OtherTree j) touched (size_path image j) (inumber_path image i s) size 0) where
   low_entry : 8 * (32 * s + 0) < size_of image i
   low_entry = omega (arith, in_size)
 
@@ -49,15 +49,15 @@ module _ (image : Image) (wf : IsWellFormed image) (i s j size : ℕ) (source : 
   low_size = let low : j < inode_count image = reached-in_file image wf j target in omega (arith, low)
 
   -- under sizes that are no less than those of the image
-  pub behind_are : (bound : ℕ → ℕ) → ((t : ℕ) → size_of image t ≤ bound t) → AreContent image bound touched (pick 0 i) (pick (8 * j + 2) (32 * s + 0))
-  behind_are bound more =
+  pub behind_are : (bound : ℕ → ℕ) → ((t : ℕ) → size_of image t ≤ bound t) → ((t : ℕ) → t ≢ j → bound t ≤ size_of image t) → AreContent image bound touched (pick 0 i) (pick (8 * j + 2) (32 * s + 0))
+  behind_are bound more fits =
       let top = more 0 in
       let own = more i in
       two_are image touched 0 (8 * j + 2) i (32 * s + 0) size 0 is bound inode_file source (omega (arith, low_size, top)) (omega (arith, low_entry, own))
-      (λ e same. omega (arith, same)) (λ e. absurd (not_inodes image i directory e)) (λ e f. not_inodes image i directory (sym e))
+      (λ e same. omega (arith, same)) (λ e. absurd (not_inodes image i directory e)) (λ e f. not_inodes image i directory (sym e)) fits
 
   plain : AreContent image (size_of image) touched (pick 0 i) (pick (8 * j + 2) (32 * s + 0))
-  plain = behind_are (size_of image) (λ t. omega arith)
+  plain = behind_are (size_of image) (λ t. omega arith) (λ t apart. omega arith)
 
   pub behind_shape : IsTouched touched
   behind_shape = words_shape image (size_of image) (wf_forest image wf) touched (pick 0 i) (pick (8 * j + 2) (32 * s + 0)) plain
@@ -140,7 +140,7 @@ module _ (image : Image) (move : Move) (can : CanRename image move) (other : mov
         omega (arith, made, count, nothing)
 
   -- for what is touched
-  module _ (touched : Touched) (is : TouchesTwo touched (size_path image move.to_dir) (inumber_path image move.from_dir move.from_slot) (size_of image move.to_dir + 256) 0) where
+  module _ (touched : Touched) (is : TouchesTwo image (OtherTree move.to_dir) touched (size_path image move.to_dir) (inumber_path image move.from_dir move.from_slot) (size_of image move.to_dir + 256) 0) where
     pub touched_paths : all_paths touched ≡ size_path image move.to_dir ∷ inumber_path image move.from_dir move.from_slot ∷ []
     touched_paths = two_paths image touched 0 (8 * move.to_dir + 2) move.from_dir (32 * move.from_slot + 0) (size_of image move.to_dir + 256) 0 is
 

@@ -26,6 +26,7 @@ use Rattle.bp_cow.specs.Cover.{LeadsInside, end_path, end_path_of}
 use Rattle.bp_cow.specs.Touched.{IsTouched, NoneBegins, all_paths, job_of, path_of, touched_trail, word_paths}
 use Rattle.bp_cow.specs.declared.touched.Run.{Run}
 use Rattle.bp_cow.specs.declared.touched.Touched.{Touched}
+use Rattle.bp_cow.specs.declared.touched.TreeSize.{TreeSize}
 use Rattle.bp_cow.proofs.CommitLaws.{committed_commits, size_after}
 use Rattle.bp_cow.proofs.CopiesNeed.{paths-by}
 use Rattle.bp_cow.proofs.CoverLaws.{some-ends}
@@ -33,12 +34,12 @@ use Rattle.bp_cow.proofs.RunFronts.{trail_of-take}
 use Rattle.bp_cow.proofs.RunWrites.{digits_trail, root_path_trail}
 use Rattle.bp_cow.proofs.Values.{after-others, after-word}
 use Rattle.bp_calls.proofs.TreeTrails.{same_word}
-use Rattle.bp_cow.proofs.CallerLaws.{no_trees}
 
 -- Content words alone are touched: each in a reached tree below a size that counts, no root word, and no two alike.
 pub record AreContent (image : Image) (bound : ℕ → ℕ) (touched : Touched) (tree number : ℕ → ℕ) : Type 0 where
   pub none : touched.runs.now ≡ []
-  pub no_trees : touched.trees.now ≡ []
+  pub trees : (tree : TreeSize) → Has touched.trees.now tree → IsTreeIn image bound tree
+  pub low_trees : (tree : TreeSize) → Has touched.trees.now tree → tree.height ≤ max_height
   pub some : 1 ≤ length touched.words.now
   pub few : length touched.words.now ≤ 32
   pub reached : (i : ℕ) → i < length touched.words.now → IsReached image (tree i)
@@ -96,7 +97,7 @@ module _ (image : Image) (bound : ℕ → ℕ) (forest : IsForest image bound) (
       record {
         runs = λ run has. absurd (none_has run has);
         few_runs = omega (arith, ap (λ (runs : List Run). length runs) are.none);
-        trees = no_trees (λ tree. tree.height ≤ max_height) are.no_trees;
+        trees = are.low_trees;
         few = are.few;
         words = λ i here.
             rw (are.path i here) (omega (arith, content_some (height_of (root_of image 0)) (tree i) (suc (height_of (root_of image (tree i)))) (number i)));
@@ -161,7 +162,7 @@ module _ (image : Image) (bound : ℕ → ℕ) (forest : IsForest image bound) (
       pointers = words_fronts;
       contents = words_no_pointer;
       runs = λ run has. absurd (none_has run has);
-      trees = no_trees (IsTreeIn image bound) are.no_trees;
+      trees = are.trees;
       apart = λ i k here there same.
           let both = same_word image bound forest (tree i) (number i) (tree k) (number k) (are.reached i here) (are.reached k there) (are.below i here) (are.below k there)
           (sym (words_trail i here) ∙ same ∙ words_trail k there) in

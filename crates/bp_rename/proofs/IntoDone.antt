@@ -20,7 +20,7 @@ use Rattle.bp_cow.specs.Cover.{LeadsInside, commit_cover, copied_count, copied_p
 use Rattle.bp_cow.specs.Touched.{IsTouched, NoneBegins, all_paths, path_of, word_paths}
 use Rattle.bp_cow.specs.declared.touched.Touched.{Touched}
 use Rattle.bp_rename.specs.CanRename.{CanRename, moved_inode}
-use Rattle.bp_rename.specs.TouchesTwo.{TouchesTwo, inumber_path}
+use Rattle.bp_rename.specs.TouchesTwo.{AnyTree, TouchesTwo, inumber_path}
 use Rattle.bp_rename.specs.declared.moving.Move.{Move}
 use Rattle.bp_calls.proofs.Refusals.{found_empty}
 use Rattle.bp_cow.proofs.CopiesNeed.{has-word}
@@ -33,7 +33,7 @@ use Rattle.bp_rename.proofs.WholePaths.{cover-whole, pointed-directory}
 -- ---- what is touched, told on the image before
 
 module _ (image : Image) (move : Move) (s : ℕ) (can : CanRename image move) (other : move.from_dir ≢ move.to_dir) (found : empty_slot image move.to_dir ≡ Some s)
-    (touched : Touched) (is : TouchesTwo touched (inumber_path image move.to_dir s) (inumber_path image move.from_dir move.from_slot) (moved_inode image move) 0) where
+    (touched : Touched) (is : TouchesTwo image AnyTree touched (inumber_path image move.to_dir s) (inumber_path image move.from_dir move.from_slot) (moved_inode image move) 0) where
   abbrev change : Change
   change = moves move.from_dir move.from_slot move.to_dir
 
@@ -47,7 +47,7 @@ module _ (image : Image) (move : Move) (s : ℕ) (can : CanRename image move) (o
   are =
       two_are image touched move.to_dir (32 * s + 0) move.from_dir (32 * move.from_slot + 0) (moved_inode image move) 0 is (size_of image) can.target can.source low_target low_source
       (no_file move.to_dir (32 * s + 0) can.directory) (no_file move.from_dir (32 * move.from_slot + 0) can.entry.directory)
-      (λ e f. other (sym e))
+      (λ e f. other (sym e)) (λ t any. omega arith)
     where
       no_file : (t l : ℕ) → kind_of image t ≡ 2 → t ≡ 0 → l % 8 ≢ 1
       no_file t l kind e = let two : kind_of image 0 ≡ 2 = subst (λ x. kind_of image x ≡ 2) e kind in absurd (omega (arith, two))

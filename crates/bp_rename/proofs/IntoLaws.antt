@@ -1,5 +1,5 @@
 -- A name moves into an empty entry of another directory: the name is written there first, where nobody sees it.
-use Rattle.std.proofs.Common.{◌≡◌, ◌≢◌, ℕ, suc, ◌+◌, ◌-◌, ◌*◌, ◌/◌, ◌<◌, ◌≤◌, [], ◌∷◌, ◌++◌, length, Bool, false, None, Some, refl, sym, ◌∙◌, ap, ap₂, subst₂, arith}
+use Rattle.std.proofs.Common.{◌≡◌, ◌≢◌, ℕ, suc, ◌+◌, ◌-◌, ◌*◌, ◌/◌, ◌<◌, ◌≤◌, [], ◌∷◌, ◌++◌, length, Bool, false, None, Some, refl, sym, ◌∙◌, ap, ap₂, arith}
 use Rattle.pm_epochs.specs.declared.event.Event.TheVariants.{Barrier}
 use Rattle.pm_epochs.specs.May.{AnyAt, EachMay}
 use Rattle.pm_epochs.proofs.CrashLaws.{IsClosed-barrier, quiet-barrier}
@@ -20,7 +20,7 @@ use Rattle.bp_layout.specs.Reached.{IsReached}
 use Rattle.bp_layout.specs.Reached.IsReached.{inode_file}
 use Rattle.bp_layout.specs.Same.{Same}
 use Rattle.bp_layout.specs.WellFormed.{IsWellFormed}
-use Rattle.bp_layout.specs.WordPaths.{tree_path}
+use Rattle.bp_layout.specs.WordPaths.{WordPath, tree_path}
 use Rattle.bp_layout.specs.Words.{Image, height_of}
 use Rattle.bp_cow.specs.declared.touched.Touched.{Touched}
 use Rattle.bp_changes.specs.Effects.{CanMoveEntry, IsAtOrBelow}
@@ -33,8 +33,9 @@ use Rattle.bp_calls.proofs.Refusals.{found_empty}
 use Rattle.bp_calls.proofs.Spares.{row_stands, spare_entry}
 use Rattle.bp_calls.proofs.Trees.{SameTrees, spare_trees, word_kept}
 use Rattle.bp_rename.specs.CanRename.{CanRename, moved_inode}
-use Rattle.bp_rename.specs.TouchesTwo.{TouchesTwo, inumber_path}
+use Rattle.bp_rename.specs.TouchesTwo.{AnyTree, TouchesTwo, inumber_path}
 use Rattle.bp_rename.specs.declared.moving.Move.{Move}
+use Rattle.bp_rename.proofs.ListedTrees.{lists_stay}
 use Rattle.bp_rename.proofs.Outside.{below_before}
 
 module _ (old third mid : Memory) (move : Move) (s entry : ℕ) (can : CanRename (current_words old) move) (new : move.to_slot ≡ None) (other : move.from_dir ≢ move.to_dir)
@@ -168,7 +169,12 @@ module _ (old third mid : Memory) (move : Move) (s entry : ℕ) (can : CanRename
   same_path t slot reached low =
       ap₂ (λ top root. tree_path (height_of top) t (suc (height_of root)) (32 * slot + 0)) (sym (into_trees.root 0 inode_file (omega (arith, can.well_formed.some_inodes)))) (sym (into_trees.root t reached (omega (arith, low))))
 
-  pub mid_touches : (touched : Touched) (one two : ℕ) → TouchesTwo touched (inumber_path (current_words old) move.to_dir s) (inumber_path (current_words old) move.from_dir move.from_slot) one two →
-      TouchesTwo touched (inumber_path (current_words mid) move.to_dir s) (inumber_path (current_words mid) move.from_dir move.from_slot) one two
-  mid_touches touched one two is =
-      subst₂ (λ p q. TouchesTwo touched p q one two) (same_path move.to_dir s can.target in_size) (same_path move.from_dir move.from_slot can.source can.entry.in_size) is
+  pub mid_touches : (touched : Touched) (one two : ℕ) → TouchesTwo (current_words old) AnyTree touched (inumber_path (current_words old) move.to_dir s) (inumber_path (current_words old) move.from_dir move.from_slot) one two →
+      TouchesTwo (current_words mid) AnyTree touched (inumber_path (current_words mid) move.to_dir s) (inumber_path (current_words mid) move.from_dir move.from_slot) one two
+  mid_touches touched one two is = record {
+    none = is.none;
+    trees = lists_stay (current_words old) (current_words mid) AnyTree touched.trees.now (ap height_of (into_trees.root 0 inode_file (omega (arith, can.well_formed.some_inodes))))
+        (λ t any reached some. (on t reached, (into_trees.root t reached some, sizes t reached))) is.trees;
+    paths = is.paths ∙ ap₂ (λ (p q : WordPath). p ∷ q ∷ []) (same_path move.to_dir s can.target in_size) (same_path move.from_dir move.from_slot can.source can.entry.in_size);
+    values = is.values;
+  }

@@ -50,7 +50,7 @@ use Rattle.bp_calls.proofs.Trees.{SameTrees}
 use Rattle.bp_rename.specs.CanRename.{CanRename, moved_inode}
 use Rattle.bp_rename.specs.RenamesEntry.{RenamesEntry, new_slot}
 use Rattle.bp_rename.specs.RenamesEntry.RenamesEntry.{across}
-use Rattle.bp_rename.specs.TouchesTwo.{TouchesTwo, inumber_path}
+use Rattle.bp_rename.specs.TouchesTwo.{AnyTree, TouchesTwo, inumber_path}
 use Rattle.bp_rename.specs.declared.moving.Move.{Move}
 use Rattle.bp_rename.proofs.ContentWords.{AreContent, size_kept, words_can, words_only, words_value}
 use Rattle.bp_rename.proofs.IntoDone.{into_count, into_cover, into_fronts, into_loose, into_paths, into_whole}
@@ -63,7 +63,7 @@ module _ {kept : ℕ → Bool} (old third mid : Memory) (move : Move) (s entry :
     (found : empty_slot (current_words old) move.to_dir ≡ Some s) (entry_at : ContentStandsAt (current_words old) move.to_dir (32 * s + 0) entry)
     (spells : AddsMay (AnyAt (IsWithin (entry + 1) 31)) 0 31 old third) (spelled : HasNameAt (current_words third) entry move.name.now)
     (ends : Adds third mid (Barrier ∷ [])) (touched : Touched)
-    (is : TouchesTwo touched (inumber_path (current_words old) move.to_dir s) (inumber_path (current_words old) move.from_dir move.from_slot) (moved_inode (current_words old) move) 0)
+    (is : TouchesTwo (current_words old) AnyTree touched (inumber_path (current_words old) move.to_dir s) (inumber_path (current_words old) move.from_dir move.from_slot) (moved_inode (current_words old) move) 0)
     (blocks inodes : Set) (exact : AreExact (current_words old) kept blocks inodes)
     (room : room_for (need (current_words old) (moves move.from_dir move.from_slot move.to_dir)) ≤ room_in old + 2) (loose : kept (entry / 512) ≡ false) where
   can_move : CanMoveEntry (current_words mid) move.from_dir move.from_slot move.to_dir s (moved_inode (current_words old) move)
@@ -75,7 +75,7 @@ module _ {kept : ℕ → Bool} (old third mid : Memory) (move : Move) (s entry :
   formed : IsWellFormed (current_words mid)
   formed = mid_formed old third mid move s entry can new_name other found entry_at spells spelled ends
 
-  is_mid : TouchesTwo touched (inumber_path (current_words mid) move.to_dir s) (inumber_path (current_words mid) move.from_dir move.from_slot) (moved_inode (current_words old) move) 0
+  is_mid : TouchesTwo (current_words mid) AnyTree touched (inumber_path (current_words mid) move.to_dir s) (inumber_path (current_words mid) move.from_dir move.from_slot) (moved_inode (current_words old) move) 0
   is_mid = mid_touches old third mid move s entry can new_name other found entry_at spells spelled ends touched (moved_inode (current_words old) move) 0 is
 
   low_target : 8 * (32 * s + 0) < size_of (current_words mid) move.to_dir
@@ -85,7 +85,7 @@ module _ {kept : ℕ → Bool} (old third mid : Memory) (move : Move) (s entry :
   are =
       two_are (current_words mid) touched move.to_dir (32 * s + 0) move.from_dir (32 * move.from_slot + 0) (moved_inode (current_words old) move) 0 is_mid (size_of (current_words mid)) can_move.target can_move.reached low_target
       (omega (arith, can_move.entry.in_size)) (no_file move.to_dir (32 * s + 0) can_move.directory) (no_file move.from_dir (32 * move.from_slot + 0) can_move.entry.directory)
-      (λ e f. other (sym e))
+      (λ e f. other (sym e)) (λ t any. omega arith)
     where
       no_file : (t l : ℕ) → kind_of (current_words mid) t ≡ 2 → t ≡ 0 → l % 8 ≢ 1
       no_file t l kind e = let two : kind_of (current_words mid) 0 ≡ 2 = subst (λ t. kind_of (current_words mid) t ≡ 2) e kind in absurd (omega (arith, two))

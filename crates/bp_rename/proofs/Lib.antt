@@ -22,3 +22,4 @@ pub mod RenamedStands
 pub mod LooseCovers
 pub mod FewWays
 pub mod RenameTargets
+pub mod ListedTrees

@@ -22,7 +22,7 @@ use Rattle.bp_cow.specs.Touched.{IsTouched, NoneBegins, all_paths, path_of, word
 use Rattle.bp_cow.specs.declared.touched.Touched.{Touched}
 use Rattle.bp_calls.proofs.ReadingLaws.{few_inode}
 use Rattle.bp_rename.specs.CanRename.{CanRename, moved_inode}
-use Rattle.bp_rename.specs.TouchesTwo.{TouchesTwo, inumber_path}
+use Rattle.bp_rename.specs.TouchesTwo.{AnyTree, TouchesTwo, inumber_path}
 use Rattle.bp_rename.specs.declared.moving.Move.{Move}
 use Rattle.bp_rename.proofs.ContentWords.{AreContent, words_apart, words_can, words_fronts, words_inside, words_shape}
 use Rattle.bp_cow.proofs.CopiesNeed.{has-word}
@@ -86,12 +86,12 @@ module _ (image : Image) (move : Move) (r : ℕ) (can : CanRename image move) (o
 
   -- ---- what is touched
 
-  module _ (touched : Touched) (is : TouchesTwo touched (inumber_path image move.from_dir move.from_slot) (inumber_path image move.to_dir r) 0 (moved_inode image move)) where
+  module _ (touched : Touched) (is : TouchesTwo image AnyTree touched (inumber_path image move.from_dir move.from_slot) (inumber_path image move.to_dir r) 0 (moved_inode image move)) where
     pub are : AreContent image (size_of image) touched (pick move.from_dir move.to_dir) (pick (32 * move.from_slot + 0) (32 * r + 0))
     are =
         two_are image touched move.from_dir (32 * move.from_slot + 0) move.to_dir (32 * r + 0) 0 (moved_inode image move) is (size_of image) can.source can.target low_source low_target
         (no_directory move.from_dir (32 * move.from_slot + 0) can.entry.directory) (no_directory move.to_dir (32 * r + 0) can.directory)
-        (λ e f. apart_entries e (omega (arith, f)))
+        (λ e f. apart_entries e (omega (arith, f))) (λ t any. omega arith)
 
     pub onto_shape : IsTouched touched
     onto_shape = words_shape image (size_of image) (wf_forest image can.well_formed) touched (pick move.from_dir move.to_dir) (pick (32 * move.from_slot + 0) (32 * r + 0)) are

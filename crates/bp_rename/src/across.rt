@@ -16,7 +16,7 @@ ghost use Rattle.pm_region.specs.Memory.{current_words, room_in};
 
 use crate::behind::{move_behind, need_behind, targets_behind};
 use crate::moving::Move;
-use crate::touching::touched_two;
+use crate::touching::{touched_two, trees_of_both};
 use bp_calls::{Targets, entry_path};
 use bp_cow::{commit, cover, need_cover};
 use bp_dirs::{entry_place, inumber, put_name};
@@ -50,7 +50,10 @@ fn need_into<R: Region>(region: &R, to_move: &Move<'_>, slot: u64) -> u32
         (moves to_move.now.from_dir to_move.now.from_slot to_move.now.to_dir) }
     ensures few { result < 2 ^ 31 }
 {
-    need_cover(region, &touched_two(&words_into(region, to_move, slot)))
+    need_cover(
+        region,
+        &touched_two(&words_into(region, to_move, slot), &[]),
+    )
 }
 
 /// The words near which a name moves into an empty entry: that of the cover, and the inumber of that entry.
@@ -62,7 +65,10 @@ fn targets_into<R: Region>(region: &R, to_move: &Move<'_>, slot: u64) -> Targets
         (moves to_move.now.from_dir to_move.now.from_slot to_move.now.to_dir) }
 {
     let mut targets = Targets::new();
-    targets.push(cover(region, &touched_two(&words_into(region, to_move, slot))));
+    targets.push(cover(
+        region,
+        &touched_two(&words_into(region, to_move, slot), &[]),
+    ));
     targets.push(entry_path(region, to_move.to_dir, slot));
     targets
 }
@@ -88,7 +94,8 @@ fn move_into<R: Region>(parts: &mut Parts<R>, to_move: &Move<'_>, slot: u64)
     let target = tree_of(&parts.region, to_move.to_dir);
     let entry = entry_place(&parts.region, target, slot, 0);
     let words = words_into(&parts.region, to_move, slot);
-    let touched = touched_two(&words);
+    let trees = trees_of_both(&parts.region, to_move.from_dir, to_move.to_dir);
+    let touched = touched_two(&words, &trees);
     put_name(&mut parts.region, entry, to_move.name);
     parts.region.barrier();
     commit(parts, &touched);

@@ -17,7 +17,7 @@ ghost use Rattle.bp_thaw.specs.Thaws.{paths_in};
 ghost use Rattle.pm_region.specs.Memory.{current_words, room_in};
 
 use crate::moving::Move;
-use crate::touching::touched_two;
+use crate::touching::{touched_two, trees_of_one};
 use bp_append::need_prep;
 use bp_calls::{Targets, entry_path, push_end, put_behind};
 use bp_cow::{commit, cover, need_cover};
@@ -54,7 +54,7 @@ pub(crate) fn need_behind<R: Region>(region: &R, to_move: &Move<'_>) -> u32
 {
     let target = tree_of(region, to_move.to_dir);
     let behind = need_prep(region, target, target.size, target.size + ENTRY_SIZE);
-    behind + need_cover(region, &touched_two(&words_behind(region, to_move)))
+    behind + need_cover(region, &touched_two(&words_behind(region, to_move), &[]))
 }
 
 /// The words near which a name moves behind the last entry of its new directory: that of the cover, and those at the end of
@@ -67,7 +67,7 @@ pub(crate) fn targets_behind<R: Region>(region: &R, to_move: &Move<'_>) -> Targe
         (moves to_move.now.from_dir to_move.now.from_slot to_move.now.to_dir) }
 {
     let mut targets = Targets::new();
-    targets.push(cover(region, &touched_two(&words_behind(region, to_move))));
+    targets.push(cover(region, &touched_two(&words_behind(region, to_move), &[])));
     let root = root_path(region, to_move.to_dir);
     push_end(&mut targets, &root, tree_of(region, to_move.to_dir));
     targets
@@ -96,7 +96,8 @@ pub(crate) fn move_behind<R: Region>(parts: &mut Parts<R>, to_move: &Move<'_>)
     let inode = inumber(&parts.region, source, to_move.from_slot) as u32;
     let target = tree_of(&parts.region, to_move.to_dir);
     let words = words_behind(&parts.region, to_move);
-    let touched = touched_two(&words);
+    let trees = trees_of_one(&parts.region, to_move.from_dir);
+    let touched = touched_two(&words, &trees);
     put_behind(parts, to_move.to_dir, target, inode, to_move.name);
     commit(parts, &touched);
 }

@@ -14,7 +14,7 @@ ghost use Rattle.pm_region.specs.Memory.{current_words, room_in};
 ghost use Rattle.bp_rename.specs.TouchesTwo.{AreTwo, inumber_path};
 
 use crate::moving::Move;
-use crate::touching::touched_two;
+use crate::touching::{touched_two, trees_of_both};
 use bp_calls::{Targets, entry_path, give_back};
 use bp_cow::{commit, cover, need_cover};
 use bp_dirs::inumber;
@@ -47,7 +47,10 @@ pub(crate) fn need_onto<R: Region>(region: &R, to_move: &Move<'_>, slot: u64) ->
         (replaces to_move.now.from_dir to_move.now.from_slot to_move.now.to_dir slot) }
     ensures few { result < 2 ^ 31 }
 {
-    need_cover(region, &touched_two(&words_onto(region, to_move, slot)))
+    need_cover(
+        region,
+        &touched_two(&words_onto(region, to_move, slot), &[]),
+    )
 }
 
 /// The word near which a rename onto an entry stores: that of the cover.
@@ -58,7 +61,10 @@ pub(crate) fn targets_onto<R: Region>(region: &R, to_move: &Move<'_>, slot: u64)
         (replaces to_move.now.from_dir to_move.now.from_slot to_move.now.to_dir slot) }
 {
     let mut targets = Targets::new();
-    targets.push(cover(region, &touched_two(&words_onto(region, to_move, slot))));
+    targets.push(cover(
+        region,
+        &touched_two(&words_onto(region, to_move, slot), &[]),
+    ));
     targets
 }
 
@@ -86,7 +92,8 @@ pub(crate) fn rename_onto<R: Region>(parts: &mut Parts<R>, to_move: &Move<'_>, s
     let target = tree_of(&parts.region, to_move.to_dir);
     let replaced = inumber(&parts.region, target, slot) as u32;
     let words = words_onto(&parts.region, to_move, slot);
-    let touched = touched_two(&words);
+    let trees = trees_of_both(&parts.region, to_move.from_dir, to_move.to_dir);
+    let touched = touched_two(&words, &trees);
     let names = parts.counts.names(replaced) - 1;
     parts.counts.set(replaced, names);
     commit(parts, &touched);

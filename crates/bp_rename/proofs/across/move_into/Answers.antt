@@ -11,6 +11,7 @@ use Rattle.bp_rename.proofs.IntoLaws.{mid_formed, mid_whole}
 use Rattle.bp_rename.proofs.IntoMoved.{into_copies, into_counts, into_exact, into_fits, into_mid_loose, into_performs, into_ready, into_room, into_whole_image}
 use Rattle.bp_rename.proofs.KeptCounts.{exact_kept}
 use Rattle.bp_rename.proofs.RenameTargets.{slot_loose}
+use Rattle.bp_rename.specs.TouchesTwo.{AnyTree}
 use Rattle.bp_rename.proofs.TwoWords.{touches_two}
 use Rattle.bp_rename.proofs.across.move_into.Goals as goal
 
@@ -56,7 +57,7 @@ barrier-requires g c =
 
 pub commit-requires : goal.commit-requires
 commit-requires g c κs inside =
-    let touches = touches_two c.touched_two-touched.result c.words_into-words.result c.touched_two-touched.ensures.words c.touched_two-touched.ensures.none c.touched_two-touched.ensures.trees c.words_into-words.ensures in
+    let touches = touches_two (current_words (g.R.Region.memory c.args.parts.now.region)) AnyTree c.touched_two-touched.result c.words_into-words.result c.trees_of_both-trees.result c.touched_two-touched.ensures.words c.touched_two-touched.ensures.none c.touched_two-touched.ensures.trees c.trees_of_both-trees.ensures c.words_into-words.ensures in
     let old : Memory = g.R.Region.memory c.args.parts.now.region in
     let third : Memory = g.R.Region.memory c.put_name.new.region in
     let mid : Memory = g.R.Region.memory c.barrier.new.self in
@@ -79,7 +80,7 @@ commit-requires g c κs inside =
 
 pub returns-clause-performs : goal.returns-clause-performs
 returns-clause-performs g c =
-    let touches = touches_two c.touched_two-touched.result c.words_into-words.result c.touched_two-touched.ensures.words c.touched_two-touched.ensures.none c.touched_two-touched.ensures.trees c.words_into-words.ensures in
+    let touches = touches_two (current_words (g.R.Region.memory c.args.parts.now.region)) AnyTree c.touched_two-touched.result c.words_into-words.result c.trees_of_both-trees.result c.touched_two-touched.ensures.words c.touched_two-touched.ensures.none c.touched_two-touched.ensures.trees c.trees_of_both-trees.ensures c.words_into-words.ensures in
     let old : Memory = g.R.Region.memory c.args.parts.now.region in
     let third : Memory = g.R.Region.memory c.put_name.new.region in
     let mid : Memory = g.R.Region.memory c.barrier.new.self in
@@ -93,7 +94,7 @@ returns-clause-performs g c =
 
 pub returns-clause-exact : goal.returns-clause-exact
 returns-clause-exact g c =
-    let touches = touches_two c.touched_two-touched.result c.words_into-words.result c.touched_two-touched.ensures.words c.touched_two-touched.ensures.none c.touched_two-touched.ensures.trees c.words_into-words.ensures in
+    let touches = touches_two (current_words (g.R.Region.memory c.args.parts.now.region)) AnyTree c.touched_two-touched.result c.words_into-words.result c.trees_of_both-trees.result c.touched_two-touched.ensures.words c.touched_two-touched.ensures.none c.touched_two-touched.ensures.trees c.trees_of_both-trees.ensures c.words_into-words.ensures in
     let old : Memory = g.R.Region.memory c.args.parts.now.region in
     let third : Memory = g.R.Region.memory c.put_name.new.region in
     let mid : Memory = g.R.Region.memory c.barrier.new.self in
@@ -113,3 +114,17 @@ returns-clause-exact g c =
     (into_counts old third mid move c.args.slot c.entry_place-entry.result c.requires.can c.requires.new c.requires.other c.requires.found stands c.put_name.ensures.stores c.put_name.ensures.name c.barrier.ensures
     c.touched_two-touched.result touches c.args.parts.now.blocks c.args.parts.now.inodes c.requires.exact.sets c.requires.room loose
     new c.commit.new.parts.blocks c.commit.ensures.commits c.commit.ensures.size c.args.parts.now.counts c.requires.exact.counts)
+
+-- ---- the trees that the ways go through
+
+pub trees_of_both-trees-requires-clause-first_some : goal.trees_of_both-trees-requires-clause-first_some
+trees_of_both-trees-requires-clause-first_some g c = directory_some (current_words (g.R.Region.memory c.args.parts.now.region)) c.args.to_move.now.from_dir c.requires.can.entry.directory
+
+pub trees_of_both-trees-requires-clause-first_entries : goal.trees_of_both-trees-requires-clause-first_entries
+trees_of_both-trees-requires-clause-first_entries g c = omega (arith, c.requires.can.entry.in_size)
+
+pub trees_of_both-trees-requires-clause-second_some : goal.trees_of_both-trees-requires-clause-second_some
+trees_of_both-trees-requires-clause-second_some g c = directory_some (current_words (g.R.Region.memory c.args.parts.now.region)) c.args.to_move.now.to_dir c.requires.can.directory
+
+pub trees_of_both-trees-requires-clause-second_entries : goal.trees_of_both-trees-requires-clause-second_entries
+trees_of_both-trees-requires-clause-second_entries g c = let low = (found_empty (current_words (g.R.Region.memory c.args.parts.now.region)) c.args.to_move.now.to_dir c.args.slot c.requires.found).0 in omega (arith, low)

@@ -10,17 +10,18 @@ use Rattle.bp_calls.proofs.TargetPaths.{directory_some}
 use Rattle.pm_region.specs.Memory.{current_words}
 use Rattle.bp_rename.proofs.BehindTouched.{touched_inside, touched_now, touched_shape}
 use Rattle.bp_rename.proofs.RenameTargets.{behind_targets, root_is}
-use Rattle.bp_rename.proofs.TwoWords.{touches_two}
+use Rattle.bp_rename.specs.TouchesTwo.{OtherTree}
+use Rattle.bp_rename.proofs.TwoWords.{touches_bare}
 use Rattle.bp_rename.proofs.behind.targets_behind.Goals as goal
 
 pub cover-requires-clause-touched : goal.cover-requires-clause-touched
 cover-requires-clause-touched g c =
-    let touches = touches_two c.touched_two.result c.words_behind.result c.touched_two.ensures.words c.touched_two.ensures.none c.touched_two.ensures.trees c.words_behind.ensures in
+    let touches = touches_bare (current_words (g.R.Region.memory c.args.region.now)) (OtherTree c.args.to_move.now.to_dir) c.touched_two.result c.words_behind.result c.touched_two.ensures.words c.touched_two.ensures.none c.touched_two.ensures.trees c.words_behind.ensures in
     touched_shape (current_words (g.R.Region.memory c.args.region.now)) c.args.to_move.now c.requires.can c.requires.other c.requires.none c.touched_two.result touches
 
 pub cover-requires-clause-in_range : goal.cover-requires-clause-in_range
 cover-requires-clause-in_range g c =
-    let touches = touches_two c.touched_two.result c.words_behind.result c.touched_two.ensures.words c.touched_two.ensures.none c.touched_two.ensures.trees c.words_behind.ensures in
+    let touches = touches_bare (current_words (g.R.Region.memory c.args.region.now)) (OtherTree c.args.to_move.now.to_dir) c.touched_two.result c.words_behind.result c.touched_two.ensures.words c.touched_two.ensures.none c.touched_two.ensures.trees c.words_behind.ensures in
     touched_inside (current_words (g.R.Region.memory c.args.region.now)) c.args.to_move.now c.requires.can c.requires.other c.requires.none c.touched_two.result touches
 
 pub push_end-requires-clause-short : goal.push_end-requires-clause-short
@@ -32,7 +33,7 @@ push_end-requires-clause-short g c =
 
 pub returns : goal.returns
 returns g c =
-    let touches = touches_two c.touched_two.result c.words_behind.result c.touched_two.ensures.words c.touched_two.ensures.none c.touched_two.ensures.trees c.words_behind.ensures in
+    let touches = touches_bare (current_words (g.R.Region.memory c.args.region.now)) (OtherTree c.args.to_move.now.to_dir) c.touched_two.result c.words_behind.result c.touched_two.ensures.words c.touched_two.ensures.none c.touched_two.ensures.trees c.words_behind.ensures in
     let image = current_words (g.R.Region.memory c.args.region.now) in
     c.push_end.ensures image c.args.to_move.now.to_dir
     (c.root_path-root.ensures ∙ root_is (height_of (root_of image 0)) c.args.to_move.now.to_dir (directory_some image c.args.to_move.now.to_dir c.requires.can.directory)) c.tree_of.ensures.root c.tree_of.ensures.size

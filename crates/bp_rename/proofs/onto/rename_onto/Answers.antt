@@ -8,7 +8,9 @@ use Rattle.bp_rename.proofs.OntoDone.{has_room, inode_in_room, inode_taken, inod
 use Rattle.bp_rename.proofs.OntoNames.{onto_counted, onto_last, onto_named, onto_other}
 use Rattle.bp_rename.proofs.OntoLaws.{onto_loose, onto_need, replaced, replaced_few, replaced_some}
 use Rattle.bp_layout.specs.Reached.IsReached.{inode_file}
+use Rattle.bp_rename.specs.TouchesTwo.{AnyTree}
 use Rattle.bp_rename.proofs.TwoWords.{touches_two}
+use Rattle.bp_calls.proofs.TargetPaths.{directory_some}
 use Rattle.bp_calls.proofs.CountLaws.{exact_with}
 use Rattle.bp_rename.proofs.onto.rename_onto.Goals as goal
 
@@ -27,7 +29,7 @@ overflow_cast-replaced g c =
 
 pub commit-requires : goal.commit-requires
 commit-requires g c κs within =
-    let touches = touches_two c.touched_two-touched.result c.words_onto-words.result c.touched_two-touched.ensures.words c.touched_two-touched.ensures.none c.touched_two-touched.ensures.trees c.words_onto-words.ensures in
+    let touches = touches_two (current_words (g.R.Region.memory c.args.parts.now.region)) AnyTree c.touched_two-touched.result c.words_onto-words.result c.trees_of_both-trees.result c.touched_two-touched.ensures.words c.touched_two-touched.ensures.none c.touched_two-touched.ensures.trees c.trees_of_both-trees.ensures c.words_onto-words.ensures in
     let old : Memory = g.R.Region.memory c.args.parts.now.region in
     let can = ready old c.args.to_move.now c.args.slot c.requires.can c.requires.onto
     c.touched_two-touched.result touches c.args.parts.now.blocks c.args.parts.now.inodes c.requires.exact.sets c.requires.room in
@@ -41,7 +43,7 @@ commit-requires g c κs within =
 
 pub get-inode-requires-clause-sound : goal.get-inode-requires-clause-sound
 get-inode-requires-clause-sound g c =
-    let touches = touches_two c.touched_two-touched.result c.words_onto-words.result c.touched_two-touched.ensures.words c.touched_two-touched.ensures.none c.touched_two-touched.ensures.trees c.words_onto-words.ensures in
+    let touches = touches_two (current_words (g.R.Region.memory c.args.parts.now.region)) AnyTree c.touched_two-touched.result c.words_onto-words.result c.trees_of_both-trees.result c.touched_two-touched.ensures.words c.touched_two-touched.ensures.none c.touched_two-touched.ensures.trees c.trees_of_both-trees.ensures c.words_onto-words.ensures in
     let old : Memory = g.R.Region.memory c.args.parts.now.region in
     let new : Memory = g.R.Region.memory c.commit.new.parts.region in
     let formed = onto_well_formed old new c.args.to_move.now c.args.slot c.requires.can c.requires.onto
@@ -58,7 +60,7 @@ get-inode-requires-clause-some g c =
 
 pub get-inode-requires-clause-there : goal.get-inode-requires-clause-there
 get-inode-requires-clause-there g c =
-    let touches = touches_two c.touched_two-touched.result c.words_onto-words.result c.touched_two-touched.ensures.words c.touched_two-touched.ensures.none c.touched_two-touched.ensures.trees c.words_onto-words.ensures in
+    let touches = touches_two (current_words (g.R.Region.memory c.args.parts.now.region)) AnyTree c.touched_two-touched.result c.words_onto-words.result c.trees_of_both-trees.result c.touched_two-touched.ensures.words c.touched_two-touched.ensures.none c.touched_two-touched.ensures.trees c.trees_of_both-trees.ensures c.words_onto-words.ensures in
     let old : Memory = g.R.Region.memory c.args.parts.now.region in
     let new : Memory = g.R.Region.memory c.commit.new.parts.region in
     let named : c.inumber-replaced.result ≡ inumber_at (current_words old) c.args.to_move.now.to_dir c.args.slot =
@@ -68,7 +70,7 @@ get-inode-requires-clause-there g c =
 
 pub get-inode-requires-clause-least : goal.get-inode-requires-clause-least
 get-inode-requires-clause-least g c =
-    let touches = touches_two c.touched_two-touched.result c.words_onto-words.result c.touched_two-touched.ensures.words c.touched_two-touched.ensures.none c.touched_two-touched.ensures.trees c.words_onto-words.ensures in
+    let touches = touches_two (current_words (g.R.Region.memory c.args.parts.now.region)) AnyTree c.touched_two-touched.result c.words_onto-words.result c.trees_of_both-trees.result c.touched_two-touched.ensures.words c.touched_two-touched.ensures.none c.touched_two-touched.ensures.trees c.trees_of_both-trees.ensures c.words_onto-words.ensures in
     let old : Memory = g.R.Region.memory c.args.parts.now.region in
     let new : Memory = g.R.Region.memory c.commit.new.parts.region in
     let named : c.inumber-replaced.result ≡ inumber_at (current_words old) c.args.to_move.now.to_dir c.args.slot =
@@ -78,7 +80,7 @@ get-inode-requires-clause-least g c =
 
 pub get-inode-requires-clause-most : goal.get-inode-requires-clause-most
 get-inode-requires-clause-most g c =
-    let touches = touches_two c.touched_two-touched.result c.words_onto-words.result c.touched_two-touched.ensures.words c.touched_two-touched.ensures.none c.touched_two-touched.ensures.trees c.words_onto-words.ensures in
+    let touches = touches_two (current_words (g.R.Region.memory c.args.parts.now.region)) AnyTree c.touched_two-touched.result c.words_onto-words.result c.trees_of_both-trees.result c.touched_two-touched.ensures.words c.touched_two-touched.ensures.none c.touched_two-touched.ensures.trees c.trees_of_both-trees.ensures c.words_onto-words.ensures in
     let old : Memory = g.R.Region.memory c.args.parts.now.region in
     let new : Memory = g.R.Region.memory c.commit.new.parts.region in
     let named : c.inumber-replaced.result ≡ inumber_at (current_words old) c.args.to_move.now.to_dir c.args.slot =
@@ -88,7 +90,7 @@ get-inode-requires-clause-most g c =
 
 pub give_back-requires-clause-sound : goal.give_back-requires-clause-sound
 give_back-requires-clause-sound g c =
-    let touches = touches_two c.touched_two-touched.result c.words_onto-words.result c.touched_two-touched.ensures.words c.touched_two-touched.ensures.none c.touched_two-touched.ensures.trees c.words_onto-words.ensures in
+    let touches = touches_two (current_words (g.R.Region.memory c.args.parts.now.region)) AnyTree c.touched_two-touched.result c.words_onto-words.result c.trees_of_both-trees.result c.touched_two-touched.ensures.words c.touched_two-touched.ensures.none c.touched_two-touched.ensures.trees c.trees_of_both-trees.ensures c.words_onto-words.ensures in
     let old : Memory = g.R.Region.memory c.args.parts.now.region in
     let new : Memory = g.R.Region.memory c.commit.new.parts.region in
     let named : c.inumber-replaced.result ≡ inumber_at (current_words old) c.args.to_move.now.to_dir c.args.slot =
@@ -98,7 +100,7 @@ give_back-requires-clause-sound g c =
 
 pub give_back-requires-clause-taken : goal.give_back-requires-clause-taken
 give_back-requires-clause-taken g c =
-    let touches = touches_two c.touched_two-touched.result c.words_onto-words.result c.touched_two-touched.ensures.words c.touched_two-touched.ensures.none c.touched_two-touched.ensures.trees c.words_onto-words.ensures in
+    let touches = touches_two (current_words (g.R.Region.memory c.args.parts.now.region)) AnyTree c.touched_two-touched.result c.words_onto-words.result c.trees_of_both-trees.result c.touched_two-touched.ensures.words c.touched_two-touched.ensures.none c.touched_two-touched.ensures.trees c.trees_of_both-trees.ensures c.words_onto-words.ensures in
     let old : Memory = g.R.Region.memory c.args.parts.now.region in
     let new : Memory = g.R.Region.memory c.commit.new.parts.region in
     let named : c.inumber-replaced.result ≡ inumber_at (current_words old) c.args.to_move.now.to_dir c.args.slot =
@@ -108,7 +110,7 @@ give_back-requires-clause-taken g c =
 
 pub give_back-requires-clause-known : goal.give_back-requires-clause-known
 give_back-requires-clause-known g c =
-    let touches = touches_two c.touched_two-touched.result c.words_onto-words.result c.touched_two-touched.ensures.words c.touched_two-touched.ensures.none c.touched_two-touched.ensures.trees c.words_onto-words.ensures in
+    let touches = touches_two (current_words (g.R.Region.memory c.args.parts.now.region)) AnyTree c.touched_two-touched.result c.words_onto-words.result c.trees_of_both-trees.result c.touched_two-touched.ensures.words c.touched_two-touched.ensures.none c.touched_two-touched.ensures.trees c.trees_of_both-trees.ensures c.words_onto-words.ensures in
     let old : Memory = g.R.Region.memory c.args.parts.now.region in
     let new : Memory = g.R.Region.memory c.commit.new.parts.region in
     let whole = onto_whole old new c.args.to_move.now c.args.slot c.requires.can c.requires.onto
@@ -117,7 +119,7 @@ give_back-requires-clause-known g c =
 
 pub give-requires-clause-in_range : goal.give-requires-clause-in_range
 give-requires-clause-in_range g c =
-    let touches = touches_two c.touched_two-touched.result c.words_onto-words.result c.touched_two-touched.ensures.words c.touched_two-touched.ensures.none c.touched_two-touched.ensures.trees c.words_onto-words.ensures in
+    let touches = touches_two (current_words (g.R.Region.memory c.args.parts.now.region)) AnyTree c.touched_two-touched.result c.words_onto-words.result c.trees_of_both-trees.result c.touched_two-touched.ensures.words c.touched_two-touched.ensures.none c.touched_two-touched.ensures.trees c.trees_of_both-trees.ensures c.words_onto-words.ensures in
     let old : Memory = g.R.Region.memory c.args.parts.now.region in
     let named : c.inumber-replaced.result ≡ inumber_at (current_words old) c.args.to_move.now.to_dir c.args.slot =
     c.inumber-replaced.ensures ∙ ap (λ root. inumber_in (current_words old) root c.args.slot) c.tree_of-target.ensures.root in
@@ -127,7 +129,7 @@ give-requires-clause-in_range g c =
 
 pub give-requires-clause-taken : goal.give-requires-clause-taken
 give-requires-clause-taken g c =
-    let touches = touches_two c.touched_two-touched.result c.words_onto-words.result c.touched_two-touched.ensures.words c.touched_two-touched.ensures.none c.touched_two-touched.ensures.trees c.words_onto-words.ensures in
+    let touches = touches_two (current_words (g.R.Region.memory c.args.parts.now.region)) AnyTree c.touched_two-touched.result c.words_onto-words.result c.trees_of_both-trees.result c.touched_two-touched.ensures.words c.touched_two-touched.ensures.none c.touched_two-touched.ensures.trees c.trees_of_both-trees.ensures c.words_onto-words.ensures in
     let old : Memory = g.R.Region.memory c.args.parts.now.region in
     let named : c.inumber-replaced.result ≡ inumber_at (current_words old) c.args.to_move.now.to_dir c.args.slot =
     c.inumber-replaced.ensures ∙ ap (λ root. inumber_in (current_words old) root c.args.slot) c.tree_of-target.ensures.root in
@@ -166,7 +168,7 @@ set-requires g c =
 -- what had the name has another one
 pub returns-then-names-gt0 : goal.returns-then-names-gt0
 returns-then-names-gt0 g c =
-    let touches = touches_two c.touched_two-touched.result c.words_onto-words.result c.touched_two-touched.ensures.words c.touched_two-touched.ensures.none c.touched_two-touched.ensures.trees c.words_onto-words.ensures in
+    let touches = touches_two (current_words (g.R.Region.memory c.args.parts.now.region)) AnyTree c.touched_two-touched.result c.words_onto-words.result c.trees_of_both-trees.result c.touched_two-touched.ensures.words c.touched_two-touched.ensures.none c.touched_two-touched.ensures.trees c.trees_of_both-trees.ensures c.words_onto-words.ensures in
     let old : Memory = g.R.Region.memory c.args.parts.now.region in
     let new : Memory = g.R.Region.memory c.commit.new.parts.region in
     let named : c.inumber-replaced.result ≡ inumber_at (current_words old) c.args.to_move.now.to_dir c.args.slot =
@@ -193,7 +195,7 @@ returns-then-names-gt0 g c =
 -- the name was its last
 pub returns : goal.returns
 returns g c =
-    let touches = touches_two c.touched_two-touched.result c.words_onto-words.result c.touched_two-touched.ensures.words c.touched_two-touched.ensures.none c.touched_two-touched.ensures.trees c.words_onto-words.ensures in
+    let touches = touches_two (current_words (g.R.Region.memory c.args.parts.now.region)) AnyTree c.touched_two-touched.result c.words_onto-words.result c.trees_of_both-trees.result c.touched_two-touched.ensures.words c.touched_two-touched.ensures.none c.touched_two-touched.ensures.trees c.trees_of_both-trees.ensures c.words_onto-words.ensures in
     let old : Memory = g.R.Region.memory c.args.parts.now.region in
     let new : Memory = g.R.Region.memory c.commit.new.parts.region in
     let named : c.inumber-replaced.result ≡ inumber_at (current_words old) c.args.to_move.now.to_dir c.args.slot =
@@ -218,3 +220,17 @@ returns g c =
           (rw (c.commit.ensures.counts, c.set.ensures, named) (onto_counts old new c.args.to_move.now c.args.slot c.requires.can c.requires.onto
           c.touched_two-touched.result touches c.args.parts.now.blocks c.args.parts.now.inodes c.commit.new.parts.blocks c.requires.exact.sets c.requires.room c.commit.ensures.commits c.commit.ensures.size c.args.parts.now.counts c.requires.exact.counts low (c.names-names.result - 1) (omega (arith, some, read))));
     }
+
+-- ---- the trees that the ways go through
+
+pub trees_of_both-trees-requires-clause-first_some : goal.trees_of_both-trees-requires-clause-first_some
+trees_of_both-trees-requires-clause-first_some g c = directory_some (current_words (g.R.Region.memory c.args.parts.now.region)) c.args.to_move.now.from_dir c.requires.can.entry.directory
+
+pub trees_of_both-trees-requires-clause-first_entries : goal.trees_of_both-trees-requires-clause-first_entries
+trees_of_both-trees-requires-clause-first_entries g c = omega (arith, c.requires.can.entry.in_size)
+
+pub trees_of_both-trees-requires-clause-second_some : goal.trees_of_both-trees-requires-clause-second_some
+trees_of_both-trees-requires-clause-second_some g c = directory_some (current_words (g.R.Region.memory c.args.parts.now.region)) c.args.to_move.now.to_dir c.requires.can.directory
+
+pub trees_of_both-trees-requires-clause-second_entries : goal.trees_of_both-trees-requires-clause-second_entries
+trees_of_both-trees-requires-clause-second_entries g c = let low = (replaced (current_words (g.R.Region.memory c.args.parts.now.region)) c.args.to_move.now c.args.slot c.requires.can c.requires.onto).in_size in omega (arith, low)

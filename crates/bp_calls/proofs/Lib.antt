@@ -74,3 +74,4 @@ pub mod CommitResults
 pub mod RunCommits
 pub mod WriteBelow
 pub mod RowLaws
+pub mod CoverPaths

@@ -9,7 +9,7 @@ use Rattle.bp_calls.specs.ThawsFor.{ThawsFor}
 use Rattle.bp_calls.proofs.ThawedParts.{mounted_thawed, thawed_clear}
 use Rattle.bp_changes.proofs.Formatted.{version_stays}
 use Rattle.bp_changes.proofs.ReachedOn.{reached_on}
-use Rattle.bp_free.specs.Set.{Set, members}
+use Rattle.bp_free.specs.Set.{Set}
 use Rattle.bp_free.specs.declared.parts.Parts.{Parts}
 use Rattle.bp_layout.specs.Formatted.{version_of}
 use Rattle.bp_layout.specs.Inode.{IsFile, size_of}

@@ -9,7 +9,6 @@ use Rattle.bp_thaw.specs.Fronts.{IsPointerPath}
 use Rattle.bp_thaw.proofs.PointerPaths.{front_path}
 use Rattle.bp_layout.proofs.Reached.{reached-in_file}
 use Rattle.bp_changes.specs.Effects.{CanUnlink}
-use Rattle.bp_layout.specs.Directory.{entry_count}
 use Rattle.bp_layout.specs.Inode.{ContentStandsAt, inode_count, kind_of, root_of, size_of}
 use Rattle.bp_layout.specs.Members.{Has}
 use Rattle.bp_layout.specs.Need.{Beyond, beyond, is_there_after}
@@ -33,10 +32,11 @@ pub directory_some : (image : Image) (t : ℕ) → kind_of image t ≡ 2 → 1 �
 directory_some image zero kind = absurd (omega (arith, kind))
 directory_some image (suc n) kind = omega arith
 
-pub entry_fits : (image : Image) → IsWellFormed image → (t slot : ℕ) → IsReached image t → slot < entry_count image t → height_of (root_of image 0) + height_of (root_of image t) ≤ 2 * max_height
-entry_fits image wf t slot reached live =
+-- the path of a word of a reached tree is no longer than a path can be
+pub content_fits : (image : Image) → IsWellFormed image → (t off : ℕ) → IsReached image t → off < size_of image t → height_of (root_of image 0) + height_of (root_of image t) ≤ 2 * max_height
+content_fits image wf t off reached below =
     let top : height_of (root_of image 0) ≤ max_height = (wf.sound 0 inode_file).low (omega (arith, wf.some_inodes)) in
-    let low : height_of (root_of image t) ≤ max_height = (wf.sound t reached).low (omega (arith, live)) in
+    let low : height_of (root_of image t) ≤ max_height = (wf.sound t reached).low (omega (arith, below)) in
     omega (arith, top, low)
 
 -- a number has as many digits as its power has

@@ -1,6 +1,6 @@
 //! The words near which a change stores, before it is made.
 
-ghost use Rattle.std.specs.Prelude.{◌≡◌, ℕ, suc, ◌+◌, ◌*◌, ◌<◌, ◌≤◌, [], ◌∷◌, ◌++◌, length};
+ghost use Rattle.std.specs.Prelude.{◌≡◌, ℕ, suc, ◌+◌, ◌*◌, ◌/◌, ◌<◌, ◌≤◌, [], ◌∷◌, ◌++◌, length};
 ghost use Rattle.bp_calls.specs.CanWrite.{CanWrite};
 ghost use Rattle.bp_calls.specs.Mounted.{IsMounted};
 ghost use Rattle.bp_changes.specs.Effects.{CanUnlink};
@@ -29,6 +29,24 @@ use pm_words::span;
 /// The ways to these words. No change has more than eight.
 pub type Targets = ArrayVec<Slots, 8>;
 
+/// The path of the word of a byte of a tree other than the inode file, given the tree.
+pub(crate) fn content_path<R: Region>(region: &R, i: u32, tree: Tree, off: u64) -> Slots
+    requires well_formed { IsWellFormed (current_words (R.memory region.now)) }
+    requires reached { IsReached (current_words (R.memory region.now)) i }
+    requires some { 1 ≤ i }
+    requires root { tree.root ≡ root_of (current_words (R.memory region.now)) i }
+    requires below { off < size_of (current_words (R.memory region.now)) i }
+    ensures { result.items ≡ tree_path (height_of (root_of (current_words (R.memory region.now)) 0)) i
+        (suc (height_of (root_of (current_words (R.memory region.now)) i))) (off / 8) }
+{
+    let mut path = root_path(region, i);
+    let within = word_path(tree, off);
+    match path.try_extend_from_slice(within.as_slice()) {
+        Ok(()) => path,
+        Err(_) => unreachable!(),
+    }
+}
+
 /// The path of the inumber of an entry.
 pub fn entry_path<R: Region>(region: &R, dir: u32, slot: u64) -> Slots
     requires well_formed { IsWellFormed (current_words (R.memory region.now)) }
@@ -38,12 +56,7 @@ pub fn entry_path<R: Region>(region: &R, dir: u32, slot: u64) -> Slots
     ensures { result.items ≡ tree_path (height_of (root_of (current_words (R.memory region.now)) 0)) dir
         (suc (height_of (root_of (current_words (R.memory region.now)) dir))) (entry_words * slot + 0) }
 {
-    let mut path = root_path(region, dir);
-    let within = word_path(tree_of(region, dir), slot * ENTRY_SIZE);
-    match path.try_extend_from_slice(within.as_slice()) {
-        Ok(()) => path,
-        Err(_) => unreachable!(),
-    }
+    content_path(region, dir, tree_of(region, dir), slot * ENTRY_SIZE)
 }
 
 /// Where a name leaves the entry in `slot`: the inumber alone.

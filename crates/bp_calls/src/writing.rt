@@ -8,7 +8,7 @@ ghost use Rattle.bp_shapes.specs.Sets.{IsExact, kept_of};
 ghost use Rattle.bp_calls.specs.Space.{HasRoomThawed, HasRoomWhereFree, LacksBlocks, LacksSpace};
 ghost use Rattle.bp_calls.specs.ThawsFor.{ThawsFor};
 ghost use Rattle.bp_free.specs.Set.{members};
-ghost use Rattle.bp_layout.specs.Thaw.{targets, thawed};
+ghost use Rattle.bp_layout.specs.Thaw.{cover_now, targets, thawed};
 ghost use Rattle.bp_calls.specs.WritesFile.{WritesFile};
 ghost use Rattle.bp_layout.specs.Inode.{root_of, size_of};
 ghost use Rattle.bp_layout.specs.Need.{need};
@@ -18,12 +18,12 @@ ghost use Rattle.pm_region.specs.Memory.{current_words};
 
 mod across;
 
-use crate::committing::{commit_below, run_for, touched_by};
-use crate::targets::writing;
+use crate::committing::{commit_below, commit_found, run_for, touched_by};
+use crate::targets::{content_path, writing};
 use crate::thawing::{enough_free, thaw_before};
 use crate::writing::across::{need_across, write_across};
 use bp_append::{need_prep, prep};
-use bp_cow::need_cover;
+use bp_cow::{Run, find_cover, need_cover};
 use bp_free::{NoSpace, Parts};
 use bp_inodes::{place, root_path, tree_of};
 use bp_inplace::commit_word;
@@ -77,6 +77,32 @@ fn is_clear<R: Region>(parts: &Parts<R>, i: u32, off: u64, bytes: &[u8]) -> bool
     }
     let targets = writing(parts, i, off, bytes);
     thaw_need(parts, &targets) == 0
+}
+
+/// The same for the run of bytes that end at the size of the file at most, given its tree and how many slots the path has
+/// that covers what they touch.
+fn is_clear_below<R: Region>(
+    parts: &Parts<R>,
+    i: u32,
+    tree: Tree,
+    run: &Run<'_>,
+    cover: usize,
+) -> bool
+    requires root { tree.root ≡ root_of (current_words (R.memory parts.now.region)) i }
+    requires mounted { IsMounted (current_words (R.memory parts.now.region)) parts.now }
+    requires can { CanWrite (current_words (R.memory parts.now.region)) i run.now.off run.now.bytes.now }
+    requires below { run.now.off + length run.now.bytes.now ≤ size_of (current_words (R.memory parts.now.region)) i }
+    requires cover { cover ≡ length (cover_now (current_words (R.memory parts.now.region))
+        (writes i run.now.off (length run.now.bytes.now))) }
+    ensures { result ≡ true → thawed (current_words (R.memory parts.now.region)) (kept_of parts.now)
+        (writes i run.now.off (length run.now.bytes.now)) ≡ [] }
+{
+    if parts.frozen.count() == 0 {
+        return true;
+    }
+    let mut path = content_path(&parts.region, i, tree, run.off);
+    path.truncate(cover);
+    bp_thaw::is_clear(parts, &path)
 }
 
 /// Thaws what is kept on the ways to the words near which bytes come into a file.
@@ -181,6 +207,42 @@ fn write_past<R: Region>(parts: &mut Parts<R>, i: u32, size: u64, off: u64, byte
     write_across(parts, i, off, bytes);
 }
 
+/// What [`write`] does where some bytes lie past the size of the file, once nothing is left to thaw, given its tree.
+///
+/// # Errors
+///
+/// Where fewer blocks are free than are needed. Nothing has changed then.
+fn write_longer<R: Region>(
+    parts: &mut Parts<R>,
+    i: u32,
+    tree: Tree,
+    off: u64,
+    bytes: &[u8],
+) -> Result<(), NoSpace>
+    requires root { tree.root ≡ root_of (current_words (R.memory parts.old.region)) i }
+    requires size { tree.size ≡ size_of (current_words (R.memory parts.old.region)) i }
+    requires can { CanWriteThawed (kept_of parts.old) (R.memory parts.old.region) parts.old.blocks parts.old.inodes i off bytes.now }
+    requires exact { IsExact (current_words (R.memory parts.old.region)) parts.old }
+    requires past { size_of (current_words (R.memory parts.old.region)) i < off + length bytes.now }
+    ensures performs { OnOk result (PerformsThawed (kept_of parts.old) (R.memory parts.old.region) (R.memory parts.new.region)
+        (writes i off (length bytes.now)) (WritesFile i off bytes.now)) }
+    ensures frozen { parts.new.frozen ≡ parts.old.frozen }
+    ensures exact { IsExact (current_words (R.memory parts.new.region)) parts.new }
+    ensures refused { IfErr result (LacksBlocks (current_words (R.memory parts.old.region)) (kept_of parts.old)
+        (need (current_words (R.memory parts.old.region)) (writes i off (length bytes.now)))) }
+    ensures free { IfErr result (λ lacks. lacks.free ≡ length (members parts.old.blocks)) }
+    ensures same { OnErr result (parts.new ≡ parts.old) }
+{
+    let need = need_write(parts, i, tree, off, bytes);
+    match enough_free(parts, need) {
+        Ok(()) => {
+            write_past(parts, i, tree.size, off, bytes);
+            Ok(())
+        }
+        Err(lacks) => Err(lacks),
+    }
+}
+
 /// What [`write`] does once nothing is left to thaw.
 ///
 /// # Errors
@@ -207,14 +269,72 @@ fn write_thawed<R: Region>(
     if off + bytes.len() as u64 <= tree.size {
         return write_below(parts, i, off, bytes);
     }
-    let need = need_write(parts, i, tree, off, bytes);
-    match enough_free(parts, need) {
-        Ok(()) => {
-            write_past(parts, i, tree.size, off, bytes);
-            Ok(())
-        }
+    write_longer(parts, i, tree, off, bytes)
+}
+
+/// What [`write`] does where something that is kept may have to be thawed.
+///
+/// # Errors
+///
+/// As [`write`].
+fn thaw_and_write<R: Region>(
+    parts: &mut Parts<R>,
+    i: u32,
+    off: u64,
+    bytes: &[u8],
+) -> Result<(), NoSpace>
+    requires mounted { IsMounted (current_words (R.memory parts.old.region)) parts.old }
+    requires can { CanWrite (current_words (R.memory parts.old.region)) i off bytes.now }
+    requires room { HasRoomWhereFree (R.memory parts.old.region) (kept_of parts.old) parts.old.blocks
+        (writes i off (length bytes.now)) }
+    ensures performs { OnOk result (Performs (kept_of parts.old) (R.memory parts.old.region) (R.memory parts.new.region)
+        (writes i off (length bytes.now)) (AfterThaw (WritesFile i off bytes.now))) }
+    ensures frozen { parts.new.frozen ≡ parts.old.frozen }
+    ensures exact { IsExact (current_words (R.memory parts.new.region)) parts.new }
+    ensures refused { IfErr result (LacksSpace (current_words (R.memory parts.old.region)) (kept_of parts.old)
+        (writes i off (length bytes.now))) }
+    ensures same { OnErr result (parts.new ≡ parts.old) }
+{
+    match thaw_write(parts, i, off, bytes) {
+        Ok(()) => write_thawed(parts, i, off, bytes),
         Err(lacks) => Err(lacks),
     }
+}
+
+/// What [`write`] does where the bytes end at the size of the file at most, given its tree. What covers them is found once.
+///
+/// # Errors
+///
+/// As [`write`].
+fn write_within<R: Region>(
+    parts: &mut Parts<R>,
+    i: u32,
+    tree: Tree,
+    off: u64,
+    bytes: &[u8],
+) -> Result<(), NoSpace>
+    requires root { tree.root ≡ root_of (current_words (R.memory parts.old.region)) i }
+    requires size { tree.size ≡ size_of (current_words (R.memory parts.old.region)) i }
+    requires below { off + length bytes.now ≤ size_of (current_words (R.memory parts.old.region)) i }
+    requires mounted { IsMounted (current_words (R.memory parts.old.region)) parts.old }
+    requires can { CanWrite (current_words (R.memory parts.old.region)) i off bytes.now }
+    requires room { HasRoomWhereFree (R.memory parts.old.region) (kept_of parts.old) parts.old.blocks
+        (writes i off (length bytes.now)) }
+    ensures performs { OnOk result (Performs (kept_of parts.old) (R.memory parts.old.region) (R.memory parts.new.region)
+        (writes i off (length bytes.now)) (AfterThaw (WritesFile i off bytes.now))) }
+    ensures frozen { parts.new.frozen ≡ parts.old.frozen }
+    ensures exact { IsExact (current_words (R.memory parts.new.region)) parts.new }
+    ensures refused { IfErr result (LacksSpace (current_words (R.memory parts.old.region)) (kept_of parts.old)
+        (writes i off (length bytes.now))) }
+    ensures same { OnErr result (parts.new ≡ parts.old) }
+{
+    let runs = [run_for(&parts.region, i, tree, off, bytes)];
+    let touched = touched_by(&runs);
+    let cover = find_cover(&parts.region, &touched);
+    if is_clear_below(parts, i, tree, &runs[0], cover.len) {
+        return commit_found(parts, &touched, cover);
+    }
+    thaw_and_write(parts, i, off, bytes)
 }
 
 /// Writes bytes into a file from an offset in bytes on, by one store alone in its epoch. The file then reaches to their
@@ -238,11 +358,12 @@ pub fn write<R: Region>(parts: &mut Parts<R>, i: u32, off: u64, bytes: &[u8]) ->
         (writes i off (length bytes.now))) }
     ensures same { OnErr result (parts.new ≡ parts.old) }
 {
+    let tree = tree_of(&parts.region, i);
+    if off + bytes.len() as u64 <= tree.size {
+        return write_within(parts, i, tree, off, bytes);
+    }
     if is_clear(parts, i, off, bytes) {
-        return write_thawed(parts, i, off, bytes);
+        return write_longer(parts, i, tree, off, bytes);
     }
-    match thaw_write(parts, i, off, bytes) {
-        Ok(()) => write_thawed(parts, i, off, bytes),
-        Err(lacks) => Err(lacks),
-    }
+    thaw_and_write(parts, i, off, bytes)
 }

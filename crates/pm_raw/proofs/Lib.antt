@@ -1,5 +1,6 @@
 mod Blocks
 mod EntryLaws
+mod RunLaws
 mod UndoLaws
 mod EpochLaws
 mod PlaceLaws

@@ -12,3 +12,4 @@ pub mod EntriesRoom
 pub mod Places
 pub mod Undo
 pub mod RawRegion
+pub mod Runs

@@ -1,8 +1,10 @@
 //! A log as it stands in two arrays.
 
-ghost use Rattle.std.specs.Prelude.{◌≡◌, ◌<◌, ◌≤◌, length, take, drop, slice_get, slice_index_or, Some};
+ghost use Rattle.std.specs.Prelude.{◌≡◌, ◌+◌, ◌^◌, ◌<◌, ◌≤◌, length, take, drop, slice_get, slice_index_or, true, Some};
+ghost use Rattle.std.specs.List.{range_with_len};
 ghost use Rattle.pm_epochs.specs.declared.event.Event.TheVariants.{Mark};
 ghost use Rattle.pm_raw.specs.Entries.{event_of, events_of, event_word};
+ghost use Rattle.pm_raw.specs.Runs.{IsRow, IsRun};
 
 use pm_epochs::Event;
 use std::marker::Model;
@@ -49,6 +51,51 @@ fn read_event(word: u32, value: u64) -> Event
     } else {
         Event::Store { word, value }
     }
+}
+
+/// How many words are compared at once: enough for wide registers, and few where a run is short.
+const AT_ONCE: usize = 32;
+
+/// Whether these words are those from `first` on, in order. It looks at all of them, so that they are compared side by side.
+fn are_in_row(words: &[u32], first: u32) -> bool
+    requires { first + length words.now < 2 ^ 32 }
+    ensures { result ≡ true → words.now ≡ range_with_len first (length words.now) }
+{
+    let mut all = true;
+    for i in 0..words.len() {
+        if words[i] != first + i as u32 {
+            all = false;
+        }
+    }
+    all
+}
+
+/// How many of these words, from the front, are those from `first` on, in order, by whole pieces of so many.
+fn pieces_in_row(words: &[u32], first: u32) -> usize
+    requires { first + length words.now < 2 ^ 32 }
+    ensures { (result ≤ length words.now) × (take result words.now ≡ range_with_len first result) }
+{
+    let pieces = words.len() / AT_ONCE;
+    for i in 0..pieces {
+        let known = AT_ONCE * i;
+        if !are_in_row(&words[known..known + AT_ONCE], first + known as u32) {
+            return known;
+        }
+    }
+    AT_ONCE * pieces
+}
+
+/// How many of these words, from the front, are those from `first` on, in order.
+fn row_length(words: &[u32], first: u32) -> usize
+    requires { first + length words.now < 2 ^ 32 }
+    ensures { IsRow words.now first result }
+{
+    for next in pieces_in_row(words, first)..words.len() {
+        if words[next] != first + next as u32 {
+            return next;
+        }
+    }
+    words.len()
 }
 
 impl<'a> Log<'a> {
@@ -110,5 +157,17 @@ impl<'a> Log<'a> {
             words: &self.words[first..],
             values: &self.values[first..],
         }
+    }
+
+    /// The values of the stores that the log begins with, where the first one goes to this word, the second one to the next
+    /// word, and so on: at most so many. They are found by the words alone.
+    pub fn run(&self, word: u32, most: usize) -> &'a [u64]
+        ensures { IsRun self.now word most result.now }
+    {
+        let (words, values) = (self.words, self.values);
+        // What has `NO_WORD` is no store, so no run reaches it.
+        let wanted = most.min(words.len()).min((NO_WORD - word) as usize);
+        let count = row_length(&words[..wanted], word);
+        &values[..count]
     }
 }

@@ -1,9 +1,10 @@
 //! A region over raw memory.
 
-ghost use Rattle.std.specs.Prelude.{◌≡◌, ℕ, ◌+◌, ◌^◌, ◌<◌, ◌≤◌, [], ◌∷◌, ◌++◌, IfOk, length, replicate};
+ghost use Rattle.std.specs.Prelude.{◌≡◌, ℕ, ◌+◌, ◌^◌, ◌<◌, ◌≤◌, [], ◌∷◌, ◌++◌, IfOk, drop, length, replicate};
 ghost use Rattle.pm_region.specs.Memory.{with_values};
 ghost use Rattle.pm_raw.specs.Entries.{signal_of};
 ghost use Rattle.pm_raw.specs.Places.{is_barrier, is_mark, places_where};
+ghost use Rattle.pm_raw.specs.Runs.{IsRun};
 
 use super::array::RawArray;
 use super::crash::{apply_first, kept_calls, start_of, start_of_epoch};
@@ -101,6 +102,16 @@ impl RawRegion {
         ensures { self.new ≡ record self.old { base = words } }
     {
         self.current = words;
+    }
+
+    /// The values of the stores that stand in the log from the event `first` on, where the first one goes to this word, the
+    /// second one to the next word, and so on: at most so many. They are lent as they stand in the log, and how many there are
+    /// is told by the words alone.
+    pub fn run_values(&self, first: usize, word: u32, most: usize) -> &[u64]
+        requires { first ≤ length self.now.events }
+        ensures { IsRun (drop first self.now.events) word most result.now }
+    {
+        self.entries.log().behind(first).run(word, most)
     }
 
     /// Puts an event that is no store at the end of the log, by its value.
@@ -208,13 +219,5 @@ impl Region for RawRegion {
         self.barriers.clear();
         self.marks.clear();
         Ok(kept)
-    }
-
-    fn adopt_word(&mut self, word: u32, value: u64) {
-        self.current.set(word as usize, value);
-    }
-
-    fn adopt_words(&mut self, first: u32, values: &[u64]) {
-        overwrite(self.current.as_mut_slice(), first as usize, values);
     }
 }

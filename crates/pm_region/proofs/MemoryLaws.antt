@@ -1,7 +1,7 @@
 -- Memories to whose logs events are added, and memories that are drained.
-use Rattle.std.proofs.Common.{◌≡◌, ℕ, zero, suc, ◌+◌, ◌-◌, ◌<◌, ◌≤◌, true, false, List, [], ◌∷◌, ◌++◌, length, take, drop, get_or, set, refl, sym, ◌∙◌, ap, arith, add-one}
+use Rattle.std.proofs.Common.{◌≡◌, ℕ, zero, suc, ◌+◌, ◌-◌, ◌<◌, ◌≤◌, true, false, List, [], ◌∷◌, ◌++◌, length, take, drop, get_or, refl, sym, ◌∙◌, ap, arith, add-one}
 use Rattle.std.specs.Prelude.{nat_lt, if◌then◌else◌}
-use Rattle.std.proofs.lemmas.List.{append_assoc, append-nil, length-append, length-take-le, length-drop, take-append-drop, drop_more, set-append_right}
+use Rattle.std.proofs.lemmas.List.{append_assoc, append-nil, length-append, length-take-le, length-drop, take-append-drop}
 use Rattle.pm_epochs.specs.declared.event.Event.{Event}
 use Rattle.pm_epochs.specs.declared.event.Event.TheVariants.{Store}
 use Rattle.pm_epochs.specs.Log.{words_after, IsPiece}
@@ -84,20 +84,3 @@ module _ (words : List ℕ) (first : ℕ) where
         length-take-le first words (omega arith),
         length-drop (first + length values) words,
       )
-
-  -- one more value
-  pub with_values-more : (values : List ℕ) (value : ℕ) → first + length values < length words → set (with_values words first values) (first + length values) value ≡ with_values words first (values ++ value ∷ [])
-  with_values-more values value low =
-      let front = take first words in
-      let place = first + length values in
-      let before = front ++ values in
-      let long : length before ≡ place = omega (arith, length-append front values, length-take-le first words (omega arith)) in
-      let none : place - place ≡ 0 = omega arith in
-      let next : first + length (values ++ value ∷ []) ≡ place + 1 = omega (arith, length-append values (value ∷ [])) in
-      ap (λ ws. set ws place value) (sym (append_assoc front values (drop place words)))
-      ∙ set-append_right before (drop place words) place place value long (omega arith)
-      ∙ ap (λ k. before ++ set (drop place words) k value) none
-      ∙ ap (λ ws. before ++ set ws 0 value) (drop_more words place 0 low)
-      ∙ append_assoc front values (value ∷ drop (place + 1) words)
-      ∙ ap (λ ws. front ++ ws) (sym (append_assoc values (value ∷ []) (drop (place + 1) words)))
-      ∙ ap (λ k. front ++ ((values ++ value ∷ []) ++ drop k words)) (sym next)

@@ -128,9 +128,4 @@ impl Region for ListRegion {
         self.events.clear();
         Ok(kept)
     }
-
-    fn adopt_word(&mut self, word: u32, value: u64) {
-        self.base[word as usize] = value;
-        self.now[word as usize] = value;
-    }
 }

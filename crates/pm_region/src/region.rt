@@ -1,13 +1,17 @@
 //! What a region can do.
 
-ghost use Rattle.std.specs.Prelude.{◌≡◌, ℕ, ◌+◌, ◌<◌, ◌≤◌, ◌↔◌, [], ◌∷◌, ◌++◌, length, take, slice_get, slice_index, slice_index_or, slice_range, slice_set, Some, IsOk, IfOk, OnOk, OnErr};
+ghost use Rattle.std.specs.Prelude.{◌≡◌, ℕ, ◌+◌, ◌<◌, ◌≤◌, ◌↔◌, [], ◌∷◌, ◌++◌, length, take, slice_get, slice_index, slice_index_or, slice_range, Some, IsOk, IfOk, OnOk, OnErr};
 ghost use Rattle.pm_epochs.specs.declared.event.Event.TheVariants.{Store, Barrier, Mark};
 ghost use Rattle.pm_epochs.specs.Log.{barriers, marks};
 ghost use Rattle.pm_epochs.specs.Replay.{IsRight, kept_calls};
 ghost use Rattle.pm_region.specs.Epochs.{epoch_start};
-ghost use Rattle.pm_region.specs.Memory.{Memory, crashed, current_words, room_in, drained, stores_from, AreWithin, with_values, Adds};
+ghost use Rattle.pm_region.specs.Memory.{Memory, crashed, current_words, room_in, drained, stores_from, AreWithin, Adds};
 
 use pm_epochs::{BadChoice, Choice, Event, Kept};
+
+/// The words that are read one by one: those of the first cache line. A region may show other words in their places than those
+/// that stand there, which no slice of what it holds could.
+pub const HEAD_WORDS: u32 = 8;
 
 /// Words of 8 bytes that outlive a crash, with the log of what was done to them since the last drain. Places and sizes are
 /// in words.
@@ -23,9 +27,10 @@ pub trait Region {
         requires { word < length (memory self.now).base }
         ensures { result ≡ slice_index (current_words (memory self.now)) word };
 
-    /// The words from `first` on, so many, as the processor sees them.
+    /// The words from `first` on, so many, as the processor sees them. They stand behind the head, which is read by `load`.
     fn load_words(&self, first: u32, count: u32) -> &[u64]
-        requires { first + count ≤ length (memory self.now).base }
+        requires behind_head { HEAD_WORDS ≤ first }
+        requires in_range { first + count ≤ length (memory self.now).base }
         ensures { result.now ≡ slice_range (current_words (memory self.now)) first (first + count) };
 
     /// Sets a word, and writes that to the log.
@@ -124,24 +129,4 @@ pub trait Region {
         ensures kept { IfOk result (λ kept. kept.c ≡ kept_calls (memory self.old).events choice.now.cut) }
         ensures of { IfOk result (λ kept. kept.n ≡ marks (memory self.old).events) }
         ensures err { OnErr result (memory self.new ≡ memory self.old) };
-
-    /// Sets a word of a region whose log is empty, as a word that was there at the last drain.
-    fn adopt_word(&mut self, word: u32, value: u64)
-        requires in_range { word < length (memory self.old).base }
-        requires drained { (memory self.old).events ≡ [] }
-        ensures { memory self.new ≡ record (memory self.old) { base = slice_set (memory self.old).base word value } };
-
-    /// Sets the words from `first` on to these values, in a region whose log is empty, as words that were there at the last drain.
-    fn adopt_words(&mut self, first: u32, values: &[u64])
-        requires in_range { first + length values.now ≤ length (memory self.old).base }
-        requires drained { (memory self.old).events ≡ [] }
-        ensures { memory self.new ≡ record (memory self.old) {
-          base = with_values (memory self.old).base first values.now;
-        } }
-    {
-        let _words = self.words();
-        for i in 0..values.len() {
-            self.adopt_word(first + i as u32, values[i]);
-        }
-    }
 }

@@ -1,15 +1,33 @@
 -- Stores to words in a row leave what a copy of their values leaves.
-use Rattle.std.proofs.Common.{◌≡◌, ℕ, zero, suc, ◌+◌, ◌<◌, ◌≤◌, List, [], ◌∷◌, ◌++◌, length, take, get_or, set, refl, sym, ap, ◌∙◌, subst, arith, add-one}
-use Rattle.std.proofs.lemmas.List.{length-take-le, take_all, take_more}
+use Rattle.std.proofs.Common.{◌≡◌, ℕ, zero, suc, ◌+◌, ◌-◌, ◌<◌, ◌≤◌, List, [], ◌∷◌, ◌++◌, length, take, drop, get_or, set, refl, sym, ap, ◌∙◌, subst, arith, add-one}
+use Rattle.std.proofs.lemmas.List.{append_assoc, drop_more, length-append, length-take-le, set-append_right, take_all, take_more}
 use Rattle.pm_epochs.specs.declared.event.Event.{Event}
 use Rattle.pm_epochs.specs.declared.event.Event.TheVariants.{Store, Barrier, Mark}
 use Rattle.pm_epochs.specs.Log.{words_after}
 use Rattle.pm_epochs.proofs.CrashLaws.{words_after-append, length-words_after}
 use Rattle.pm_region.specs.Memory.{AreWithin, stores_from, with_values}
-use Rattle.pm_region.proofs.MemoryLaws.{stores_from-more, with_values-none, with_values-more}
+use Rattle.pm_region.proofs.MemoryLaws.{stores_from-more, with_values-none}
 use Rattle.pm_runs.specs.declared.pieces.Run.{Run}
 use Rattle.pm_runs.specs.declared.pieces.Run.TheVariants as run
 use Rattle.pm_runs.specs.Runs.{copied, runs_events}
+
+module _ (words : List ℕ) (first : ℕ) where
+  -- one more value
+  with_values-more : (values : List ℕ) (value : ℕ) → first + length values < length words → set (with_values words first values) (first + length values) value ≡ with_values words first (values ++ value ∷ [])
+  with_values-more values value low =
+      let front = take first words in
+      let place = first + length values in
+      let before = front ++ values in
+      let long : length before ≡ place = omega (arith, length-append front values, length-take-le first words (omega arith)) in
+      let none : place - place ≡ 0 = omega arith in
+      let next : first + length (values ++ value ∷ []) ≡ place + 1 = omega (arith, length-append values (value ∷ [])) in
+      ap (λ ws. set ws place value) (sym (append_assoc front values (drop place words)))
+      ∙ set-append_right before (drop place words) place place value long (omega arith)
+      ∙ ap (λ k. before ++ set (drop place words) k value) none
+      ∙ ap (λ ws. before ++ set ws 0 value) (drop_more words place 0 low)
+      ∙ append_assoc front values (value ∷ drop (place + 1) words)
+      ∙ ap (λ ws. front ++ ws) (sym (append_assoc values (value ∷ []) (drop (place + 1) words)))
+      ∙ ap (λ k. front ++ ((values ++ value ∷ []) ++ drop k words)) (sym next)
 
 -- the stores of some events, and of those behind them
 within-append : (count : ℕ) (xs ys : List Event) → AreWithin count (xs ++ ys) → AreWithin count xs × AreWithin count ys

@@ -1,10 +1,13 @@
 -- Events that follow each other in a log, and stores that follow each other in words.
-use Rattle.std.proofs.Common.{◌≡◌, ℕ, zero, suc, ◌+◌, ◌<◌, List, [], ◌∷◌, ◌++◌, Option, None, Some, length, take, drop, get_or, set, slice_get, sym, ap, ◌∙◌, arith}
-use Rattle.std.proofs.lemmas.List.{get_or-drop, get_or-set_same, length-drop, length-set, take_more, take-set, drop-drop, drop-set-lt}
+use Rattle.std.proofs.Common.{◌≡◌, ℕ, zero, suc, ◌+◌, ◌<◌, List, [], ◌∷◌, ◌++◌, Some, length, take, drop, get_or, set, slice_get, refl, sym, ap, ◌∙◌, arith}
+use Rattle.std.proofs.lemmas.List.{get_or-drop, length-drop, take_more, drop-drop, drop-set-lt}
+use Rattle.std.proofs.Math.Seq.{take-append_seam}
+use Rattle.std.proofs.lemmas.Slice.{drop-append-drop}
 use Rattle.pm_epochs.specs.declared.event.Event.{Event}
 use Rattle.pm_epochs.specs.declared.event.Event.TheVariants.{Store}
 use Rattle.pm_region.specs.Memory.{stores_from}
-use Rattle.pm_region.proofs.MemoryLaws.{stores_from-more}
+use Rattle.pm_raw.specs.Runs.{IsRun}
+use Rattle.pm_runs.specs.Runs.{HasStores}
 
 -- one event more of those from one on
 pub events-more : (events : List Event) (first i : ℕ) (event : Event) → first + i < length events → event ≡ get_or events (first + i) event
@@ -13,30 +16,34 @@ events-more events first i event low is =
     take_more (drop first events) i event (omega (arith, length-drop first events))
     ∙ ap (λ e. take i (drop first events) ++ e ∷ []) (get_or-drop first events i event ∙ sym is)
 
--- one store more, whose value is put behind the others
-pub stores-more : (word : ℕ) (values : List ℕ) (i value : ℕ) → i < length values
-    → stores_from word (take (i + 1) (set values i value)) ≡ stores_from word (take i values) ++ Store (word + i) value ∷ []
-stores-more word values i value low =
-    stores_from-more word (set values i value) i (omega (arith, length-set values i value))
-    ∙ ap (λ vs. stores_from word vs ++ Store (word + i) (get_or (set values i value) i 0) ∷ []) (take-set values i value)
-    ∙ ap (λ v. stores_from word (take i values) ++ Store (word + i) v ∷ []) (get_or-set_same values i value 0 low)
-
 -- the values behind it are as they were
 pub rest-more : {X : Type 0} (old values : List X) (i : ℕ) (value : X) → drop i values ≡ drop i old → drop (i + 1) (set values i value) ≡ drop (i + 1) old
 rest-more old values i value same =
     drop-set-lt (i + 1) values i value (omega arith) ∙ sym (drop-drop 1 i values) ∙ ap (drop 1) same ∙ drop-drop 1 i old
 
-some_of : Event → Option Event → Event
-some_of otherwise None = otherwise
-some_of otherwise (Some event) = event
+get-drop : (events : List Event) (first : ℕ) → slice_get (drop first events) 0 ≡ slice_get events first
+get-drop events zero = refl
+get-drop [] (suc first) = refl
+get-drop (event ∷ events) (suc first) = get-drop events first
 
--- where the first event stores to the first word, a count that ends at another kind of event is not 0
-pub begun : (events : List Event) (first word i : ℕ) (event : Event) → slice_get events (first + i) ≡ Some event
-    → ((value : ℕ) → event ≡ Store (word + i) value → ⊥) → (value : ℕ) → slice_get events first ≡ Some (Store word value) → 0 < i
-unfolding some_of
-begun events first word zero event got none value at =
-    let here : first + 0 ≡ first = omega arith in
-    let there : word ≡ word + 0 = omega arith in
-    let same : event ≡ Store word value = ap (some_of event) (sym got ∙ ap (slice_get events) here ∙ at) in
-    absurd (none value (same ∙ ap (λ w. Store w value) there))
-begun events first word (suc i) event got none value at = omega arith
+-- a run of a log whose values are copied in front of these
+pub copied-front : (events : List Event) (first word : ℕ) (old run new : List ℕ) → first < length events → new ≡ run → IsRun (drop first events) word (length old) run
+    → HasStores events first word old (length run) (new ++ drop (length run) old)
+copied-front events first word old run new low same told =
+    let count = length run in
+    let front : take count (new ++ drop count old) ≡ run =
+    ap (λ vs. take count (vs ++ drop count old)) same ∙ take-append_seam run (drop count old) in
+    record {
+      within = omega (arith, told.within, length-drop first events);
+      fits = told.few;
+      stores = told.stores ∙ ap (stores_from word) (sym front);
+      begun = λ value at room. begun run value at room told.ends;
+      rest = drop-append-drop count old new count (omega arith) (ap length same);
+    }
+  where
+    begun : (run : List ℕ) (value : ℕ) → slice_get events first ≡ Some (Store word value) → 0 < length old
+        → (length run < length old → (v : ℕ) → slice_get (drop first events) (length run) ≡ Some (Store (word + length run) v) → ⊥) → 0 < length run
+    begun [] value at room ends =
+        let here : word ≡ word + 0 = omega arith in
+        absurd (ends room value (get-drop events first ∙ at ∙ ap (λ w. Some (Store w value)) here))
+    begun (held ∷ run) value at room ends = omega arith

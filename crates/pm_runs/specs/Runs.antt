@@ -1,15 +1,10 @@
 -- Pieces of a log: stores to words in a row, a barrier, or a mark.
-use Rattle.std.specs.Prelude.{◌≡◌, ◌≤◌, ◌<◌, ◌+◌, ℕ, List, [], ◌∷◌, ◌++◌, Option, None, Some, drop, length, slice_get, take}
+use Rattle.std.specs.Prelude.{◌≡◌, ◌≤◌, ◌<◌, ◌+◌, ℕ, List, [], ◌∷◌, ◌++◌, Some, drop, length, slice_get, take}
 use Rattle.pm_epochs.specs.declared.event.Event.{Event}
 use Rattle.pm_epochs.specs.declared.event.Event.TheVariants.{Barrier, Mark, Store}
 use Rattle.pm_region.specs.Memory.{stores_from, with_values}
 use Rattle.pm_runs.specs.declared.pieces.Run.{Run}
 use Rattle.pm_runs.specs.declared.pieces.Run.TheVariants as run
-
--- the value that an event stores to the word that is so far behind the first one
-abbrev pub IsValueAt : Event → ℕ → ℕ → Option ℕ → Type 0
-IsValueAt done first distance None = (value : ℕ) → done ≡ Store (first + distance) value → ⊥
-IsValueAt done first distance (Some value) = done ≡ Store (first + distance) value
 
 -- So many events of a log, from one on, store to words in a row, from a word on, and their values stand in front: at
 -- least one where the first of them stores to that word, and there is room.

@@ -1,9 +1,10 @@
 //! Pieces of a log.
 
 ghost use Rattle.std.specs.Prelude.{◌<◌, length};
-ghost use Rattle.pm_runs.specs.Runs.{HasStores, IsValueAt, TellsRun};
+ghost use Rattle.pm_runs.specs.Runs.{HasStores, TellsRun};
 
 use pm_epochs::Event;
+use pm_raw::RawRegion;
 use pm_region::Region;
 
 /// A piece of a log.
@@ -22,45 +23,23 @@ pub enum Run {
     Mark,
 }
 
-/// The value that an event stores to the word that is so far behind the first one; none where it does not.
-fn value_at(event: Event, first: u32, distance: usize) -> Option<u64>
-    ensures { IsValueAt event first distance result }
-{
-    match event {
-        Event::Store { word, value } => {
-            if first <= word && (word - first) as usize == distance {
-                Some(value)
-            } else {
-                None
-            }
-        }
-        Event::Barrier => None,
-        Event::Mark => None,
-    }
-}
-
 /// Copies the values of stores to words in a row, from this word and this event on, as many as there are and as there is
 /// room for, and says how many these are.
-fn copy_values<R: Region>(region: &R, first: usize, word: u32, values: &mut [u64]) -> usize
-    requires { first < length (R.memory region.now).events }
-    ensures { HasStores (R.memory region.now).events first word values.old result values.new }
+fn copy_values(region: &RawRegion, first: usize, word: u32, values: &mut [u64]) -> usize
+    requires { first < length region.now.events }
+    ensures { HasStores region.now.events first word values.old result values.new }
 {
-    let most = values.len().min(region.event_count() - first);
-    for i in 0..most {
-        match value_at(region.event(first + i), word, i) {
-            Some(value) => values[i] = value,
-            None => return i,
-        }
-    }
-    most
+    let run = region.run_values(first, word, values.len());
+    values[..run.len()].copy_from_slice(run);
+    run.len()
 }
 
 /// The piece of a region's log that begins with an event. The values of its stores are put in front of `values`; it has as
 /// many as follow each other there and as there is room for. It ends where a barrier or a mark stands, or a store to
 /// another word than the next one.
-pub fn run_at<R: Region>(region: &R, first: usize, values: &mut [u64]) -> Run
-    requires { first < length (R.memory region.now).events }
-    ensures { TellsRun (R.memory region.now).events first values.old result values.new }
+pub fn run_at(region: &RawRegion, first: usize, values: &mut [u64]) -> Run
+    requires { first < length region.now.events }
+    ensures { TellsRun region.now.events first values.old result values.new }
 {
     match region.event(first) {
         Event::Store { word, .. } => Run::Stores {

@@ -26,3 +26,4 @@ pub mod MoveReach
 pub mod Named
 pub mod EntriesLaws
 pub mod SlotLaws
+pub mod ShapeLaws

@@ -15,7 +15,7 @@ use Rattle.pm_epochs.proofs.CrashLaws.{IsClosed-append, quiet-append}
 use Rattle.pm_epochs.proofs.PieceLaws.{IsPiece-append, IsPiece-more, IsPiece-commit, last_stored-commit, StoresTo-append, StoresTo-front, StoresTo-behind}
 use Rattle.pm_region.specs.Memory.{Memory, current_words, events_between, Adds}
 use Rattle.pm_region.specs.Safe.{IsSafe, AddsCommit, AddsMay}
-use Rattle.pm_region.proofs.MemoryLaws.{adds_both, current_words-adds}
+use Rattle.pm_region.proofs.MemoryLaws.{adds_both, current_words-adds, length-current_words}
 use Rattle.pm_region.proofs.SafeLaws.{safe_committed}
 use Rattle.bp_layout.proofs.SameLaws.{same_self, same_symmetric, same_transitive}
 use Rattle.bp_limits.specs.Limits.{super_root, super_size}
@@ -24,6 +24,8 @@ use Rattle.bp_layout.specs.Need.{Change, cover, need}
 use Rattle.bp_layout.specs.Thaw.{full_need, thawed}
 use Rattle.bp_layout.specs.Reached.{IsLiveBlock, IsFreeBlock}
 use Rattle.bp_layout.specs.Same.{Same}
+use Rattle.bp_changes.specs.Thawed.{AfterThaw, SameShape}
+use Rattle.bp_changes.proofs.ShapeLaws.{IsOfReached, cover-shape, need-shape}
 use Rattle.bp_layout.specs.WellFormed.{IsWellFormed}
 use Rattle.bp_layout.specs.WordPaths.{address}
 use Rattle.bp_layout.specs.Words.{Image, block_count}
@@ -224,21 +226,7 @@ module _ (kept : ℕ → Bool) (old new : Memory) (change : Change) (Effect : Im
       within_more kept needed (most_barriers + more_barriers) (most + more) old new change Effect
       (within_twice middle word value most_barriers most more_barriers more needed first second one two takes live free at number inside well_formed effect) 8 (most_stores_thawed needed) low few
 
-  -- blocks are thawed, and then the call goes on as where nothing has to be
-  pub performs_behind_thaw : (Rest : Image → Image → Type 0) (middle : Memory) (first : List ℕ) → AddsTaking kept first 2 ((512 + 1) * length first) old middle →
-      (rest : PerformsThawed kept middle new change Rest) → cover (current_words middle) change ≡ cover (current_words old) change → need (current_words middle) change ≡ needed →
-      length first + needed ≡ full_need (current_words old) kept change →
-      ((b : ℕ) → IsLiveBlock (current_words middle) b → IsLiveBlock (current_words old) b ⊎ Has first b) → ((b : ℕ) → Has rest.taken b → IsFreeBlock (current_words old) kept b × (Has first b → ⊥)) →
-      (Rest (current_words middle) (current_words new) → Effect (current_words old) (current_words new)) → Performs kept old new change Effect
-  performs_behind_thaw Rest middle first one rest same_cover same_need all live free effect =
-      let n : ℕ = length first in
-      let m : ℕ = need (current_words middle) change in
-      within_more kept (full_need (current_words old) kept change) (2 + 8) ((512 + 1) * n + most_stores_thawed m) old new change Effect
-      (within_twice middle (address (current_words new) (cover (current_words middle) change)) rest.value 2 ((512 + 1) * n) 8 (most_stores_thawed m) (full_need (current_words old) kept change) first rest.taken
-      one rest.commit rest.takes live free (ap (address (current_words new)) same_cover) (ap (λ x. n + x) (rest.number ∙ same_need) ∙ all) rest.in_open rest.well_formed (effect rest.effect))
-      10 (most_stores (full_need (current_words old) kept change)) (omega arith) (omega (arith, same_need, all))
-
-  -- or goes on at once, as where no block is kept
+  -- a call goes on at once, as where no block is kept
   pub performs_unthawed : thawed (current_words old) kept change ≡ [] → PerformsThawed kept old new change Effect → Performs kept old new change Effect
   performs_unthawed none done =
       let nothing : length (thawed (current_words old) kept change) ≡ 0 = ap length none in
@@ -246,6 +234,49 @@ module _ (kept : ℕ → Bool) (old new : Memory) (change : Change) (Effect : Im
       within_more kept (full_need (current_words old) kept change) 8 (most_stores_thawed needed) old new change Effect
       (subst (λ n. PerformsWithin kept n 8 (most_stores_thawed needed) old new change Effect) (sym full) done)
       10 (most_stores (full_need (current_words old) kept change)) (omega arith) (omega (arith, full))
+
+-- ---- behind a thaw
+
+-- Blocks that are kept were copied. What is live then was live or is a copy, the copies are, and what is not live any more is kept.
+module _ (kept : ℕ → Bool) (old middle : Memory) (first : List ℕ) (thaw : AddsTaking kept first 2 ((512 + 1) * length first) old middle)
+    (live : (b : ℕ) → IsLiveBlock (current_words middle) b → IsLiveBlock (current_words old) b ⊎ Has first b) (used : (b : ℕ) → Has first b → IsLiveBlock (current_words middle) b)
+    (stay : (b : ℕ) → IsLiveBlock (current_words old) b → IsLiveBlock (current_words middle) b ⊎ (kept b ≡ true)) where
+  same_count : block_count (current_words middle) ≡ block_count (current_words old)
+  same_count =
+      let base : length middle.base ≡ length old.base = ap (λ (memory : Memory). length memory.base) thaw.part.adds in
+      ap (λ n. n / 512) (length-current_words middle ∙ base ∙ sym (length-current_words old))
+
+  -- so what is free then was free, and is none of the copies
+  pub free_behind_thaw : (b : ℕ) → IsFreeBlock (current_words middle) kept b → IsFreeBlock (current_words old) kept b × (Has first b → ⊥)
+  free_behind_thaw b free = (record { low = free.low; high = rw same_count at free.high; free = not_live; loose = free.loose }, λ took. free.free (used b took))
+    where
+      clash : (is : Bool) → is ≡ true → is ≡ false → ⊥
+      clash is one two = absurd (cc)
+
+      not_live : IsLiveBlock (current_words old) b → ⊥
+      not_live was = elim (stay b was) [ inl is ↦ free.free is | inr frozen ↦ clash (kept b) frozen free.loose ]
+
+  module _ (new : Memory) (change : Change) (Rest Effect : Image → Image → Type 0) (rest : PerformsThawed kept middle new change Rest) where
+    -- the call goes on as where nothing has to be thawed
+    pub performs_behind_thaw : length first ≡ length (thawed (current_words old) kept change) → cover (current_words middle) change ≡ cover (current_words old) change →
+        need (current_words middle) change ≡ need (current_words old) change → (Rest (current_words middle) (current_words new) → Effect (current_words old) (current_words new)) → Performs kept old new change Effect
+    performs_behind_thaw number same_cover same_need effect =
+        let n : ℕ = length first in
+        let m : ℕ = need (current_words middle) change in
+        let all : length first + need (current_words middle) change ≡ full_need (current_words old) kept change = omega (arith, number, same_need) in
+        let free : (b : ℕ) → Has rest.taken b → IsFreeBlock (current_words old) kept b × (Has first b → ⊥) =
+        (λ b took. free_behind_thaw b (each-has (IsFreeBlock (current_words middle) kept) rest.taken b rest.takes.free took)) in
+        within_more kept (full_need (current_words old) kept change) (2 + 8) ((512 + 1) * n + most_stores_thawed m) old new change Effect
+        (within_twice kept old new change Effect middle (address (current_words new) (cover (current_words middle) change)) rest.value 2 ((512 + 1) * n) 8 (most_stores_thawed m) (full_need (current_words old) kept change) first
+        rest.taken thaw rest.commit rest.takes live free (ap (address (current_words new)) same_cover) (ap (λ x. n + x) rest.number ∙ all) rest.in_open rest.well_formed (effect rest.effect))
+        10 (most_stores (full_need (current_words old) kept change)) (omega arith) (omega (arith, all))
+
+  -- in an image of the same shape, whose cover and need are those of the image before
+  pub performs_thawed : IsWellFormed (current_words old) → SameShape (current_words old) (current_words middle) → (new : Memory) (change : Change) (Effect : Image → Image → Type 0) → IsOfReached (current_words old) change →
+      length first ≡ length (thawed (current_words old) kept change) → PerformsThawed kept middle new change Effect → Performs kept old new change (AfterThaw Effect)
+  performs_thawed well shape new change Effect of number rest =
+      performs_behind_thaw new change Effect (AfterThaw Effect) rest number (cover-shape (current_words old) (current_words middle) well shape change of) (need-shape (current_words old) (current_words middle) well shape change of)
+      (λ effect. record { middle = current_words middle; thawed = shape; effect = effect })
 
 -- ---- what follows
 

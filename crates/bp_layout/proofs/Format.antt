@@ -1,5 +1,5 @@
 -- A formatted image is well-formed, of its version, and shows the root directory alone.
-use Rattle.std.proofs.Common.{◌≡◌, ◌⊎◌, ℕ, suc, ◌+◌, ◌*◌, ◌%◌, ◌<◌, ◌≤◌, [], ◌∷◌, length, None, Some, refl, sym, ◌∙◌, ap, subst, suc-ne-zero, arith, inl, inr}
+use Rattle.std.proofs.Common.{◌≡◌, ◌⊎◌, ℕ, suc, ◌+◌, ◌*◌, ◌%◌, ◌<◌, ◌≤◌, [], ◌∷◌, false, length, None, Some, refl, sym, ◌∙◌, ap, subst, suc-ne-zero, arith, inl, inr}
 use Rattle.bp_layout.specs.Words.{Image, word, block_count, block_of, height_of, slot_word}
 use Rattle.bp_layout.specs.Tree.{HasBlock, IsSound}
 use Rattle.bp_layout.specs.Inode.{kind_of, root_of, size_of, inode_word}
@@ -7,8 +7,9 @@ use Rattle.bp_layout.specs.Directory.{EntryNames, Name, lookup_in, entry_count}
 use Rattle.bp_layout.specs.Reached.{IsReached}
 use Rattle.bp_layout.specs.Reached.IsReached.{inode_file, root_directory, named}
 use Rattle.bp_layout.specs.WellFormed.{IsWellFormed}
+use Rattle.bp_layout.specs.Trees.{has_snapshot}
 use Rattle.bp_layout.specs.Whole.{IsFileSystem}
-use Rattle.bp_layout.proofs.NoSecond.{alone_file_system}
+use Rattle.bp_layout.proofs.NoSecond.{alone_file_system, has_none}
 use Rattle.bp_limits.specs.declared.version.Version.{Version}
 use Rattle.bp_limits.specs.declared.version.Version.TheVariants.{One, Two}
 use Rattle.bp_limits.specs.Limits.{greatest_height, magic, version_at}
@@ -189,13 +190,16 @@ module _ (image : Image) (version : Version) (blocks : ℕ) (whole : length imag
       let same : length (formatted image version blocks) ≡ length image = length-after_stores image (format_stores version blocks) in
       format_well_formed (formatted image version blocks) version (formatted_words image version blocks whole least) (omega (arith, same)) (omega (arith, same)) (omega (arith, same))
 
-  -- and a file system
-  pub formatted_file_system : IsFileSystem (formatted image version blocks)
-  formatted_file_system =
+  -- it has no second tree
+  pub formatted_alone : has_snapshot (formatted image version blocks) ≡ false
+  formatted_alone =
       let has : HasFormat (formatted image version blocks) version = formatted_words image version blocks whole least in
       let is : version_of (formatted image version blocks) ≡ version = formatted_version image version blocks whole least in
-      alone_file_system (formatted image version blocks) formatted_well_formed
-      (record { root = λ two. has.no_second_root (sym is ∙ two); size = λ two. has.no_second_size (sym is ∙ two) })
+      has_none (formatted image version blocks) (λ two. has.no_second_size (sym is ∙ two))
+
+  -- and is a file system
+  pub formatted_file_system : IsFileSystem (formatted image version blocks)
+  formatted_file_system = alone_file_system (formatted image version blocks) formatted_well_formed formatted_alone
 
   -- and shows the root directory alone
   pub shown_formatted_root : shown (formatted image version blocks) [] ≡ Some dir

@@ -15,6 +15,8 @@ pub mod ChecksLaws
 pub mod OnePlace
 pub mod OncePointer
 pub mod ChecksSuffice
+pub mod TreeImages
+pub mod BothTrees
 pub mod NoSecond
 pub mod Format
 pub mod Upgrade
@@ -25,6 +27,5 @@ pub mod SameLaws
 pub mod Parts
 pub mod Pieces
 pub mod ListedLaws
-pub mod TreeImages
 pub mod ThawLaws
 pub mod HintLaws

@@ -1,12 +1,11 @@
 -- The image in which another tree is the first reads each tree as the image does.
-use Rattle.std.proofs.Common.{◌≡◌, ◌≢◌, ℕ, zero, suc, ◌+◌, ◌*◌, ◌/◌, ◌%◌, ◌<◌, ◌≤◌, Bool, true, false, ◌==◌, length, set, refl, sym, ◌∙◌, ap, arith, get_or-set_same, get_or-set_other}
+use Rattle.std.proofs.Common.{◌≡◌, ◌≢◌, ℕ, zero, suc, ◌+◌, ◌*◌, ◌/◌, ◌%◌, ◌≤◌, length, set, refl, sym, ◌∙◌, ap, subst, arith, get_or-set_same, get_or-set_other}
 use Rattle.std.proofs.lemmas.List.{length-set}
-use Rattle.bp_limits.specs.Limits.{version_at}
-use Rattle.bp_layout.specs.Formatted.{version_of}
+use Rattle.bp_limits.specs.Limits.{magic, version_at}
+use Rattle.bp_layout.specs.Formatted.{IsFormatted, IsSized, version_of}
 use Rattle.bp_layout.specs.Words.{Image, word, block_of, slot_word}
 use Rattle.bp_layout.specs.Tree.{word_at}
-use Rattle.bp_layout.specs.Trees.{snapshot_of, tree_image}
-use Rattle.bp_layout.proofs.TreeLaws.{slot_word-same}
+use Rattle.bp_layout.specs.Trees.{snapshot_of}
 
 pub length-snapshot : (image : Image) → length (snapshot_of image) ≡ length image
 length-snapshot image = length-set (set image 2 (word image 4)) 3 (word image 5) ∙ length-set image 2 (word image 4)
@@ -26,6 +25,21 @@ snapshot-word image place not_root not_size =
 -- so it has one version
 pub snapshot-version : (image : Image) → version_of (snapshot_of image) ≡ version_of image
 snapshot-version image = ap version_at (snapshot-word image 0 (λ e. omega (arith, e)) (λ e. omega (arith, e)))
+
+-- the length of an image, and the head of a formatted one
+pub snapshot-sized : (image : Image) → IsSized image → IsSized (snapshot_of image)
+snapshot-sized image sized = record {
+  whole = subst (λ n. n ≡ 512 * (n / 512)) (sym (length-snapshot image)) sized.whole;
+  at_least = subst (λ n. 8 ≤ n / 512) (sym (length-snapshot image)) sized.at_least;
+  at_most = subst (λ n. n / 512 ≤ 65536) (sym (length-snapshot image)) sized.at_most;
+}
+
+pub snapshot-formatted : (image : Image) → IsFormatted image → IsFormatted (snapshot_of image)
+snapshot-formatted image formatted = record {
+  sized = snapshot-sized image formatted.sized;
+  marked = snapshot-word image 0 (λ e. omega (arith, e)) (λ e. omega (arith, e)) ∙ formatted.marked ∙ ap magic (sym (snapshot-version image));
+  counted = snapshot-word image 1 (λ e. omega (arith, e)) (λ e. omega (arith, e)) ∙ formatted.counted ∙ ap (λ n. n / 512) (sym (length-snapshot image));
+}
 
 pub snapshot-slot : (image : Image) (block slot : ℕ) → slot_word (snapshot_of image) block slot ≡ slot_word image block slot
 snapshot-slot image zero slot = refl

@@ -1,17 +1,17 @@
 -- An upgrade: before its mark the image is what it was, and then one of version 2 that shows the same.
-use Rattle.std.proofs.Common.{◌≡◌, ℕ, ◌/◌, ◌<◌, ◌≤◌, Bool, false, length, refl, sym, ◌∙◌, ap, arith, ne_eqb}
+use Rattle.std.proofs.Common.{◌≡◌, ℕ, ◌/◌, ◌≤◌, false, length, refl, sym, ◌∙◌, ap, arith, ne_eqb}
 use Rattle.bp_limits.specs.declared.version.Version.TheVariants.{One, Two}
-use Rattle.bp_limits.specs.Limits.{greatest_height, magic, version_at}
+use Rattle.bp_limits.specs.Limits.{magic, version_at}
 use Rattle.bp_limits.proofs.Versions.{height_most, version_marked}
-use Rattle.bp_layout.specs.Words.{Image, word, block_count}
+use Rattle.bp_layout.specs.Words.{Image, word}
 use Rattle.bp_layout.specs.Format.{upgrade_stores, upgraded}
 use Rattle.bp_layout.specs.Formatted.{IsFormatted, version_of}
 use Rattle.bp_layout.specs.Lookup.{Path, find_one, shown}
 use Rattle.bp_layout.specs.Same.{Same}
 use Rattle.bp_layout.specs.WellFormed.{IsWellFormed}
-use Rattle.bp_layout.specs.Whole.{HasNoSecond, IsFileSystem, SameFiles}
+use Rattle.bp_layout.specs.Whole.{IsFileSystem, SameFiles}
 use Rattle.bp_layout.specs.Trees.{has_snapshot}
-use Rattle.bp_layout.proofs.NoSecond.{alone_file_system, first_has_none}
+use Rattle.bp_layout.proofs.NoSecond.{alone_file_system, first_has_none, has_none}
 use Rattle.bp_layout.proofs.BesideTrees.{SameTrees, still_well_formed, still_one, still_shown}
 use Rattle.bp_layout.proofs.LastValue.{AllWithinImage, last_value, length-after_stores, word-after_stores}
 
@@ -87,8 +87,12 @@ module _ (image : Image) (wf : IsWellFormed image) where
   upgraded_well_formed = still_well_formed image (upgraded image) same wf formatted
       (rw upgraded_version (height_most (version_of image)))
 
+  -- it has no second tree
+  pub upgraded_alone : has_snapshot (upgraded image) ≡ false
+  upgraded_alone = has_none (upgraded image) (λ two. stored 5)
+
   pub upgraded_file_system : IsFileSystem (upgraded image)
-  upgraded_file_system = alone_file_system (upgraded image) upgraded_well_formed (record { root = λ two. stored 4; size = λ two. stored 5 })
+  upgraded_file_system = alone_file_system (upgraded image) upgraded_well_formed upgraded_alone
 
   -- and shows what it showed
   pub upgraded_shown : (path : Path) → shown (upgraded image) path ≡ shown image path

@@ -8,7 +8,7 @@ use Rattle.bp_layout.specs.Tree.{word_at, node, place_of, covered, IsLivePointer
 use Rattle.bp_layout.specs.Inode.{IsDirectory, inode_count, kind_of, root_of, size_of}
 use Rattle.bp_layout.specs.Directory.{EntryNames, IsName, name_at}
 use Rattle.bp_layout.specs.declared.check.Check.{Check}
-use Rattle.bp_layout.specs.declared.check.Check.TheVariants.{Height, PointerBits, Range, BlockTwice, Hole, InodeFileSize, Inumber, InodeTwice, Kind, DirectorySize, Capacity, NameForm, NameTwice, SecondFile}
+use Rattle.bp_layout.specs.declared.check.Check.TheVariants.{Height, PointerBits, Range, BlockTwice, Hole, InodeFileSize, Inumber, InodeTwice, Kind, DirectorySize, Capacity, NameForm, NameTwice}
 
 -- the number of a check in the list of docs/format.md
 abbrev pub number_of : Check → ℕ
@@ -25,7 +25,6 @@ number_of DirectorySize = 10
 number_of Capacity = 11
 number_of NameForm = 12
 number_of NameTwice = 13
-number_of SecondFile = 14
 
 -- the pointer at a depth and number is in form and in range
 abbrev pub Passes : Image → ℕ → ℕ → ℕ → Type 0

@@ -1,6 +1,7 @@
 -- The pointers of a change that lead to blocks that are kept: those of a snapshot, to which no call stores. Copies are
 -- put in place of these blocks before anything else is done, and what the change then stores to is not kept.
-use Rattle.std.specs.Prelude.{◌≡◌, ℕ, suc, ◌+◌, ◌*◌, ◌/◌, List, [], ◌∷◌, ◌++◌, length, filter, flat_map, Bool, false, ◌&&◌, nat_lt, Option, None, Some, if◌then◌else◌}
+use Rattle.std.specs.Prelude.{◌≡◌, ℕ, suc, ◌+◌, ◌*◌, ◌/◌, List, [], ◌∷◌, ◌++◌, length, filter, flat_map, Bool, false, not, ◌&&◌, nat_lt, Option, None, Some, if◌then◌else◌}
+use Rattle.std.specs.List.{list_any}
 use Rattle.bp_limits.specs.Limits.{entry_words}
 use Rattle.bp_layout.specs.Words.{Image, word, block_of, height_of}
 use Rattle.bp_layout.specs.Tree.{span}
@@ -8,7 +9,7 @@ use Rattle.bp_layout.specs.Nodes.{is_present}
 use Rattle.bp_layout.specs.Inode.{root_of, size_of}
 use Rattle.bp_layout.specs.Directory.{empty_slot}
 use Rattle.bp_layout.specs.WordPaths.{WordPath, address, inode_path, tree_path}
-use Rattle.bp_layout.specs.Need.{Beyond, Change, beyond, cover_of, entry_path_at, need, new_inodes, pointed, prefixes_from, prefixes_of, touched_at}
+use Rattle.bp_layout.specs.Need.{Beyond, Change, beyond, cover_of, entry_path_at, is_prefix, need, new_inodes, pointed, prefixes_from, touched_at}
 use Rattle.bp_layout.specs.Need.Change.{enters, moves}
 use Rattle.bp_layout.specs.Need.Entrant.{taken}
 
@@ -29,10 +30,10 @@ cover_now image change = cover_of (is_there_now image) (touched_at (heights_now 
 abbrev pub root_path_now : Image → ℕ → WordPath
 root_path_now image t = tree_path (heights_now image 0) t 0 0
 
--- the word of the byte at the size, or the root word where the tree is too low for it
+-- the word of the byte at the size, or the root word where the tree is empty or too low for it
 abbrev pub end_path_now : Image → ℕ → WordPath
 end_path_now image t =
-    if nat_lt (size_of image t) (span (heights_now image t))
+    if nat_lt 0 (size_of image t) && nat_lt (size_of image t) (span (heights_now image t))
     then tree_path (heights_now image 0) t (suc (heights_now image t)) (size_of image t / 8) else root_path_now image t
 
 -- where bytes come behind the size of a tree
@@ -64,9 +65,20 @@ none_kept b = false
 abbrev pub is_kept_at : Image → (ℕ → Bool) → WordPath → Bool
 is_kept_at image kept path = is_there_now image path && kept (block_of (word image (address image path)))
 
--- those on the ways to some words
+-- the path begins with the front, and goes on behind it
+abbrev pub is_front : WordPath → WordPath → Bool
+is_front front path = is_prefix front path && nat_lt (length front) (length path)
+
+-- The pointers on the ways to some words: the fronts of their paths. Each counts once, at the first path that goes on
+-- behind it. So the root word of a tree, to which one way leads, counts where the next goes on below it.
+abbrev pub fronts_of : List WordPath → List WordPath → List WordPath
+fronts_of earlier [] = []
+fronts_of earlier (path ∷ paths) =
+    filter (λ front. not (list_any (is_front front) earlier)) (prefixes_from 0 path) ++ fronts_of (path ∷ earlier) paths
+
+-- those of them that lead to blocks that are kept
 abbrev pub thawed_on : Image → (ℕ → Bool) → List WordPath → List WordPath
-thawed_on image kept paths = filter (is_kept_at image kept) (prefixes_of 0 [] paths)
+thawed_on image kept paths = filter (is_kept_at image kept) (fronts_of [] paths)
 
 abbrev pub thawed : Image → (ℕ → Bool) → Change → List WordPath
 thawed image kept change = thawed_on image kept (targets image change)

@@ -32,8 +32,6 @@ pub enum Check {
     NameForm,
     /// Two entries of a directory have the same name.
     NameTwice,
-    /// A word that version 2 keeps for a second inode file is not 0.
-    SecondFile,
 }
 
 impl Check {
@@ -55,7 +53,6 @@ impl Check {
             Check::Capacity => 11,
             Check::NameForm => 12,
             Check::NameTwice => 13,
-            Check::SecondFile => 14,
         }
     }
 }

@@ -1,6 +1,6 @@
 //! Laws of what an image means. Each is the contract of a function that does nothing.
 
-ghost use Rattle.std.specs.Prelude.{None, Some, [], ℕ, ◌*◌, ◌∷◌, ◌↔◌, ◌≡◌, ◌≤◌, length};
+ghost use Rattle.std.specs.Prelude.{None, Some, [], ℕ, ◌*◌, ◌∷◌, ◌↔◌, ◌≡◌, ◌≤◌, false, length};
 ghost use Rattle.bp_layout.specs.Checks.{NoneFails};
 ghost use Rattle.bp_layout.specs.Formatted.{IsFormatted, version_of};
 ghost use Rattle.bp_layout.specs.Directory.{Name};
@@ -10,6 +10,7 @@ ghost use Rattle.bp_layout.specs.Inode.{IsDirectory};
 ghost use Rattle.bp_limits.specs.Limits.{block_words, max_blocks, min_blocks};
 ghost use Rattle.bp_layout.specs.Lookup.{Path, find_one, lookup, shown};
 ghost use Rattle.bp_layout.specs.Lookup.Node.{dir};
+ghost use Rattle.bp_layout.specs.Trees.{has_snapshot};
 ghost use Rattle.bp_layout.specs.WellFormed.{IsWellFormed};
 ghost use Rattle.bp_layout.specs.Whole.{IsFileSystem, NoneFailsWhole};
 
@@ -20,26 +21,28 @@ pub fn well_formed_by_checks(image: &[u64])
     ensures { IsWellFormed image.now ↔ (IsFormatted image.now × NoneFails image.now) }
 {}
 
-/// An image is a file system exactly where it is formatted and no check fails at any place.
+/// An image is a file system exactly where it is formatted and no check of either tree fails at any place.
 pub fn file_system_by_checks(image: &[u64])
     ensures { IsFileSystem image.now ↔ (IsFormatted image.now × NoneFailsWhole image.now) }
 {}
 
-/// A format over any words makes a file system of its version that shows the root directory alone.
+/// A format over any words makes a file system of its version, without a second tree, that shows the root directory alone.
 pub fn format_shows_the_root(image: &[u64], version: Version, blocks: u64)
     requires whole { length image.now ≡ block_words * blocks }
     requires least { min_blocks ≤ blocks }
     requires most { blocks ≤ max_blocks }
     ensures well_formed { IsFileSystem (formatted image.now version blocks) }
+    ensures single { has_snapshot (formatted image.now version blocks) ≡ false }
     ensures version { version_of (formatted image.now version blocks) ≡ version }
     ensures root { shown (formatted image.now version blocks) [] ≡ Some dir }
     ensures alone { (name : Name) (path : Path) → shown (formatted image.now version blocks) (name ∷ path) ≡ None }
 {}
 
-/// An upgrade makes a well-formed image a file system of version 2 that shows the same.
+/// An upgrade makes a well-formed image a file system of version 2, without a second tree, that shows the same.
 pub fn upgrade_shows_the_same(image: &[u64])
     requires { IsWellFormed image.now }
     ensures well_formed { IsFileSystem (upgraded image.now) }
+    ensures single { has_snapshot (upgraded image.now) ≡ false }
     ensures version { version_of (upgraded image.now) ≡ Two }
     ensures shows { (path : Path) → shown (upgraded image.now) path ≡ shown image.now path }
     ensures one { (p q : Path) → find_one (upgraded image.now) p q ≡ find_one image.now p q }

@@ -8,8 +8,7 @@ use Rattle.bp_layout.specs.Lookup.{Path, Node, are_one, file_at, lookup, node_of
 use Rattle.bp_layout.specs.Lookup.Node.{dir}
 use Rattle.bp_layout.specs.Format.{formatted}
 use Rattle.bp_layout.specs.WellFormed.{IsWellFormed}
-use Rattle.bp_layout.proofs.Format.{formatted_file_system, formatted_version, formatted_well_formed, shown_formatted_root, shown_formatted_else}
-use Rattle.bp_layout.proofs.NoSecond.{has_none}
+use Rattle.bp_layout.proofs.Format.{formatted_alone, formatted_version, formatted_well_formed, shown_formatted_root, shown_formatted_else}
 use Rattle.bp_plain.specs.PlainTree.{empty_map, empty_tree, pair_cmp, path_cmp}
 use Rattle.bp_plain.specs.Stands.{Shows, Stands}
 use Rattle.bp_plain.proofs.PathOrder.{path_cmp-IsTotalOrder}
@@ -48,5 +47,5 @@ module _ (image : Image) (version : Version) (blocks : ℕ) (whole : length imag
   format_stands = record {
     version = sym (formatted_version image version blocks whole least);
     now = format_shows;
-    snap = has_none made (formatted_file_system image version blocks whole least most).no_second;
+    snap = formatted_alone image version blocks whole least most;
   }

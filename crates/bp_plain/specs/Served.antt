@@ -1,16 +1,12 @@
--- The calls that a volume carries out so far.
+-- The calls that a volume carries out.
 use Rattle.std.specs.Prelude.{◌≤◌, length}
 use Rattle.bp_limits.specs.Limits.{max_pieces, max_read}
 use Rattle.bp_plain.specs.Calls.{Call}
-use Rattle.bp_plain.specs.Calls.Call.{read, snap, unsnap, snap_list, snap_stat, snap_read, batch}
+use Rattle.bp_plain.specs.Calls.Call.{read, snap_read, batch}
 
--- no snapshot, a read of so many bytes at most, and a batch of so many pieces at most, of which there is one
+-- a read of so many bytes at most, of a snapshot too, and a batch of so many pieces at most, of which there is one
 abbrev pub IsServed : Call → Type 0
 IsServed (read text off len) = len ≤ max_read
-IsServed snap = ⊥
-IsServed unsnap = ⊥
-IsServed (snap_list text) = ⊥
-IsServed (snap_stat text) = ⊥
-IsServed (snap_read text off len) = ⊥
+IsServed (snap_read text off len) = len ≤ max_read
 IsServed (batch pieces) = (1 ≤ length pieces) × (length pieces ≤ max_pieces)
 IsServed call = Unit {0}

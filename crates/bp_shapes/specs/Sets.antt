@@ -5,7 +5,6 @@ use Rattle.bp_layout.specs.Free.{AreUnheld, AreUnused}
 use Rattle.bp_free.specs.declared.parts.Parts.{Parts}
 use Rattle.bp_layout.specs.Inode.{size_of}
 use Rattle.bp_layout.specs.Names.{AreCounts}
-use Rattle.bp_layout.specs.Thaw.{none_kept}
 use Rattle.bp_layout.specs.Reached.{IsReached}
 use Rattle.bp_layout.specs.Words.{Image, block_count}
 use Rattle.bp_limits.specs.Limits.{block_size, inode_size}
@@ -23,9 +22,9 @@ pub record AreExactFor (image : Image) (Tree : ℕ → Type 0) (bound : ℕ → 
 abbrev pub AreExact : Image → (ℕ → Bool) → Set → Set → Type 0
 AreExact image kept = AreExactFor image (IsReached image) (size_of image) kept
 
--- The blocks of the parts of a file system that are kept: none, as there is no snapshot yet.
+-- the blocks of the parts of a file system that are kept
 abbrev pub kept_of : {R : Type 0} → Parts R → ℕ → Bool
-kept_of parts = none_kept
+kept_of parts = has parts.frozen
 
 -- The sets and the counts of the parts of a file system are those of an image.
 pub record IsExact {R : Type 0} (image : Image) (parts : Parts R) : Type 0 where

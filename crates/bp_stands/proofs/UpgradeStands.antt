@@ -6,8 +6,8 @@ use Rattle.bp_layout.specs.Format.{upgraded}
 use Rattle.bp_layout.specs.Formatted.{version_of}
 use Rattle.bp_layout.specs.Trees.{has_snapshot}
 use Rattle.bp_layout.specs.WellFormed.{IsWellFormed}
-use Rattle.bp_layout.proofs.NoSecond.{first_has_none, has_none}
-use Rattle.bp_layout.proofs.Upgrade.{upgraded_file_system, upgraded_one, upgraded_shown, upgraded_version, upgraded_well_formed}
+use Rattle.bp_layout.proofs.NoSecond.{first_has_none}
+use Rattle.bp_layout.proofs.Upgrade.{upgraded_alone, upgraded_one, upgraded_shown, upgraded_version, upgraded_well_formed}
 use Rattle.bp_plain.specs.PlainTree.{FileTree, PathMap}
 use Rattle.bp_plain.specs.Stands.{ShowsSnapshot, Stands}
 
@@ -27,5 +27,5 @@ upgrade_stands image first tree stands = record {
     wf = stands.now.well_formed
 
     go : (snap : Option PathMap) → ShowsSnapshot image snap → ShowsSnapshot (upgraded image) snap
-    go None none = has_none (upgraded image) (upgraded_file_system image wf).no_second
+    go None none = upgraded_alone image wf
     go (Some map) shows = let there : has_snapshot image ≡ true = shows.0 in let none : has_snapshot image ≡ false = first_has_none image first in absurd (cc)

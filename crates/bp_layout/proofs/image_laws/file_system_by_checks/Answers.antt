@@ -1,4 +1,4 @@
-use Rattle.bp_layout.proofs.NoSecond.{checks_suffice_whole, none_fails_whole}
+use Rattle.bp_layout.proofs.BothTrees.{checks_suffice_whole, none_fails_whole}
 use Rattle.bp_layout.proofs.image_laws.file_system_by_checks.Goals as goal
 
 pub returns : goal.returns

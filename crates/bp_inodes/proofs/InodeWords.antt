@@ -43,6 +43,12 @@ in_block image i some least none =
     let word : inode_word image i 0 ≡ 0 = inode_word-at image i 0 (omega arith) ∙ ap (λ b. slot_word image b (8 * (i % 64) + 0)) none in
     omega (arith, word, kind_word-of image i some, least)
 
+-- so the block that a walk finds for it is not null
+pub found_block : (image : Image) (i root block : ℕ) → 1 ≤ i → 1 ≤ kind_of image i → root ≡ root_of image 0 → block ≡ node image root (height_of root) (i / 64) → block ≢ 0
+found_block image i root block some least root_is block_is none =
+    let node_is : block ≡ node image (root_of image 0) (height_of (root_of image 0)) (i / 64) = block_is ∙ ap (λ r. node image r (height_of r) (i / 64)) root_is in
+    in_block image i some least (sym node_is ∙ none)
+
 -- a word of those that were loaded from the place of an inode that has a kind
 pub loaded_field : (image : Image) (i f root block first : ℕ) (words : List ℕ) → f < 3 → 1 ≤ i → 1 ≤ kind_of image i → root ≡ root_of image 0 →
     block ≡ node image root (height_of root) (i / 64) → first ≡ 512 * block + 8 * (i % 64) → words ≡ slice_range image first (first + 3) → slice_index words f ≡ inode_word image i f

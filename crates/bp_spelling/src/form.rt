@@ -8,7 +8,7 @@ ghost use Rattle.bp_spelling.specs.Places.{name_there, IsPlain, ArePlain, ArePla
 ghost use Rattle.pm_region.specs.Memory.{current_words};
 
 use bp_limits::MAX_NAME;
-use pm_region::Region;
+use pm_region::{HEAD_WORDS, Region};
 use pm_words::low_bytes;
 
 /// A word whose bytes are 0, except where a byte of the given word is 0.
@@ -48,6 +48,7 @@ fn are_plain_words(words: &[u64]) -> bool
 /// Whether none of so many bytes is 0 or `/`. The first word of them stands at a place.
 fn are_plain<R: Region>(region: &R, first: u32, count: u64) -> bool
     requires short { count ≤ max_name }
+    requires behind_head { HEAD_WORDS ≤ first }
     requires within { first + 30 ≤ length (current_words (R.memory region.now)) }
     ensures { IsTrue result ↔ ArePlain (current_words (R.memory region.now)) first count }
 {
@@ -73,7 +74,8 @@ fn is_dots(word: u64, count: u64) -> bool
 
 /// Whether the entry at a place has a name of the right form: 1 to 240 bytes, no byte 0 and no `/`, and neither `.` nor `..`.
 pub(crate) fn is_name<R: Region>(region: &R, place: u32) -> bool
-    requires { place + entry_words ≤ length (current_words (R.memory region.now)) }
+    requires behind_head { HEAD_WORDS ≤ place }
+    requires within { place + entry_words ≤ length (current_words (R.memory region.now)) }
     ensures { IsTrue result ↔ IsName (name_there (current_words (R.memory region.now)) place) }
 {
     let _words = region.words();

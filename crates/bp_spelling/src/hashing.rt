@@ -6,7 +6,7 @@ ghost use Rattle.bp_limits.specs.Limits.{entry_words, max_name};
 ghost use Rattle.bp_spelling.specs.Hashes.{mixed, name_hash};
 ghost use Rattle.pm_region.specs.Memory.{current_words};
 
-use pm_region::Region;
+use pm_region::{HEAD_WORDS, Region};
 use pm_words::low_bytes;
 
 const FACTOR: u64 = 0x9e37_79b9_7f4a_7c15;
@@ -24,6 +24,7 @@ fn mix(state: u64, word: u64) -> u64
 /// The hash of the name of the entry at a place: of its length, and of its words without the dead bytes.
 pub(crate) fn hash_name<R: Region>(region: &R, place: u32) -> u32
     requires short { word (current_words (R.memory region.now)) (place + 1) ≤ max_name }
+    requires behind_head { HEAD_WORDS ≤ place }
     requires within { place + entry_words ≤ length (current_words (R.memory region.now)) }
     ensures { result ≡ name_hash (current_words (R.memory region.now)) place }
 {

@@ -3,6 +3,7 @@ pub mod BlockCounts
 pub mod ContentParts
 pub mod Digits
 pub mod ExistingPaths
+pub mod LooseWays
 pub mod LoadedWords
 pub mod NextSlot
 pub mod PathLaws

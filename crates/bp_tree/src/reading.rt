@@ -8,7 +8,7 @@ ghost use Rattle.bp_tree.specs.Bytes.{stored_bytes, content_part};
 
 use crate::tree::{Tree, leaf_block};
 use bp_limits::{BLOCK_SIZE, BLOCK_WORDS};
-use pm_region::Region;
+use pm_region::{HEAD_WORDS, Region};
 
 /// Reads the bytes of a tree from `offset` on, as many as `into` has room for and lie below the size, and says how many
 /// these are. There are none from the size on. The rest of `into` stays.
@@ -50,6 +50,7 @@ fn read_leaf<R: Region>(region: &R, tree: Tree, offset: u64, into: &mut [u8])
 /// Reads bytes of the region from a place on, where word `w` has the places `8 * w` to `8 * w + 7`.
 fn read_bytes<R: Region>(region: &R, place: u64, into: &mut [u8])
     requires some { 0 < length into.old }
+    requires behind_first { block_size ≤ place }
     requires in_range { place + length into.old ≤ 8 * length (current_words (R.memory region.now)) }
     ensures { into.new ≡ stored_bytes (current_words (R.memory region.now)) place (length into.old) }
 {
@@ -64,7 +65,8 @@ fn read_bytes<R: Region>(region: &R, place: u64, into: &mut [u8])
 
 /// Reads the bytes of the words from one on.
 fn read_words<R: Region>(region: &R, word: u32, into: &mut [u8])
-    requires { 8 * word + length into.old ≤ 8 * length (current_words (R.memory region.now)) }
+    requires behind_head { HEAD_WORDS ≤ word }
+    requires in_range { 8 * word + length into.old ≤ 8 * length (current_words (R.memory region.now)) }
     ensures { into.new ≡ stored_bytes (current_words (R.memory region.now)) (8 * word) (length into.old) }
 {
     let _words = region.words();

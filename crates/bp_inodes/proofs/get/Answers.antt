@@ -2,7 +2,7 @@ use Rattle.std.proofs.Common.{◌≡◌, ◌∙◌, slice_index, refl, sym, arit
 use Rattle.bp_layout.specs.Inode.{inode_word}
 use Rattle.pm_region.specs.Memory.{current_words}
 use Rattle.bp_tree.proofs.RegionWords.{length_now}
-use Rattle.bp_inodes.proofs.InodeWords.{long_enough, loaded_field, kind_word-of, root_word-of, size_word-of}
+use Rattle.bp_inodes.proofs.InodeWords.{found_block, long_enough, loaded_field, kind_word-of, root_word-of, size_word-of}
 use Rattle.bp_inodes.proofs.get.Goals as goal
 
 pub inode_file-inodes-requires : goal.inode_file-inodes-requires
@@ -17,8 +17,16 @@ overflow_add-first g c = omega (arith, length_now (g.R.Region.memory c.args.regi
 pub overflow_cast-first : goal.overflow_cast-first
 overflow_cast-first g c = omega (arith, length_now (g.R.Region.memory c.args.region.now))
 
-pub load_words-words-requires : goal.load_words-words-requires
-load_words-words-requires g c = omega (arith, length_now (g.R.Region.memory c.args.region.now))
+pub load_words-words-requires-clause-in_range : goal.load_words-words-requires-clause-in_range
+load_words-words-requires-clause-in_range g c = omega (arith, length_now (g.R.Region.memory c.args.region.now))
+
+pub load_words-words-requires-clause-behind_head : goal.load_words-words-requires-clause-behind_head
+load_words-words-requires-clause-behind_head g c =
+    let image = current_words (g.R.Region.memory c.args.region.now) in
+    omega (
+      arith,
+      found_block image c.args.i c.inode_file-inodes.result.root c.leaf_block-block.result c.requires.some c.requires.least c.inode_file-inodes.ensures.root c.leaf_block-block.ensures.node,
+    )
 
 pub read-requires-clause-least : goal.read-requires-clause-least
 read-requires-clause-least g c =

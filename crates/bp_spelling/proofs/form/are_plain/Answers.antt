@@ -7,8 +7,8 @@ use Rattle.bp_spelling.proofs.FirstWords.{of_taken, to_taken}
 use Rattle.bp_spelling.proofs.Forms.{plain_all, plain_whole, plain_rest}
 use Rattle.bp_spelling.proofs.form.are_plain.Goals as goal
 
-pub load_words-words-requires : goal.load_words-words-requires
-load_words-words-requires g c = omega (arith, length_now (g.R.Region.memory c.args.region.now))
+pub load_words-words-requires-clause-in_range : goal.load_words-words-requires-clause-in_range
+load_words-words-requires-clause-in_range g c = omega (arith, length_now (g.R.Region.memory c.args.region.now))
 
 pub returns-then-not-are_plain_words : goal.returns-then-not-are_plain_words
 returns-then-not-are_plain_words g c =

@@ -18,8 +18,8 @@ load-count-requires g c = omega (arith, length_now (g.R.Region.memory c.args.reg
 pub overflow_add-place-2 : goal.overflow_add-place-2
 overflow_add-place-2 g c = omega (arith, length_now (g.R.Region.memory c.args.region.now))
 
-pub load_words-words-requires : goal.load_words-words-requires
-load_words-words-requires g c = omega (arith, length_now (g.R.Region.memory c.args.region.now))
+pub load_words-words-requires-clause-in_range : goal.load_words-words-requires-clause-in_range
+load_words-words-requires-clause-in_range g c = omega (arith, length_now (g.R.Region.memory c.args.region.now))
 
 pub loop-word-init : goal.loop-word-init
 loop-word-init g c =

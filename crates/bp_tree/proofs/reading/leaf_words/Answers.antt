@@ -13,8 +13,8 @@ overflow_mul-block g c = omega (arith, length_now (g.R.Region.memory c.args.regi
 pub overflow_cast-block : goal.overflow_cast-block
 overflow_cast-block g c = omega (arith, length_now (g.R.Region.memory c.args.region.now))
 
-pub load_words-requires : goal.load_words-requires
-load_words-requires g c = omega (arith, length_now (g.R.Region.memory c.args.region.now))
+pub load_words-requires-clause-in_range : goal.load_words-requires-clause-in_range
+load_words-requires-clause-in_range g c = omega (arith, length_now (g.R.Region.memory c.args.region.now))
 
 pub returns-then-block-eq0-clause-none : goal.returns-then-block-eq0-clause-none
 returns-then-block-eq0-clause-none g c i low =

@@ -6,15 +6,15 @@ use Rattle.bp_tree.proofs.StoredBytes.{run_part}
 use Rattle.bp_tree.proofs.reading.read_words.Goals as goal
 
 pub overflow_cast-div_ceil : goal.overflow_cast-div_ceil
-overflow_cast-div_ceil g c = omega (arith, length_now (g.R.Region.memory c.args.region.now), c.requires, c.words-words.ensures, c.words-words.type_inv, c.div_ceil.ensures)
+overflow_cast-div_ceil g c = omega (arith, length_now (g.R.Region.memory c.args.region.now), c.requires.in_range, c.words-words.ensures, c.words-words.type_inv, c.div_ceil.ensures)
 
-pub load_words-requires : goal.load_words-requires
-load_words-requires g c = omega (arith, length_now (g.R.Region.memory c.args.region.now), c.requires, c.div_ceil.ensures)
+pub load_words-requires-clause-in_range : goal.load_words-requires-clause-in_range
+load_words-requires-clause-in_range g c = omega (arith, length_now (g.R.Region.memory c.args.region.now), c.requires.in_range, c.div_ceil.ensures)
 
 pub unpack-requires : goal.unpack-requires
 unpack-requires g c =
     let image = current_words (g.R.Region.memory c.args.region.now) in
-    let all = length-loaded image c.load_words.result.now c.args.word c.div_ceil.result c.load_words.ensures (omega (arith, c.requires, c.div_ceil.ensures)) in
+    let all = length-loaded image c.load_words.result.now c.args.word c.div_ceil.result c.load_words.ensures (omega (arith, c.requires.in_range, c.div_ceil.ensures)) in
     omega (arith, c.div_ceil.ensures, all)
 
 pub returns : goal.returns

@@ -17,8 +17,8 @@ use Rattle.bp_walk.proofs.LiveSlots.{covered_some}
 use Rattle.bp_walk.proofs.walk.+take_below.Goals.{else-pointer-eq0-via-then-pointer-eq0+else-holes, else-pointer-eq0-via-else-pointer-eq0}
 use Rattle.bp_walk.proofs.walk.+take_below.Goals as goal
 
-pub load_words-pointers-requires : goal.load_words-pointers-requires
-load_words-pointers-requires g t c =
+pub load_words-pointers-requires-clause-in_range : goal.load_words-pointers-requires-clause-in_range
+load_words-pointers-requires-clause-in_range g t c =
     let image = current_words (g.R.Region.memory c.args.region.now) in
     let some : c.args.top.block < block_count image = subst (λ x. x < block_count image) c.requires.block (within_blocks image c.args.tree.root c.args.top.depth c.args.top.index c.requires.passes) in
     omega (arith, some, c.live_slots-live.ensures.most, c.requires.whole, length_now (g.R.Region.memory c.args.region.now))

@@ -1,0 +1,22 @@
+-- A region as one of its trees has it.
+use Rattle.std.specs.Prelude.{ℕ, []}
+use Rattle.pm_region.specs.Memory.{Memory, current_words}
+use Rattle.pm_region.specs.declared.region.Region.{Ghosts}
+use Rattle.bp_layout.specs.Trees.{snapshot_of}
+use Rattle.bp_second.specs.declared.shown.Shown.{Shown}
+use Rattle.bp_second.specs.declared.shown.Shown.TheVariants.{First, Second}
+
+-- The words now, with the second tree in the first one's place, after so many drains. The log has no room, so that nothing
+-- can be stored.
+abbrev pub second_memory : Memory → ℕ → Memory
+second_memory memory drains = record {
+  base = snapshot_of (current_words memory);
+  events = [];
+  capacity = 0;
+  drains = drains;
+}
+
+-- the memory of the region where it shows its first tree, and the one above where it shows its second
+abbrev pub shown_memory : {R : Type 0} {region : Ghosts R} → (R → Memory) → Shown R region → Memory
+shown_memory memory (First region) = memory region.now
+shown_memory memory (Second second) = second_memory (memory second.region.now) second.drains

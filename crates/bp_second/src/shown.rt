@@ -1,0 +1,153 @@
+//! A region as one of its trees has it.
+
+ghost use Rattle.std.specs.Prelude.{◌≡◌, ◌<◌, ◌≤◌, length, slice_index};
+ghost use Rattle.bp_layout.specs.Trees.{snapshot_of};
+ghost use Rattle.pm_region.specs.Memory.{current_words};
+
+use bp_limits::{SUPER_ROOT, SUPER_SECOND_ROOT, SUPER_SECOND_SIZE, SUPER_SIZE};
+use pm_epochs::{BadChoice, Choice, Event, Kept, kept_calls};
+use pm_region::Region;
+
+/// A region that is lent to read its second tree: the root word and the size of that tree stand in the place of those of the
+/// first.
+#[derive(Drop)]
+pub struct SecondTree<'a, R: Region> {
+    region: &'a R,
+    drains: u64,
+    ghost wide: { 6 ≤ length (R.memory region.now).base },
+}
+
+impl<'a, R: Region> SecondTree<'a, R> {
+    /// A word as the processor sees it.
+    fn load(&self, word: u32) -> u64
+        requires { word < length (R.memory self.now.region.now).base }
+        ensures { result ≡ slice_index (snapshot_of (current_words (R.memory self.now.region.now))) word }
+    {
+        match word {
+            SUPER_ROOT => self.region.load(SUPER_SECOND_ROOT),
+            SUPER_SIZE => self.region.load(SUPER_SECOND_SIZE),
+            _ => self.region.load(word),
+        }
+    }
+}
+
+/// A region as one of its two trees has it. Whoever reads the first tree of any region reads either by it.
+///
+/// The first tree is read and changed in the region itself. The second one can be read alone: its log has no room, so that
+/// nothing can be stored, and it is as if the words now were those at the last drain.
+#[derive(Drop)]
+pub enum Shown<'a, R: Region> {
+    /// The region as it is.
+    First(&'a mut R),
+    /// With the second tree in the first one's place.
+    Second(SecondTree<'a, R>),
+}
+
+impl<'a, R: Region> Shown<'a, R> {
+    ghost use Rattle.bp_second.specs.Shown.{shown_memory, second_memory};
+
+    /// The region with its second tree in the first one's place. It counts drains of its own, from 0 on.
+    pub fn second(region: &'a R) -> Shown<'a, R>
+        requires { 6 ≤ length (R.memory region.now).base }
+        ensures { shown_memory R.memory result ≡ second_memory (R.memory region.now) 0 }
+    {
+        Shown::Second(SecondTree { region, drains: 0 })
+    }
+}
+
+impl<'a, R: Region> Region for Shown<'a, R> {
+    ghost use Rattle.bp_second.specs.Shown.{shown_memory};
+
+    ghost memory = { shown_memory R.memory };
+
+    fn words(&self) -> u32 {
+        match self {
+            Shown::First(region) => region.words(),
+            Shown::Second(second) => second.region.words(),
+        }
+    }
+
+    fn load(&self, word: u32) -> u64 {
+        match self {
+            Shown::First(region) => region.load(word),
+            Shown::Second(second) => second.load(word),
+        }
+    }
+
+    fn load_words(&self, first: u32, count: u32) -> &[u64] {
+        match self {
+            Shown::First(region) => region.load_words(first, count),
+            Shown::Second(second) => second.region.load_words(first, count),
+        }
+    }
+
+    fn store(&mut self, word: u32, value: u64) {
+        match self {
+            Shown::First(region) => region.store(word, value),
+            Shown::Second(_) => unreachable!(),
+        }
+    }
+
+    fn store_words(&mut self, first: u32, values: &[u64]) {
+        match self {
+            Shown::First(region) => region.store_words(first, values),
+            Shown::Second(_) => {}
+        }
+    }
+
+    fn barrier(&mut self) {
+        match self {
+            Shown::First(region) => region.barrier(),
+            Shown::Second(_) => unreachable!(),
+        }
+    }
+
+    fn mark(&mut self) {
+        match self {
+            Shown::First(region) => region.mark(),
+            Shown::Second(_) => unreachable!(),
+        }
+    }
+
+    fn drain(&mut self) {
+        match self {
+            Shown::First(region) => region.drain(),
+            Shown::Second(second) => second.drains = second.drains.saturating_add(1),
+        }
+    }
+
+    fn room(&self) -> usize {
+        match self {
+            Shown::First(region) => region.room(),
+            Shown::Second(_) => 0,
+        }
+    }
+
+    fn event_count(&self) -> usize {
+        match self {
+            Shown::First(region) => region.event_count(),
+            Shown::Second(_) => 0,
+        }
+    }
+
+    fn event(&self, i: usize) -> Event {
+        match self {
+            Shown::First(region) => region.event(i),
+            Shown::Second(_) => unreachable!(),
+        }
+    }
+
+    fn base_word(&self, word: u32) -> u64 {
+        match self {
+            Shown::First(region) => region.base_word(word),
+            Shown::Second(second) => second.load(word),
+        }
+    }
+
+    fn crash_to(&mut self, choice: &Choice) -> Result<Kept, BadChoice> {
+        match self {
+            Shown::First(region) => region.crash_to(choice),
+            Shown::Second(_) => kept_calls(&[], choice),
+        }
+    }
+}

@@ -1,5 +1,6 @@
 //! A log of two epochs, what a crash leaves of it, and both regions.
 
+use bp_second::Shown;
 use pm_epochs::{BadChoice, Choice, Event, Kept, check_choice, kept_calls, replay_word};
 use pm_raw::RawRegion;
 use pm_region::{ListRegion, Region};
@@ -133,8 +134,6 @@ enum Step {
     Look,
     Log(Event),
     Drain,
-    AdoptWords(u32, [u64; 2]),
-    AdoptWord(u32, u64),
 }
 
 /// A step, what the log of two places has then, and the words, as the processor sees them and at the last drain.
@@ -143,7 +142,7 @@ type Stepped = (Step, &'static [Event], [u64; 4], [u64; 4]);
 const FIVE: Event = Event::Store { word: 1, value: 5 };
 
 /// A store and a barrier fill the log, and a drain brings the store to the words at the last drain.
-const STEPS: [Stepped; 6] = [
+const STEPS: [Stepped; 4] = [
     (Step::Look, &[], [0; 4], [0; 4]),
     (Step::Log(FIVE), &[FIVE], [0, 5, 0, 0], [0; 4]),
     (
@@ -153,34 +152,13 @@ const STEPS: [Stepped; 6] = [
         [0; 4],
     ),
     (Step::Drain, &[], [0, 5, 0, 0], [0, 5, 0, 0]),
-    (Step::AdoptWords(2, [8, 9]), &[], [0, 5, 8, 9], [0, 5, 8, 9]),
-    (Step::AdoptWord(3, 7), &[], [0, 5, 8, 7], [0, 5, 8, 7]),
 ];
-
-/// Adopts where the region has these words, and an empty log.
-fn adopt<R: Region>(region: &mut R, first: u32, values: &[u64]) {
-    let words = region.words() as usize;
-    if region.event_count() == 0
-        && first as usize <= words
-        && values.len() <= words - first as usize
-    {
-        region.adopt_words(first, values);
-    }
-}
-
-fn adopt_one<R: Region>(region: &mut R, word: u32, value: u64) {
-    if region.event_count() == 0 && word < region.words() {
-        region.adopt_word(word, value);
-    }
-}
 
 fn take_step<R: Region>(region: &mut R, step: Step) {
     match step {
         Step::Look => {}
         Step::Log(event) => follow_one(region, event),
         Step::Drain => region.drain(),
-        Step::AdoptWords(first, values) => adopt(region, first, &values),
-        Step::AdoptWord(word, value) => adopt_one(region, word, value),
     }
 }
 
@@ -266,6 +244,37 @@ fn both_regions_drain(rt: HostRuntime) -> Result<(), Fail> {
     takes_steps(&rt, &mut RawRegion::new(rt.alloc(), 4, 2)?);
     takes_steps(&rt, &mut list(rt.alloc(), 4, 2)?);
     Ok(())
+}
+
+/// The words of a region, and those that it shows with its second tree in the first one's place.
+const TREES: [u64; 10] = [0, 1, 2, 3, 4, 5, 6, 7, 8, 9];
+
+const SECOND: [u64; 10] = [0, 1, 4, 5, 4, 5, 6, 7, 8, 9];
+
+#[test]
+fn a_second_tree_is_shown_first(rt: HostRuntime) -> Result<(), Fail> {
+    let words = Vec::from_slice(rt.alloc(), &TREES)?;
+    let mut region = ListRegion::new(rt.alloc(), words, 2)?;
+    assert!(rt; region.words() == 10);
+    let mut shown = Shown::second(&region);
+    assert!(rt; stands_at(&shown, &SECOND, &SECOND));
+    assert!(rt; shown.words() == 10);
+    assert_eq!(rt; shown.load_words(8, 2), [8, 9].as_slice());
+    let none = chosen(rt.alloc(), 0, 0, &[])?;
+    assert_eq!(rt; shown.crash_to(&none).ok(), Some(Kept { c: 0, n: 0 }));
+    shown.drain();
+    assert!(rt; has_log(&shown, &[]));
+    assert!(rt; stands_at(&shown, &SECOND, &SECOND));
+    assert_eq!(rt; shown.room(), 0);
+    takes_event(&rt, &mut Shown::First(&mut region));
+    Ok(())
+}
+
+/// A store goes through to the region that is shown as it is.
+fn takes_event<R: Region, A: Abort>(rt: &A, region: &mut R) {
+    follow_one(region, FIVE);
+    assert!(rt; has_log(region, &[FIVE]));
+    assert!(rt; stands_at(region, &[0, 5, 2, 3, 4, 5, 6, 7, 8, 9], &TREES));
 }
 
 #[test]

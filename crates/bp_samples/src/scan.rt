@@ -6,7 +6,7 @@ ghost use Rattle.bp_limits.specs.Limits.{block_words, min_blocks};
 use crate::images::{EMPTY, SECOND, TWO_ENTRIES, TWO_NAMES, laid, put};
 use bp_free::{Blocks, Counts, Inodes};
 use bp_layout::Check;
-use bp_scan::{MountFault, Pending, Totals, image_length, scan};
+use bp_scan::{MountFault, Pending, Totals, image_length, scan_whole};
 use pm_region::ListRegion;
 use std::alloc::{AllocError, Global};
 use std::test::Fail;
@@ -25,7 +25,7 @@ const TOTALS: Totals = Totals {
 /// Stores over the base image, the check that then fails, and the word at which it does.
 type Damage = (&'static [(usize, u64)], Check, u32);
 
-const DAMAGES: [Damage; 24] = [
+const DAMAGES: [Damage; 27] = [
     (&[(529, 0x3004), (530, 1)], Check::Height, 529),
     (&[(529, 0x3008), (530, 1)], Check::PointerBits, 529),
     (
@@ -60,19 +60,35 @@ const DAMAGES: [Damage; 24] = [
     (&[(1026, 0x2e)], Check::NameForm, 1025),
     (&[(1058, 0x61)], Check::NameTwice, 1056),
     (&[SECOND, (529, 0x3006), (530, 1)], Check::Height, 529),
-    (&[SECOND, (4, 0x1000)], Check::SecondFile, 4),
-    (&[SECOND, (5, 4096)], Check::SecondFile, 5),
+    (&[SECOND, (5, 4096)], Check::Hole, 4),
+    (&[SECOND, (4, 0x8000), (5, 4096)], Check::Range, 4),
+    (&[SECOND, (4, 0x3000), (5, 4000)], Check::InodeFileSize, 5),
+    (&[SECOND, (4, 0x3000), (5, 8192)], Check::Capacity, 5),
+    (&[SECOND, (4, 0x3000), (5, 4096)], Check::Kind, 1544),
 ];
 
-/// What a scan answers; how many blocks and how many inodes are free then; and how many names the inodes 1 to 3 have.
-type Found = (Result<Totals, MountFault>, (u32, u32), [u32; 3]);
+/// On top of the base image: a second tree with the same names in the same directory, and its inodes in block 3.
+const SNAPSHOT: [(usize, u64); 8] = [
+    SECOND,
+    (4, 0x3000),
+    (5, 4096),
+    (1544, 2),
+    (1545, 0x2000),
+    (1546, 512),
+    (1552, 1),
+    (1560, 1),
+];
+
+/// What a scan answers; how many blocks and how many inodes are free then, and how many blocks the second tree has; and how
+/// many names the inodes 1 to 3 have.
+type Found = (Result<Totals, MountFault>, (u32, u32, u32), [u32; 3]);
 
 /// The base image.
-const BASE: Found = (Ok(TOTALS), (5, 60), [0, 1, 1]);
+const BASE: Found = (Ok(TOTALS), (5, 60, 0), [0, 1, 1]);
 
 /// What a fault leaves.
 fn refused(fault: MountFault) -> Found {
-    (Err(fault), (0, 0), [0, 0, 0])
+    (Err(fault), (0, 0, 0), [0, 0, 0])
 }
 
 fn base(alloc: Global) -> Result<Vec<u64>, AllocError>
@@ -84,16 +100,22 @@ fn base(alloc: Global) -> Result<Vec<u64>, AllocError>
     Ok(words)
 }
 
-/// The sets of all blocks and of all inodes.
-fn full_sets(alloc: Global) -> Result<(Blocks, Inodes), AllocError>
-    ensures blocks { IfOk result (λ sets. length sets.0 ≡ BLOCKS) }
-    ensures inodes { IfOk result (λ sets. length sets.1 ≡ INODES) }
+/// The set of all blocks.
+fn all_blocks(alloc: Global) -> Result<Blocks, AllocError>
+    ensures { IfOk result (λ set. length set ≡ BLOCKS) }
 {
     let mut blocks = Blocks::new(alloc, BLOCKS)?;
-    let mut inodes = Inodes::new(alloc, INODES)?;
     blocks.fill(0, BLOCKS);
+    Ok(blocks)
+}
+
+/// The set of all inodes.
+fn all_inodes(alloc: Global) -> Result<Inodes, AllocError>
+    ensures { IfOk result (λ set. length set ≡ INODES) }
+{
+    let mut inodes = Inodes::new(alloc, INODES)?;
     inodes.fill(0, INODES);
-    Ok((blocks, inodes))
+    Ok(inodes)
 }
 
 /// Scans an image, with sets and counts that have something before.
@@ -101,13 +123,26 @@ fn scanned(alloc: Global, words: Vec<u64>) -> Result<Found, AllocError>
     requires { vec_len words ≡ min_blocks * block_words }
 {
     let region = ListRegion::new(alloc, words, 0)?;
-    let (mut blocks, mut inodes) = full_sets(alloc)?;
+    let mut blocks = all_blocks(alloc)?;
+    let mut frozen = all_blocks(alloc)?;
+    let mut inodes = all_inodes(alloc)?;
     let mut counts = Counts::new(alloc, INODES)?;
     counts.set(1, 7);
     let mut pending = Pending::new(alloc, INODES)?;
-    let answer = scan(&region, &mut blocks, &mut inodes, &mut pending, &mut counts);
+    let answer = scan_whole(
+        &region,
+        &mut blocks,
+        &mut inodes,
+        &mut frozen,
+        &mut pending,
+        &mut counts,
+    );
     let names = [counts.names(1), counts.names(2), counts.names(3)];
-    Ok((answer, (blocks.count(), inodes.count()), names))
+    Ok((
+        answer,
+        (blocks.count(), inodes.count(), frozen.count()),
+        names,
+    ))
 }
 
 #[test]
@@ -134,8 +169,24 @@ fn a_file_has_two_names(rt: HostRuntime) -> Result<(), Fail> {
     let totals = Totals { files: 1, ..TOTALS };
     assert_eq!(rt;
         scanned(rt.alloc(), words)?,
-        (Ok(totals), (5, 61), [0, 2, 0])
+        (Ok(totals), (5, 61, 0), [0, 2, 0])
     );
+    Ok(())
+}
+
+/// Block 2 is in both trees and block 3 in the second one alone; without the mark of version 2 there is one tree.
+#[test]
+fn both_trees_are_scanned(rt: HostRuntime) -> Result<(), Fail> {
+    let mut words = base(rt.alloc())?;
+    put(&mut words, &SNAPSHOT);
+    let totals = Totals { live: 3, ..TOTALS };
+    assert_eq!(rt;
+        scanned(rt.alloc(), words)?,
+        (Ok(totals), (4, 60, 2), [0, 1, 1])
+    );
+    let mut words = base(rt.alloc())?;
+    put(&mut words, &SNAPSHOT[1..]);
+    assert_eq!(rt; scanned(rt.alloc(), words)?, BASE);
     Ok(())
 }
 

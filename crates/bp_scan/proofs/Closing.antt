@@ -9,8 +9,9 @@ use Rattle.bp_layout.specs.Reached.{IsReached}
 use Rattle.bp_layout.specs.WellFormed.{IsWellFormed}
 use Rattle.bp_layout.proofs.ChecksLaws.{found_reached}
 use Rattle.bp_scan.specs.Reading.{IsReading}
+use Rattle.bp_scan.specs.Scanned.{AreOthersLive}
 use Rattle.bp_scan.specs.declared.work.Scan.{Scan}
-use Rattle.bp_scan.proofs.Ending.{end_well_formed, end_blocks, end_inodes, end_counts}
+use Rattle.bp_scan.proofs.Ending.{end_well_formed, end_blocks, end_others, end_inodes, end_counts}
 use Rattle.bp_layout.specs.Thaw.{none_kept}
 
 module _ (image : Image) (work : Scan) (reading : IsReading image work 0 0) (none : (i : ℕ) → has work.todo i ≡ false) where
@@ -19,6 +20,9 @@ module _ (image : Image) (work : Scan) (reading : IsReading image work 0 0) (non
 
   pub all_free_blocks : AreFreeBlocks image none_kept (has work.blocks)
   all_free_blocks = end_blocks image work.blocks work.inodes work.todo reading.ready.formatted reading.ready.inode_blocks reading.ready.some_inodes reading.root_kind reading.range reading.midway none
+
+  pub all_others_live : AreOthersLive image (has work.blocks)
+  all_others_live = end_others image work.blocks work.inodes work.todo reading.ready.formatted reading.ready.inode_blocks reading.ready.some_inodes reading.root_kind reading.range reading.midway none
 
   pub all_free_inodes : AreFreeInodes image (has work.inodes)
   all_free_inodes = end_inodes image work.blocks work.inodes work.todo reading.ready.formatted reading.ready.inode_blocks reading.ready.some_inodes reading.root_kind reading.range reading.midway none

@@ -11,11 +11,11 @@ use Rattle.bp_layout.specs.WellFormed.{IsWellFormed}
 use Rattle.bp_layout.proofs.ChecksLaws.{found_reached}
 use Rattle.bp_walk.proofs.TakenLaws.{known}
 use Rattle.bp_scan.specs.Named.{CountsAmong}
-use Rattle.bp_scan.specs.Scanned.{IsAll, HasRest}
+use Rattle.bp_scan.specs.Scanned.{AreOthersLive, IsAll, HasRest}
 use Rattle.bp_scan.proofs.Named.{counts_all}
 use Rattle.bp_scan.specs.Progress.{IsEntered, IsDone, IsMidway}
 use Rattle.bp_scan.proofs.ProgressLaws.{all_done}
-use Rattle.bp_scan.proofs.Frontier.{well_formed, free_blocks, free_inodes, reached_entered}
+use Rattle.bp_scan.proofs.Frontier.{well_formed, free_blocks, others_live, free_inodes, reached_entered}
 use Rattle.bp_layout.specs.Thaw.{none_kept}
 
 module _ (image : Image) (blocks inodes todo : Set) (formatted : IsFormatted image) (whole : size_of image 0 % 4096 ≡ 0) (some : 4096 ≤ size_of image 0) (kind : kind_of image 1 ≡ 2)
@@ -43,6 +43,9 @@ module _ (image : Image) (blocks inodes todo : Set) (formatted : IsFormatted ima
 
   pub end_blocks : AreFreeBlocks image none_kept (has blocks)
   end_blocks = free_blocks image (IsEntered image inodes) (IsDone image inodes todo 0 0) midway.all blocks midway.under_way.scanned all formatted.sized.at_least midway.whole
+
+  pub end_others : AreOthersLive image (has blocks)
+  end_others = others_live image (IsEntered image inodes) (IsDone image inodes todo 0 0) midway.all blocks midway.under_way.scanned all midway.whole
 
   pub end_inodes : AreFreeInodes image (has inodes)
   end_inodes = free_inodes image (IsEntered image inodes) (IsDone image inodes todo 0 0) midway.all blocks midway.under_way.scanned all inodes rest

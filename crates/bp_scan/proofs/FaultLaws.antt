@@ -1,21 +1,66 @@
--- An image with a fault is no file system.
-use Rattle.std.proofs.Common.{◌↔◌, Result, Ok, Err}
+-- An image with a fault is no file system, and its first tree with one is not well formed.
+use Rattle.std.proofs.Common.{◌≡◌, ◌↔◌, ℕ, ◌*◌, ◌/◌, ◌-◌, ◌^◌, Result, Ok, Err, true, sym, ◌∙◌, ap, arith}
+use Rattle.std.specs.Prelude.{min}
 use Rattle.std.specs.Result.{IsOk, IsErr}
-use Rattle.bp_layout.specs.Formatted.{version_of}
-use Rattle.bp_layout.specs.Words.{Image}
-use Rattle.bp_layout.specs.Whole.{IsFileSystem}
-use Rattle.bp_layout.proofs.NoSecond.{none_fails_whole}
-use Rattle.bp_scan.specs.Faults.{IsFault}
+use Rattle.bp_layout.specs.Checks.{Fails}
+use Rattle.bp_layout.specs.Formatted.{IsFormatted, version_of}
+use Rattle.bp_layout.specs.Trees.{has_snapshot, snapshot_of}
+use Rattle.bp_layout.specs.WellFormed.{IsWellFormed}
+use Rattle.bp_layout.specs.Whole.{FailsWhole, IsFileSystem}
+use Rattle.bp_layout.specs.Whole.FailsWhole.{first, second}
+use Rattle.bp_layout.specs.Words.{Image, word, block_count}
+use Rattle.bp_layout.specs.declared.check.Check.{Check}
+use Rattle.bp_layout.proofs.BothTrees.{none_fails_whole}
+use Rattle.bp_layout.proofs.ChecksLaws.{none_fails}
+use Rattle.bp_layout.proofs.TreeImages.{length-snapshot, snapshot-version, snapshot-word}
+use Rattle.bp_limits.specs.Limits.{magic}
+use Rattle.bp_scan.specs.Faults.{IsFault, IsFaultBy, IsTreeFault, of_second}
 use Rattle.bp_scan.specs.declared.fault.MountFault.{MountFault}
 use Rattle.bp_scan.specs.declared.fault.MountFault.TheVariants.{NotFormatted, BadSize, Damaged, Memory}
 
-pub fault_refutes : (image : Image) (fault : MountFault) → IsFault image fault → IsFileSystem image → ⊥
-fault_refutes image NotFormatted unmarked wf = unmarked (version_of image) wf.first.formatted.marked
-fault_refutes image (BadSize found wanted) is wf = is.1 wf.first.formatted.counted
-fault_refutes image (Damaged check place) is wf = none_fails_whole image wf check place is.2
-fault_refutes image Memory is wf = is
+fault_refutes : (DoesFail : Check → ℕ → Type 0) (image : Image) (fault : MountFault) → IsFaultBy DoesFail image fault → IsFormatted image → ((check : Check) (place : ℕ) → DoesFail check place → ⊥) → ⊥
+fault_refutes DoesFail image NotFormatted unmarked formatted none = unmarked (version_of image) formatted.marked
+fault_refutes DoesFail image (BadSize found wanted) is formatted none = is.1 formatted.counted
+fault_refutes DoesFail image (Damaged check place) is formatted none = none check place is.2
+fault_refutes DoesFail image Memory is formatted none = is
+
+refused_by : {T F : Type 0} (P : Type 0) (result : Result T F) → IsErr result → (P → ⊥) → IsOk result ↔ P
+refused_by P (Ok value) err never = absurd (cc)
+refused_by P (Err error) err never = (λ ok. absurd (cc), λ p. absurd (never p))
 
 -- so a refusal is right of an image that has one
-pub refused : {T F : Type 0} (image : Image) (fault : MountFault) (result : Result T F) → IsFault image fault → IsErr result → IsOk result ↔ IsFileSystem image
-refused image fault (Ok value) is err = absurd (cc)
-refused image fault (Err error) is err = (λ ok. absurd (cc), λ wf. absurd (fault_refutes image fault is wf))
+pub refused : {T F : Type 0} (image : Image) (fault : MountFault) (result : Result T F) → IsTreeFault image fault → IsErr result → IsOk result ↔ IsWellFormed image
+refused image fault result is err = refused_by (IsWellFormed image) result err (λ wf. fault_refutes (Fails image) image fault is wf.formatted (none_fails image wf))
+
+pub refused_whole : {T F : Type 0} (image : Image) (fault : MountFault) (result : Result T F) → IsFault image fault → IsErr result → IsOk result ↔ IsFileSystem image
+refused_whole image fault result is err = refused_by (IsFileSystem image) result err (λ fs. fault_refutes (FailsWhole image) image fault is fs.first.formatted (none_fails_whole image fs))
+
+-- a fault of the first tree is one of the image
+pub first_faults : (image : Image) (fault : MountFault) → IsTreeFault image fault → IsFault image fault
+first_faults image NotFormatted is = is
+first_faults image (BadSize found wanted) is = is
+first_faults image (Damaged check place) is = (is.0, is.1, first is.2)
+first_faults image Memory is = is
+
+-- and so is one of the second, told at the places of that
+pub second_faults : (image : Image) → has_snapshot image ≡ true → (fault : MountFault) → IsTreeFault (snapshot_of image) fault → IsFault image (of_second fault)
+second_faults image there fault is = go fault is
+  where
+    mark : word (snapshot_of image) 0 ≡ word image 0
+    mark = snapshot-word image 0 (λ e. omega (arith, e)) (λ e. omega (arith, e))
+
+    number : word (snapshot_of image) 1 ≡ word image 1
+    number = snapshot-word image 1 (λ e. omega (arith, e)) (λ e. omega (arith, e))
+
+    count : block_count (snapshot_of image) ≡ block_count image
+    count = ap (λ n. n / 512) (length-snapshot image)
+
+    marked : word (snapshot_of image) 0 ≡ magic (version_of (snapshot_of image)) → word image 0 ≡ magic (version_of image)
+    marked e = sym mark ∙ e ∙ ap magic (snapshot-version image)
+
+    go : (fault : MountFault) → IsTreeFault (snapshot_of image) fault → IsFault image (of_second fault)
+    go NotFormatted unmarked = λ version e. unmarked version (mark ∙ e)
+    go (BadSize found wanted) is =
+        (marked is.0, λ e. is.1 (number ∙ e ∙ sym count), is.2 ∙ ap (λ n. 4096 * n) count, is.3 ∙ ap (λ n. min (4096 * n) (2 ^ 64 - 1)) number)
+    go (Damaged check place) is = (marked is.0, sym number ∙ is.1 ∙ count, second there is.2)
+    go Memory is = is

@@ -20,7 +20,7 @@ use Rattle.bp_layout.specs.Tree.{HasBlock}
 use Rattle.std.proofs.lemmas.Bool.{cases_lt}
 use Rattle.bp_walk.proofs.TakenLaws.{clash, known}
 use Rattle.bp_walk.specs.Taken.{block_at, NamesBlock}
-use Rattle.bp_scan.specs.Scanned.{IsSeen, IsScanned, IsAll, HasAllBlocks, HasRest}
+use Rattle.bp_scan.specs.Scanned.{AreOthersLive, IsSeen, IsScanned, IsAll, HasAllBlocks, HasRest}
 use Rattle.std.proofs.lemmas.List.{get_or_past}
 use Rattle.bp_walk.proofs.Places.{pointer_word}
 use Rattle.bp_layout.specs.Thaw.{none_kept}
@@ -82,6 +82,24 @@ module _ (image : Image) (E : ℕ → Type 0) (D : ℕ → ℕ → Type 0) (star
   pub reached_entered : (t : ℕ) → IsReached image t → E t
   reached_entered t reached = found_entered t (reached_found image nothing_fails t reached)
 
+  -- what has left the set is live
+  pub others_live : HasAllBlocks image start → AreOthersLive image (has left)
+  others_live all b low high gone =
+      let n : NamesBlock image (IsSeen image E) b = scanned.takes.named b (all.all b low high) gone in
+      let w : block_at image n.place ≡ node image (root_of image n.is.tree) n.is.depth n.is.index =
+      ap block_of (pointer_word image n.is.tree n.is.depth n.is.index n.place n.is.pointer) in
+      record {
+        tree = n.is.tree;
+        reached = found_reached image n.is.tree n.is.pointer.found;
+        has = record {
+          depth = n.is.depth;
+          index = n.is.index;
+          pointer = n.is.pointer.live;
+          named = sym w ∙ n.named;
+          not_null = λ null. omega (arith, low, null);
+        };
+      }
+
   pub free_blocks : 8 ≤ block_count image → HasAllBlocks image start → AreFreeBlocks image none_kept (has left)
   free_blocks least all = record {
     free = λ b left_in. record {
@@ -124,21 +142,7 @@ module _ (image : Image) (E : ℕ → Type 0) (D : ℕ → ℕ → Type 0) (star
 
       still : (b : ℕ) → IsFreeBlock image none_kept b → (has left b ≡ true) ⊎ (has left b ≡ false) → has left b ≡ true
       still b free (inl there) = there
-      still b free (inr gone) =
-          let n : NamesBlock image (IsSeen image E) b = scanned.takes.named b (all.all b free.low free.high) gone in
-          let w : block_at image n.place ≡ node image (root_of image n.is.tree) n.is.depth n.is.index =
-          ap block_of (pointer_word image n.is.tree n.is.depth n.is.index n.place n.is.pointer) in
-          absurd (free.free (record {
-            tree = n.is.tree;
-            reached = found_reached image n.is.tree n.is.pointer.found;
-            has = record {
-              depth = n.is.depth;
-              index = n.is.index;
-              pointer = n.is.pointer.live;
-              named = sym w ∙ n.named;
-              not_null = λ null. let low : 1 ≤ b = free.low in omega (arith, low, null);
-            };
-          }))
+      still b free (inr gone) = absurd (free.free (others_live all b free.low free.high gone))
 
   pub free_inodes : (inodes : Set) → HasRest image E inodes → AreFreeInodes image (has inodes)
   free_inodes inodes rest = record {

@@ -15,4 +15,4 @@ pub mod Inside
 pub mod EntryLaws
 pub mod DirectoryLaws
 pub mod Closing
-pub mod SecondFile
+pub mod BothScans

@@ -1,4 +1,5 @@
 pub mod Scanned
+pub mod Others
 pub mod Progress
 pub mod Named
 pub mod Faults

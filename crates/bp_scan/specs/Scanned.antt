@@ -1,11 +1,12 @@
 -- What a scan has seen so far of an image.
-use Rattle.std.specs.Prelude.{length, true, false, ◌≡◌, ◌≢◌, ◌⊎◌, ℕ, suc, ◌%◌, ◌<◌, ◌≤◌}
+use Rattle.std.specs.Prelude.{length, Bool, true, false, ◌≡◌, ◌≢◌, ◌⊎◌, ℕ, suc, ◌%◌, ◌<◌, ◌≤◌}
 use Rattle.bp_free.specs.Set.{Set, has}
 use Rattle.bp_limits.specs.Limits.{block_size, root_inumber, entry_size}
 use Rattle.bp_layout.specs.Words.{Image, block_count, height_of}
 use Rattle.bp_layout.specs.Tree.{node, covered, IsLivePointer}
 use Rattle.bp_layout.specs.Inode.{IsDirectory, inode_count, kind_of, root_of, size_of}
 use Rattle.bp_layout.specs.Directory.{EntryNames, IsName, name_at}
+use Rattle.bp_layout.specs.Reached.{IsLiveBlock}
 use Rattle.bp_layout.specs.Checks.{IsFound, IsPointer, IsFollowed, Passes, entry_place}
 use Rattle.bp_walk.specs.Taken.{Takes}
 
@@ -64,3 +65,7 @@ pub record HasRest (image : Image) (E : ℕ → Type 0) (set : Set) : Type 0 whe
   pub high : (i : ℕ) → has set i ≡ true → i < inode_count image
   pub out : (i : ℕ) → E i → has set i ≡ false
   pub entered : (i : ℕ) → 2 ≤ i → i < inode_count image → has set i ≡ false → E i
+
+-- each block is live that a set lacks, but the first one
+abbrev pub AreOthersLive : Image → (ℕ → Bool) → Type 0
+AreOthersLive image set = (b : ℕ) → 1 ≤ b → b < block_count image → set b ≡ false → IsLiveBlock image b

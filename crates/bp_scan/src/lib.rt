@@ -4,6 +4,9 @@
 //! A scan starts with the set of all blocks but the first and of all inodes from 2 on. It takes the blocks of each tree
 //! that it enters out of the first set, each inode that an entry names out of the second, and keeps the directories
 //! that are still to be read in a third. With each entry it counts one name more of the inode that the entry names.
+//!
+//! An image may have a second tree. It is scanned by the same functions, in a region that shows it as the first one, and
+//! before that one, so that one set of each kind does for both.
 #![tactic(auto)]
 
 mod directories;
@@ -16,6 +19,7 @@ mod scanning;
 mod totalling;
 mod totals;
 mod trees;
+mod whole;
 mod work;
 
 pub use bp_layout::Check;
@@ -24,3 +28,4 @@ pub use length::image_length;
 pub use pending::Pending;
 pub use scanning::scan;
 pub use totals::Totals;
+pub use whole::scan_whole;

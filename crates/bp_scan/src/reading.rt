@@ -6,16 +6,17 @@ ghost use Rattle.bp_layout.specs.Checks.{Fails};
 ghost use Rattle.bp_layout.specs.Formatted.{IsFormatted};
 ghost use Rattle.bp_layout.specs.Free.{AreFreeBlocks, AreFreeInodes};
 ghost use Rattle.bp_layout.specs.Names.{AreCounts};
-ghost use Rattle.bp_layout.specs.Whole.{FailsWhole, IsFileSystem};
+ghost use Rattle.bp_layout.specs.WellFormed.{IsWellFormed};
 ghost use Rattle.bp_scan.specs.Reading.{IsReading, IsUnread};
 ghost use Rattle.bp_scan.specs.Room.{HasScanMemory};
-ghost use Rattle.bp_scan.specs.Totals.{HasTotals};
+ghost use Rattle.bp_scan.specs.Scanned.{AreOthersLive};
+ghost use Rattle.bp_scan.specs.Totals.{HasTreeTotals};
 ghost use Rattle.pm_region.specs.Memory.{current_words};
 ghost use Rattle.bp_layout.specs.Thaw.{none_kept};
 
 use crate::directories::read_directory;
 use crate::totals::Totals;
-use crate::trees::{check_second, enter, enter_inode_file};
+use crate::trees::{enter, enter_inode_file};
 use crate::work::Scan;
 use bp_inodes::inode_file;
 use bp_limits::INODE_SIZE;
@@ -52,21 +53,21 @@ fn read_directories<R: Region>(region: &R, work: &mut Scan) -> Result<(), CheckF
     Ok(())
 }
 
-/// Reads all trees of an image that is formatted: puts its free blocks and inodes into the two sets, and counts the
-/// names of its inodes, and tells what it holds in all. The answer is an error exactly where a check fails; sets and counts are
-/// then of no use.
+/// Reads the inode file of an image that is formatted, and all trees that it leads to: puts the free blocks and inodes into the
+/// two sets, counts the names of the inodes, and tells what they hold in all. The answer is an error exactly where a check
+/// fails; sets and counts are then of no use.
 pub(crate) fn read_trees<R: Region>(region: &R, work: &mut Scan) -> Result<Totals, CheckFault>
     requires formatted { IsFormatted (current_words (R.memory region.now)) }
     requires unread { IsUnread (current_words (R.memory region.now)) work.old }
-    ensures well_formed { OnOk result (IsFileSystem (current_words (R.memory region.now))) }
+    ensures well_formed { OnOk result (IsWellFormed (current_words (R.memory region.now))) }
     ensures blocks { OnOk result (AreFreeBlocks (current_words (R.memory region.now)) none_kept (has work.new.blocks)) }
+    ensures others { OnOk result (AreOthersLive (current_words (R.memory region.now)) (has work.new.blocks)) }
     ensures inodes { OnOk result (AreFreeInodes (current_words (R.memory region.now)) (has work.new.inodes)) }
     ensures counts { OnOk result (AreCounts (current_words (R.memory region.now)) work.new.counts) }
-    ensures totals { IfOk result (HasTotals (current_words (R.memory region.now))) }
-    ensures fault { IfErr result (λ f. FailsWhole (current_words (R.memory region.now)) f.check f.place) }
+    ensures totals { IfOk result (HasTreeTotals (current_words (R.memory region.now))) }
+    ensures fault { IfErr result (λ f. Fails (current_words (R.memory region.now)) f.check f.place) }
     ensures room { HasScanMemory (current_words (R.memory region.now)) work.new }
 {
-    check_second(region)?;
     start(region, work)?;
     read_directories(region, work)?;
     Ok(work.all_totals())

@@ -1,16 +1,17 @@
-//! The scan of an image.
+//! The scan of the first tree of an image.
 
 ghost use Rattle.std.specs.Prelude.{◌≡◌, ◌*◌, ◌≤◌, ◌↔◌, length, replicate, IsOk, OnOk, OnErr, IfOk, IfErr};
 ghost use Rattle.bp_free.specs.Set.{has, empty};
 ghost use Rattle.bp_layout.specs.Formatted.{IsFormatted, IsSized};
 ghost use Rattle.bp_layout.specs.Free.{AreFreeBlocks, AreFreeInodes};
 ghost use Rattle.bp_layout.specs.Names.{AreCounts};
-ghost use Rattle.bp_layout.specs.Whole.{IsFileSystem};
+ghost use Rattle.bp_layout.specs.WellFormed.{IsWellFormed};
 ghost use Rattle.bp_layout.specs.Words.{block_count, word};
 ghost use Rattle.bp_limits.specs.Limits.{block_inodes, block_words, super_blocks, super_magic, super_root, super_size};
-ghost use Rattle.bp_scan.specs.Faults.{IsFault};
+ghost use Rattle.bp_scan.specs.Faults.{IsTreeFault};
 ghost use Rattle.bp_scan.specs.Room.{HasScanMemory};
-ghost use Rattle.bp_scan.specs.Totals.{HasTotals};
+ghost use Rattle.bp_scan.specs.Scanned.{AreOthersLive};
+ghost use Rattle.bp_scan.specs.Totals.{HasTreeTotals};
 ghost use Rattle.pm_region.specs.Memory.{current_words};
 ghost use Rattle.bp_layout.specs.Thaw.{none_kept};
 
@@ -52,7 +53,7 @@ fn read_superblock<R: Region>(region: &R) -> Super
 fn check_superblock<R: Region>(region: &R) -> Result<(), MountFault>
     requires sized { IsSized (current_words (R.memory region.now)) }
     ensures formatted { OnOk result (IsFormatted (current_words (R.memory region.now))) }
-    ensures fault { IfErr result (IsFault (current_words (R.memory region.now))) }
+    ensures fault { IfErr result (IsTreeFault (current_words (R.memory region.now))) }
 {
     let superblock = read_superblock(region);
     let mark = Version::at(superblock.magic).magic();
@@ -73,12 +74,13 @@ fn check_superblock<R: Region>(region: &R) -> Result<(), MountFault>
 fn scan_with<R: Region>(region: &R, work: &mut Scan) -> Result<Totals, MountFault>
     requires sized { IsSized (current_words (R.memory region.now)) }
     requires room { HasScanMemory (current_words (R.memory region.now)) work.old }
-    ensures well_formed { IsOk result ↔ IsFileSystem (current_words (R.memory region.now)) }
+    ensures well_formed { IsOk result ↔ IsWellFormed (current_words (R.memory region.now)) }
     ensures blocks { OnOk result (AreFreeBlocks (current_words (R.memory region.now)) none_kept (has work.new.blocks)) }
+    ensures others { OnOk result (AreOthersLive (current_words (R.memory region.now)) (has work.new.blocks)) }
     ensures inodes { OnOk result (AreFreeInodes (current_words (R.memory region.now)) (has work.new.inodes)) }
     ensures counts { OnOk result (AreCounts (current_words (R.memory region.now)) work.new.counts) }
-    ensures totals { IfOk result (HasTotals (current_words (R.memory region.now))) }
-    ensures fault { IfErr result (IsFault (current_words (R.memory region.now))) }
+    ensures totals { IfOk result (HasTreeTotals (current_words (R.memory region.now))) }
+    ensures fault { IfErr result (IsTreeFault (current_words (R.memory region.now))) }
     ensures no_blocks { OnErr result (work.new.blocks ≡ empty (length work.old.blocks)) }
     ensures no_inodes { OnErr result (work.new.inodes ≡ empty (length work.old.inodes)) }
     ensures no_counts { OnErr result (work.new.counts ≡ replicate (length work.old.counts) 0) }
@@ -98,16 +100,16 @@ fn scan_with<R: Region>(region: &R, work: &mut Scan) -> Result<Totals, MountFaul
     }
 }
 
-/// Reads the whole image in a region of 8 to 65,536 blocks of 512 words: puts the free blocks and the free inodes into
-/// the sets and the number of names of each inode into the counts, whatever they had, and tells what the image holds in
+/// Reads the first tree of the image in a region of 8 to 65,536 blocks of 512 words: puts the blocks and the inodes that it
+/// lacks into the sets and the number of names of each inode into the counts, whatever they had, and tells what it holds in
 /// all. It takes time linear in the words that are in use and in the room of sets and counts, but for the sort of each
-/// directory's names.
+/// directory's names. [`scan_whole`](crate::scan_whole) reads a second tree too.
 ///
 /// # Errors
 ///
 /// `NotFormatted` exactly where word 0 is the mark of no version; `BadSize` exactly where it is, and word 1 is not the
-/// number of blocks; `Damaged` exactly where both are right and a check of the format fails, with one that fails and
-/// where. The sets are then empty, and each count is 0. It is never `Memory`.
+/// number of blocks; `Damaged` exactly where both are right and a check of the format fails of that tree, with one that fails
+/// and where. The sets are then empty, and each count is 0. It is never `Memory`.
 pub fn scan<R: Region>(
     region: &R,
     blocks: &mut Blocks,
@@ -120,12 +122,13 @@ pub fn scan<R: Region>(
     requires inodes { length inodes.old ≡ block_inodes * block_count (current_words (R.memory region.now)) }
     requires pending { pending.old ≡ block_inodes * block_count (current_words (R.memory region.now)) }
     requires counts { length counts.old ≡ block_inodes * block_count (current_words (R.memory region.now)) }
-    ensures well_formed { IsOk result ↔ IsFileSystem (current_words (R.memory region.now)) }
+    ensures well_formed { IsOk result ↔ IsWellFormed (current_words (R.memory region.now)) }
     ensures blocks { OnOk result (AreFreeBlocks (current_words (R.memory region.now)) none_kept (has blocks.new)) }
+    ensures others { OnOk result (AreOthersLive (current_words (R.memory region.now)) (has blocks.new)) }
     ensures inodes { OnOk result (AreFreeInodes (current_words (R.memory region.now)) (has inodes.new)) }
     ensures counts { OnOk result (AreCounts (current_words (R.memory region.now)) counts.new) }
-    ensures totals { IfOk result (HasTotals (current_words (R.memory region.now))) }
-    ensures fault { IfErr result (IsFault (current_words (R.memory region.now))) }
+    ensures totals { IfOk result (HasTreeTotals (current_words (R.memory region.now))) }
+    ensures fault { IfErr result (IsTreeFault (current_words (R.memory region.now))) }
     ensures no_blocks { OnErr result (blocks.new ≡ empty (length blocks.old)) }
     ensures no_inodes { OnErr result (inodes.new ≡ empty (length inodes.old)) }
     ensures no_counts { OnErr result (counts.new ≡ replicate (length counts.old) 0) }

@@ -1,14 +1,11 @@
 //! What is entered: the inode file, and the trees of inodes.
 
-ghost use Rattle.std.specs.Prelude.{◌≡◌, ◌≢◌, ◌+◌, ◌<◌, ◌≤◌, false, length, OnOk, IfErr};
+ghost use Rattle.std.specs.Prelude.{◌≡◌, ◌+◌, ◌<◌, ◌≤◌, false, length, OnOk, IfErr};
 ghost use Rattle.bp_free.specs.Set.{has};
 ghost use Rattle.bp_layout.specs.Checks.{Fails};
-ghost use Rattle.bp_layout.specs.declared.check.Check.TheVariants.{SecondFile};
 ghost use Rattle.bp_layout.specs.Formatted.{IsFormatted};
 ghost use Rattle.bp_layout.specs.Inode.{inode_count, root_of, size_of};
 ghost use Rattle.bp_layout.specs.Tree.{IsFull, IsSound};
-ghost use Rattle.bp_layout.specs.Whole.{FailsWhole, HasNoSecond};
-ghost use Rattle.bp_layout.specs.Words.{word};
 ghost use Rattle.bp_scan.specs.Counted.{IsCountable};
 ghost use Rattle.bp_scan.specs.Inodes.{AreWords, IsRightInode, IsWrong, EntersInode, FailsInode};
 ghost use Rattle.bp_scan.specs.Reading.{HasWholeInodes, HasInodeFile};
@@ -22,10 +19,9 @@ use bp_free::Blocks;
 use bp_inodes::{inode_file, place};
 use bp_layout::Check;
 use bp_limits::{
-    BLOCK_SIZE, DIRECTORY_KIND, ENTRY_SIZE, FILE_KIND, ROOT_INUMBER, SUPER_ROOT, SUPER_SECOND_ROOT,
-    SUPER_SECOND_SIZE, SUPER_SIZE, Version,
+    BLOCK_SIZE, DIRECTORY_KIND, ENTRY_SIZE, FILE_KIND, ROOT_INUMBER, SUPER_ROOT, SUPER_SIZE,
 };
-use bp_tree::{Tree, version};
+use bp_tree::Tree;
 use bp_walk::{CheckFault, take_tree};
 use pm_region::Region;
 
@@ -38,38 +34,6 @@ struct InodeWords {
     kind: u64,
     /// Its root word and its size in bytes.
     tree: Tree,
-}
-
-/// Checks that a word is 0.
-fn check_zero<R: Region>(region: &R, place: u32) -> Result<(), CheckFault>
-    requires { place < length (current_words (R.memory region.now)) }
-    ensures ok { OnOk result (word (current_words (R.memory region.now)) place ≡ 0) }
-    ensures err { let words = current_words (R.memory region.now) in
-        IfErr result (λ f. (f.check ≡ SecondFile) × (f.place ≡ place) × (word words place ≢ 0)) }
-{
-    let _words = region.words();
-    if region.load(place) != 0 {
-        return Err(CheckFault {
-            check: Check::SecondFile,
-            place,
-        });
-    }
-    Ok(())
-}
-
-/// Checks that an image has no second inode file: the words that version 2 has for one are 0.
-pub(crate) fn check_second<R: Region>(region: &R) -> Result<(), CheckFault>
-    requires { IsFormatted (current_words (R.memory region.now)) }
-    ensures ok { OnOk result (HasNoSecond (current_words (R.memory region.now))) }
-    ensures err { IfErr result (λ f. FailsWhole (current_words (R.memory region.now)) f.check f.place) }
-{
-    match version(region) {
-        Version::One => Ok(()),
-        Version::Two => {
-            check_zero(region, SUPER_SECOND_ROOT)?;
-            check_zero(region, SUPER_SECOND_SIZE)
-        }
-    }
 }
 
 /// Enters the inode file: takes its blocks out of the set of all blocks but the first.

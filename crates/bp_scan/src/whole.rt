@@ -1,0 +1,225 @@
+//! The scan of an image with both its trees.
+
+ghost use Rattle.std.specs.Prelude.{◌≡◌, ◌*◌, ◌<◌, ◌↔◌, true, length, replicate, IsOk, OnOk, OnErr, IfOk, IfErr};
+ghost use Rattle.bp_free.specs.Set.{empty, has};
+ghost use Rattle.bp_layout.specs.Formatted.{IsSized};
+ghost use Rattle.bp_layout.specs.Free.{AreFreeBlocks, AreFreeInodes};
+ghost use Rattle.bp_layout.specs.Names.{AreCounts};
+ghost use Rattle.bp_layout.specs.Trees.{AreFrozen, has_snapshot, snapshot_of};
+ghost use Rattle.bp_layout.specs.WellFormed.{IsWellFormed};
+ghost use Rattle.bp_layout.specs.Whole.{IsFileSystem, second_place};
+ghost use Rattle.bp_layout.specs.Words.{block_count};
+ghost use Rattle.bp_limits.specs.Limits.{block_inodes};
+ghost use Rattle.bp_scan.specs.Faults.{IsFault, of_second};
+ghost use Rattle.bp_scan.specs.Others.{HasOthers, Loses};
+ghost use Rattle.bp_scan.specs.Totals.{HasTotals};
+ghost use Rattle.pm_region.specs.Memory.{current_words};
+
+use crate::fault::MountFault;
+use crate::pending::Pending;
+use crate::scanning::scan;
+use crate::totals::Totals;
+use bp_free::{Blocks, Counts, Inodes};
+use bp_limits::{SUPER_ROOT, SUPER_SECOND_ROOT, SUPER_SECOND_SIZE, SUPER_SIZE, Version};
+use bp_second::Shown;
+use bp_tree::version;
+use pm_region::Region;
+
+/// Whether an image has a second tree.
+fn has_second<R: Region>(region: &R) -> bool
+    requires { IsSized (current_words (R.memory region.now)) }
+    ensures { result ≡ has_snapshot (current_words (R.memory region.now)) }
+{
+    match version(region) {
+        Version::One => false,
+        Version::Two => region.load(SUPER_SECOND_SIZE) != 0,
+    }
+}
+
+/// Puts all blocks but the first that a set lacks into another one, whatever it had.
+fn fill_others(set: &Blocks, others: &mut Blocks)
+    requires some { 0 < length set.now }
+    requires room { length others.old ≡ length set.now }
+    ensures { HasOthers set.now others.new }
+{
+    others.clear();
+    for block in 1..set.room() {
+        if !set.is_free(block) {
+            others.give(block);
+        }
+    }
+}
+
+/// Takes the blocks of a set out of another one.
+fn take_out(lost: &Blocks, blocks: &mut Blocks)
+    requires { length lost.now ≡ length blocks.old }
+    ensures { Loses lost.now blocks.old blocks.new }
+{
+    if lost.count() == 0 {
+        return;
+    }
+    for block in 0..lost.room() {
+        if lost.is_free(block) && blocks.is_free(block) {
+            blocks.claim(block);
+        }
+    }
+}
+
+/// Where the word of an image stands that is at a place where its second tree is shown as the first.
+fn place_of_second(place: u32) -> u32
+    ensures { result ≡ second_place place }
+{
+    match place {
+        SUPER_ROOT => SUPER_SECOND_ROOT,
+        SUPER_SIZE => SUPER_SECOND_SIZE,
+        _ => place,
+    }
+}
+
+/// The fault of an image whose second tree, shown as the first, has that fault.
+fn fault_of_second(fault: MountFault) -> MountFault
+    ensures { result ≡ of_second fault }
+{
+    match fault {
+        MountFault::Damaged { check, place } => MountFault::Damaged {
+            check,
+            place: place_of_second(place),
+        },
+        _ => fault,
+    }
+}
+
+/// Scans the second tree of an image, and puts its blocks into `frozen`. What comes into the other sets and the counts is of
+/// no use.
+fn scan_second<R: Region>(
+    region: &R,
+    blocks: &mut Blocks,
+    inodes: &mut Inodes,
+    frozen: &mut Blocks,
+    pending: &mut Pending,
+    counts: &mut Counts,
+) -> Result<(), MountFault>
+    requires sized { IsSized (current_words (R.memory region.now)) }
+    requires there { has_snapshot (current_words (R.memory region.now)) ≡ true }
+    requires blocks { length blocks.old ≡ block_count (current_words (R.memory region.now)) }
+    requires inodes { length inodes.old ≡ block_inodes * block_count (current_words (R.memory region.now)) }
+    requires frozen { length frozen.old ≡ block_count (current_words (R.memory region.now)) }
+    requires pending { pending.old ≡ block_inodes * block_count (current_words (R.memory region.now)) }
+    requires counts { length counts.old ≡ block_inodes * block_count (current_words (R.memory region.now)) }
+    ensures well_formed { OnOk result (IsWellFormed (snapshot_of (current_words (R.memory region.now)))) }
+    ensures frozen { OnOk result (AreFrozen (current_words (R.memory region.now)) (has frozen.new)) }
+    ensures fault { IfErr result (IsFault (current_words (R.memory region.now))) }
+    ensures no_blocks { OnErr result (blocks.new ≡ empty (length blocks.old)) }
+    ensures no_inodes { OnErr result (inodes.new ≡ empty (length inodes.old)) }
+    ensures no_frozen { OnErr result (frozen.new ≡ empty (length frozen.old)) }
+    ensures no_counts { OnErr result (counts.new ≡ replicate (length counts.old) 0) }
+    ensures block_room { length blocks.new ≡ length blocks.old }
+    ensures inode_room { length inodes.new ≡ length inodes.old }
+    ensures frozen_room { length frozen.new ≡ length frozen.old }
+    ensures count_room { length counts.new ≡ length counts.old }
+    ensures pending { pending.new ≡ pending.old }
+{
+    let second = Shown::second(region);
+    match scan(&second, blocks, inodes, pending, counts) {
+        Ok(_) => {
+            fill_others(blocks, frozen);
+            Ok(())
+        }
+        Err(fault) => {
+            frozen.clear();
+            Err(fault_of_second(fault))
+        }
+    }
+}
+
+/// Does what `scan_second` does where an image has a second tree, and else empties `frozen`.
+fn find_frozen<R: Region>(
+    region: &R,
+    blocks: &mut Blocks,
+    inodes: &mut Inodes,
+    frozen: &mut Blocks,
+    pending: &mut Pending,
+    counts: &mut Counts,
+) -> Result<(), MountFault>
+    requires sized { IsSized (current_words (R.memory region.now)) }
+    requires blocks { length blocks.old ≡ block_count (current_words (R.memory region.now)) }
+    requires inodes { length inodes.old ≡ block_inodes * block_count (current_words (R.memory region.now)) }
+    requires frozen { length frozen.old ≡ block_count (current_words (R.memory region.now)) }
+    requires pending { pending.old ≡ block_inodes * block_count (current_words (R.memory region.now)) }
+    requires counts { length counts.old ≡ block_inodes * block_count (current_words (R.memory region.now)) }
+    ensures well_formed { let words = current_words (R.memory region.now) in
+        OnOk result (has_snapshot words ≡ true → IsWellFormed (snapshot_of words)) }
+    ensures frozen { OnOk result (AreFrozen (current_words (R.memory region.now)) (has frozen.new)) }
+    ensures fault { IfErr result (IsFault (current_words (R.memory region.now))) }
+    ensures no_blocks { OnErr result (blocks.new ≡ empty (length blocks.old)) }
+    ensures no_inodes { OnErr result (inodes.new ≡ empty (length inodes.old)) }
+    ensures no_frozen { OnErr result (frozen.new ≡ empty (length frozen.old)) }
+    ensures no_counts { OnErr result (counts.new ≡ replicate (length counts.old) 0) }
+    ensures block_room { length blocks.new ≡ length blocks.old }
+    ensures inode_room { length inodes.new ≡ length inodes.old }
+    ensures frozen_room { length frozen.new ≡ length frozen.old }
+    ensures count_room { length counts.new ≡ length counts.old }
+    ensures pending { pending.new ≡ pending.old }
+{
+    if has_second(region) {
+        return scan_second(region, blocks, inodes, frozen, pending, counts);
+    }
+    frozen.clear();
+    Ok(())
+}
+
+/// Reads both trees of the image in a region of 8 to 65,536 blocks of 512 words: puts the blocks of the second one into
+/// `frozen`, the blocks that are in neither into `blocks`, the inodes that the first one lacks into `inodes` and the number of
+/// names that each inode has in it into the counts, whatever they had, and tells what the first one holds in all, with the live
+/// blocks of both. It takes the time of [`scan`] for each tree that is there.
+///
+/// # Errors
+///
+/// Those of [`scan`], by the checks of both trees. The place of a check of the second one is told in the image itself. All sets
+/// are then empty, and each count is 0.
+pub fn scan_whole<R: Region>(
+    region: &R,
+    blocks: &mut Blocks,
+    inodes: &mut Inodes,
+    frozen: &mut Blocks,
+    pending: &mut Pending,
+    counts: &mut Counts,
+) -> Result<Totals, MountFault>
+    requires sized { IsSized (current_words (R.memory region.now)) }
+    requires blocks { length blocks.old ≡ block_count (current_words (R.memory region.now)) }
+    requires inodes { length inodes.old ≡ block_inodes * block_count (current_words (R.memory region.now)) }
+    requires frozen { length frozen.old ≡ block_count (current_words (R.memory region.now)) }
+    requires pending { pending.old ≡ block_inodes * block_count (current_words (R.memory region.now)) }
+    requires counts { length counts.old ≡ block_inodes * block_count (current_words (R.memory region.now)) }
+    ensures well_formed { IsOk result ↔ IsFileSystem (current_words (R.memory region.now)) }
+    ensures frozen { OnOk result (AreFrozen (current_words (R.memory region.now)) (has frozen.new)) }
+    ensures blocks { let words = current_words (R.memory region.now) in
+        OnOk result (AreFreeBlocks words (has frozen.new) (has blocks.new)) }
+    ensures inodes { OnOk result (AreFreeInodes (current_words (R.memory region.now)) (has inodes.new)) }
+    ensures counts { OnOk result (AreCounts (current_words (R.memory region.now)) counts.new) }
+    ensures totals { IfOk result (HasTotals (current_words (R.memory region.now))) }
+    ensures fault { IfErr result (IsFault (current_words (R.memory region.now))) }
+    ensures no_blocks { OnErr result (blocks.new ≡ empty (length blocks.old)) }
+    ensures no_inodes { OnErr result (inodes.new ≡ empty (length inodes.old)) }
+    ensures no_frozen { OnErr result (frozen.new ≡ empty (length frozen.old)) }
+    ensures no_counts { OnErr result (counts.new ≡ replicate (length counts.old) 0) }
+    ensures block_room { length blocks.new ≡ length blocks.old }
+    ensures inode_room { length inodes.new ≡ length inodes.old }
+    ensures frozen_room { length frozen.new ≡ length frozen.old }
+    ensures count_room { length counts.new ≡ length counts.old }
+    ensures pending { pending.new ≡ pending.old }
+{
+    // The second tree comes first, so that one set of each kind does for both.
+    find_frozen(region, blocks, inodes, frozen, pending, counts)?;
+    match scan(region, blocks, inodes, pending, counts) {
+        Ok(totals) => {
+            take_out(frozen, blocks);
+            let live = blocks.room() - 1 - blocks.count();
+            Ok(Totals { live, ..totals })
+        }
+        Err(fault) => {
+            frozen.clear();
+            Err(fault)
+        }
+    }
+}

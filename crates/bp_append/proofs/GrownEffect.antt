@@ -1,5 +1,5 @@
 -- What a file's growth by a preparation makes of an image: the file has its new bytes, in its old blocks and those that were taken.
-use Rattle.std.proofs.Common.{◌≡◌, ◌⊎◌, ℕ, suc, ◌<◌, List, get_or, set, sym, ◌∙◌, ap, subst, inl, inr, arith}
+use Rattle.std.proofs.Common.{◌≡◌, ◌⊎◌, ℕ, suc, ◌<◌, List, Bool, get_or, set, sym, ◌∙◌, ap, subst, inl, inr, arith}
 use Rattle.std.proofs.lemmas.Bool.{cases_eq}
 use Rattle.std.proofs.lemmas.List.FromFn.{get_or-map-range_with_len}
 use Rattle.bp_layout.specs.Words.{Image}
@@ -20,7 +20,7 @@ use Rattle.pm_region.specs.Memory.{Memory, current_words}
 use Rattle.bp_append.proofs.GrowsTree.{OnlyGrows, GrowsTree, can_resize, committed, wf_mid}
 use Rattle.bp_append.proofs.OtherTrees.{other_block_back, other_block_on}
 
-module _ (old middle new : Memory) (free_old free_new : List ℕ) (path : WordPath) (n from to place : ℕ) (bytes : List ℕ) (grows : GrowsTree old middle new free_old free_new path n from to place bytes)
+module _ (kept : ℕ → Bool) (old middle new : Memory) (free_old free_new : List ℕ) (path : WordPath) (n from to place : ℕ) (bytes : List ℕ) (grows : GrowsTree kept old middle new free_old free_new path n from to place bytes)
     (change : Change) (only : OnlyGrows (current_words old) change (suc n) from to) where
   abbrev image : Image
   image = current_words old
@@ -32,13 +32,13 @@ module _ (old middle new : Memory) (free_old free_new : List ℕ) (path : WordPa
   last = set (current_words middle) place to
 
   is_last : current_words new ≡ last
-  is_last = committed old middle new free_old free_new path n from to place bytes grows change only
+  is_last = committed kept old middle new free_old free_new path n from to place bytes grows change only
 
   wf : IsWellFormed mid
-  wf = wf_mid old middle new free_old free_new path n from to place bytes grows change only
+  wf = wf_mid kept old middle new free_old free_new path n from to place bytes grows change only
 
   can : CanResize mid n to place
-  can = can_resize old middle new free_old free_new path n from to place bytes grows change only
+  can = can_resize kept old middle new free_old free_new path n from to place bytes grows change only
 
   resized : ChangesFile mid last (suc n)
   resized = resize_changes mid wf n to place can

@@ -1,5 +1,5 @@
 -- A change that only lets the tree of a file grow is performed by a preparation and a store of its size.
-use Rattle.std.proofs.Common.{◌≡◌, ◌≢◌, ℕ, zero, suc, ◌+◌, ◌*◌, ◌/◌, ◌%◌, ◌<◌, ◌≤◌, List, [], ◌∷◌, ◌++◌, length, flat_map, fold, ◌==◌, if◌then◌else◌, set, refl, sym, ◌∙◌, ap, subst, suc-ne-zero, arith, get_or-set_other}
+use Rattle.std.proofs.Common.{◌≡◌, ◌≢◌, ℕ, zero, suc, ◌+◌, ◌*◌, ◌/◌, ◌%◌, ◌<◌, ◌≤◌, List, [], ◌∷◌, ◌++◌, length, Bool, false, flat_map, fold, ◌==◌, if◌then◌else◌, set, refl, sym, ◌∙◌, ap, subst, suc-ne-zero, arith, get_or-set_other}
 use Rattle.std.proofs.lemmas.Bool.{ne_eqb}
 use Rattle.std.proofs.lemmas.List.{length-map, append-nil}
 use Rattle.pm_epochs.specs.Crash.{commit}
@@ -31,7 +31,8 @@ use Rattle.bp_append.specs.Prepared.{need_for, CanPrepare, PreparesWith}
 use Rattle.bp_append.specs.Stores.{prep_stores}
 use Rattle.bp_append.proofs.CallerLaws.{prepared_can_resize}
 use Rattle.bp_append.proofs.StoresLaws.{behind_whole}
-use Rattle.bp_layout.specs.Thaw.{none_kept}
+use Rattle.bp_layout.specs.Inode.{RootPlace}
+use Rattle.bp_layout.specs.Inode.RootPlace.{inode}
 
 -- The change prepares this tree for some bytes and no other, and touches the word of its size alone.
 pub record OnlyGrows (image : Image) (change : Change) (t from to : ℕ) : Type 0 where
@@ -40,11 +41,11 @@ pub record OnlyGrows (image : Image) (change : Change) (t from to : ℕ) : Type 
   pub touches : touched image change ≡ inode_word_path image change t 2 ∷ []
 
 -- The tree of a file is prepared, and then its size word, which stands at a place, is stored alone in its epoch.
-pub record GrowsTree (old middle new : Memory) (free_old free_new : List ℕ) (path : WordPath) (n from to place : ℕ) (bytes : List ℕ) : Type 0 where
-  pub can : CanPrepare old free_old (suc n) path from to
+pub record GrowsTree (kept : ℕ → Bool) (old middle new : Memory) (free_old free_new : List ℕ) (path : WordPath) (n from to place : ℕ) (bytes : List ℕ) : Type 0 where
+  pub can : CanPrepare kept old free_old (suc n) path from to
   pub is_file : kind_of (current_words old) (suc n) ≡ 1
   pub stands : ContentStandsAt (current_words old) 0 (8 * suc n + 2) place
-  pub prepared : PreparesWith old middle free_old free_new (suc n) from to bytes
+  pub prepared : PreparesWith kept old middle free_old free_new (suc n) from to bytes
   pub stored : Adds middle new (commit place to)
 
 -- ---- what such a change touches and needs
@@ -78,7 +79,7 @@ module _ (image : Image) (change : Change) (n from to : ℕ) (wf : IsWellFormed 
 
 -- ---- a call that does just this
 
-module _ (old middle new : Memory) (free_old free_new : List ℕ) (path : WordPath) (n from to place : ℕ) (bytes : List ℕ) (grows : GrowsTree old middle new free_old free_new path n from to place bytes)
+module _ (kept : ℕ → Bool) (old middle new : Memory) (free_old free_new : List ℕ) (path : WordPath) (n from to place : ℕ) (bytes : List ℕ) (grows : GrowsTree kept old middle new free_old free_new path n from to place bytes)
     (change : Change) (only : OnlyGrows (current_words old) change (suc n) from to) where
   abbrev image : Image
   image = current_words old
@@ -160,7 +161,21 @@ module _ (old middle new : Memory) (free_old free_new : List ℕ) (path : WordPa
       (ap (address (set mid place to)) (covered ∙ ap (λ r. inode_path (height_of r) (suc n) 2) (sym (root_stays ∙ roots)))
       ∙ address_from-digits (set mid place to) 2 (word (set mid place to) 2) refl (suc (height_of (word (set mid place to) 2))) (8 * suc n + 2) stands_new.present ∙ stands_new.at)
 
-  open_place : IsOpen image none_kept grows.prepared.taken place
+  -- the root word stands beside it
+  root_beside : (root_at : ℕ) → 512 * node image (root_of image 0) (height_of (root_of image 0)) ((8 * suc n + 1) / 512) + (8 * suc n + 1) % 512 ≡ root_at → RootPlace image (suc n) root_at
+  root_beside root_at at =
+      let row : (8 * suc n + 1) / 512 ≡ (8 * suc n + 2) / 512 = omega arith in
+      inode not_inodes (record { present = λ null. grows.stands.present (ap (node image (root_of image 0) (height_of (root_of image 0))) (sym row) ∙ null); at = at })
+
+  loose_place : kept (place / 512) ≡ false
+  loose_place =
+      let row : (8 * suc n + 1) / 512 ≡ (8 * suc n + 2) / 512 = omega arith in
+      let block : node image (root_of image 0) (height_of (root_of image 0)) ((8 * suc n + 1) / 512) ≡ place / 512 = ap (node image (root_of image 0) (height_of (root_of image 0))) row ∙ omega (arith, grows.stands.at) in
+      let root_at : ℕ = 512 * node image (root_of image 0) (height_of (root_of image 0)) ((8 * suc n + 1) / 512) + (8 * suc n + 1) % 512 in
+      let same : (512 * node image (root_of image 0) (height_of (root_of image 0)) ((8 * suc n + 1) / 512) + (8 * suc n + 1) % 512) / 512 ≡ place / 512 = omega (arith, block) in
+      subst (λ b. kept b ≡ false) same (grows.can.loose.root root_at (root_beside root_at refl) not_inodes)
+
+  open_place : IsOpen image kept grows.prepared.taken place
   open_place =
       let here : node image (root_of image 0) (height_of (root_of image 0)) ((8 * suc n + 2) / 512) ≡ place / 512 = omega (arith, grows.stands.at) in
       in_live (record {
@@ -168,7 +183,7 @@ module _ (old middle new : Memory) (free_old free_new : List ℕ) (path : WordPa
         reached = inode_file;
         has = subst (HasBlock image (root_of image 0) (size_of image 0)) here
             (stands_in_block image 0 (height_of (root_of image 0)) (8 * suc n + 2) place grows.stands (live_content _ _ (8 * suc n + 2) below));
-      }) refl
+      }) loose_place
 
   few : prep_stores (size_of image (suc n)) from to (need_for image (suc n) from to) + 1 ≤ most_stores_thawed (need image change)
   few = go _ _ _ grown_need (behind_whole (size_of image (suc n)) from to max_height)
@@ -180,7 +195,7 @@ module _ (old middle new : Memory) (free_old free_new : List ℕ) (path : WordPa
   grown_size = rw committed (size_here mid wf_mid n to place can_resize)
 
   -- whatever the call does besides
-  pub grown_performs : (Effect : Image → Image → Type 0) → Effect (current_words old) (current_words new) → PerformsThawed none_kept old new change Effect
+  pub grown_performs : (Effect : Image → Image → Type 0) → Effect (current_words old) (current_words new) → PerformsThawed kept old new change Effect
   grown_performs Effect effect =
-      performs_word none_kept old new change Effect middle place to 2 (prep_stores (size_of image (suc n)) from to (need_for image (suc n) from to)) grows.prepared.taken grows.prepared.adds grows.stored (sym at_cover)
+      performs_word kept old new change Effect middle place to 2 (prep_stores (size_of image (suc n)) from to (need_for image (suc n) from to)) grows.prepared.taken grows.prepared.adds grows.stored (sym at_cover)
       (omega arith) few (grows.prepared.counted ∙ sym grown_need) open_place (rw committed (changed.well_formed-same mid (set mid place to) (suc n) wf_mid (resize_changes mid wf_mid n to place can_resize))) effect

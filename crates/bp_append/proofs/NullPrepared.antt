@@ -1,14 +1,14 @@
 -- The whole preparation of a tree without blocks: nobody sees it, and the tree is ready.
-use Rattle.std.proofs.Common.{◌≡◌, ◌⊎◌, ℕ, ◌+◌, ◌*◌, ◌/◌, ◌<◌, ◌≤◌, List, [], ◌∷◌, length, refl, sym, ◌∙◌, ap, subst, subst₂, arith, rules, inl, inr, get_or-set_other, le_trans}
+use Rattle.std.proofs.Common.{◌≡◌, ◌≢◌, ◌⊎◌, ℕ, ◌+◌, ◌*◌, ◌/◌, ◌<◌, ◌≤◌, List, [], ◌∷◌, length, Bool, refl, sym, ◌∙◌, ap, subst, subst₂, arith, rules, inl, inr, get_or-set_other, le_trans}
 use Rattle.bp_append.proofs.NeedLaws.{tall_most}
 use Rattle.bp_changes.proofs.Formatted.{version_stays}
 use Rattle.bp_layout.specs.Formatted.{version_of}
 use Rattle.std.proofs.lemmas.Bool.{cases_eq}
 use Rattle.bp_layout.proofs.MemberLaws.{each-has}
 use Rattle.bp_layout.specs.Words.{Image, block_of, height_of}
-use Rattle.bp_layout.specs.Tree.{byte, HasBlock, IsFull}
+use Rattle.bp_layout.specs.Tree.{byte, node, HasBlock, IsFull, IsLivePointer}
 use Rattle.bp_layout.specs.Inode.{root_of, size_of, RootPlace}
-use Rattle.bp_layout.specs.Reached.{IsReached, IsLiveBlock}
+use Rattle.bp_layout.specs.Reached.{IsReached, IsLiveBlock, IsFreeBlock}
 use Rattle.bp_layout.specs.WellFormed.{IsWellFormed}
 use Rattle.bp_changes.specs.SameContent.{IsReadByWords, ReadsAs}
 use Rattle.bp_changes.specs.SameMeaning.{SameMeaning}
@@ -28,7 +28,7 @@ use Rattle.bp_append.specs.Given.{given, given_at}
 use Rattle.bp_append.specs.Grown.{Roots, Makes}
 use Rattle.bp_append.specs.Prepared.{CanPrepare, PreparesWith, need_for}
 use Rattle.bp_append.proofs.ChildrenLaws.{built_as}
-use Rattle.bp_append.proofs.PrepLaws.{open_root, free_taken, in_free_harmless, no_root_in_free, agrees_of, words_new, epochs_taking, meaning_middle, wf_middle, reached_middle, place_middle, still_free}
+use Rattle.bp_append.proofs.PrepLaws.{open_root, not_live, in_free_harmless, no_root_in_free, agrees_of, words_new, epochs_taking, meaning_middle, wf_middle, reached_middle, place_middle, still_free}
 use Rattle.bp_append.proofs.ReadyLaws.{built_reads, null_byte, HasRootReady, prepared}
 
 by_old : (old new : Image) (t : ℕ) → SameMeaning old new → IsReached old t → IsReadByWords new t → IsReadByWords old t
@@ -44,7 +44,7 @@ given_before from raw o low = search (rules, low)
 
 -- ---- a tree that had no blocks
 
-module _ (first new : Memory) (free_old free_new : List ℕ) (t place from to : ℕ) (path raw : List ℕ) (can : CanPrepare first free_old t path from to) (at : RootPlace (current_words first) t place)
+module _ (kept : ℕ → Bool) (first new : Memory) (free_old free_new : List ℕ) (t place from to : ℕ) (path raw : List ℕ) (can : CanPrepare kept first free_old t path from to) (at : RootPlace (current_words first) t place)
     (makes : Makes first new free_old free_new place (root_of (current_words first) t) (size_of (current_words first) t) from to raw)
     (null : (size_of (current_words first) t ≡ 0) ⊎ (block_of (root_of (current_words first) t) ≡ 0)) where
   abbrev old : Image
@@ -59,8 +59,11 @@ module _ (first new : Memory) (free_old free_new : List ℕ) (t place from to : 
   order : size_of old t ≤ to
   order = le_trans can.behind can.order
 
+  taken_are : Each (IsFreeBlock old kept) made.taken
+  taken_are = each_left _ made.taken free_new (rw made.takes at can.are_free)
+
   taken_free : Each (λ b. IsLiveBlock old b → ⊥) made.taken
-  taken_free = each_left _ made.taken free_new (rw made.takes at can.unused)
+  taken_free = not_live old kept made.taken taken_are
 
   usable : IsUsable (length first.base / 512) made.taken
   usable = usable_left (length first.base / 512) free_old made.taken free_new made.takes can.usable
@@ -85,6 +88,12 @@ module _ (first new : Memory) (free_old free_new : List ℕ) (t place from to : 
   no_block_old b has = elim null [
     | inl e ↦ omega (arith, has.pointer.live, e)
     | inr no_block ↦ has.not_null (sym has.named ∙ null_tree old (root_of old t) no_block has.depth has.index)
+  ]
+
+  no_node : (d k : ℕ) → IsLivePointer (root_of old t) (size_of old t) d k → node old (root_of old t) d k ≢ 0 → ⊥
+  no_node d k live present = elim null [
+    | inl e ↦ omega (arith, live.live, e)
+    | inr no_block ↦ present (null_tree old (root_of old t) no_block d k)
   ]
 
   old_byte : (o : ℕ) → o < size_of old t → byte old (root_of old t) o ≡ 0
@@ -122,14 +131,14 @@ module _ (first new : Memory) (free_old free_new : List ℕ) (t place from to : 
     roots = λ u r away. roots_stay u r;
   }
 
-  pub null_prepared : PreparesWith first new free_old free_new t from to raw
+  pub null_prepared : PreparesWith kept first new free_old free_new t from to raw
   null_prepared = record {
     taken = made.taken;
     takes = made.takes;
     counted = made.counted;
-    adds = epochs_taking first makes.between new made.taken (λ w v. InBlocks made.taken w) (512 * length made.taken) ((place, makes.top) ∷ []) can.well made.stores harmless makes.ends
+    adds = epochs_taking kept first makes.between new made.taken (λ w v. InBlocks made.taken w) (512 * length made.taken) ((place, makes.top) ∷ []) can.well made.stores harmless makes.ends
         (prep_stores (size_of old t) from to (need_for old t from to)) (few _ _ _ made.counted) (any_root_link middle null_ready.well t place makes.top null_ready.reached null_ready.at null_ready.reads)
-        usable.apart (free_taken first made.taken usable taken_free) (λ w v m. in_taken m) (open_root old can.well t place can.reached at made.taken, tt);
+        usable.apart taken_are (λ w v m. in_taken m) (open_root old can.well kept t place can.reached at (can.loose.root place at) made.taken, tt);
     ready = rw (words_new makes.between new ((place, makes.top) ∷ []) makes.ends)
         (prepared old middle can.well t place makes.top from to raw made.taken can.reached at null_ready taken_free (given_at from raw 0) (from ≡ 0)
         (built_as middle makes.top to (given_at from raw 0) (given_at from raw 0) (Has made.taken) (λ b. HasBlock old (root_of old t) (size_of old t) b ⊎ Has made.taken b) (from ≡ 0) (from ≡ 0)
@@ -139,7 +148,8 @@ module _ (first new : Memory) (free_old free_new : List ℕ) (t place from to : 
         (λ by. can.by_words by ∙ none_below by)
         made.height can.fits order
         (λ u b k r away has few beyond. get_or-set_other middle place (512 * b + k) makes.top 0 beyond
-        ∙ may_frame _ 0 _ first makes.between made.stores.part (512 * b + k) (λ v m. each-has (λ c. IsLiveBlock old c → ⊥) made.taken b taken_free (subst (Has made.taken) (block_row b k few) m) (record { tree = u; reached = r; has = has }))));
+        ∙ may_frame _ 0 _ first makes.between made.stores.part (512 * b + k) (λ v m. each-has (λ c. IsLiveBlock old c → ⊥) made.taken b taken_free (subst (Has made.taken) (block_row b k few) m) (record { tree = u; reached = r; has = has })))
+        (λ d k live present. absurd (no_node d k live present)));
   }
     where
       zero_plus : (o : ℕ) → 0 + o ≡ o

@@ -1,5 +1,5 @@
 -- The place to which the path of a record's root word leads, and its words.
-use Rattle.std.proofs.Common.{◌≡◌, ◌≢◌, ◌⊎◌, ℕ, zero, suc, ◌+◌, ◌*◌, ◌/◌, ◌%◌, ◌<◌, ◌≤◌, true, false, not, ◌&&◌, ◌==◌, nat_lt, List, length, refl, sym, ◌∙◌, ap, subst, arith, inl, inr, lt-ltb, le-ltb, ne_eqb, le_trans}
+use Rattle.std.proofs.Common.{◌≡◌, ◌≢◌, ◌⊎◌, ℕ, zero, suc, ◌+◌, ◌*◌, ◌/◌, ◌%◌, ◌<◌, ◌≤◌, true, false, not, ◌&&◌, ◌==◌, nat_lt, List, length, Bool, refl, sym, ◌∙◌, ap, subst, arith, inl, inr, lt-ltb, le-ltb, ne_eqb, le_trans}
 use Rattle.std.specs.List.{All}
 use Rattle.std.proofs.lemmas.Bool.{cases_eq, cases_lt}
 use Rattle.std.proofs.lemmas.List.{append-nil}
@@ -10,7 +10,7 @@ use Rattle.bp_layout.specs.Formatted.{version_of}
 use Rattle.bp_layout.specs.Words.{Image, word, block_count, height_of}
 use Rattle.bp_layout.specs.Tree.{node, IsLiveWord, IsLivePointer, IsSound}
 use Rattle.bp_layout.specs.Inode.{root_of, size_of, inode_count, RootPlace}
-use Rattle.bp_layout.specs.Reached.{IsReached, IsLiveBlock}
+use Rattle.bp_layout.specs.Reached.{IsReached, IsFreeBlock}
 use Rattle.bp_layout.specs.Reached.IsReached.{inode_file}
 use Rattle.bp_layout.specs.WellFormed.{IsWellFormed}
 use Rattle.bp_layout.specs.WordPaths.{WordPath, digits, tree_path, address, Exists}
@@ -87,7 +87,7 @@ leads_to image (suc i) wf reached = subst (Leads image (suc i)) (sym (append-nil
     at : address image (digits (suc height) number) ≡ 512 * node image (word image 2) height (number / 512) + number % 512
     at = address_from-digits image 2 (word image 2) refl (suc height) number under
 
-pub grow_can : (memory : Memory) (free : List ℕ) (t : ℕ) (path : WordPath) (from to : ℕ) → CanPrepare memory free t path from to → CanGrow memory free (root_of (current_words memory) t) (size_of (current_words memory) t) from to
+pub grow_can : {kept : ℕ → Bool} (memory : Memory) (free : List ℕ) (t : ℕ) (path : WordPath) (from to : ℕ) → CanPrepare kept memory free t path from to → CanGrow memory free (root_of (current_words memory) t) (size_of (current_words memory) t) from to
 grow_can memory free t path from to can = record {
   behind = can.behind;
   order = le_trans can.behind can.order;
@@ -95,7 +95,7 @@ grow_can memory free t path from to can = record {
   sound = can.well.sound t can.reached;
   some = let some : 8 ≤ block_count (current_words memory) = can.well.formatted.sized.at_least in omega (arith, some, length-current_words memory);
   usable = can.usable;
-  outside = λ b m has. each-has (λ c. IsLiveBlock (current_words memory) c → ⊥) free b can.unused m (record { tree = t; reached = can.reached; has = has });
+  outside = λ b m has. (each-has (IsFreeBlock (current_words memory) _) free b can.are_free m).free (record { tree = t; reached = can.reached; has = has });
   enough = can.enough;
   room = can.room;
 }

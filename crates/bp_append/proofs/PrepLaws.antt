@@ -1,5 +1,5 @@
 -- A prepared tree in its image: nobody sees the preparation, and the tree is ready.
-use Rattle.std.proofs.Common.{◌≡◌, ℕ, ◌+◌, ◌*◌, ◌/◌, ◌%◌, ◌<◌, ◌≤◌, List, [], ◌∷◌, ◌++◌, length, set, refl, sym, ◌∙◌, subst, arith, inl, inr}
+use Rattle.std.proofs.Common.{◌≡◌, ◌≢◌, ℕ, ◌+◌, ◌*◌, ◌/◌, ◌%◌, ◌<◌, ◌≤◌, List, [], ◌∷◌, ◌++◌, length, Bool, false, set, refl, sym, ◌∙◌, subst, arith, inl, inr}
 use Rattle.std.proofs.lemmas.List.{append_assoc}
 use Rattle.bp_commit.proofs.PerformsLaws.{same_equivalence}
 use Rattle.bp_layout.proofs.MemberLaws.{each-as, each-has}
@@ -30,16 +30,13 @@ use Rattle.pm_epochs.proofs.MayLaws.{quiet_prepared, StoresMay-append, StoresMay
 use Rattle.pm_epochs.proofs.CrashLaws.{IsClosed-barrier}
 use Rattle.pm_epochs.proofs.PieceLaws.{IsPiece-append, IsPiece-more, IsPiece-links_of, IsPiece-barrier, StoresTo-front}
 use Rattle.pm_region.specs.Memory.{Memory, current_words, Adds}
-use Rattle.pm_region.proofs.MemoryLaws.{adds_both, current_words-adds, length-current_words}
+use Rattle.pm_region.proofs.MemoryLaws.{adds_both, current_words-adds}
 use Rattle.bp_commit.specs.Performs.{InBlock, IsOpen, AddsTaking}
 use Rattle.bp_commit.specs.Performs.IsOpen.{in_live, at_root}
 use Rattle.bp_append.specs.Into.{AddsInto}
-use Rattle.bp_append.specs.Filled.{IsUsable}
 use Rattle.bp_append.specs.Built.{InBlocks}
 use Rattle.bp_append.specs.Grown.{Links}
-use Rattle.bp_layout.specs.Thaw.{none_kept}
 
--- a word of a free block may be anything
 -- the root word of an inode is in a block of the inode file
 root_block : (old : Image) → IsWellFormed old → (t place : ℕ) → IsReached old t → ContentStandsAt old 0 (8 * t + 1) place → IsLiveBlock old (place / 512)
 root_block old wf t place reached stands =
@@ -52,19 +49,16 @@ root_block old wf t place reached stands =
           (stands_in_block old 0 (height_of (root_of old 0)) (8 * t + 1) place stands (live_content _ _ (8 * t + 1) (omega (arith, in_file))));
     }
 
--- so a preparation may store to it
-pub open_root : (old : Image) → IsWellFormed old → (t place : ℕ) → IsReached old t → RootPlace old t place → (taken : List ℕ) → IsOpen old none_kept taken place
-open_root old wf t place reached (top first two) taken = at_root two
-open_root old wf t place reached (inode some stands) taken = in_live (root_block old wf t place reached stands) refl
+-- so a preparation may store to it, where that block is not kept
+pub open_root : (old : Image) → IsWellFormed old → (kept : ℕ → Bool) (t place : ℕ) → IsReached old t → RootPlace old t place → (t ≢ 0 → kept (place / 512) ≡ false) → (taken : List ℕ) → IsOpen old kept taken place
+open_root old wf kept t place reached (top first two) loose taken = at_root two
+open_root old wf kept t place reached (inode some stands) loose taken = in_live (root_block old wf t place reached stands) (loose some)
 
--- blocks that were usable and not live are free
-pub free_taken : (memory : Memory) (taken : List ℕ) → IsUsable (length memory.base / 512) taken → Each (λ b. IsLiveBlock (current_words memory) b → ⊥) taken → Each (IsFreeBlock (current_words memory) none_kept) taken
-free_taken memory [] usable unused = tt
-free_taken memory (b ∷ taken) usable unused = (
-  record { low = usable.low.0; high = rw (length-current_words memory) usable.high.0; free = unused.0; loose = refl },
-  free_taken memory taken (record { low = usable.low.1; high = usable.high.1; apart = usable.apart.1 }) unused.1,
-)
+-- free blocks are not live
+pub not_live : (old : Image) (kept : ℕ → Bool) (blocks : List ℕ) → Each (IsFreeBlock old kept) blocks → Each (λ b. IsLiveBlock old b → ⊥) blocks
+not_live old kept blocks free = each-as (IsFreeBlock old kept) (λ b. IsLiveBlock old b → ⊥) (λ b is. is.free) blocks free
 
+-- a word of a free block may be anything
 pub in_free_harmless : (old : Image) → IsWellFormed old → (blocks : List ℕ) → Each (λ b. 1 ≤ b) blocks → Each (λ b. IsLiveBlock old b → ⊥) blocks → (w v : ℕ) → InBlocks blocks w → IsHarmless old w v
 in_free_harmless old wf blocks low free w v m =
     let place : 512 * (w / 512) + w % 512 ≡ w = omega arith in
@@ -94,13 +88,13 @@ pub words_new : (between new : Memory) (links : List (ℕ × ℕ)) → Links bet
 words_new between new links ends = current_words-adds between new (Barrier ∷ (links_of links ++ Barrier ∷ [])) ends ∙ after_links (current_words between) links
 
 -- Two epochs: stores that nobody sees, into each of the blocks that are taken, and links of which any may be done.
-module _ (old between new : Memory) (taken : List ℕ) (May : ℕ → ℕ → Type 0) (most : ℕ) (links : List (ℕ × ℕ)) (well : IsWellFormed (current_words old)) (stores : AddsInto taken May most old between)
+module _ (kept : ℕ → Bool) (old between new : Memory) (taken : List ℕ) (May : ℕ → ℕ → Type 0) (most : ℕ) (links : List (ℕ × ℕ)) (well : IsWellFormed (current_words old)) (stores : AddsInto taken May most old between)
     (harmless : (w v : ℕ) → May w v → IsHarmless (current_words old) w v) (ends : Links between new links) where
   abbrev events : List Event
   events = stores.part.added
 
   abbrev Open : ℕ → Type 0
-  Open = IsOpen (current_words old) none_kept taken
+  Open = IsOpen (current_words old) kept taken
 
   words_between : current_words between ≡ words_after (current_words old) events
   words_between = current_words-adds old between events stores.part.adds
@@ -108,8 +102,8 @@ module _ (old between new : Memory) (taken : List ℕ) (May : ℕ → ℕ → Ty
   joined : events ++ (Barrier ∷ (links_of links ++ Barrier ∷ [])) ≡ (events ++ Barrier ∷ []) ++ (links_of links ++ Barrier ∷ [])
   joined = sym (append_assoc events (Barrier ∷ []) (links_of links ++ Barrier ∷ []))
 
-  pub epochs_taking : (more : ℕ) → most + length links ≤ more → AnyOf Same (current_words between) (current_words between) links → AreApart taken → Each (IsFreeBlock (current_words old) none_kept) taken →
-      ((w v : ℕ) → May w v → IsOpen (current_words old) none_kept taken w) → StoresMay (AnyAt (IsOpen (current_words old) none_kept taken)) (links_of links) → AddsTaking none_kept taken 2 more old new
+  pub epochs_taking : (more : ℕ) → most + length links ≤ more → AnyOf Same (current_words between) (current_words between) links → AreApart taken → Each (IsFreeBlock (current_words old) kept) taken →
+      ((w v : ℕ) → May w v → IsOpen (current_words old) kept taken w) → StoresMay (AnyAt (IsOpen (current_words old) kept taken)) (links_of links) → AddsTaking kept taken 2 more old new
   epochs_taking more few any once free opens open_links = record {
     part = record {
       added = (events ++ Barrier ∷ []) ++ (links_of links ++ Barrier ∷ []);

@@ -1,5 +1,5 @@
 -- A tree whose links are done but for its root word, and what the store of that makes of the image.
-use Rattle.std.proofs.Common.{◌≡◌, ◌≢◌, ◌⊎◌, ℕ, suc, ◌+◌, ◌*◌, ◌/◌, ◌%◌, ◌<◌, ◌≤◌, List, length, set, get_or, refl, sym, ◌∙◌, ap, subst₂, arith, inl, inr, get_or-set_other, lt_of_lt_of_le, le_trans}
+use Rattle.std.proofs.Common.{◌≡◌, ◌≢◌, ◌⊎◌, ℕ, suc, ◌+◌, ◌-◌, ◌*◌, ◌/◌, ◌%◌, ◌<◌, ◌≤◌, List, length, set, get_or, refl, sym, ◌∙◌, ap, subst₂, arith, inl, inr, get_or-set_other, lt_of_lt_of_le, le_trans}
 use Rattle.std.proofs.lemmas.List.{length-set}
 use Rattle.bp_layout.proofs.MemberLaws.{each-has}
 use Rattle.bp_limits.specs.Limits.{greatest_height, greatest_size}
@@ -103,7 +103,8 @@ module _ (old image : Image) (wf : IsWellFormed old) (t place other from to : �
 
   module _ (bytes : ℕ → ℕ) (Full : Type 0) (built : IsBuilt image other to bytes (λ b. HasBlock old (root_of old t) (size_of old t) b ⊎ Has taken b) Full) (kept : (o : ℕ) → o < size_of old t → bytes o ≡ byte old (root_of old t) o)
       (behind : (o : ℕ) → size_of old t ≤ o → o < to → bytes o ≡ given from raw o) (full : IsReadByWords old t → Full) (height : height_of other ≡ height_with (root_of old t) (size_of old t) to) (fits : to ≤ greatest_size (version_of old)) (order : size_of old t ≤ to)
-      (frame : (u b k : ℕ) → IsReached old u → u ≢ t → HasBlock old (root_of old u) (size_of old u) b → k < 512 → 512 * b + k ≢ place → get_or last (512 * b + k) 0 ≡ get_or old (512 * b + k) 0) where
+      (frame : (u b k : ℕ) → IsReached old u → u ≢ t → HasBlock old (root_of old u) (size_of old u) b → k < 512 → 512 * b + k ≢ place → get_or last (512 * b + k) 0 ≡ get_or old (512 * b + k) 0)
+      (nodes : (d k : ℕ) → IsLivePointer (root_of old t) (size_of old t) d k → node old (root_of old t) d k ≢ 0 → node last other (height_of other - height_of (root_of old t) + d) k ≡ node old (root_of old t) d k) where
     member_free : (b : ℕ) → HasBlock old (root_of old t) (size_of old t) b ⊎ Has taken b → HasBlock old (root_of old t) (size_of old t) b ⊎ (IsLiveBlock old b → ⊥)
     member_free b m = elim m [ inl has ↦ inl has | inr t ↦ inr (each-has (λ c. IsLiveBlock old c → ⊥) taken b free t) ]
 
@@ -178,6 +179,7 @@ module _ (old image : Image) (wf : IsWellFormed old) (t place other from to : �
       blocks = λ b has. tree_last.blocks b (rw shape.here at has);
       has_old = λ b has. rw shape.here (tree_last.has b (inl has));
       has_taken = λ b m. rw shape.here (tree_last.has b (inr m));
+      nodes = λ d k live present. rw shape.here (nodes d k live present);
       sizes = sizes_last;
       roots = roots_last;
       apart = λ u b r away has mine. apart_last u r away b has (rw shape.here at mine);

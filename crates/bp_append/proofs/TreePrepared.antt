@@ -1,13 +1,13 @@
 -- The whole preparation of a tree with blocks: nobody sees it, and the tree is ready.
-use Rattle.std.proofs.Common.{◌≡◌, ◌≢◌, ◌⊎◌, ℕ, suc, ◌+◌, ◌-◌, ◌*◌, ◌/◌, ◌%◌, ◌<◌, ◌≤◌, List, [], ◌∷◌, ◌++◌, length, min, set, get_or, sym, ◌∙◌, ap, subst, subst₂, arith, rules, inl, inr, get_or-set_other, le_trans, refl}
+use Rattle.std.proofs.Common.{◌≡◌, ◌≢◌, ◌⊎◌, ℕ, zero, suc, ◌+◌, ◌-◌, ◌*◌, ◌/◌, ◌%◌, ◌<◌, ◌≤◌, List, [], ◌∷◌, ◌++◌, length, Bool, false, min, set, get_or, sym, ◌∙◌, ap, ap₂, subst, subst₂, arith, rules, inl, inr, get_or-set_other, le_trans, lt_of_lt_of_le, refl}
 use Rattle.bp_changes.proofs.Formatted.{version_stays}
 use Rattle.bp_layout.specs.Formatted.{version_of}
 use Rattle.bp_layout.proofs.MemberLaws.{each-has, each-of, has-behind, has-front}
 use Rattle.bp_limits.specs.Limits.{max_height}
-use Rattle.bp_layout.specs.Words.{Image, block_of, height_of}
+use Rattle.bp_layout.specs.Words.{Image, block_of, height_of, slot_word}
 use Rattle.bp_layout.specs.Tree.{node, span, IsLivePointer, HasBlock, IsFull}
 use Rattle.bp_layout.specs.Inode.{root_of, size_of, RootPlace, StandsAt}
-use Rattle.bp_layout.specs.Reached.{IsReached, IsLiveBlock}
+use Rattle.bp_layout.specs.Reached.{IsReached, IsLiveBlock, IsFreeBlock}
 use Rattle.bp_layout.specs.WellFormed.{IsWellFormed}
 use Rattle.bp_layout.specs.Same.{Same}
 use Rattle.bp_changes.specs.SameContent.{IsReadByWords, ReadsAs}
@@ -16,7 +16,8 @@ use Rattle.bp_changes.specs.Harmless.{IsHarmless, Agrees}
 use Rattle.bp_layout.specs.Members.{Has, Each}
 use Rattle.bp_shapes.specs.Links.{CanHang, raised_by, IsChain}
 use Rattle.bp_layout.specs.Stores.{after_stores}
-use Rattle.bp_layout.proofs.TreeLaws.{node-kept, live_above, live_pointer_word}
+use Rattle.bp_layout.proofs.Addresses.{present_above}
+use Rattle.bp_layout.proofs.TreeLaws.{node-kept, live_above, live_pointer_word, slot_word-at, word_at-suc, word_at-zero}
 use Rattle.bp_changes.proofs.Frame.{keeps, root-kept, size-same}
 use Rattle.bp_shapes.proofs.Behind.{behind_harmless, no_root_behind}
 use Rattle.bp_changes.proofs.ReachedOn.{reached_on, meaning_on}
@@ -37,6 +38,9 @@ use Rattle.bp_append.proofs.VisitLaws.{beside as links_beside}
 use Rattle.bp_append.proofs.TwoLinks.{any_root_link, any_two_links}
 use Rattle.bp_layout.specs.Nodes.{height_with}
 use Rattle.bp_shapes.proofs.Chain.{chain_reads}
+use Rattle.bp_shapes.proofs.RootLink.{beside as root_beside}
+use Rattle.bp_shapes.proofs.Roots.{reads_self}
+use Rattle.bp_append.proofs.OldNodes.{lead_kept, node-raised_by}
 use Rattle.bp_append.specs.Given.{given, given_at}
 use Rattle.bp_append.specs.Visited.{extended, Hangs, AreHung}
 use Rattle.bp_append.specs.Visited.AreHung.{no_link, one_link}
@@ -45,16 +49,16 @@ use Rattle.bp_append.specs.Prepared.{CanPrepare, PreparesWith, need_for}
 use Rattle.bp_append.proofs.VisitDone.{extended_old, extended_new}
 use Rattle.bp_append.proofs.HangBuilt.{hang_built, in_below}
 use Rattle.bp_append.proofs.NeedLaws.{tall_low, tall_most}
-use Rattle.bp_append.proofs.PrepLaws.{open_root, free_taken, in_free_harmless, no_root_in_free, agrees_of, after_append, words_new, epochs_taking, meaning_middle, wf_middle, reached_middle, place_middle, still_free}
+use Rattle.bp_append.proofs.PrepLaws.{open_root, not_live, in_free_harmless, no_root_in_free, agrees_of, after_append, words_new, epochs_taking, meaning_middle, wf_middle, reached_middle, place_middle, still_free}
 use Rattle.bp_append.proofs.ReadyLaws.{HasRootReady, prepared}
 use Rattle.bp_append.proofs.TwoLinks as two
 use Rattle.bp_append.proofs.NullPrepared.{full_by_words}
-use Rattle.bp_layout.specs.Thaw.{none_kept}
+use Rattle.bp_append.proofs.EndWays.{behind_within, slot_within}
 
 given_before : (from : ℕ) (raw : List ℕ) (o : ℕ) → o < from → given from raw o ≡ 0
 given_before from raw o low = search (rules, low)
 
-module _ (first new : Memory) (free_old free_new : List ℕ) (t place from to : ℕ) (path raw : List ℕ) (can : CanPrepare first free_old t path from to) (at : RootPlace (current_words first) t place)
+module _ (kept : ℕ → Bool) (first new : Memory) (free_old free_new : List ℕ) (t place from to : ℕ) (path raw : List ℕ) (can : CanPrepare kept first free_old t path from to) (at : RootPlace (current_words first) t place)
     (grows : Grows first new free_old free_new place (root_of (current_words first) t) (size_of (current_words first) t) from to raw)
     (some : 0 < size_of (current_words first) t) (present : 1 ≤ block_of (root_of (current_words first) t)) where
   abbrev old : Image
@@ -75,8 +79,14 @@ module _ (first new : Memory) (free_old free_new : List ℕ) (t place from to : 
   order : size_of old t ≤ to
   order = le_trans can.behind can.order
 
+  taken_are : Each (IsFreeBlock old kept) (grows.visited ++ grows.raised)
+  taken_are = each_left _ (grows.visited ++ grows.raised) free_new (rw grows.takes at can.are_free)
+
   taken_free : Each (λ b. IsLiveBlock old b → ⊥) (grows.visited ++ grows.raised)
-  taken_free = each_left _ (grows.visited ++ grows.raised) free_new (rw grows.takes at can.unused)
+  taken_free = not_live old kept (grows.visited ++ grows.raised) taken_are
+
+  open_place : IsOpen old kept (grows.visited ++ grows.raised) place
+  open_place = open_root old can.well kept t place can.reached at (can.loose.root place at) (grows.visited ++ grows.raised)
 
   usable : IsUsable (length first.base / 512) (grows.visited ++ grows.raised)
   usable = usable_left (length first.base / 512) free_old (grows.visited ++ grows.raised) free_new grows.takes can.usable
@@ -105,9 +115,17 @@ module _ (first new : Memory) (free_old free_new : List ℕ) (t place from to : 
       row : (d i : ℕ) → 512 * node old (root_of old t) d (i / 512) + i % 512 ≡ w → node old (root_of old t) d (i / 512) ≡ w / 512
       row d i e = omega (arith, e)
 
-  opens : (w v : ℕ) → May w v → IsOpen old none_kept (grows.visited ++ grows.raised) w
+  -- and has the byte at the size, so it is not kept
+  behind_loose : (w v : ℕ) → IsBehind old (root_of old t) (size_of old t) w v → kept (w / 512) ≡ false
+  behind_loose w v behind =
+      let high : size_of old t < behind.index / 512 * span behind.parent.level + span behind.parent.level =
+      behind_within (root_of old t) (size_of old t) behind.depth behind.index behind.parent.level behind.parent.height behind.no_pointer behind.ends in
+      let row : node old (root_of old t) behind.depth (behind.index / 512) ≡ w / 512 = omega (arith, behind.at) in
+      subst (λ b. kept b ≡ false) row (can.loose.nodes behind.depth (behind.index / 512) behind.parent behind.present high)
+
+  opens : (w v : ℕ) → May w v → IsOpen old kept (grows.visited ++ grows.raised) w
   opens w v (inl own) = in_taken own
-  opens w v (inr behind) = in_live (record { tree = t; reached = can.reached; has = behind_block w v behind }) refl
+  opens w v (inr behind) = in_live (record { tree = t; reached = can.reached; has = behind_block w v behind }) (behind_loose w v behind)
 
   sizes : size_of middle t ≡ size_of old t
   sizes = size-same old middle can.well agrees t can.reached
@@ -179,6 +197,18 @@ module _ (first new : Memory) (free_old free_new : List ℕ) (t place from to : 
 
     abbrev block : ℕ
     block = block_of pointer
+
+    -- the node gets a pointer to bytes that are wanted, so it has the byte at the size
+    hung_loose : kept (hung_place / 512) ≡ false
+    hung_loose =
+        let parent : IsLivePointer (root_of old t) (size_of old t) hangs.depth (hangs.index / 512) = live_above _ _ hangs.depth hangs.index (live_pointer_word _ _ (suc hangs.depth) hangs.index hangs.live) in
+        let behind = can.behind in
+        let wanted = hangs.wanted in
+        let same : suc hangs.live.level ≡ parent.level = omega (arith, parent.height, hangs.live.height) in
+        let high : size_of old t < hangs.index / 512 * span parent.level + span parent.level =
+        subst (λ l. size_of old t < hangs.index / 512 * span l + span l) same (lt_of_lt_of_le (omega (arith, behind, wanted)) (slot_within hangs.index hangs.live.level)) in
+        let row : node old (root_of old t) hangs.depth (hangs.index / 512) ≡ hung_place / 512 = omega (arith, hangs.at) in
+        subst (λ b. kept b ≡ false) row (can.loose.nodes hangs.depth (hangs.index / 512) parent hangs.present high)
 
     pointer_is : 4096 * block_of pointer ≡ pointer
     pointer_is = omega (arith, hangs.bits)
@@ -260,14 +290,14 @@ module _ (first new : Memory) (free_old free_new : List ℕ) (t place from to : 
       go (no_link e) = rw e (omega arith)
       go (one_link hung_place pointer e hangs part) = rw e (omega arith)
 
-  open_links : StoresMay (AnyAt (IsOpen old none_kept (grows.visited ++ grows.raised))) (links_of (grows.links ++ (place, raised_by (root_of old t) grows.chain) ∷ []))
+  open_links : StoresMay (AnyAt (IsOpen old kept (grows.visited ++ grows.raised))) (links_of (grows.links ++ (place, raised_by (root_of old t) grows.chain) ∷ []))
   open_links = go grows.hung
     where
       go : AreHung old middle (root_of old t) (size_of old t) from to raw grows.visited (λ p. HasBlock old (root_of old t) (size_of old t) (p / 512)) grows.links →
-          StoresMay (AnyAt (IsOpen old none_kept (grows.visited ++ grows.raised))) (links_of (grows.links ++ (place, raised_by (root_of old t) grows.chain) ∷ []))
-      go (no_link e) = rw e (open_root old can.well t place can.reached at (grows.visited ++ grows.raised), tt)
+          StoresMay (AnyAt (IsOpen old kept (grows.visited ++ grows.raised))) (links_of (grows.links ++ (place, raised_by (root_of old t) grows.chain) ∷ []))
+      go (no_link e) = rw e (open_place, tt)
       go (one_link hung_place pointer e hangs part) =
-          rw e (in_live (record { tree = t; reached = can.reached; has = part }) refl, (open_root old can.well t place can.reached at (grows.visited ++ grows.raised), tt))
+          rw e (in_live (record { tree = t; reached = can.reached; has = part }) (hung_loose hung_place pointer hangs), (open_place, tt))
 
   ready_links : HasRootReady old (after_stores middle grows.links) t place (raised_by (root_of old t) grows.chain)
   ready_links = go grows.hung
@@ -291,20 +321,93 @@ module _ (first new : Memory) (free_old free_new : List ℕ) (t place from to : 
       own : HasBlock old (root_of old t) (size_of old t) b → ⊥
       own mine = away (can.well.apart u t b r can.reached has mine)
 
-  pub tree_prepared : PreparesWith first new free_old free_new t from to raw
+  -- ---- the nodes that were there
+
+  raised_height : (r : ℕ) (chain : List ℕ) → height_of r + length chain ≤ 7 → height_of (raised_by r chain) ≡ height_of r + length chain
+  raised_height r [] low = omega arith
+  raised_height r (b ∷ chain) low =
+      let one : height_of (4096 * b + suc (height_of r)) ≡ suc (height_of r) = omega (arith, low) in
+      let rest = raised_height (4096 * b + suc (height_of r)) chain (omega (arith, low, one)) in
+      omega (arith, rest, one)
+
+  tall_is : height_of (raised_by (root_of old t) grows.chain) ≡ height_with (root_of old t) (size_of old t) to
+  tall_is = raised_height (root_of old t) grows.chain (omega (arith, grows.tall, tall_low (root_of old t) (size_of old t) to (can.well.sound t can.reached).low)) ∙ grows.tall
+
+  abbrev last : Image
+  last = set (after_stores middle grows.links) place (raised_by (root_of old t) grows.chain)
+
+  beside_root : (b s : ℕ) → b ≢ 0 → s < 512 → HasBlock old (root_of old t) (size_of old t) b ⊎ (IsLiveBlock old b → ⊥) → 512 * b + s ≢ place
+  beside_root = root_beside old can.well t place (root_of old t) can.reached at (reads_self (IsReadByWords old t) old (size_of old t) (root_of old t) (can.well.sound t can.reached) (can.well.low t can.reached))
+
+  -- no pointer that waited is stored over one to a node
+  beside_links : (d k : ℕ) → node old (root_of old t) (suc d) k ≢ 0 → (p : ℕ) → 512 * node old (root_of old t) d (k / 512) + k % 512 ≡ p → get_or (after_stores middle grows.links) p 0 ≡ get_or middle p 0
+  beside_links d k present p here = go grows.hung
+    where
+      apart : (hung_place pointer : ℕ) → Hangs old middle (root_of old t) (size_of old t) from to hung_place pointer raw grows.visited → p ≢ hung_place
+      apart hung_place pointer hangs same =
+          let block : node old (root_of old t) d (k / 512) ≡ node old (root_of old t) hangs.depth (hangs.index / 512) = omega (arith, here, hangs.at, same) in
+          let slot : k % 512 ≡ hangs.index % 512 = omega (arith, here, hangs.at, same) in
+          present (ap block_of (word_at-suc old (root_of old t) d k ∙ ap₂ (slot_word old) block slot ∙ sym (word_at-suc old (root_of old t) hangs.depth hangs.index)) ∙ hangs.null)
+
+      go : AreHung old middle (root_of old t) (size_of old t) from to raw grows.visited (λ p. HasBlock old (root_of old t) (size_of old t) (p / 512)) grows.links → get_or (after_stores middle grows.links) p 0 ≡ get_or middle p 0
+      go (no_link e) = rw e refl
+      go (one_link hung_place pointer e hangs part) = rw e (get_or-set_other middle hung_place p pointer 0 (apart hung_place pointer hangs))
+
+  old_slot : (d k : ℕ) → IsLivePointer (root_of old t) (size_of old t) (suc d) k → node old (root_of old t) (suc d) k ≢ 0 →
+      slot_word last (node old (root_of old t) d (k / 512)) (k % 512) ≡ slot_word old (node old (root_of old t) d (k / 512)) (k % 512)
+  old_slot d k live present =
+      let above : node old (root_of old t) d (k / 512) ≢ 0 = present_above old (root_of old t) d k present in
+      let up : IsLivePointer (root_of old t) (size_of old t) d (k / 512) = live_above _ _ d k (live_pointer_word _ _ (suc d) k live) in
+      let has : HasBlock old (root_of old t) (size_of old t) (node old (root_of old t) d (k / 512)) = record { depth = d; index = k / 512; pointer = up; named = refl; not_null = above } in
+      slot_word-at last (node old (root_of old t) d (k / 512)) (k % 512) above
+      ∙ get_or-set_other (after_stores middle grows.links) place (512 * node old (root_of old t) d (k / 512) + k % 512) (raised_by (root_of old t) grows.chain) 0
+      (beside_root (node old (root_of old t) d (k / 512)) (k % 512) above (omega arith) (inl has))
+      ∙ beside_links d k present (512 * node old (root_of old t) d (k / 512) + k % 512) refl
+      ∙ sym (slot_word-at middle (node old (root_of old t) d (k / 512)) (k % 512) above)
+      ∙ (keeps old middle can.well agrees t can.reached).kept d k live
+
+  old_node : (d k : ℕ) → IsLivePointer (root_of old t) (size_of old t) d k → node old (root_of old t) d k ≢ 0 → node last (root_of old t) d k ≡ node old (root_of old t) d k
+  old_node zero k live present = ap block_of (word_at-zero last (root_of old t) k ∙ sym (word_at-zero old (root_of old t) k))
+  old_node (suc d) k live present =
+      let up : IsLivePointer (root_of old t) (size_of old t) d (k / 512) = live_above _ _ d k (live_pointer_word _ _ (suc d) k live) in
+      let above : node last (root_of old t) d (k / 512) ≡ node old (root_of old t) d (k / 512) = old_node d (k / 512) up (present_above old (root_of old t) d k present) in
+      ap block_of
+      (word_at-suc last (root_of old t) d k ∙ ap (λ b. slot_word last b (k % 512)) above ∙ old_slot d k live present ∙ sym (word_at-suc old (root_of old t) d k))
+
+  chain_slot : (b : ℕ) → Has grows.chain b → slot_word last b 0 ≡ slot_word middle b 0
+  chain_slot b m =
+      let free : IsLiveBlock old b → ⊥ = each-has (λ c. IsLiveBlock old c → ⊥) (grows.visited ++ grows.raised) b taken_free (in_taken_chain b m) in
+      let low : 1 ≤ b = each-has (λ c. 1 ≤ c) (grows.visited ++ grows.raised) b usable.low (in_taken_chain b m) in
+      let some : b ≢ 0 = (λ e. omega (arith, low, e)) in
+      slot_word-at last b 0 some
+      ∙ get_or-set_other (after_stores middle grows.links) place (512 * b + 0) (raised_by (root_of old t) grows.chain) 0 (beside_root b 0 some (omega arith) (inr free))
+      ∙ links_beside grows.links old middle (root_of old t) (size_of old t) from to raw grows.visited (λ p. HasBlock old (root_of old t) (size_of old t) (p / 512)) grows.hung middle (512 * b + 0)
+      (λ part. free (record { tree = t; reached = can.reached; has = subst (HasBlock old (root_of old t) (size_of old t)) (block_row b 0 (omega arith)) part }))
+      ∙ sym (slot_word-at middle b 0 some)
+
+  nodes_stay : (d k : ℕ) → IsLivePointer (root_of old t) (size_of old t) d k → node old (root_of old t) d k ≢ 0 →
+      node last (raised_by (root_of old t) grows.chain) (height_of (raised_by (root_of old t) grows.chain) - height_of (root_of old t) + d) k ≡ node old (root_of old t) d k
+  nodes_stay d k live present =
+      let deep : height_of (raised_by (root_of old t) grows.chain) - height_of (root_of old t) ≡ length grows.chain = omega (arith, tall_is, grows.tall) in
+      let few : height_of (root_of old t) + length grows.chain ≤ 7 = omega (arith, grows.tall, tall_low (root_of old t) (size_of old t) to (can.well.sound t can.reached).low) in
+      ap (λ e. node last (raised_by (root_of old t) grows.chain) (e + d) k) deep
+      ∙ node-raised_by last (root_of old t) grows.chain (size_of old t) (can.well.sound t can.reached).fits few (lead_kept middle last (root_of old t) grows.chain chain_slot grows.down) d k live
+      ∙ old_node d k live present
+
+  pub tree_prepared : PreparesWith kept first new free_old free_new t from to raw
   tree_prepared = record {
     taken = grows.visited ++ grows.raised;
     takes = grows.takes;
     counted = grows.counted;
-    adds = epochs_taking first grows.between new (grows.visited ++ grows.raised) May _ (grows.links ++ (place, raised_by (root_of old t) grows.chain) ∷ []) can.well grows.stores harmless grows.ends
-        (prep_stores (size_of old t) from to (need_for old t from to)) (few _ _ _ _ grows.counted few_links) any_links usable.apart (free_taken first (grows.visited ++ grows.raised) usable taken_free) opens open_links;
+    adds = epochs_taking kept first grows.between new (grows.visited ++ grows.raised) May _ (grows.links ++ (place, raised_by (root_of old t) grows.chain) ∷ []) can.well grows.stores harmless grows.ends
+        (prep_stores (size_of old t) from to (need_for old t from to)) (few _ _ _ _ grows.counted few_links) any_links usable.apart taken_are opens open_links;
     ready = rw words_last
         (prepared old (after_stores middle grows.links) can.well t place (raised_by (root_of old t) grows.chain) from to raw (grows.visited ++ grows.raised) can.reached at ready_links taken_free
         (extended old (root_of old t) (size_of old t) from raw 0) (IsFull old (root_of old t) (size_of old t) × (from ≡ size_of old t)) grows.tree
         (λ o low. extended_old old (root_of old t) (size_of old t) from raw 0 o (rw (zero_plus o) low))
         (λ o above below. extended_new old (root_of old t) (size_of old t) from raw 0 o (rw (zero_plus o) above) ∙ ap (given from raw) (zero_plus o))
         (λ by. (full_by_words old can.well t can.reached by, can.by_words by))
-        tall_is can.fits order frame);
+        tall_is can.fits order frame nodes_stay);
   }
     where
       zero_plus : (o : ℕ) → 0 + o ≡ o
@@ -316,13 +419,3 @@ module _ (first new : Memory) (free_old free_new : List ℕ) (t place from to : 
       words_last : current_words new ≡ set (after_stores middle grows.links) place (raised_by (root_of old t) grows.chain)
       words_last = words_new grows.between new (grows.links ++ (place, raised_by (root_of old t) grows.chain) ∷ []) grows.ends
           ∙ after_append middle grows.links ((place, raised_by (root_of old t) grows.chain) ∷ [])
-
-      raised_height : (r : ℕ) (chain : List ℕ) → height_of r + length chain ≤ 7 → height_of (raised_by r chain) ≡ height_of r + length chain
-      raised_height r [] low = omega arith
-      raised_height r (b ∷ chain) low =
-          let one : height_of (4096 * b + suc (height_of r)) ≡ suc (height_of r) = omega (arith, low) in
-          let rest = raised_height (4096 * b + suc (height_of r)) chain (omega (arith, low, one)) in
-          omega (arith, rest, one)
-
-      tall_is : height_of (raised_by (root_of old t) grows.chain) ≡ height_with (root_of old t) (size_of old t) to
-      tall_is = raised_height (root_of old t) grows.chain (omega (arith, grows.tall, tall_low (root_of old t) (size_of old t) to (can.well.sound t can.reached).low)) ∙ grows.tall

@@ -46,6 +46,7 @@ hung_kept old middle new root size from to raw taken more InPart Part links whol
   bits = hangs.bits;
   below = hangs.below;
   inside = λ b m. wider b (hangs.inside b m);
+  wanted = hangs.wanted;
   built = built_kept middle new (pointer + hangs.live.level) _ _ (Has hangs.below) _ whole (λ b s m few. same b s (hangs.inside b m) few) hangs.built;
 }) (part place inside)
 
@@ -103,7 +104,7 @@ module _ (old : Memory) (free_old : List ℕ) (root size below start block slot 
   pub slot_of_make : (new : Memory) (free_new : List ℕ) (pointer : ℕ) (links : List (ℕ × ℕ)) → block_of (slot_word (current_words old) block slot) ≡ 0 →
       Builds old new free_old free_new pointer below (min (to - (start + slot * span below)) (span below)) (given_at from raw (start + slot * span below)) (from ≤ start + slot * span below)
       (tally (suc below) (max from (start + slot * span below)) (min to (start + slot * span below + span below))) →
-      (((pointer ≡ 0) × (links ≡ [])) ⊎ (links ≡ (512 * block + slot, pointer) ∷ [])) → VisitsSlot old new free_old free_new root size below start block slot from to raw links
+      (((pointer ≡ 0) × (links ≡ [])) ⊎ ((links ≡ (512 * block + slot, pointer) ∷ []) × (from < begin + span below))) → VisitsSlot old new free_old free_new root size below start block slot from to raw links
   slot_of_make new free_new pointer links null built which = record {
     taken = built.taken;
     takes = built.takes;
@@ -135,9 +136,9 @@ module _ (old : Memory) (free_old : List ℕ) (root size below start block slot 
       place_block : (512 * block + slot) / 512 ≡ block
       place_block = block_row block slot last.few
 
-      other : (((pointer ≡ 0) × (links ≡ [])) ⊎ (links ≡ (512 * block + slot, pointer) ∷ [])) → (p : ℕ) → p ≢ 512 * block + slot → get_or (after_stores (current_words new) links) p 0 ≡ get_or (current_words new) p 0
+      other : (((pointer ≡ 0) × (links ≡ [])) ⊎ ((links ≡ (512 * block + slot, pointer) ∷ []) × (from < begin + span below))) → (p : ℕ) → p ≢ 512 * block + slot → get_or (after_stores (current_words new) links) p 0 ≡ get_or (current_words new) p 0
       other (inl both) p out = rw both.1 refl
-      other (inr e) p out = rw e (get_or-set_other (current_words new) (512 * block + slot) p pointer 0 out)
+      other (inr link) p out = rw link.0 (get_or-set_other (current_words new) (512 * block + slot) p pointer 0 out)
 
       in_image : 512 * block + slot < length (current_words new)
       in_image =
@@ -148,11 +149,11 @@ module _ (old : Memory) (free_old : List ℕ) (root size below start block slot 
       here : slot_word (after_stores (current_words new) links) block slot ≡ pointer
       here = slot_word-at (after_stores (current_words new) links) block slot (λ e. omega (arith, e, can.some_block)) ∙ go which
         where
-          go : (((pointer ≡ 0) × (links ≡ [])) ⊎ (links ≡ (512 * block + slot, pointer) ∷ [])) → get_or (after_stores (current_words new) links) (512 * block + slot) 0 ≡ pointer
+          go : (((pointer ≡ 0) × (links ≡ [])) ⊎ ((links ≡ (512 * block + slot, pointer) ∷ []) × (from < begin + span below))) → get_or (after_stores (current_words new) links) (512 * block + slot) 0 ≡ pointer
           go (inl both) = rw both.1
               (may_frame _ 0 _ old new built.stores.part (512 * block + slot) (λ v m. not_block block (subst (Has built.taken) place_block m) refl)
               ∙ sym (slot_word-at (current_words old) block slot (λ e. omega (arith, e, can.some_block))) ∙ word_null ∙ sym both.0)
-          go (inr e) = rw e (get_or-set_same (current_words new) (512 * block + slot) pointer 0 in_image)
+          go (inr link) = rw link.0 (get_or-set_same (current_words new) (512 * block + slot) pointer 0 in_image)
 
       kid_null : block_of kid ≡ 0
       kid_null = rw word_null (omega (arith, can.low))
@@ -172,8 +173,8 @@ module _ (old : Memory) (free_old : List ℕ) (root size below start block slot 
       not_full : IsFull (current_words old) kid (size - begin) → ⊥
       not_full full = full 0 0 (record { level = height_of kid; height = omega arith; live = omega (arith, last.begun) }) (null_tree (current_words old) kid kid_null 0 0)
 
-      hangs : Hangs (current_words old) (current_words new) root size from to (512 * block + slot) pointer raw built.taken
-      hangs =
+      hangs : from < begin + span below → Hangs (current_words old) (current_words new) root size from to (512 * block + slot) pointer raw built.taken
+      hangs wanted =
           let row : (can.index * 512 + slot) / 512 ≡ can.index = omega (arith, last.few) in
           let column : (can.index * 512 + slot) % 512 ≡ slot = omega (arith, last.few) in
           let aligned = kid_aligned old free_old root size below start block slot from to can last in
@@ -187,10 +188,11 @@ module _ (old : Memory) (free_old : List ℕ) (root size below start block slot 
             bits = built.bits;
             below = built.taken;
             inside = λ b m. m;
+            wanted = omega (arith, wanted, aligned);
             built = subst (λ o. IsBuilt (current_words new) (pointer + below) (min (to - o) (span below)) (given_at from raw o) (Has built.taken) (from ≤ o)) aligned built.tree;
           }
 
-      hung : (((pointer ≡ 0) × (links ≡ [])) ⊎ (links ≡ (512 * block + slot, pointer) ∷ [])) → AreHung (current_words old) (current_words new) root size from to raw built.taken
+      hung : (((pointer ≡ 0) × (links ≡ [])) ⊎ ((links ≡ (512 * block + slot, pointer) ∷ []) × (from < begin + span below))) → AreHung (current_words old) (current_words new) root size from to raw built.taken
           (λ place. HasBlock (current_words old) kid (size - begin) (place / 512) ⊎ (place ≡ 512 * block + slot)) links
       hung (inl both) = no_link both.1
-      hung (inr e) = one_link (512 * block + slot) pointer e hangs (inr refl)
+      hung (inr link) = one_link (512 * block + slot) pointer link.0 (hangs link.1) (inr refl)

@@ -1,10 +1,10 @@
 -- What a preparation asks of an image and leaves in it.
-use Rattle.std.specs.Prelude.{◌≡◌, ◌≢◌, ◌⊎◌, ℕ, suc, ◌+◌, ◌*◌, ◌/◌, ◌<◌, ◌≤◌, List, ◌++◌, length}
+use Rattle.std.specs.Prelude.{◌≡◌, ◌≢◌, ◌⊎◌, ℕ, suc, ◌+◌, ◌-◌, ◌*◌, ◌/◌, ◌<◌, ◌≤◌, List, ◌++◌, length, Bool, false}
 use Rattle.bp_layout.specs.Words.{Image, word, height_of}
 use Rattle.bp_layout.specs.Formatted.{version_of}
-use Rattle.bp_layout.specs.Tree.{word_at, byte, IsLiveWord, HasBlock, IsSound, IsFull}
-use Rattle.bp_layout.specs.Inode.{root_of, size_of}
-use Rattle.bp_layout.specs.Reached.{IsReached, IsLiveBlock}
+use Rattle.bp_layout.specs.Tree.{word_at, byte, node, span, IsLivePointer, IsLiveWord, HasBlock, IsSound, IsFull}
+use Rattle.bp_layout.specs.Inode.{RootPlace, root_of, size_of}
+use Rattle.bp_layout.specs.Reached.{IsReached, IsFreeBlock}
 use Rattle.bp_layout.specs.WellFormed.{IsWellFormed}
 use Rattle.bp_layout.specs.WordPaths.{WordPath, tree_path}
 use Rattle.bp_limits.specs.Limits.{block_words, greatest_height, greatest_size, max_height}
@@ -15,20 +15,29 @@ use Rattle.bp_changes.specs.SameMeaning.{SameMeaning}
 use Rattle.pm_region.specs.Memory.{Memory, current_words, room_in}
 use Rattle.bp_free.specs.Set.{members}
 use Rattle.bp_free.specs.declared.parts.Parts.{Parts}
+use Rattle.bp_shapes.specs.Sets.{kept_of}
 use Rattle.bp_commit.specs.Performs.{AddsTaking}
 use Rattle.bp_append.specs.Stores.{prep_stores, room_behind}
 use Rattle.bp_append.specs.Given.{given}
 use Rattle.bp_append.specs.Filled.{IsUsable}
-use Rattle.bp_layout.specs.Thaw.{none_kept}
 
 -- how many blocks tree t lacks for the bytes from one offset up to another
 abbrev pub need_for : Image → ℕ → ℕ → ℕ → ℕ
 need_for image t from to = length (nodes_for image (root_of image t) (size_of image t) from to)
 
+-- No node of tree t that has the byte at its size is kept, nor the block with its root word. Besides blocks that it
+-- takes, a preparation of the tree stores into these alone.
+pub record HasLooseEnd (image : Image) (kept : ℕ → Bool) (t : ℕ) : Type 0 where
+  pub nodes : (d k : ℕ) → (live : IsLivePointer (root_of image t) (size_of image t) d k)
+      → node image (root_of image t) d k ≢ 0 → size_of image t < k * span live.level + span live.level
+      → kept (node image (root_of image t) d k) ≡ false
+  pub root : (place : ℕ) → RootPlace image t place → t ≢ 0 → kept (place / block_words) ≡ false
+
 -- The image is well formed and reaches tree t, to whose root word the path leads. The bytes lie behind its size; the
--- inode file and directories are prepared from their size on. The numbers are those of blocks that are not live, as
--- many as are needed, and the log has room.
-pub record CanPrepare (memory : Memory) (free : List ℕ) (t : ℕ) (path : WordPath) (from to : ℕ) : Type 0 where
+-- inode file and directories are prepared from their size on. The numbers are those of free blocks, as many as are
+-- needed, and the log has room. What the tree has is stored into only where it is not kept.
+pub record CanPrepare (kept : ℕ → Bool) (memory : Memory) (free : List ℕ) (t : ℕ) (path : WordPath)
+    (from to : ℕ) : Type 0 where
   pub well : IsWellFormed (current_words memory)
   pub reached : IsReached (current_words memory) t
   pub leads : path ≡ tree_path (height_of (word (current_words memory) 2)) t 0 0
@@ -37,7 +46,8 @@ pub record CanPrepare (memory : Memory) (free : List ℕ) (t : ℕ) (path : Word
   pub fits : to ≤ greatest_size (version_of (current_words memory))
   pub by_words : IsReadByWords (current_words memory) t → from ≡ size_of (current_words memory) t
   pub usable : IsUsable (length memory.base / block_words) free
-  pub unused : Each (λ b. IsLiveBlock (current_words memory) b → ⊥) free
+  pub are_free : Each (IsFreeBlock (current_words memory) kept) free
+  pub loose : HasLooseEnd (current_words memory) kept t
   pub enough : need_for (current_words memory) t from to ≤ length free
   pub room : block_words * need_for (current_words memory) t from to
       + room_behind (size_of (current_words memory) t) from to max_height + 4 ≤ room_in memory
@@ -56,6 +66,9 @@ pub record Prepares (old new : Image) (t from to : ℕ) (bytes taken : List ℕ)
       ⊎ Has taken b
   pub has_old : (b : ℕ) → HasBlock old (root_of old t) (size_of old t) b → HasBlock new (root_of new t) to b
   pub has_taken : (b : ℕ) → Has taken b → HasBlock new (root_of new t) to b
+  -- the nodes that it had stand as high above the leaves as they did
+  pub nodes : (d k : ℕ) → IsLivePointer (root_of old t) (size_of old t) d k → node old (root_of old t) d k ≢ 0 →
+      node new (root_of new t) (height_of (root_of new t) - height_of (root_of old t) + d) k ≡ node old (root_of old t) d k
   pub sizes : (u : ℕ) → IsReached old u → size_of new u ≡ size_of old u
   pub roots : (u : ℕ) → IsReached old u → u ≢ t → root_of new u ≡ root_of old u
   pub apart : (u b : ℕ) → IsReached old u → u ≢ t → HasBlock new (root_of new u) (size_of new u) b
@@ -66,11 +79,12 @@ pub record Prepares (old new : Image) (t from to : ℕ) (bytes taken : List ℕ)
 
 -- The blocks are the first of the free ones, as many as are needed. Nobody sees the stores at any moment of a crash,
 -- each of these blocks gets one, and no other block that was free does.
-pub record PreparesWith (old new : Memory) (free_old free_new : List ℕ) (t from to : ℕ) (bytes : List ℕ) : Type 0 where
+pub record PreparesWith (kept : ℕ → Bool) (old new : Memory) (free_old free_new : List ℕ) (t from to : ℕ)
+    (bytes : List ℕ) : Type 0 where
   pub taken : List ℕ
   pub takes : free_old ≡ taken ++ free_new
   pub counted : length taken ≡ need_for (current_words old) t from to
-  pub adds : AddsTaking none_kept taken 2 (prep_stores (size_of (current_words old) t) from to
+  pub adds : AddsTaking kept taken 2 (prep_stores (size_of (current_words old) t) from to
       (need_for (current_words old) t from to)) old new
   pub ready : Prepares (current_words old) (current_words new) t from to bytes taken
 
@@ -79,11 +93,11 @@ pub record PreparesWith (old new : Memory) (free_old free_new : List ℕ) (t fro
 -- the path leads to the root word of such a tree
 abbrev pub IsPreparable : {R : Type 0} → (R → Memory) → Parts R → WordPath → ℕ → ℕ → Type 0
 IsPreparable memory parts path from to =
-    (t : ℕ) × CanPrepare (memory parts.region) (members parts.blocks) t path from to
+    (t : ℕ) × CanPrepare (kept_of parts) (memory parts.region) (members parts.blocks) t path from to
 
 -- the tree to whose root word the path leads is prepared
 abbrev pub PreparesAt : {R : Type 0} → (R → Memory) → Parts R → Parts R → WordPath → ℕ → ℕ → List ℕ → Type 0
 PreparesAt memory old new path from to bytes =
-    (t : ℕ) → CanPrepare (memory old.region) (members old.blocks) t path from to
-    → PreparesWith (memory old.region) (memory new.region) (members old.blocks)
+    (t : ℕ) → CanPrepare (kept_of old) (memory old.region) (members old.blocks) t path from to
+    → PreparesWith (kept_of old) (memory old.region) (memory new.region) (members old.blocks)
     (members new.blocks) t from to bytes

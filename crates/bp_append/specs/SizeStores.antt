@@ -1,5 +1,5 @@
 -- The size of a file is stored behind a preparation.
-use Rattle.std.specs.Prelude.{◌≡◌, ℕ, suc, ◌+◌, ◌*◌, ◌<◌, List}
+use Rattle.std.specs.Prelude.{◌≡◌, ℕ, suc, ◌+◌, ◌*◌, ◌<◌, List, Bool}
 use Rattle.pm_epochs.specs.Crash.{commit}
 use Rattle.bp_layout.specs.Inode.{ContentStandsAt, IsFile, size_of}
 use Rattle.bp_layout.specs.Need.Change.{resizes}
@@ -7,22 +7,21 @@ use Rattle.bp_layout.specs.WordPaths.{WordPath}
 use Rattle.pm_region.specs.Memory.{Memory, current_words, Adds}
 use Rattle.bp_commit.specs.Performs.{PerformsThawed}
 use Rattle.bp_append.specs.Prepared.{CanPrepare, PreparesWith}
-use Rattle.bp_layout.specs.Thaw.{none_kept}
 
 -- A file grows to a size without bytes of its own: its tree is prepared, and then its size word, which stands at a
 -- place, is stored alone in its epoch.
-pub record GrowsFile (old middle new : Memory) (free_old free_new : List ℕ) (path : WordPath)
+pub record GrowsFile (kept : ℕ → Bool) (old middle new : Memory) (free_old free_new : List ℕ) (path : WordPath)
     (n size place : ℕ) : Type 0 where
-  pub can : CanPrepare old free_old (suc n) path size size
+  pub can : CanPrepare kept old free_old (suc n) path size size
   pub longer : size_of (current_words old) (suc n) < size
   pub is_file : IsFile (current_words old) (suc n)
   pub stands : ContentStandsAt (current_words old) 0 (8 * suc n + 2) place
   pub bytes : List ℕ
-  pub prepared : PreparesWith old middle free_old free_new (suc n) size size bytes
+  pub prepared : PreparesWith kept old middle free_old free_new (suc n) size size bytes
   pub stored : Adds middle new (commit place size)
 
 -- Such a call is performed: it takes what it needs, and its last store is at the word of the cover.
 abbrev pub GrownFilesArePerformed : Type 0
-GrownFilesArePerformed = (old middle new : Memory) (free_old free_new : List ℕ) (path : WordPath) (n size place : ℕ) →
-    GrowsFile old middle new free_old free_new path n size place
-    → PerformsThawed none_kept old new (resizes (suc n) size) (λ image after. size_of after (suc n) ≡ size)
+GrownFilesArePerformed = (kept : ℕ → Bool) (old middle new : Memory) (free_old free_new : List ℕ) (path : WordPath)
+    (n size place : ℕ) → GrowsFile kept old middle new free_old free_new path n size place
+    → PerformsThawed kept old new (resizes (suc n) size) (λ image after. size_of after (suc n) ≡ size)

@@ -32,7 +32,7 @@ pub record IsBehindPart (image : Image) (root size part part_size place value : 
   pub behind : IsBehind image root size place value
   pub has : HasBlock image part part_size (place / block_words)
 
--- A live pointer of the tree is null, and a tree of the given bytes is made for its place.
+-- A live pointer of the tree is null, and a tree of the given bytes is made for its place, some of which are wanted.
 pub record Hangs (old new : Image) (root size from to place pointer : ℕ) (bytes taken : List ℕ) : Type 0 where
   pub depth : ℕ
   pub index : ℕ
@@ -45,6 +45,7 @@ pub record Hangs (old new : Image) (root size from to place pointer : ℕ) (byte
   pub inside : (b : ℕ) → Has below b → Has taken b
   pub built : IsBuilt new (pointer + live.level) (min (to - index * span live.level) (span live.level))
       (given_at from bytes (index * span live.level)) (Has below) (from ≤ index * span live.level)
+  pub wanted : from < index * span live.level + span live.level
 
 -- No store must wait, or just one, which hangs such a tree into one of these blocks.
 pub data AreHung (old new : Image) (root size from to : ℕ) (bytes taken : List ℕ) (InPart : ℕ → Type 0)
@@ -128,10 +129,11 @@ pub record VisitsSlot (old new : Memory) (free_old free_new : List ℕ) (root si
       (IsFull (current_words old) (child (current_words old) block below slot) (size - (start + slot * span below))
       × (from ≡ size))
 
--- A tree was made for the place of a null, and a store that puts it there is left, unless the tree is null too.
+-- A tree was made for the place of a null, and a store that puts it there is left, unless the tree is null too: that is
+-- where no byte of it is wanted.
 pub record Hung (old new : Memory) (free_old free_new : List ℕ) (level start from to : ℕ) (bytes : List ℕ) (place : ℕ)
     (links : List (ℕ × ℕ)) : Type 0 where
   pub pointer : ℕ
   pub built : Builds old new free_old free_new pointer level (min (to - start) (span level)) (given_at from bytes start)
       (from ≤ start) (tally (suc level) (max from start) (min to (start + span level)))
-  pub which : ((pointer ≡ 0) × (links ≡ [])) ⊎ (links ≡ (place, pointer) ∷ [])
+  pub which : ((pointer ≡ 0) × (links ≡ [])) ⊎ ((links ≡ (place, pointer) ∷ []) × (from < start + span level))

@@ -1,5 +1,5 @@
 -- Touched words that can be committed under the sizes that the image has: one word of a tree, and runs.
-use Rattle.std.proofs.Common.{◌≡◌, ◌≢◌, ℕ, suc, ◌-◌, ◌*◌, ◌%◌, ◌<◌, ◌≤◌, [], ◌∷◌, length, Bool, sym, ◌∙◌, ap, subst, arith, inl, inr}
+use Rattle.std.proofs.Common.{◌≡◌, ◌≢◌, ℕ, suc, ◌-◌, ◌*◌, ◌%◌, ◌<◌, ◌≤◌, List, [], ◌∷◌, length, Bool, sym, ◌∙◌, ap, subst, arith, inl, inr}
 use Rattle.bp_layout.specs.Free.{AreFreeBlocks}
 use Rattle.bp_layout.specs.Members.{Has}
 use Rattle.bp_layout.specs.Words.{Image, word, height_of}
@@ -11,18 +11,22 @@ use Rattle.bp_shapes.specs.Trail.{trail_of}
 use Rattle.bp_shapes.proofs.FreeSets.{wf_forest, content_fronts, content_no_pointer}
 use Rattle.bp_cow.specs.declared.touched.Run.{Run}
 use Rattle.bp_cow.specs.declared.touched.Touched.{Touched}
+use Rattle.bp_cow.specs.declared.touched.TreeSize.{TreeSize}
 use Rattle.bp_cow.specs.Touched.{IsTouched, path_of, word_paths}
-use Rattle.bp_cow.specs.CanCommit.{IsRunIn, CanCommit}
-use Rattle.bp_layout.specs.Thaw.{none_kept}
+use Rattle.bp_cow.specs.CanCommit.{IsRunIn, IsTreeIn, CanCommit}
 
-module _ (old : Image) (wf : IsWellFormed old) (touched : Touched) (shape : IsTouched touched) (free : ℕ → Bool) (exact : AreFreeBlocks old none_kept free) where
+-- what is asked of trees that are given, where none is
+pub no_trees : {trees : List TreeSize} (P : TreeSize → Type 0) → trees ≡ [] → (tree : TreeSize) → Has trees tree → P tree
+no_trees P none tree has = absurd (subst (λ (ts : List TreeSize). Has ts tree) none has)
+
+module _ {kept : ℕ → Bool} (old : Image) (wf : IsWellFormed old) (touched : Touched) (shape : IsTouched touched) (free : ℕ → Bool) (exact : AreFreeBlocks old kept free) (in_size : (tree : TreeSize) → Has touched.trees.now tree → IsTreeIn old (size_of old) tree) where
   forest : IsForest old (size_of old)
   forest = wf_forest old wf
 
   -- one word
   module _ (none : touched.runs.now ≡ []) (one : length touched.words.now ≡ 1) (t k : ℕ) (reached : IsReached old t) (below : 8 * k < size_of old t) (no_root : t ≡ 0 → k % 8 ≢ 1)
       (is : trail_of (path_of (word_paths touched) 0) (length (path_of (word_paths touched) 0)) ≡ tree_trail (height_of (word old 2)) t (suc (height_of (root_of old t))) k) where
-    pub word_can : CanCommit old (size_of old) touched free
+    pub word_can : CanCommit old (size_of old) kept touched free
     word_can = record {
       shape = shape;
       forest = forest;
@@ -31,6 +35,7 @@ module _ (old : Image) (wf : IsWellFormed old) (touched : Touched) (shape : IsTo
       pointers = λ i d here low. pointers i d (first i here) low;
       contents = λ i here pointer. contents i (first i here) pointer;
       runs = λ run has. absurd (no_run run has);
+      trees = in_size;
       apart = λ i j here there same. omega (arith, first i here, first j there);
       beside = λ run i j has here low high same. no_run run has;
     }
@@ -62,7 +67,7 @@ module _ (old : Image) (wf : IsWellFormed old) (touched : Touched) (shape : IsTo
             (subst (λ d. IsTreePointer old (size_of old) (trail_of (path_of (word_paths touched) 0) d)) whole (subst (λ n. IsTreePointer old (size_of old) (trail_of (path_of (word_paths touched) n) (length (path_of (word_paths touched) n)))) e pointer))
 
   -- runs alone
-  pub runs_can : length touched.words.now ≡ 0 → ((run : Run) → Has touched.runs.now run → IsRunIn old (size_of old) run) → CanCommit old (size_of old) touched free
+  pub runs_can : length touched.words.now ≡ 0 → ((run : Run) → Has touched.runs.now run → IsRunIn old (size_of old) run) → CanCommit old (size_of old) kept touched free
   runs_can none in_trees = record {
     shape = shape;
     forest = forest;
@@ -71,11 +76,12 @@ module _ (old : Image) (wf : IsWellFormed old) (touched : Touched) (shape : IsTo
     pointers = λ i d here low. absurd (omega (arith, here, none));
     contents = λ i here pointer. omega (arith, here, none);
     runs = in_trees;
+    trees = in_size;
     apart = λ i j here there same. absurd (omega (arith, here, none));
     beside = λ r i j has here low high same. omega (arith, here, none);
   }
 
-  pub run_can : (run : Run) → touched.runs.now ≡ run ∷ [] → length touched.words.now ≡ 0 → IsRunIn old (size_of old) run → CanCommit old (size_of old) touched free
+  pub run_can : (run : Run) → touched.runs.now ≡ run ∷ [] → length touched.words.now ≡ 0 → IsRunIn old (size_of old) run → CanCommit old (size_of old) kept touched free
   run_can run one none in_tree = runs_can none (λ r has. only r (subst (λ runs. Has runs r) one has))
     where
       only : (r : Run) → Has (run ∷ []) r → IsRunIn old (size_of old) r

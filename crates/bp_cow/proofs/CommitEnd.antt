@@ -30,10 +30,9 @@ use Rattle.bp_cow.specs.CanCommit.{CanCommit}
 use Rattle.bp_cow.proofs.CoverLaws.{at-word, some-ends}
 use Rattle.bp_cow.proofs.JobLaws.{can_build, in_place, first-length}
 use Rattle.bp_cow.proofs.StageEnd.{stage_committed}
-use Rattle.bp_layout.specs.Thaw.{none_kept}
 
 -- What a commit does, told by the code's numbers: the slots of the cover, and the set of the blocks that are free after the last store.
-pub record CommitsCopies (bound : ℕ → ℕ) (touched : Touched) (old new : Memory) (blocks blocks_after : Set) : Type 0 where
+pub record CommitsCopies (bound : ℕ → ℕ) (kept : ℕ → Bool) (touched : Touched) (old new : Memory) (blocks blocks_after : Set) : Type 0 where
   pub cover : ℕ
   pub has_cover : CoverHas (current_words old) touched cover
   pub taken : Set
@@ -41,7 +40,7 @@ pub record CommitsCopies (bound : ℕ → ℕ) (touched : Touched) (old new : Me
   pub size : length taken ≡ length blocks
   pub commit : AddsCopyCommit (has blocks) (has taken) (place_on (current_words old) (trail_of (end_path touched 0) cover)) (513 * copies_at (job_of touched) cover + length touched.words.now + 1) old new
   pub words : IsCommitted (current_words old) (current_words new) (IsTreePointer (current_words old) bound) (IsTurned (job_of touched) cover) (after_commit (current_words old) (job_of touched))
-  pub exact : IsExactSet (current_words new) (IsTreePointer (current_words old) bound) none_kept (has blocks_after)
+  pub exact : IsExactSet (current_words new) (IsTreePointer (current_words old) bound) kept (has blocks_after)
 
 -- the same pointers under another name
 pub committed_same : (old new : Image) (Pointer turned other : Trail → Type 0) (after : Trail → ℕ) → ((q : Trail) → turned q → other q) → ((q : Trail) → other q → turned q) →
@@ -89,7 +88,7 @@ looser start taken place most all old new few done = record {
 
 -- ---- the cover is the only touched word
 
-module _ (bound : ℕ → ℕ) (touched : Touched) (first last : Memory) (blocks : Set) (wf : IsWellFormed (current_words first)) (can : CanCommit (current_words first) bound touched (has blocks))
+module _ {kept : ℕ → Bool} (bound : ℕ → ℕ) (touched : Touched) (first last : Memory) (blocks : Set) (wf : IsWellFormed (current_words first)) (can : CanCommit (current_words first) bound kept touched (has blocks))
     (found : FoundCover) (at : IsAt (current_words first) touched found) (longest : CoverHas (current_words first) touched found.len) (past : length ((job_of touched).way 0) < found.len)
     (adds : Adds first last (commit found.place (only_value touched (word (current_words first) found.place)))) where
   abbrev old : Image
@@ -123,18 +122,18 @@ module _ (bound : ℕ → ℕ) (touched : Touched) (first last : Memory) (blocks
   same-block : (p : Trail) → IsTreePointer old bound p → block_on (current_words last) p ≡ block_on old p
   same-block p live = ap (λ w. w / 4096) (committed.kept p live (λ none. none))
 
-  exact-old : IsExactSet old (IsTreePointer old bound) none_kept (has blocks)
-  exact-old = unheld_exact old bound can.forest none_kept (has blocks) can.exact
+  exact-old : IsExactSet old (IsTreePointer old bound) kept (has blocks)
+  exact-old = unheld_exact old bound can.forest kept (has blocks) can.exact
 
-  exact-still : IsExactSet (current_words last) (IsTreePointer old bound) none_kept (has blocks)
+  exact-still : IsExactSet (current_words last) (IsTreePointer old bound) kept (has blocks)
   exact-still = record {
     live = λ b one. exact-old.live b (record { trail = one.trail; pointer = one.pointer; named = sym (same-block one.trail one.pointer) ∙ one.named; not_null = one.not_null });
     dead = λ b low high none loose. exact-old.dead b low (subst (λ n. b < n / 512) committed.whole high) (λ one. none (record { trail = one.trail; pointer = one.pointer; named = same-block one.trail one.pointer ∙ one.named; not_null = one.not_null })) loose;
     in_range = λ b is. let range = exact-old.in_range b is in (range.0, subst (λ n. b < n / 512) (sym committed.whole) range.1);
-    loose = λ b is. refl;
+    loose = exact-old.loose;
   }
 
-  pub commits_one : CommitsCopies bound touched first last blocks blocks
+  pub commits_one : CommitsCopies bound kept touched first last blocks blocks
   commits_one = record {
     cover = found.len;
     has_cover = longest;
@@ -163,14 +162,14 @@ module _ (bound : ℕ → ℕ) (touched : Touched) (first last : Memory) (blocks
 
 -- ---- the cover is a pointer, and blocks are copied
 
-module _ (bound : ℕ → ℕ) (touched : Touched) (first last : Memory) (blocks : Set) (wf : IsWellFormed (current_words first)) (can : CanCommit (current_words first) bound touched (has blocks))
+module _ {kept : ℕ → Bool} (bound : ℕ → ℕ) (touched : Touched) (first last : Memory) (blocks : Set) (wf : IsWellFormed (current_words first)) (can : CanCommit (current_words first) bound kept touched (has blocks))
     (found : FoundCover) (at : IsAt (current_words first) touched found) (longest : CoverHas (current_words first) touched found.len) (short : found.len ≤ length ((job_of touched).way 0))
     (top : ℕ) (free : ℕ → Bool) (after taken : Set) where
   abbrev plan : Plan
-  plan = record { old = current_words first; bound = bound; free = has blocks; job = job_of touched; place = found.place; top = top; free_after = free }
+  plan = record { old = current_words first; bound = bound; kept = kept; free = has blocks; job = job_of touched; place = found.place; top = top; free_after = free }
 
-  pub commits_turned : IsTurnedOver plan touched found.len found.place blocks taken first last → IsExactSet (current_words last) (IsTreePointer (current_words first) bound) none_kept (has after) →
-      CommitsCopies bound touched first last blocks after
+  pub commits_turned : IsTurnedOver plan touched found.len found.place blocks taken first last → IsExactSet (current_words last) (IsTreePointer (current_words first) bound) kept (has after) →
+      CommitsCopies bound kept touched first last blocks after
   commits_turned done exact =
       let same : copies_at (job_of touched) found.len ≡ copies (job_of touched) found.len = copied-some (job_of touched) found.len short in
       record {

@@ -18,6 +18,41 @@ use Rattle.bp_cow.specs.Committed.{after_commit, changes_of, IsCommitted}
 use Rattle.bp_shapes.proofs.TrailLaws.{word_on-top}
 use Rattle.bp_shapes.proofs.ForestLaws.{HasFewDigits, word-root, word-tree, same_trail, same_pointer, pointers, short}
 
+-- ---- the words of a leaf
+
+module _ (old : Image) (bound : ℕ → ℕ) (forest : IsForest old bound) (t k : ℕ) (reached : IsReached old t) (low : 8 * k < bound t) where
+  leaf_live : IsLivePointer (root_of old t) (bound t) (height_of (root_of old t)) (k / 512)
+  leaf_live = live_above _ _ _ _ (live_content (root_of old t) (bound t) k low)
+
+  pub leaf_pointer : IsTreePointer old bound (tree_trail (height_of (word old 2)) t (height_of (root_of old t)) (k / 512))
+  leaf_pointer = record { tree = t; depth = height_of (root_of old t); index = k / 512; reached = reached; live = leaf_live; named = refl }
+
+  -- a word of the leaf is no pointer, but a root word in the inode file
+  pub no_pointer : (m : ℕ) → m / 512 ≡ k / 512 → (t ≡ 0 → m % 8 ≢ 1) → IsTreePointer old bound (tree_trail (height_of (word old 2)) t (suc (height_of (root_of old t))) m) → ⊥
+  no_pointer m up plain one =
+      let deep : one.depth ≤ height_of (root_of old one.tree) = omega (arith, one.live.height) in
+      let all : (one.tree ≡ t) × (one.depth ≡ suc (height_of (root_of old t))) × (one.index ≡ m) =
+      same_trail old bound forest one.tree one.depth one.index t (suc (height_of (root_of old t))) m one.reached reached
+      (short old bound forest one.tree one.depth one.index one.reached one.live) (subst (HasFewDigits (height_of (root_of old t))) (sym up) (short old bound forest t (height_of (root_of old t)) (k / 512) reached leaf_live))
+      (omega (arith, deep)) (omega arith) (λ _ f _. absurd (omega (arith, deep, f))) (λ z _. plain z) one.named in
+      let height : height_of (root_of old one.tree) ≡ height_of (root_of old t) = ap (λ (x : ℕ). height_of (root_of old x)) all.0 in
+      omega (arith, deep, all.1, height)
+
+  -- so the first one is none
+  pub first_plain : IsTreePointer old bound (0 ∷ tree_trail (height_of (word old 2)) t (height_of (root_of old t)) (k / 512)) → ⊥
+  first_plain one = no_pointer (512 * (k / 512)) (omega arith) (λ _ e. omega (arith, e)) (subst (IsTreePointer old bound) (first_word (k / 512)) one)
+    where
+      first_word : (leaf : ℕ) → 0 ∷ tree_trail (height_of (word old 2)) t (height_of (root_of old t)) leaf ≡ tree_trail (height_of (word old 2)) t (suc (height_of (root_of old t))) (512 * leaf)
+      first_word leaf =
+          let slot : 0 ≡ 512 * leaf % 512 = omega arith in
+          let up : leaf ≡ 512 * leaf / 512 = omega arith in
+          cons slot (ap (tree_trail (height_of (word old 2)) t (height_of (root_of old t))) up)
+        where
+          cons : {s u : ℕ} {p q : Trail} → s ≡ u → p ≡ q → s ∷ p ≡ u ∷ q
+          cons e f = cc
+
+-- ---- a commit
+
 module _ (old now : Image) (bound : ℕ → ℕ) (forest : IsForest old bound) (turned : Trail → Type 0) (job : Job) (stage : IsCommitted old now (IsTreePointer old bound) turned (after_commit old job)) where
   low_bits : (t d k : ℕ) → IsReached old t → IsLivePointer (root_of old t) (bound t) d k →
       word_on now (tree_trail (height_of (word old 2)) t d k) % 4096 ≡ word_on old (tree_trail (height_of (word old 2)) t d k) % 4096
@@ -51,32 +86,10 @@ module _ (old now : Image) (bound : ℕ → ℕ) (forest : IsForest old bound) (
       content_word now (root_of now t) k ≡ after_commit old job (tree_trail (height_of (word old 2)) t (suc (height_of (root_of old t))) k)
   content_after t k r low no_root =
       let some : 0 < bound t = omega (arith, low) in
-      let above : IsLivePointer (root_of old t) (bound t) (height_of (root_of old t)) (k / 512) = live_above _ _ _ _ (live_content (root_of old t) (bound t) k low) in
       ap (λ h. word_at now (root_of now t) (suc h) k) (root_height t r some)
       ∙ sym (word-now t (suc (height_of (root_of old t))) k)
-      ∙ stage.words (tree_trail (height_of (word old 2)) t (height_of (root_of old t)) (k / 512)) (k % 512)
-      (record { tree = t; depth = height_of (root_of old t); index = k / 512; reached = r; live = above; named = refl }) (omega arith) (λ n. no_pointer k refl no_root above (stage.pointers _ n))
-      (λ one. no_pointer (512 * (k / 512)) (omega arith) (λ _ e. omega (arith, e)) above (subst (IsTreePointer old bound) (first_word (k / 512)) one))
-    where
-      first_word : (leaf : ℕ) → 0 ∷ tree_trail (height_of (word old 2)) t (height_of (root_of old t)) leaf ≡ tree_trail (height_of (word old 2)) t (suc (height_of (root_of old t))) (512 * leaf)
-      first_word leaf =
-          let slot : 0 ≡ 512 * leaf % 512 = omega arith in
-          let up : leaf ≡ 512 * leaf / 512 = omega arith in
-          cons slot (ap (tree_trail (height_of (word old 2)) t (height_of (root_of old t))) up)
-        where
-          cons : {s u : ℕ} {p q : Trail} → s ≡ u → p ≡ q → s ∷ p ≡ u ∷ q
-          cons e f = cc
-
-      no_pointer : (m : ℕ) → m / 512 ≡ k / 512 → (t ≡ 0 → m % 8 ≢ 1) → IsLivePointer (root_of old t) (bound t) (height_of (root_of old t)) (k / 512) →
-          IsTreePointer old bound (tree_trail (height_of (word old 2)) t (suc (height_of (root_of old t))) m) → ⊥
-      no_pointer m up plain above one =
-          let deep : one.depth ≤ height_of (root_of old one.tree) = omega (arith, one.live.height) in
-          let all : (one.tree ≡ t) × (one.depth ≡ suc (height_of (root_of old t))) × (one.index ≡ m) =
-          same_trail old bound forest one.tree one.depth one.index t (suc (height_of (root_of old t))) m one.reached r
-          (short old bound forest one.tree one.depth one.index one.reached one.live) (subst (HasFewDigits (height_of (root_of old t))) (sym up) (short old bound forest t (height_of (root_of old t)) (k / 512) r above))
-          (omega (arith, deep)) (omega arith) (λ _ f _. absurd (omega (arith, deep, f))) (λ z _. plain z) one.named in
-          let height : height_of (root_of old one.tree) ≡ height_of (root_of old t) = ap (λ (x : ℕ). height_of (root_of old x)) all.0 in
-          omega (arith, deep, all.1, height)
+      ∙ stage.words (tree_trail (height_of (word old 2)) t (height_of (root_of old t)) (k / 512)) (k % 512) (leaf_pointer old bound forest t k r low) (omega arith)
+      (λ n. no_pointer old bound forest t k r low k refl no_root (stage.pointers _ n)) (first_plain old bound forest t k r low)
 
   -- the size of an inode is the value of its word
   pub size_after : (i : ℕ) → IsReached old (suc i) → size_of now (suc i) ≡ after_commit old job (tree_trail (height_of (word old 2)) 0 (suc (height_of (word old 2))) (8 * suc i + 2))

@@ -1,5 +1,5 @@
 -- What a commit gives its caller: it takes the blocks that its copies need and no others, and the word of the cover stays where it is.
-use Rattle.std.proofs.Common.{◌≡◌, ◌⊎◌, ℕ, zero, suc, ◌+◌, ◌*◌, ◌/◌, ◌<◌, ◌≤◌, List, ◌++◌, length, filter, Bool, true, false, refl, sym, ◌∙◌, ap, subst, arith, lt_of_lt_of_le}
+use Rattle.std.proofs.Common.{◌≡◌, ◌≢◌, ◌⊎◌, ℕ, zero, suc, ◌+◌, ◌*◌, ◌/◌, ◌<◌, ◌≤◌, List, ◌++◌, length, filter, Bool, true, false, refl, sym, ◌∙◌, ap, subst, arith, lt_of_lt_of_le}
 use Rattle.std.specs.Prelude.{nat_le}
 use Rattle.std.specs.List.{range_with_len, slice_index}
 use Rattle.pm_epochs.specs.Crash.{commit}
@@ -27,7 +27,7 @@ use Rattle.bp_commit.specs.Performs.IsOpen.{in_live, at_root}
 use Rattle.bp_commit.proofs.PerformsLaws.{performs_committed, performs_twice}
 use Rattle.bp_cow.specs.declared.touched.Touched.{Touched}
 use Rattle.bp_cow.specs.CanCommit.{CanCommit}
-use Rattle.bp_cow.specs.Commit.{CommitsTouched, commit_stores, cover_word}
+use Rattle.bp_cow.specs.Commit.{CommitsTouched, HasLooseCover, commit_stores, cover_word}
 use Rattle.bp_cow.specs.Committed.{IsCommitted, after_commit}
 use Rattle.bp_cow.specs.Cover.{end_path, CoverHas, commit_cover, copied_count}
 use Rattle.bp_cow.specs.Job.{Job, front, ways, begins, copies_at, turned_for, turned_upto, IsAnew, IsTurned}
@@ -40,7 +40,6 @@ use Rattle.bp_cow.proofs.CoverLaws.{some-ends, end-slots}
 use Rattle.bp_cow.proofs.CoverOf.{alike_front, nodes_of, cover_has, cover_length, cover_front, cover_address, count_is}
 use Rattle.bp_cow.proofs.JobLaws.{first-length, first-pointer, ways-short}
 use Rattle.bp_cow.proofs.PerformsLaws.{copies, of_copy, copies_taken, copies_counted}
-use Rattle.bp_layout.specs.Thaw.{none_kept}
 
 -- numbers past which none is in count for nothing
 count_past : (p : ℕ → Bool) (a n m : ℕ) → n ≤ m → ((k : ℕ) → a + n ≤ k → p k ≡ false) → length (filter p (range_with_len a m)) ≡ length (filter p (range_with_len a n))
@@ -65,8 +64,8 @@ above_not_turned touched path from d low turned = go turned.anew
     go (is_begun b) = omega (arith, low, b.low, size (front (job_of touched) b.which b.depth) b.same, length-trail_of ((job_of touched).way b.which) b.depth)
     go (is_front count past high e) = omega (arith, low, past, size (front (job_of touched) (ways (job_of touched)) count) e, length-trail_of ((job_of touched).way (ways (job_of touched))) count)
 
-module _ (bound : ℕ → ℕ) (touched : Touched) (old new : Memory) (blocks after : Set) (wf : IsWellFormed (current_words old)) (can : CanCommit (current_words old) bound touched (has blocks))
-    (fits : block_count (current_words old) ≤ length blocks) (done : CommitsCopies bound touched old new blocks after) where
+module _ {kept : ℕ → Bool} (bound : ℕ → ℕ) (touched : Touched) (old new : Memory) (blocks after : Set) (wf : IsWellFormed (current_words old)) (can : CanCommit (current_words old) bound kept touched (has blocks))
+    (loose : HasLooseCover (current_words old) kept touched) (fits : block_count (current_words old) ≤ length blocks) (done : CommitsCopies bound kept touched old new blocks after) where
   abbrev image : Image
   image = current_words old
 
@@ -80,7 +79,7 @@ module _ (bound : ℕ → ℕ) (touched : Touched) (old new : Memory) (blocks af
   copied-is = count_is touched can.shape image (none-begins image bound touched (has blocks) wf can) done.cover done.has_cover
 
   -- a free block is free under the image's own sizes
-  was_free : (b : ℕ) → has blocks b ≡ true → IsFreeBlock image none_kept b
+  was_free : (b : ℕ) → has blocks b ≡ true → IsFreeBlock image kept b
   was_free b is =
       let free = can.exact.free b is in
       record { low = free.low; high = free.high; free = λ live. free.free (held live); loose = free.loose }
@@ -126,8 +125,8 @@ module _ (bound : ℕ → ℕ) (touched : Touched) (old new : Memory) (blocks af
   long : n ≤ length first
   long = has_cover.alike.long 0 (some-ends touched can.shape)
 
-  kept : (d : ℕ) → d < n → block_on (current_words new) (trail_of first d) ≡ block_on image (trail_of first d)
-  kept d low =
+  same_block : (d : ℕ) → d < n → block_on (current_words new) (trail_of first d) ≡ block_on image (trail_of first d)
+  same_block d low =
       let short : d ≤ length ((job_of touched).way 0) = omega (arith, low, long, first-length image bound touched (has blocks) wf can) in
       ap block_of (done.words.kept (trail_of first d)
       (first-pointer image bound touched (has blocks) wf can d (alike_front touched n d (omega (arith, low)) has_cover.alike) short d short)
@@ -135,12 +134,12 @@ module _ (bound : ℕ → ℕ) (touched : Touched) (old new : Memory) (blocks af
 
   same_place : (k : ℕ) → k ≤ n → place_on (current_words new) (trail_of first k) ≡ place_on image (trail_of first k)
   same_place zero low = refl
-  same_place (suc k) low = ap (λ b. 512 * b + slice_index first k) (kept k (omega (arith, low)))
+  same_place (suc k) low = ap (λ b. 512 * b + slice_index first k) (same_block k (omega (arith, low)))
 
   stays-is : address (current_words new) (commit_cover image touched) ≡ cover_word image touched
   stays-is =
       ap (address (current_words new)) (sym (cover_front touched can.shape image n has_cover))
-      ∙ address-on (current_words new) first n long (nodes_of (current_words new) first n (λ d low null. has_cover.exists d low (sym (kept d low) ∙ null)))
+      ∙ address-on (current_words new) first n long (nodes_of (current_words new) first n (λ d low null. has_cover.exists d low (sym (same_block d low) ∙ null)))
       ∙ same_place n (omega arith)
       ∙ sym (cover_address touched can.shape image)
 
@@ -150,7 +149,7 @@ module _ (bound : ℕ → ℕ) (touched : Touched) (old new : Memory) (blocks af
   most : 513 * copies_at (job_of touched) done.cover + length touched.words.now + 1 ≡ commit_stores image touched
   most = ap (λ c. 513 * c + length touched.words.now + 1) copied-is
 
-  pub commits_touched : CommitsTouched bound touched old new blocks after
+  pub commits_touched : CommitsTouched bound kept touched old new blocks after
   commits_touched = record {
     value = done.commit.value;
     commit = record {
@@ -166,53 +165,55 @@ module _ (bound : ℕ → ℕ) (touched : Touched) (old new : Memory) (blocks af
     from = each-of (λ b. has blocks b ≡ true) taken
         (λ b one. (of_copy (has blocks) (has done.taken) (place_on image (trail_of first done.cover)) (513 * copies_at (job_of touched) done.cover + length touched.words.now + 1) old new done.commit was_free b one).0);
     stays = stays-is;
+    loose = loose;
     words = subst (λ k. IsCommitted image (current_words new) (IsTreePointer image bound) (IsTurned (job_of touched) k) (after_commit image (job_of touched))) cover-is done.words;
-    exact = exact-unheld (current_words new) (IsTreePointer image bound) (IsReached image) bound none_kept (has after)
+    exact = exact-unheld (current_words new) (IsTreePointer image bound) (IsReached image) bound kept (has after)
         (λ b one. has_led image (current_words new) bound can.forest (IsTurned (job_of touched) done.cover) (job_of touched) done.words b one.tree one.reached one.has)
         (λ b one. let tree = led_has image (current_words new) bound can.forest (IsTurned (job_of touched) done.cover) (job_of touched) done.words b one in record { tree = tree.0; reached = tree.1; has = tree.2 }) done.exact;
   }
 
 -- ---- for callers
 
--- The word of the cover is in the superblock or in a live block, where all pointers on the path of one touched word are live.
-module _ (image : Image) (wf : IsWellFormed image) (touched : Touched) (shape : IsTouched touched) (path : WordPath) (in_paths : Has (all_paths touched) path)
-    (live : (d : ℕ) → d < length path → IsTreePointer image (size_of image) (trail_of path d)) (taken : List ℕ) where
-  pub cover_open : IsOpen image none_kept taken (cover_word image touched)
-  cover_open = subst (IsOpen image none_kept taken) (sym (cover_address touched shape image)) (go (length (commit_cover image touched)) (cover_has touched shape image))
+-- The word of the cover is in the superblock or in a live block that is not kept, where all pointers on the path of one touched word are live.
+module _ (kept : ℕ → Bool) (image : Image) (wf : IsWellFormed image) (touched : Touched) (shape : IsTouched touched) (path : WordPath) (in_paths : Has (all_paths touched) path)
+    (live : (d : ℕ) → d < length path → IsTreePointer image (size_of image) (trail_of path d)) (loose : HasLooseCover image kept touched) (taken : List ℕ) where
+  pub cover_open : IsOpen image kept taken (cover_word image touched)
+  cover_open = subst (IsOpen image kept taken) (sym (cover_address touched shape image)) (go (length (commit_cover image touched)) (cover_has touched shape image) (subst (λ w. 512 ≤ w → kept (w / 512) ≡ false) (cover_address touched shape image) loose))
     where
-      go : (k : ℕ) → CoverHas image touched k → IsOpen image none_kept taken (place_on image (trail_of (end_path touched 0) k))
-      go zero covers = at_root refl
-      go (suc k) covers =
+      go : (k : ℕ) → CoverHas image touched k → (512 ≤ place_on image (trail_of (end_path touched 0) k) → kept (place_on image (trail_of (end_path touched 0) k) / 512) ≡ false) → IsOpen image kept taken (place_on image (trail_of (end_path touched 0) k))
+      go zero covers unkept = at_root refl
+      go (suc k) covers unkept =
           let some : 0 < _ = some-ends touched shape in
           let alike = alike-all touched shape (suc k) covers.alike path in_paths in
           let slot : ℕ = slice_index (end_path touched 0) k in
           let low : slot < 512 = end-slots touched shape 0 k some (omega (arith, covers.alike.long 0 some)) in
           let block : (512 * block_on image (trail_of (end_path touched 0) k) + slot) / 512 ≡ block_on image (trail_of (end_path touched 0) k) = omega (arith, low) in
           let same : trail_of path k ≡ trail_of (end_path touched 0) k = cc in
+          let present : block_on image (trail_of (end_path touched 0) k) ≢ 0 = covers.exists k (omega arith) in
           in_live (subst (IsLiveBlock image) (sym block)
           (led_held image (size_of image) (wf_forest image wf) (block_on image (trail_of (end_path touched 0) k))
-          (record { trail = trail_of path k; pointer = live k (omega (arith, alike.0)); named = ap (block_on image) same; not_null = covers.exists k (omega arith) }))) refl
+          (record { trail = trail_of path k; pointer = live k (omega (arith, alike.0)); named = ap (block_on image) same; not_null = present }))) (unkept (omega (arith, present)))
 
 -- A commit alone performs a change whose cover and copies are those of the touched words.
-module _ (old new : Memory) (change : Change) (Effect : Image → Image → Type 0) (bound : ℕ → ℕ) (touched : Touched) (blocks after : Set) (done : CommitsTouched bound touched old new blocks after) where
+module _ {kept : ℕ → Bool} (old new : Memory) (change : Change) (Effect : Image → Image → Type 0) (bound : ℕ → ℕ) (touched : Touched) (blocks after : Set) (done : CommitsTouched bound kept touched old new blocks after) where
   pub commit_performs : commit_cover (current_words old) touched ≡ cover (current_words old) change → copied_count (current_words old) touched ≡ need (current_words old) change →
-      commit_stores (current_words old) touched ≤ most_stores_thawed (need (current_words old) change) → IsOpen (current_words old) none_kept done.taken (cover_word (current_words old) touched) →
-      IsWellFormed (current_words new) → Effect (current_words old) (current_words new) → PerformsThawed none_kept old new change Effect
+      commit_stores (current_words old) touched ≤ most_stores_thawed (need (current_words old) change) → IsOpen (current_words old) kept done.taken (cover_word (current_words old) touched) →
+      IsWellFormed (current_words new) → Effect (current_words old) (current_words new) → PerformsThawed kept old new change Effect
   commit_performs covers count few inside well_formed effect =
-      performs_committed none_kept old new change Effect (cover_word (current_words old) touched) done.value 2 (commit_stores (current_words old) touched) done.taken done.commit done.takes
+      performs_committed kept old new change Effect (cover_word (current_words old) touched) done.value 2 (commit_stores (current_words old) touched) done.taken done.commit done.takes
       (sym done.stays ∙ ap (address (current_words new)) covers) (omega arith) few (done.number ∙ count) inside well_formed effect
 
 -- And so does a commit after a preparation. What the set has that the commit is given was free before, and the preparation did not take it.
-module _ (old middle new : Memory) (change : Change) (Effect : Image → Image → Type 0) (bound : ℕ → ℕ) (touched : Touched) (blocks after : Set) (first : List ℕ) (most_barriers most : ℕ)
-    (prepared : AddsTaking none_kept first most_barriers most old middle) (done : CommitsTouched bound touched middle new blocks after) where
+module _ {kept : ℕ → Bool} (old middle new : Memory) (change : Change) (Effect : Image → Image → Type 0) (bound : ℕ → ℕ) (touched : Touched) (blocks after : Set) (first : List ℕ) (most_barriers most : ℕ)
+    (prepared : AddsTaking kept first most_barriers most old middle) (done : CommitsTouched bound kept touched middle new blocks after) where
   pub commit_performs_after : ((b : ℕ) → IsLiveBlock (current_words middle) b → IsLiveBlock (current_words old) b ⊎ Has first b) →
-      ((b : ℕ) → has blocks b ≡ true → IsFreeBlock (current_words old) none_kept b × (Has first b → ⊥)) →
+      ((b : ℕ) → has blocks b ≡ true → IsFreeBlock (current_words old) kept b × (Has first b → ⊥)) →
       commit_cover (current_words middle) touched ≡ cover (current_words old) change → most_barriers ≤ 6 →
       most + commit_stores (current_words middle) touched ≤ most_stores_thawed (need (current_words old) change) → length first + copied_count (current_words middle) touched ≡ need (current_words old) change →
-      IsOpen (current_words middle) none_kept done.taken (cover_word (current_words middle) touched) →
-      IsWellFormed (current_words new) → Effect (current_words old) (current_words new) → PerformsThawed none_kept old new change Effect
+      IsOpen (current_words middle) kept done.taken (cover_word (current_words middle) touched) →
+      IsWellFormed (current_words new) → Effect (current_words old) (current_words new) → PerformsThawed kept old new change Effect
   commit_performs_after live free covers few_barriers few count inside well_formed effect =
-      performs_twice none_kept old new change Effect middle (cover_word (current_words middle) touched) done.value most_barriers most 2 (commit_stores (current_words middle) touched) first done.taken prepared done.commit done.takes
+      performs_twice kept old new change Effect middle (cover_word (current_words middle) touched) done.value most_barriers most 2 (commit_stores (current_words middle) touched) first done.taken prepared done.commit done.takes
       live (λ b took. free b (each-has (λ c. has blocks c ≡ true) done.taken b done.from took)) (sym done.stays ∙ ap (address (current_words new)) covers) (omega (arith, few_barriers)) few
       (omega (arith, done.number, count)) inside well_formed effect
 
@@ -235,7 +236,7 @@ upto_few job from (suc i) short =
     let few : length (job.way i) ≤ 11 = short i (omega arith) in
     omega (arith, rest, one, few)
 
-module _ (image : Image) (bound : ℕ → ℕ) (touched : Touched) (free : ℕ → Bool) (wf : IsWellFormed image) (can : CanCommit image bound touched free) where
+module _ {kept : ℕ → Bool} (image : Image) (bound : ℕ → ℕ) (touched : Touched) (free : ℕ → Bool) (wf : IsWellFormed image) (can : CanCommit image bound kept touched free) where
   -- a way has at most 11 pointers
   pub copied_few : copied_count image touched ≤ 1 + 11 * ways (job_of touched)
   copied_few = subst (λ n. n ≤ 1 + 11 * ways (job_of touched)) (count_is touched can.shape image (none-begins image bound touched free wf can) from (cover_has touched can.shape image)) (go (nat_le from (length ((job_of touched).way 0))) refl)

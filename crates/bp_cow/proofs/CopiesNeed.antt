@@ -313,7 +313,7 @@ module _ (touched : Touched) (shape : IsTouched touched) where
 
 -- ---- of touched words that can be committed
 
-module _ (old : Image) (bound : ℕ → ℕ) (touched : Touched) (free : ℕ → Bool) (wf : IsWellFormed old) (can : CanCommit old bound touched free) where
+module _ {kept : ℕ → Bool} (old : Image) (bound : ℕ → ℕ) (touched : Touched) (free : ℕ → Bool) (wf : IsWellFormed old) (can : CanCommit old bound kept touched free) where
   front-pointer : (other : List ℕ) → Has (all_paths touched) other → (m : ℕ) → m < length other → IsTreePointer old bound (trail_of other m)
   front-pointer other has m low =
       let way = way-of touched can.shape other has in

@@ -15,7 +15,6 @@ use Rattle.bp_cow.specs.Plan.{Plan, CanMake}
 use Rattle.bp_cow.specs.Return.{IsLeft, IsBack}
 use Rattle.bp_cow.proofs.StageLaws.{exact-end}
 use Rattle.bp_cow.proofs.BuildingLaws.{apart-placed}
-use Rattle.bp_layout.specs.Thaw.{none_kept}
 
 -- whether some word begins with a trail can be told
 pub decide_begun : (job : Job) (from count : ℕ) (q : Trail) → IsBegun job from count q ⊎ (IsBegun job from count q → ⊥)
@@ -62,7 +61,7 @@ anew_pointer plan from can q (is_begun b) = subst (IsTreePointer plan.old plan.b
 anew_pointer plan from can q (is_front k low high e) = absurd (omega (arith, low, high))
 
 module _ (plan : Plan) (from : ℕ) (now : Image) (free : ℕ → Bool) (can : CanMake plan from)
-    (stage : IsStage plan.old now (IsTreePointer plan.old plan.bound) (IsAnew plan.job from (ways plan.job) from) (value_upto plan.job plan.job.words) (laid_on plan.old plan.job) free) where
+    (stage : IsStage plan.old now (IsTreePointer plan.old plan.bound) (IsAnew plan.job from (ways plan.job) from) (value_upto plan.job plan.job.words) (laid_on plan.old plan.job) plan.kept free) where
   pub left_of : ((w : ℕ) → w ≢ plan.place → plan.free (w / 512) ≡ false → word now w ≡ word plan.old w) → IsLeft plan from free now
   left_of others = record {
     can = can;
@@ -76,7 +75,7 @@ module _ (plan : Plan) (from : ℕ) (now : Image) (free : ℕ → Bool) (can : C
     used = λ b has. stage.taken b (inl has);
   }
 
-  pub exact_of : (after : ℕ → Bool) → IsBack plan from (ways plan.job) from free after → IsExactSet now (IsTreePointer plan.old plan.bound) none_kept after
+  pub exact_of : (after : ℕ → Bool) → IsBack plan from (ways plan.job) from free after → IsExactSet now (IsTreePointer plan.old plan.bound) plan.kept after
   exact_of after back =
       exact-end plan.old now (IsTreePointer plan.old plan.bound) (pointers plan.old plan.bound can.forest) (IsAnew plan.job from (ways plan.job) from) (value_upto plan.job plan.job.words) (laid_on plan.old plan.job) free stage
       (skeleton plan.old plan.bound can.forest can.whole) after (decide_anew plan.job from (ways plan.job)) back.given back.still back.from

@@ -196,10 +196,10 @@ run_copies image touched shape apart run one =
     omega (arith, all, leaves, count)
 
 -- the same where they can be committed
-pub few_copies : (image : Image) (bound : ℕ → ℕ) (touched : Touched) (free : ℕ → Bool) (wf : IsWellFormed image) (can : CanCommit image bound touched free) (run : Run) → touched.runs.now ≡ run ∷ [] →
+pub few_copies : {kept : ℕ → Bool} (image : Image) (bound : ℕ → ℕ) (touched : Touched) (free : ℕ → Bool) (wf : IsWellFormed image) (can : CanCommit image bound kept touched free) (run : Run) → touched.runs.now ≡ run ∷ [] →
     copied_count image touched ≤ run_leaves run + 22 + 11 * length touched.words.now
 few_copies image bound touched free wf can run one = run_copies image touched can.shape (none-begins image bound touched free wf can) run one
 
-pub few_copies_of_runs : (image : Image) (bound : ℕ → ℕ) (touched : Touched) (free : ℕ → Bool) (wf : IsWellFormed image) (can : CanCommit image bound touched free) →
+pub few_copies_of_runs : {kept : ℕ → Bool} (image : Image) (bound : ℕ → ℕ) (touched : Touched) (free : ℕ → Bool) (wf : IsWellFormed image) (can : CanCommit image bound kept touched free) →
     copied_count image touched ≤ leaves_of touched.runs.now + 21 * length touched.runs.now + 1 + 11 * length touched.words.now
 few_copies_of_runs image bound touched free wf can = runs_copies image touched can.shape (none-begins image bound touched free wf can)

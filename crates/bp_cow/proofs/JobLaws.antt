@@ -20,7 +20,7 @@ use Rattle.bp_shapes.proofs.PathTrails.{trail_of-next, front-trail_of, length-tr
 use Rattle.bp_cow.specs.declared.touched.Run.{Run}
 use Rattle.bp_cow.specs.declared.touched.Touched.{Touched}
 use Rattle.bp_cow.specs.Leaves.{IsLeaf}
-use Rattle.bp_cow.specs.Touched.{IsRun, run_path, run_way, run_end, run_leaves, run_live, leaves_of, live_of, way_of, above, path_of, word_paths, last_slot, job_of, only_of, only_value, run_word, laid_word}
+use Rattle.bp_cow.specs.Touched.{IsRun, run_path, run_way, run_end, run_leaves, run_live, leaves_of, live_of, way_of, above, path_of, word_paths, last_slot, job_of, only_of, only_value, run_word, laid_word, word_live}
 use Rattle.bp_cow.specs.Job.{ways, end_of, word_trail, value_upto, laid_on}
 use Rattle.bp_cow.specs.Committed.{IsCommitted, after_commit}
 use Rattle.bp_shapes.proofs.TrailLaws.{Turns, cases_trail, pointer-turned, word-turned, skeleton-turned}
@@ -35,7 +35,7 @@ use Rattle.bp_cow.proofs.RunsLaws.{HasEnd, HasLeaf, end-first, end-last, end-of-
 use Rattle.bp_cow.proofs.RunFronts.{trail_of-take, first-trail, front-run_way, end-run_way, between-run, same-run_path}
 use Rattle.bp_cow.proofs.CoverLaws.{run-slots, end-slots, some-ends}
 use Rattle.bp_cow.proofs.LiveLaws.{run-counts}
-use Rattle.bp_layout.specs.Thaw.{none_kept}
+use Rattle.bp_cow.proofs.WordLive.{word-counts}
 
 -- ---- a run
 
@@ -154,7 +154,7 @@ module _ (touched : Touched) where
       let back : leaves_of touched.runs.now + i - leaves_of touched.runs.now ≡ i = omega arith in
       way-word touched.runs.now (word_paths touched) (leaves_of touched.runs.now + i) (omega arith) ∙ ap (λ k. above (path_of (word_paths touched) k)) back
 
-module _ (old : Image) (bound : ℕ → ℕ) (touched : Touched) (free : ℕ → Bool) (wf : IsWellFormed old) (can : CanCommit old bound touched free) where
+module _ {kept : ℕ → Bool} (old : Image) (bound : ℕ → ℕ) (touched : Touched) (free : ℕ → Bool) (wf : IsWellFormed old) (can : CanCommit old bound kept touched free) where
   abbrev paths : List (List ℕ)
   paths = word_paths touched
 
@@ -193,15 +193,18 @@ module _ (old : Image) (bound : ℕ → ℕ) (touched : Touched) (free : ℕ →
   leaf-at i low = leaf-of touched.runs.now touched.runs.now paths i low
 
   -- the words of blocks on the ways that count
-  ways-count : (i depth slot : ℕ) → slot < 512 → IsTreePointer old bound (slot ∷ trail_of ((job_of touched).way i) depth) ⊎ (IsTreePointer old bound (0 ∷ trail_of ((job_of touched).way i) depth) → ⊥) →
-      slot < (job_of touched).live i depth
-  ways-count i depth slot small any = go (cases_lt i (leaves_of touched.runs.now))
+  ways-count : (i depth slot : ℕ) → i < ways (job_of touched) → depth ≤ length ((job_of touched).way i) → slot < 512 →
+      IsTreePointer old bound (slot ∷ trail_of ((job_of touched).way i) depth) ⊎ (IsTreePointer old bound (0 ∷ trail_of ((job_of touched).way i) depth) → ⊥) → slot < (job_of touched).live i depth
+  ways-count i depth slot here short small any = go (cases_lt i (leaves_of touched.runs.now))
     where
-      go : (i < leaves_of touched.runs.now) ⊎ (leaves_of touched.runs.now ≤ i) → slot < live_of touched.runs.now i depth
-      go (inr past) = rw (live-word touched.runs.now i depth past) small
+      go : (i < leaves_of touched.runs.now) ⊎ (leaves_of touched.runs.now ≤ i) → slot < live_of touched.runs.now touched.trees.now paths i depth
+      go (inr past) =
+          let counted = word-counts old bound can.forest ((job_of touched).way i) depth (λ d less. ways-slots i here d (omega (arith, less, short))) (ways-fronts i here depth short) slot small any touched.trees.now can.trees in
+          rw (live-word touched.runs.now touched.trees.now paths i depth past)
+          (subst (λ p. slot < word_live touched.trees.now p depth) (way-word touched.runs.now paths i past) counted)
       go (inl low) =
           let one = leaf-at i low in
-          rw (one.is.live depth)
+          rw (one.is.live touched.trees.now depth)
           (leaf-counts old bound can.forest one.run (is-run one.run one.is.has) (run-in one.run one.is.has) one.leaf depth slot one.is.low small
           (subst (λ (p : List ℕ). IsTreePointer old bound (slot ∷ trail_of p depth) ⊎ (IsTreePointer old bound (0 ∷ trail_of p depth) → ⊥)) one.is.way any))
 
@@ -336,13 +339,13 @@ module _ (old : Image) (bound : ℕ → ℕ) (touched : Touched) (free : ℕ →
         in_block (slice_index first d) (trail_of first d) (first-pointer d (omega (arith, low, short))) (exists d low)
         (end-slots touched can.shape 0 d (some-ends touched can.shape) (omega (arith, low, alike.long 0 (some-ends touched can.shape))))
 
-    pub can_build : (place : ℕ) → ((k : ℕ) → k < n → block_on old (trail_of first k) ≢ 0) → place_on old (trail_of first n) ≡ place → IsFeasible old bound (job_of touched) n place free
+    pub can_build : (place : ℕ) → ((k : ℕ) → k < n → block_on old (trail_of first k) ≢ 0) → place_on old (trail_of first n) ≡ place → IsFeasible old bound (job_of touched) n place kept free
     can_build place exists at = record {
       some = some-ways;
       some_blocks = let least = wf.formatted.sized.at_least in omega (arith, least);
       whole = wf.formatted.sized.whole;
       forest = can.forest;
-      exact = unheld_exact old bound can.forest none_kept free can.exact;
+      exact = unheld_exact old bound can.forest kept free can.exact;
       below = λ i here. (begin-way i here).0;
       short = ways-short;
       cover = λ i here. (begin-way i here).1 ∙ sym (first-front n short);
@@ -352,7 +355,7 @@ module _ (old : Image) (bound : ℕ → ℕ) (touched : Touched) (free : ℕ →
       contents = λ i here one. can.contents i here (subst (IsTreePointer old bound) (word-trail i here) one);
       bare = λ j slot low one. leaves-bare j slot low one;
       agree = λ j l low small same slot w. leaves-agree j l low small same slot w;
-      live = λ i d slot here low small any. ways-count i d slot small any;
+      live = λ i d slot here low small any. ways-count i d slot here low small any;
       placed = subst (IsPlaced old (IsTreePointer old bound)) (sym (first-front n short)) (placed-first n (omega arith) exists);
       at = ap (place_on old) (first-front n short) ∙ at;
     }

@@ -27,6 +27,7 @@ use Rattle.bp_cow.specs.Cover.{end_path, end_path_of, ends, ends_of, BeginAlike,
 use Rattle.bp_cow.specs.Touched.{IsRun, IsTouched, NoneBegins, all_paths, leaves_of, path_of, run_end, run_leaves, run_path, word_paths}
 use Rattle.bp_cow.specs.declared.touched.Run.{Run}
 use Rattle.bp_cow.specs.declared.touched.Touched.{Touched}
+use Rattle.bp_cow.specs.declared.touched.TreeSize.{TreeSize}
 use Rattle.bp_cow.proofs.CommonPaths.{Begins, all-begin, all-most}
 use Rattle.bp_cow.proofs.CopiesNeed.{alike-all, has-of-run, has-word, paths-by}
 use Rattle.bp_cow.proofs.CoverLaws.{some-ends}
@@ -94,8 +95,10 @@ module _ (height i : ℕ) (touched : Touched) (run : Run) (is : IsSizedRun heigh
   has-run = subst (λ runs. Has runs run) (sym is.one) (inl refl)
 
   -- what code asks of them
-  pub sized_shape : height ≤ max_height → 0 < length run.bytes.now → length run.bytes.now ≤ max_write → run.height ≤ max_height → run_end run ≤ block_size * block_words ^ run.height → IsTouched touched
-  sized_shape low some few low_tree covered = record {
+  pub sized_shape : height ≤ max_height → 0 < length run.bytes.now → length run.bytes.now ≤ max_write → run.height ≤ max_height → run_end run ≤ block_size * block_words ^ run.height →
+      ((tree : TreeSize) → Has touched.trees.now tree → tree.height ≤ max_height) → IsTouched touched
+  sized_shape low some few low_tree covered low_trees = record {
+    trees = low_trees;
     runs = λ r has. subst IsRun (only r has) (record {
       some = some;
       few = few;

@@ -33,6 +33,9 @@ pub mod FewCopies
 pub mod RunThere
 pub mod RunWrites
 pub mod LeafCover
-pub mod Thawing
 pub mod SharedLaws
 pub mod LiveLaws
+pub mod LooseCover
+pub mod NodeLive
+pub mod WordLive
+pub mod TreeSizes

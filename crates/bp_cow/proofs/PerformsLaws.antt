@@ -14,7 +14,6 @@ use Rattle.bp_layout.specs.Words.{block_count}
 use Rattle.bp_commit.specs.Performs.{InBlock, IsOpen, TakesBlocks}
 use Rattle.bp_commit.specs.Performs.IsOpen.{in_taken}
 use Rattle.bp_cow.specs.Adds.{IsTakenWord, AddsCopyCommit}
-use Rattle.bp_layout.specs.Thaw.{none_kept}
 
 -- the numbers of one set that are not in another
 abbrev pub gone : (ℕ → Bool) → (ℕ → Bool) → ℕ → Bool
@@ -42,25 +41,25 @@ count_gone start now fewer (x ∷ xs) = go (start x) (now x) refl refl (count_go
     go false false one two rest = rw (one, two) rest
     go false true one two rest = let clash : true ≡ false = sym (fewer x two) ∙ one in absurd (cc)
 
-module _ (start now : ℕ → Bool) (word most : ℕ) (old new : Memory) (done : AddsCopyCommit start now word most old new) (free : (b : ℕ) → start b ≡ true → IsFreeBlock (current_words old) none_kept b) where
+module _ {kept : ℕ → Bool} (start now : ℕ → Bool) (word most : ℕ) (old new : Memory) (done : AddsCopyCommit start now word most old new) (free : (b : ℕ) → start b ≡ true → IsFreeBlock (current_words old) kept b) where
   -- the blocks that were taken
   abbrev pub copies : List ℕ
   copies = numbers_below (block_count (current_words old)) (gone start now)
 
   has_copy : (b : ℕ) → start b ≡ true → now b ≡ false → Has copies b
   has_copy b was none =
-      let is : IsFreeBlock (current_words old) none_kept b = free b was in
+      let is : IsFreeBlock (current_words old) kept b = free b was in
       has-filter (gone start now) (range_with_len 0 (block_count (current_words old))) b (has-range 0 (block_count (current_words old)) b (omega arith) (omega (arith, is.high))) (gone_of (start b) (now b) was none)
 
   pub of_copy : (b : ℕ) → Has copies b → (start b ≡ true) × (now b ≡ false)
   of_copy b has = of_gone (start b) (now b) (filter-has (gone start now) (range_with_len 0 (block_count (current_words old))) b has).1
 
-  pub copies_taken : TakesBlocks (current_words old) none_kept copies done.commit.prepared
+  pub copies_taken : TakesBlocks (current_words old) kept copies done.commit.prepared
   copies_taken = record {
     once = apart-filter (gone start now) (range_with_len 0 (block_count (current_words old))) (apart-range 0 (block_count (current_words old)));
-    free = each-of (IsFreeBlock (current_words old) none_kept) copies (λ b has. free b (of_copy b has).0);
+    free = each-of (IsFreeBlock (current_words old) kept) copies (λ b has. free b (of_copy b has).0);
     stored = each-of (λ b. StoresTo (InBlock b) done.commit.prepared) copies (λ b has. done.each b (of_copy b has).0 (of_copy b has).1);
-    only = StoresMay-weaker (AnyAt (IsTakenWord start now)) (AnyAt (IsOpen (current_words old) none_kept copies)) (λ place value inside. in_taken (has_copy (place / 512) (ap start inside.inside ∙ inside.was) (ap now inside.inside ∙ inside.gone))) done.commit.prepared done.only;
+    only = StoresMay-weaker (AnyAt (IsTakenWord start now)) (AnyAt (IsOpen (current_words old) kept copies)) (λ place value inside. in_taken (has_copy (place / 512) (ap start inside.inside ∙ inside.was) (ap now inside.inside ∙ inside.gone))) done.commit.prepared done.only;
   }
 
   -- so many, where both sets are told up to the number of blocks

@@ -16,12 +16,11 @@ use Rattle.bp_shapes.specs.Forest.{IsExactSet, IsForest, IsTreePointer}
 use Rattle.bp_layout.proofs.SameLaws.{same_symmetric}
 use Rattle.bp_shapes.proofs.Unseen.{same_unseen}
 use Rattle.bp_cow.specs.Adds.{IsTakenWord, AddsCopies, AddsCopyCommit}
-use Rattle.bp_layout.specs.Thaw.{none_kept}
 
-module _ (old : Image) (bound : ℕ → ℕ) (start taken : ℕ → Bool) (wf : IsWellFormed old) (forest : IsForest old bound) (sizes : (t : ℕ) → IsReached old t → size_of old t ≤ bound t)
-    (exact : IsExactSet old (IsTreePointer old bound) none_kept start) where
+module _ {kept : ℕ → Bool} (old : Image) (bound : ℕ → ℕ) (start taken : ℕ → Bool) (wf : IsWellFormed old) (forest : IsForest old bound) (sizes : (t : ℕ) → IsReached old t → size_of old t ≤ bound t)
+    (exact : IsExactSet old (IsTreePointer old bound) kept start) where
   same : (image : Image) → EachMay (AnyAt (IsTakenWord start taken)) old image → Same old image
-  same image each = same_symmetric image old (same_unseen old bound none_kept start wf forest sizes exact image each.size (λ place used. go place used (each.each place)))
+  same image each = same_symmetric image old (same_unseen old bound kept start wf forest sizes exact image each.size (λ place used. go place used (each.each place)))
     where
       go : (place : ℕ) → start (place / 512) ≡ false → (word image place ≡ word old place) ⊎ IsTakenWord start taken place → word image place ≡ word old place
       go place used (inl e) = e

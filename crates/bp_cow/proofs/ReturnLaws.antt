@@ -12,31 +12,31 @@ use Rattle.bp_shapes.proofs.PathTrails.{trail_of-next, length-trail_of}
 use Rattle.bp_cow.specs.Job.{ways, front, IsBegun, IsAnew}
 use Rattle.bp_cow.specs.Job.IsAnew.{is_begun}
 use Rattle.bp_cow.specs.Plan.{Plan, CanMake}
-use Rattle.bp_cow.specs.Return.{IsReturned, IsLeft, IsBack}
+use Rattle.bp_cow.specs.Return.{IsGiven, IsReturned, IsLeft, IsBack}
 use Rattle.bp_cow.proofs.BuildFacts.{anew_start, anew_start_back, anew_next, anew_next_back, anew_more, anew_more_back, not_anew}
 
-pub returned_same : (old : Image) (Pointer anew other : Trail → Type 0) (before after : ℕ → Bool) → ((q : Trail) → anew q → other q) → ((q : Trail) → Pointer q → other q → anew q ⊎ (block_on old q ≡ 0)) →
-    IsReturned old Pointer anew before after → IsReturned old Pointer other before after
-returned_same old Pointer anew other before after to back returned = record {
-  given = λ p live n some. given p live some (back p live n);
+pub returned_same : {kept : ℕ → Bool} (old : Image) (Pointer anew other : Trail → Type 0) (before after : ℕ → Bool) → ((q : Trail) → anew q → other q) → ((q : Trail) → Pointer q → other q → anew q ⊎ (block_on old q ≡ 0)) →
+    IsReturned old Pointer anew kept before after → IsReturned old Pointer other kept before after
+returned_same {kept} old Pointer anew other before after to back returned = record {
+  given = λ p live n some loose. given p live some loose (back p live n);
   still = returned.still;
   from = λ b is. from b (returned.from b is);
 }
   where
-    given : (p : Trail) → Pointer p → block_on old p ≢ 0 → anew p ⊎ (block_on old p ≡ 0) → after (block_on old p) ≡ true
-    given p live some (inl n) = returned.given p live n some
-    given p live some (inr null) = absurd (some null)
+    given : (p : Trail) → Pointer p → block_on old p ≢ 0 → kept (block_on old p) ≡ false → anew p ⊎ (block_on old p ≡ 0) → after (block_on old p) ≡ true
+    given p live some loose (inl n) = returned.given p live n some loose
+    given p live some loose (inr null) = absurd (some null)
 
-    from : (b : ℕ) → (before b ≡ true) ⊎ ((p : Trail) × Pointer p × anew p × (block_on old p ≡ b) × (b ≢ 0)) → (before b ≡ true) ⊎ ((p : Trail) × Pointer p × other p × (block_on old p ≡ b) × (b ≢ 0))
+    from : (b : ℕ) → (before b ≡ true) ⊎ IsGiven old Pointer anew kept b → (before b ≡ true) ⊎ IsGiven old Pointer other kept b
     from b (inl is) = inl is
-    from b (inr one) = inr (one.0, one.1, to one.0 one.2, one.3, one.4)
+    from b (inr one) = inr (one.0, one.1, to one.0 one.2, one.3, one.4, one.5)
 
-module _ (old : Image) (Pointer anew : Trail → Type 0) (before after : ℕ → Bool) (bones : IsSkeleton old Pointer) (used : (b : ℕ) → LeadsTo old Pointer b → before b ≡ false)
-    (returned : IsReturned old Pointer anew before after) (here : Trail) (live : Pointer here) (first : anew here → ⊥) (some : block_on old here ≢ 0) where
+module _ {kept : ℕ → Bool} (old : Image) (Pointer anew : Trail → Type 0) (before after : ℕ → Bool) (bones : IsSkeleton old Pointer) (used : (b : ℕ) → LeadsTo old Pointer b → before b ≡ false)
+    (returned : IsReturned old Pointer anew kept before after) (here : Trail) (live : Pointer here) (first : anew here → ⊥) (some : block_on old here ≢ 0) where
   pub not_back : after (block_on old here) ≡ false
   not_back = go (after (block_on old here)) refl
     where
-      again : (before (block_on old here) ≡ true) ⊎ ((p : Trail) × Pointer p × anew p × (block_on old p ≡ block_on old here) × (block_on old here ≢ 0)) → ⊥
+      again : (before (block_on old here) ≡ true) ⊎ IsGiven old Pointer anew kept (block_on old here) → ⊥
       again (inl is) = let no_more : before (block_on old here) ≡ false = used _ (record { trail = here; pointer = live; named = refl; not_null = some }) in absurd (cc)
       again (inr one) = first (subst anew (sym (bones.once here one.0 live one.1 some (sym one.3))) one.2)
 
@@ -44,9 +44,10 @@ module _ (old : Image) (Pointer anew : Trail → Type 0) (before after : ℕ →
       go false e = e
       go true e = absurd (again (returned.from _ e))
 
-  pub given_back : (next : ℕ → Bool) → TakesNumber next after (block_on old here) → IsReturned old Pointer (λ q. anew q ⊎ (q ≡ here)) before next
-  given_back next takes = record {
-    given = λ p l n full. given p l n full (cases_eq (block_on old p) (block_on old here));
+  -- a block that is not kept
+  given_loose : (next : ℕ → Bool) → kept (block_on old here) ≡ false → TakesNumber next after (block_on old here) → IsReturned old Pointer (λ q. anew q ⊎ (q ≡ here)) kept before next
+  given_loose next free takes = record {
+    given = λ p l n full loose. given p l n full loose (cases_eq (block_on old p) (block_on old here));
     still = λ b is. more b (returned.still b is);
     from = λ b is. from b is (cases_eq b (block_on old here));
   }
@@ -58,18 +59,42 @@ module _ (old : Image) (Pointer anew : Trail → Type 0) (before after : ℕ →
           go (inl e) = ap next e ∙ takes.was
           go (inr n) = sym (takes.others b n) ∙ is
 
-      given : (p : Trail) → Pointer p → anew p ⊎ (p ≡ here) → block_on old p ≢ 0 → (block_on old p ≡ block_on old here) ⊎ (block_on old p ≡ block_on old here → ⊥) → next (block_on old p) ≡ true
-      given p l n full (inl e) = ap next e ∙ takes.was
-      given p l (inl n) full (inr other) = more _ (returned.given p l n full)
-      given p l (inr e) full (inr other) = absurd (other (ap (block_on old) e))
+      given : (p : Trail) → Pointer p → anew p ⊎ (p ≡ here) → block_on old p ≢ 0 → kept (block_on old p) ≡ false → (block_on old p ≡ block_on old here) ⊎ (block_on old p ≡ block_on old here → ⊥) → next (block_on old p) ≡ true
+      given p l n full loose (inl e) = ap next e ∙ takes.was
+      given p l (inl n) full loose (inr other) = more _ (returned.given p l n full loose)
+      given p l (inr e) full loose (inr other) = absurd (other (ap (block_on old) e))
 
-      from : (b : ℕ) → next b ≡ true → (b ≡ block_on old here) ⊎ (b ≡ block_on old here → ⊥) → (before b ≡ true) ⊎ ((p : Trail) × Pointer p × (anew p ⊎ (p ≡ here)) × (block_on old p ≡ b) × (b ≢ 0))
-      from b is (inl e) = inr (here, live, inr refl, sym e, λ null. some (sym e ∙ null))
+      from : (b : ℕ) → next b ≡ true → (b ≡ block_on old here) ⊎ (b ≡ block_on old here → ⊥) → (before b ≡ true) ⊎ IsGiven old Pointer (λ q. anew q ⊎ (q ≡ here)) kept b
+      from b is (inl e) = inr (here, live, inr refl, sym e, λ null. some (sym e ∙ null), ap kept e ∙ free)
       from b is (inr n) = go (returned.from b (takes.others b n ∙ is))
         where
-          go : (before b ≡ true) ⊎ ((p : Trail) × Pointer p × anew p × (block_on old p ≡ b) × (b ≢ 0)) → (before b ≡ true) ⊎ ((p : Trail) × Pointer p × (anew p ⊎ (p ≡ here)) × (block_on old p ≡ b) × (b ≢ 0))
+          go : (before b ≡ true) ⊎ IsGiven old Pointer anew kept b → (before b ≡ true) ⊎ IsGiven old Pointer (λ q. anew q ⊎ (q ≡ here)) kept b
           go (inl yes_before) = inl yes_before
-          go (inr one) = inr (one.0, one.1, inl one.2, one.3, one.4)
+          go (inr one) = inr (one.0, one.1, inl one.2, one.3, one.4, one.5)
+
+  -- one that is kept stays where it is
+  kept_back : kept (block_on old here) ≡ true → IsReturned old Pointer (λ q. anew q ⊎ (q ≡ here)) kept before after
+  kept_back is_kept = record {
+    given = λ p l n full loose. given p l n full loose;
+    still = returned.still;
+    from = λ b is. from b (returned.from b is);
+  }
+    where
+      given : (p : Trail) → Pointer p → anew p ⊎ (p ≡ here) → block_on old p ≢ 0 → kept (block_on old p) ≡ false → after (block_on old p) ≡ true
+      given p l (inl n) full loose = returned.given p l n full loose
+      given p l (inr e) full loose = let off : kept (block_on old here) ≡ false = subst (λ q. kept (block_on old q) ≡ false) e loose in absurd (cc)
+
+      from : (b : ℕ) → (before b ≡ true) ⊎ IsGiven old Pointer anew kept b → (before b ≡ true) ⊎ IsGiven old Pointer (λ q. anew q ⊎ (q ≡ here)) kept b
+      from b (inl is) = inl is
+      from b (inr one) = inr (one.0, one.1, inl one.2, one.3, one.4, one.5)
+
+  pub given_back : (next : ℕ → Bool) → (kept (block_on old here) ≡ false → TakesNumber next after (block_on old here)) → (kept (block_on old here) ≡ true → next ≡ after) →
+      IsReturned old Pointer (λ q. anew q ⊎ (q ≡ here)) kept before next
+  given_back next takes stays = go (kept (block_on old here)) refl
+    where
+      go : (x : Bool) → kept (block_on old here) ≡ x → IsReturned old Pointer (λ q. anew q ⊎ (q ≡ here)) kept before next
+      go false free = given_loose next free (takes free)
+      go true is = subst (λ (f : ℕ → Bool). IsReturned old Pointer (λ q. anew q ⊎ (q ≡ here)) kept before f) (sym (stays is)) (kept_back is)
 
 -- one block further on the old way
 module _ (plan : Plan) (from i depth : ℕ) (before : ℕ → Bool) (now : Image) (left : IsLeft plan from before now) (here : i < ways plan.job) (low : from ≤ depth) (more : depth < length (plan.job.way i))
@@ -115,15 +140,16 @@ module _ (plan : Plan) (from i depth : ℕ) (before : ℕ → Bool) (now : Image
       pub back_full : after (block_on plan.old (front plan.job i (depth + 1))) ≡ false
       back_full = not_back plan.old Pointer (IsAnew plan.job from i depth) before after bones left.used back (front plan.job i (depth + 1)) next_live (not_anew plan.job from i depth low none) some
 
-      pub back_one : (next : ℕ → Bool) → TakesNumber next after (block_on plan.old (front plan.job i (depth + 1))) → IsBack plan from i (depth + 1) before next
-      back_one next takes =
+      pub back_one : (next : ℕ → Bool) → (plan.kept (block_on plan.old (front plan.job i (depth + 1))) ≡ false → TakesNumber next after (block_on plan.old (front plan.job i (depth + 1)))) →
+          (plan.kept (block_on plan.old (front plan.job i (depth + 1))) ≡ true → next ≡ after) → IsBack plan from i (depth + 1) before next
+      back_one next takes stays =
           returned_same plan.old Pointer (λ q. IsAnew plan.job from i depth q ⊎ (q ≡ front plan.job i (depth + 1))) (IsAnew plan.job from i (depth + 1)) before next
           (λ q n. anew_more plan.job from i depth q n low) (λ q l n. inl (anew_more_back plan.job from i depth q n))
-          (given_back plan.old Pointer (IsAnew plan.job from i depth) before after bones left.used back (front plan.job i (depth + 1)) next_live (not_anew plan.job from i depth low none) some next takes)
+          (given_back plan.old Pointer (IsAnew plan.job from i depth) before after bones left.used back (front plan.job i (depth + 1)) next_live (not_anew plan.job from i depth low none) some next takes stays)
 
 -- nothing is given back yet
-returned_none : (old : Image) (Pointer : Trail → Type 0) (before : ℕ → Bool) → IsReturned old Pointer (λ q. ⊥) before before
-returned_none old Pointer before = record { given = λ p live n some. absurd n; still = λ b is. is; from = λ b is. inl is }
+returned_none : (old : Image) (Pointer : Trail → Type 0) (kept before : ℕ → Bool) → IsReturned old Pointer (λ q. ⊥) kept before before
+returned_none old Pointer kept before = record { given = λ p live n some loose. absurd n; still = λ b is. is; from = λ b is. inl is }
 
 module _ (plan : Plan) (from : ℕ) (before : ℕ → Bool) (now : Image) (left : IsLeft plan from before now) where
   cover_live : IsTreePointer plan.old plan.bound (front plan.job 0 from)
@@ -131,18 +157,19 @@ module _ (plan : Plan) (from : ℕ) (before : ℕ → Bool) (now : Image) (left 
 
   pub back_null : block_on plan.old (front plan.job 0 from) ≡ 0 → IsBack plan from 0 from before before
   back_null null =
-      returned_same plan.old (IsTreePointer plan.old plan.bound) (λ q. ⊥) (IsAnew plan.job from 0 from) before before (λ q n. absurd n) (λ q l n. go q (anew_start_back plan.job from 0 q n)) (returned_none plan.old _ before)
+      returned_same plan.old (IsTreePointer plan.old plan.bound) (λ q. ⊥) (IsAnew plan.job from 0 from) before before (λ q n. absurd n) (λ q l n. go q (anew_start_back plan.job from 0 q n)) (returned_none plan.old _ plan.kept before)
     where
       go : (q : Trail) → ⊥ ⊎ (q ≡ front plan.job 0 from) → ⊥ ⊎ (block_on plan.old q ≡ 0)
       go q (inl n) = inl n
       go q (inr e) = inr (ap (block_on plan.old) e ∙ null)
 
-  pub back_cover : block_on plan.old (front plan.job 0 from) ≢ 0 → (next : ℕ → Bool) → TakesNumber next before (block_on plan.old (front plan.job 0 from)) → IsBack plan from 0 from before next
-  back_cover some next takes =
+  pub back_cover : block_on plan.old (front plan.job 0 from) ≢ 0 → (next : ℕ → Bool) → (plan.kept (block_on plan.old (front plan.job 0 from)) ≡ false → TakesNumber next before (block_on plan.old (front plan.job 0 from))) →
+      (plan.kept (block_on plan.old (front plan.job 0 from)) ≡ true → next ≡ before) → IsBack plan from 0 from before next
+  back_cover some next takes stays =
       returned_same plan.old (IsTreePointer plan.old plan.bound) (λ q. ⊥ ⊎ (q ≡ front plan.job 0 from)) (IsAnew plan.job from 0 from) before next
       (λ q n. anew_start plan.job from 0 q n) (λ q l n. inl (anew_start_back plan.job from 0 q n))
-      (given_back plan.old (IsTreePointer plan.old plan.bound) (λ q. ⊥) before before (skeleton plan.old plan.bound left.can.forest left.can.whole) left.used (returned_none plan.old _ before)
-      (front plan.job 0 from) cover_live (λ n. n) some next takes)
+      (given_back plan.old (IsTreePointer plan.old plan.bound) (λ q. ⊥) before before (skeleton plan.old plan.bound left.can.forest left.can.whole) left.used (returned_none plan.old _ plan.kept before)
+      (front plan.job 0 from) cover_live (λ n. n) some next takes stays)
 
   pub cover_used : block_on plan.old (front plan.job 0 from) ≢ 0 → before (block_on plan.old (front plan.job 0 from)) ≡ false
   cover_used some = left.used _ (record { trail = front plan.job 0 from; pointer = cover_live; named = refl; not_null = some })

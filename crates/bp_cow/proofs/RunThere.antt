@@ -189,7 +189,7 @@ module _ (image : Image) (wf : IsWellFormed image) (n : ℕ) (reached : IsReache
 
 -- ---- a run alone, below the size
 
-module _ (image : Image) (wf : IsWellFormed image) (bound : ℕ → ℕ) (touched : Touched) (free : ℕ → Bool) (can : CanCommit image bound touched free) (run : Run) (n : ℕ) (one : touched.runs.now ≡ run ∷ []) (none : touched.words.now ≡ [])
+module _ {kept : ℕ → Bool} (image : Image) (wf : IsWellFormed image) (bound : ℕ → ℕ) (touched : Touched) (free : ℕ → Bool) (can : CanCommit image bound kept touched free) (run : Run) (n : ℕ) (one : touched.runs.now ≡ run ∷ []) (none : touched.words.now ≡ [])
     (reached : IsReached image (suc n)) (root : run.root.items ≡ inode_path (height_of (root_of image 0)) (suc n) 1) (height : run.height ≡ height_of (root_of image (suc n))) (some : 0 < length run.bytes.now)
     (below : run_end run ≤ size_of image (suc n)) where
   abbrev write : Change

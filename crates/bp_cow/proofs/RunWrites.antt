@@ -58,7 +58,7 @@ long_along : (base : Trail) (depth index : ℕ) → length (along base depth ind
 long_along base zero index = omega arith
 long_along base (suc depth) index = omega (arith, long_along base depth (index / 512))
 
-module _ (old new : Image) (bound : ℕ → ℕ) (wf : IsWellFormed old) (touched : Touched) (free : ℕ → Bool) (can : CanCommit old bound touched free) (run : Run) (n : ℕ) (is : IsFileRun old bound touched run n)
+module _ {kept : ℕ → Bool} (old new : Image) (bound : ℕ → ℕ) (wf : IsWellFormed old) (touched : Touched) (free : ℕ → Bool) (can : CanCommit old bound kept touched free) (run : Run) (n : ℕ) (is : IsFileRun old bound touched run n)
     (turned : Trail → Type 0) (stage : IsCommitted old new (IsTreePointer old bound) turned (after_commit old (job_of touched))) where
   -- where the size is touched it is the one that is given
   pub sized_size : (i : ℕ) → i < length touched.words.now → size_of new (suc n) ≡ (job_of touched).value i
@@ -128,10 +128,10 @@ module _ (old new : Image) (bound : ℕ → ℕ) (wf : IsWellFormed old) (touche
       (omega arith) (omega arith) (λ e _ _. absurd (omega (arith, e))) (λ e _ _. absurd (omega (arith, e))) same in
       (all.0, all.2)
 
-  kept : (t k : ℕ) → IsReached old t → 8 * k < bound t → (t ≡ suc n → ⊥) → ((t ≡ 0) → (k ≡ 8 * suc n + 2) → ⊥) →
+  same_elsewhere : (t k : ℕ) → IsReached old t → 8 * k < bound t → (t ≡ suc n → ⊥) → ((t ≡ 0) → (k ≡ 8 * suc n + 2) → ⊥) →
       after_commit old (job_of touched) (tree_trail (height_of (word old 2)) t (suc (height_of (root_of old t))) k) ≡ content_word old (root_of old t) k
-  kept zero k also low other no_size = kept_apart 0 k (λ _ same. no_size refl (in_inodes k low same)) (λ l first last same. apart_trees n k l same)
-  kept (suc m) k also low other no_size =
+  same_elsewhere zero k also low other no_size = kept_apart 0 k (λ _ same. no_size refl (in_inodes k low same)) (λ l first last same. apart_trees n k l same)
+  same_elsewhere (suc m) k also low other no_size =
       kept_apart (suc m) k (λ _ same. apart_trees m (8 * suc n + 2) k (sym same)) (λ l first last same. other (same_number m k l also low last same).0)
 
   sizes_same : (t : ℕ) → IsReached old t → (t ≡ suc n → ⊥) → size_of new t ≡ size_of old t
@@ -139,7 +139,7 @@ module _ (old new : Image) (bound : ℕ → ℕ) (wf : IsWellFormed old) (touche
   sizes_same (suc m) also other =
       let inside : 64 * suc m + 64 ≤ bound 0 = can.forest.in_file m also in
       size_after old new bound can.forest turned (job_of touched) stage m also
-      ∙ kept 0 (8 * suc m + 2) inode_file (omega (arith, inside)) (λ e. omega (arith, e)) (λ _ e. other (omega (arith, e)))
+      ∙ same_elsewhere 0 (8 * suc m + 2) inode_file (omega (arith, inside)) (λ e. omega (arith, e)) (λ _ e. other (omega (arith, e)))
 
   -- and where it is not, the one that it was
   pub plain_size : length touched.words.now ≡ 0 → size_of new (suc n) ≡ size_of old (suc n)
@@ -169,7 +169,7 @@ module _ (old new : Image) (bound : ℕ → ℕ) (wf : IsWellFormed old) (touche
     only : CommitsOnly old new (changes_of old (job_of touched)) (λ t l. (t ≡ suc n) ⊎ ((t ≡ 0) × (l ≡ 8 * suc n + 2)))
     only = record {
       commits = commits;
-      kept = λ t k also low other. kept t k also (lt_of_lt_of_le low (can.sizes t also)) (λ e. other (inl e)) (λ e f. other (inr (e, f)));
+      kept = λ t k also low other. same_elsewhere t k also (lt_of_lt_of_le low (can.sizes t also)) (λ e. other (inl e)) (λ e f. other (inr (e, f)));
     }
 
     pub sized_changes : ChangesFile old new (suc n)
@@ -214,7 +214,7 @@ module _ (old new : Image) (bound : ℕ → ℕ) (wf : IsWellFormed old) (touche
 
 -- ---- a run alone
 
-module _ (old new : Image) (wf : IsWellFormed old) (touched : Touched) (free : ℕ → Bool) (can : CanCommit old (size_of old) touched free) (run : Run) (n : ℕ) (one : touched.runs.now ≡ run ∷ []) (none : length touched.words.now ≡ 0)
+module _ {kept : ℕ → Bool} (old new : Image) (wf : IsWellFormed old) (touched : Touched) (free : ℕ → Bool) (can : CanCommit old (size_of old) kept touched free) (run : Run) (n : ℕ) (one : touched.runs.now ≡ run ∷ []) (none : length touched.words.now ≡ 0)
     (reached : IsReached old (suc n)) (is_file : kind_of old (suc n) ≡ 1) (root : run.root.items ≡ inode_path (height_of (root_of old 0)) (suc n) 1) (height : run.height ≡ height_of (root_of old (suc n))) (some : 0 < length run.bytes.now)
     (below : run_end run ≤ size_of old (suc n)) (small : (i : ℕ) → slice_index run.bytes.now i < 256) (turned : Trail → Type 0)
     (stage : IsCommitted old new (IsTreePointer old (size_of old)) turned (after_commit old (job_of touched))) where

@@ -10,10 +10,11 @@ use Rattle.bp_layout.specs.Members.{Has}
 use Rattle.bp_layout.specs.WordPaths.{WordPath}
 use Rattle.bp_cow.specs.declared.touched.Run.{Run}
 use Rattle.bp_cow.specs.declared.touched.Touched.{Touched}
+use Rattle.bp_cow.specs.declared.touched.TreeSize.{TreeSize}
 use Rattle.bp_cow.specs.Cover.{end_path_of, ends_of}
 use Rattle.bp_cow.specs.Job.{ways}
 use Rattle.bp_cow.specs.Leaves.{IsLeaf}
-use Rattle.bp_cow.specs.Touched.{IsRun, IsTouched, above, job_of, laid_word, leaves_of, live_of, path_of, run_end, run_leaves, run_path, run_way, run_word, way_of, word_paths}
+use Rattle.bp_cow.specs.Touched.{IsRun, IsTouched, above, job_of, laid_word, leaves_of, live_of, path_of, run_end, run_leaves, run_path, run_way, run_word, way_of, word_live, word_paths}
 use Rattle.bp_cow.proofs.RunLaws.{length-run_way}
 
 pub leaves-few : (runs : List Run) → ((run : Run) → Has runs run → IsRun run) → leaves_of runs ≤ 257 * length runs
@@ -24,10 +25,10 @@ leaves-few (run ∷ runs) are =
 
 -- ---- one run after the other
 
-pub item-here : (runs : List Run) (k : ℕ) (run : Run) → k < length runs → run ≡ slice_index_or runs k run → drop k runs ≡ run ∷ drop (k + 1) runs
-item-here runs k run low is = let next : k + 1 ≡ suc k = omega arith in drop-cons runs k run low ∙ ap (λ (r : Run). r ∷ drop (suc k) runs) (sym is) ∙ ap (λ n. run ∷ drop n runs) (sym next)
+pub item-here : {A : Type 0} (runs : List A) (k : ℕ) (run : A) → k < length runs → run ≡ slice_index_or runs k run → drop k runs ≡ run ∷ drop (k + 1) runs
+item-here runs k run low is = let next : k + 1 ≡ suc k = omega arith in drop-cons runs k run low ∙ ap (λ r. r ∷ drop (suc k) runs) (sym is) ∙ ap (λ n. run ∷ drop n runs) (sym next)
 
-pub has-item : (runs : List Run) (k : ℕ) (run : Run) → k < length runs → run ≡ slice_index_or runs k run → Has runs run
+pub has-item : {A : Type 0} (runs : List A) (k : ℕ) (run : A) → k < length runs → run ≡ slice_index_or runs k run → Has runs run
 has-item [] k run low is = absurd (omega (arith, low))
 has-item (first ∷ runs) zero run low is = inl (sym is)
 has-item (first ∷ runs) (suc k) run low is = inr (has-item runs k run (omega (arith, low)) is)
@@ -74,10 +75,13 @@ way-word (run ∷ runs) paths i past =
     let rest : i - run_leaves run - leaves_of runs ≡ i - (run_leaves run + leaves_of runs) = omega arith in
     way-behind run runs paths i (omega (arith, past)) ∙ way-word runs paths (i - run_leaves run) (omega (arith, past)) ∙ ap (λ k. above (path_of paths k)) rest
 
--- of a block on the way to a word all words count
-pub live-word : (runs : List Run) (i depth : ℕ) → leaves_of runs ≤ i → live_of runs i depth ≡ 512
-live-word [] i depth past = refl
-live-word (run ∷ runs) i depth past = let test : nat_lt i (run_leaves run) ≡ false = not-less i (run_leaves run) (omega (arith, past)) in rw test (live-word runs (i - run_leaves run) depth (omega (arith, past)))
+-- the words that count on the way to a word
+pub live-word : (runs : List Run) (trees : List TreeSize) (paths : List WordPath) (i depth : ℕ) → leaves_of runs ≤ i → live_of runs trees paths i depth ≡ word_live trees (above (path_of paths (i - leaves_of runs))) depth
+live-word [] trees paths i depth past = let none : i - 0 ≡ i = omega arith in rw none refl
+live-word (run ∷ runs) trees paths i depth past =
+    let test : nat_lt i (run_leaves run) ≡ false = not-less i (run_leaves run) (omega (arith, past)) in
+    let rest : i - run_leaves run - leaves_of runs ≡ i - (run_leaves run + leaves_of runs) = omega arith in
+    rw test (live-word runs trees paths (i - run_leaves run) depth (omega (arith, past)) ∙ ap (λ k. word_live trees (above (path_of paths k)) depth) rest)
 
 -- ---- the leaves, by their ways
 
@@ -88,7 +92,7 @@ leaf-here all run runs paths i low = record {
   here = omega (arith, low);
   way = way-leaf run runs paths i low;
   patch = λ slot old. let test : nat_lt i (run_leaves run) ≡ true = lt-ltb i (run_leaves run) low in rw test refl;
-  live = λ depth. let test : nat_lt i (run_leaves run) ≡ true = lt-ltb i (run_leaves run) low in rw test refl;
+  live = λ trees depth. let test : nat_lt i (run_leaves run) ≡ true = lt-ltb i (run_leaves run) low in rw test refl;
 }
 
 pub leaf-behind : (all : List Run) (first : Run) (runs : List Run) (paths : List WordPath) (i : ℕ) (run : Run) (leaf : ℕ) → run_leaves first ≤ i → IsLeaf all runs paths (i - run_leaves first) run leaf →
@@ -99,7 +103,7 @@ leaf-behind all first runs paths i run leaf past is = record {
   here = omega (arith, is.here, past);
   way = way-behind first runs paths i past ∙ is.way;
   patch = λ slot old. let test : nat_lt i (run_leaves first) ≡ false = not-less i (run_leaves first) past in rw test (is.patch slot old);
-  live = λ depth. let test : nat_lt i (run_leaves first) ≡ false = not-less i (run_leaves first) past in rw test (is.live depth);
+  live = λ trees depth. let test : nat_lt i (run_leaves first) ≡ false = not-less i (run_leaves first) past in rw test (is.live trees depth);
 }
 
 -- each way that is none to a word leads to a leaf

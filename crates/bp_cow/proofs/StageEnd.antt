@@ -12,13 +12,13 @@ use Rattle.bp_cow.proofs.BuildFacts.{laid-other}
 use Rattle.bp_cow.proofs.EndLaws.{decide_anew, anew_pointer}
 
 pub stage_committed : (plan : Plan) (from : ℕ) (now : Image) (free : ℕ → Bool) → CanMake plan from →
-    IsStage plan.old now (IsTreePointer plan.old plan.bound) (IsAnew plan.job from (ways plan.job) from) (value_upto plan.job plan.job.words) (laid_on plan.old plan.job) free →
+    IsStage plan.old now (IsTreePointer plan.old plan.bound) (IsAnew plan.job from (ways plan.job) from) (value_upto plan.job plan.job.words) (laid_on plan.old plan.job) plan.kept free →
     IsCommitted plan.old now (IsTreePointer plan.old plan.bound) (IsAnew plan.job from (ways plan.job) from) (after_commit plan.old plan.job)
 stage_committed plan from now free can stage = record {
   whole = stage.whole;
   superblock = stage.superblock;
   skeleton = stage.skeleton;
-  kept = stage.kept;
+  kept = stage.same;
   bits = stage.bits;
   fresh = stage.fresh;
   words = λ p slot live low none content. words p slot live low none content (decide_anew plan.job from (ways plan.job) p);

@@ -4,28 +4,30 @@ use Rattle.std.proofs.lemmas.Bool.{cases_eq}
 use Rattle.bp_layout.specs.Words.{Image, block_count, block_of, slot_word}
 use Rattle.bp_shapes.specs.Forest.{IsExactSet}
 use Rattle.bp_shapes.specs.Trail.{Trail, word_on, block_on, ArePointers, IsSkeleton, LeadsTo}
+use Rattle.bp_cow.specs.Return.{IsGiven}
 use Rattle.bp_cow.specs.Stage.{IsStage}
 use Rattle.bp_shapes.proofs.TrailLaws.{cases_trail, Turns, pointer-turned, word-turned, slot-turned, skeleton-turned}
-use Rattle.bp_layout.specs.Thaw.{none_kept}
 
 -- nothing is done
-pub stage_start : (old : Image) (Pointer : Trail → Type 0) (anew : Trail → Type 0) (value : Trail → Option ℕ) (laid : Trail → ℕ) (free : ℕ → Bool) →
-    IsSkeleton old Pointer → IsExactSet old Pointer none_kept free → ((p : Trail) → anew p → ⊥) → ((p : Trail) → value p ≡ None) →
-    IsStage old old Pointer anew value laid free
+pub stage_start : {kept : ℕ → Bool} (old : Image) (Pointer : Trail → Type 0) (anew : Trail → Type 0) (value : Trail → Option ℕ) (laid : Trail → ℕ) (free : ℕ → Bool) →
+    IsSkeleton old Pointer → IsExactSet old Pointer kept free → ((p : Trail) → anew p → ⊥) → ((p : Trail) → value p ≡ None) →
+    IsStage old old Pointer anew value laid kept free
 stage_start old Pointer anew value laid free skeleton exact none no_value = record {
   whole = refl;
   skeleton = skeleton;
   superblock = λ place low other. refl;
-  kept = λ p live n. refl;
+  same = λ p live n. refl;
   words = λ p slot live made low n _. absurd (none p made);
   still = λ p slot live n low m. refl;
   bits = λ p live. refl;
   fresh = λ p live new. absurd (none p new);
+  unkept = λ p live new. absurd (none p new);
   unvalued = λ p live. no_value p;
   early = λ p slot live n. no_value (slot ∷ p);
   taken = λ b any. either b any;
-  known = λ b low high full not. absurd (other b (exact.dead b low high not refl) full);
+  known = λ b low high full not loose. absurd (other b (exact.dead b low high not loose) full);
   in_range = exact.in_range;
+  loose = exact.loose;
 }
   where
     either : (b : ℕ) → LeadsTo old Pointer b ⊎ LeadsTo old Pointer b → free b ≡ false
@@ -35,7 +37,7 @@ stage_start old Pointer anew value laid free skeleton exact none no_value = reco
     other : (b : ℕ) → free b ≡ true → free b ≡ false → ⊥
     other b one two = absurd (cc)
 
-module _ (old now next : Image) (Pointer : Trail → Type 0) (pointers : ArePointers Pointer) (anew : Trail → Type 0) (value : Trail → Option ℕ) (laid : Trail → ℕ) (free : ℕ → Bool) (stage : IsStage old now Pointer anew value laid free) where
+module _ {kept : ℕ → Bool} (old now next : Image) (Pointer : Trail → Type 0) (pointers : ArePointers Pointer) (anew : Trail → Type 0) (value : Trail → Option ℕ) (laid : Trail → ℕ) (free : ℕ → Bool) (stage : IsStage old now Pointer anew value laid kept free) where
   same_count : block_count now ≡ block_count old
   same_count = ap (λ n. n / 512) stage.whole
 
@@ -49,23 +51,25 @@ module _ (old now next : Image) (Pointer : Trail → Type 0) (pointers : ArePoin
       free_after copy ≡ false →
       ((b : ℕ) → b ≢ copy → free_after b ≡ free b) →
       ((slot : ℕ) → slot < 512 → (anew (slot ∷ here) → ⊥) → (Pointer (0 ∷ here) → ⊥) → slot_word next copy slot ≡ laid (slot ∷ here)) →
-      IsStage old next Pointer (λ p. anew p ⊎ (p ≡ here)) value laid free_after
+      IsStage old next Pointer (λ p. anew p ⊎ (p ≡ here)) value laid kept free_after
   stage_copy here pointer copy free_after live first turns bits leads was_free not_free others slots = record {
     whole = turns.whole ∙ stage.whole;
     skeleton = skeleton-turned now next Pointer pointers here pointer turns stage.skeleton (λ l. (rw leads in_range, unnamed));
     superblock = λ place low other. turns.superblock place low other ∙ stage.superblock place low other;
-    kept = λ p l none. pointer-turned now next Pointer pointers here pointer turns p l (λ e. none (inr e)) ∙ stage.kept p l (λ n. none (inl n));
+    same = λ p l none. pointer-turned now next Pointer pointers here pointer turns p l (λ e. none (inr e)) ∙ stage.same p l (λ n. none (inl n));
     words = λ p slot l made low none content. words p slot l made low none content (cases_trail p here);
     still = λ p slot l unmade low none.
         word-turned now next Pointer pointers here pointer turns p slot l low (λ e. unmade (inr e)) (λ e. none (inr e))
         ∙ stage.still p slot l (λ n. unmade (inl n)) low (λ n. none (inl n));
     bits = λ p l. low_bits p l (cases_trail p here);
     fresh = λ p l n. fresh p l n (cases_trail p here);
+    unkept = λ p l n. unkept p l n (cases_trail p here);
     unvalued = stage.unvalued;
     early = λ p slot l unmade. stage.early p slot l (λ n. unmade (inl n));
     taken = taken;
     known = known;
     in_range = λ b is. range b is (cases_eq b copy);
+    loose = λ b is. loose b is (cases_eq b copy);
   }
     where
       copy_range : (1 ≤ copy) × (copy < block_count old)
@@ -118,6 +122,11 @@ module _ (old now next : Image) (Pointer : Trail → Type 0) (pointers : ArePoin
           let before = stage.fresh p l n in
           (λ null. before.0 (sym at ∙ null), λ has. before.1 (subst (LeadsTo old Pointer) at has))
 
+      unkept : (p : Trail) → Pointer p → anew p ⊎ (p ≡ here) → (p ≡ here) ⊎ (p ≢ here) → kept (block_on next p) ≡ false
+      unkept p l n (inl e) = ap kept (ap (block_on next) e ∙ block_here) ∙ stage.loose copy was_free
+      unkept p l (inr e) (inr apart) = absurd (apart e)
+      unkept p l (inl n) (inr apart) = ap kept (block_there p l apart) ∙ stage.unkept p l n
+
       -- where a pointer of the next image led before
       full_before : (b : ℕ) → free b ≡ false → free_after b ≡ false
       full_before b full = go (cases_eq b copy)
@@ -139,20 +148,24 @@ module _ (old now next : Image) (Pointer : Trail → Type 0) (pointers : ArePoin
       leads_next b p l named some dead (inl e) = absurd (dead (record { trail = here; pointer = live; named = sym same_block ∙ ap (block_on now) (sym e) ∙ named; not_null = some }))
         where
           same_block : block_on now here ≡ block_on old here
-          same_block = ap block_of (stage.kept here live first)
+          same_block = ap block_of (stage.same here live first)
 
-      known : (b : ℕ) → 1 ≤ b → b < block_count old → free_after b ≡ false → (LeadsTo old Pointer b → ⊥) → LeadsTo next Pointer b
-      known b low high full dead = go (cases_eq b copy)
+      known : (b : ℕ) → 1 ≤ b → b < block_count old → free_after b ≡ false → (LeadsTo old Pointer b → ⊥) → kept b ≡ false → LeadsTo next Pointer b
+      known b low high full dead loose = go (cases_eq b copy)
         where
           go : (b ≡ copy) ⊎ (b ≡ copy → ⊥) → LeadsTo next Pointer b
           go (inl e) = record { trail = here; pointer = live; named = block_here ∙ sym e; not_null = λ null. absurd (omega (arith, low, null)) }
           go (inr apart) =
-              let has = stage.known b low high (sym (others b apart) ∙ full) dead in
+              let has = stage.known b low high (sym (others b apart) ∙ full) dead loose in
               leads_next b has.trail has.pointer has.named has.not_null dead (cases_trail has.trail here)
 
       range : (b : ℕ) → free_after b ≡ true → (b ≡ copy) ⊎ (b ≡ copy → ⊥) → (1 ≤ b) × (b < block_count old)
       range b is (inl e) = subst (λ x. (1 ≤ x) × (x < block_count old)) (sym e) copy_range
       range b is (inr apart) = stage.in_range b (sym (others b apart) ∙ is)
+
+      loose : (b : ℕ) → free_after b ≡ true → (b ≡ copy) ⊎ (b ≡ copy → ⊥) → kept b ≡ false
+      loose b is (inl e) = ap kept e ∙ stage.loose copy was_free
+      loose b is (inr apart) = stage.loose b (sym (others b apart) ∙ is)
 
   -- A word of a copied block that is no pointer is given anew.
   pub stage_word : (p : Trail) (slot given : ℕ) (value_after : Trail → Option ℕ) →
@@ -160,12 +173,12 @@ module _ (old now next : Image) (Pointer : Trail → Type 0) (pointers : ArePoin
       Turns now next Pointer (slot ∷ p) given →
       value_after (slot ∷ p) ≡ Some given →
       ((q : Trail) → q ≢ slot ∷ p → value_after q ≡ value q) →
-      IsStage old next Pointer anew value_after laid free
+      IsStage old next Pointer anew value_after laid kept free
   stage_word p slot given value_after live made low content turns here values = record {
     whole = turns.whole ∙ stage.whole;
     skeleton = skeleton-turned now next Pointer pointers (slot ∷ p) given turns stage.skeleton (λ l. absurd (content l));
     superblock = λ place low other. turns.superblock place low other ∙ stage.superblock place low other;
-    kept = λ q l none. same q l ∙ stage.kept q l none;
+    same = λ q l none. same q l ∙ stage.same q l none;
     words = λ q s l one small none plain. words q s l one small none plain (cases_trail (s ∷ q) (slot ∷ p));
     still = λ q s l unmade small none.
         word-turned now next Pointer pointers (slot ∷ p) given turns q s l small (λ e. content (subst Pointer e l)) (λ e. unmade (subst anew (sym (tail_same e)) made))
@@ -174,13 +187,15 @@ module _ (old now next : Image) (Pointer : Trail → Type 0) (pointers : ArePoin
     fresh = λ q l n.
         let before = stage.fresh q l n in
         (λ null. before.0 (sym (block_same q l) ∙ null), λ has. before.1 (subst (LeadsTo old Pointer) (block_same q l) has));
+    unkept = λ q l n. ap kept (block_same q l) ∙ stage.unkept q l n;
     unvalued = λ q l. values q (λ e. content (subst Pointer e l)) ∙ stage.unvalued q l;
     early = λ q s l unmade. values (s ∷ q) (λ e. unmade (subst anew (sym (tail_same e)) made)) ∙ stage.early q s l unmade;
     taken = taken;
-    known = λ b small high full dead.
-        let has = stage.known b small high full dead in
+    known = λ b small high full dead loose.
+        let has = stage.known b small high full dead loose in
         record { trail = has.trail; pointer = has.pointer; named = block_same has.trail has.pointer ∙ has.named; not_null = has.not_null };
     in_range = stage.in_range;
+    loose = stage.loose;
   }
     where
       tail_same : {s : ℕ} {q : Trail} → s ∷ q ≡ slot ∷ p → q ≡ p
@@ -207,33 +222,33 @@ module _ (old now next : Image) (Pointer : Trail → Type 0) (pointers : ArePoin
 
 -- ---- at the end
 
-module _ (old now : Image) (Pointer : Trail → Type 0) (pointers : ArePointers Pointer) (anew : Trail → Type 0) (value : Trail → Option ℕ) (laid : Trail → ℕ) (free : ℕ → Bool) (stage : IsStage old now Pointer anew value laid free) (before : IsSkeleton old Pointer) where
+module _ {kept : ℕ → Bool} (old now : Image) (Pointer : Trail → Type 0) (pointers : ArePointers Pointer) (anew : Trail → Type 0) (value : Trail → Option ℕ) (laid : Trail → ℕ) (free : ℕ → Bool) (stage : IsStage old now Pointer anew value laid kept free) (before : IsSkeleton old Pointer) where
   -- the block to which a pointer led that was turned is not in the new image
   pub left : (p : Trail) → Pointer p → anew p → (q : Trail) → Pointer q → (anew q ⊎ (anew q → ⊥)) → block_on old p ≢ 0 → block_on now q ≡ block_on old p → ⊥
   left p live new q also (inl made) some same = (stage.fresh q also made).1 (record { trail = p; pointer = live; named = sym same; not_null = λ null. some (sym same ∙ null) })
-  left p live new q also (inr kept) some same =
-      let equal : p ≡ q = before.once p q live also some (sym same ∙ ap block_of (stage.kept q also kept)) in
-      kept (subst anew equal new)
+  left p live new q also (inr still) some same =
+      let equal : p ≡ q = before.once p q live also some (sym same ∙ ap block_of (stage.same q also still)) in
+      still (subst anew equal new)
 
   -- a block to which an old pointer led that was not turned is still there
   pub stays : (p : Trail) → Pointer p → (anew p → ⊥) → block_on now p ≡ block_on old p
-  stays p live kept = ap block_of (stage.kept p live kept)
+  stays p live still = ap block_of (stage.same p live still)
 
   pub full-kept : (p : Trail) → Pointer p → (anew p ⊎ (anew p → ⊥)) → block_on old p ≢ 0 → block_on now p ≢ 0
   full-kept p live (inl made) some = (stage.fresh p live made).0
-  full-kept p live (inr kept) some = λ null. some (sym (stays p live kept) ∙ null)
+  full-kept p live (inr still) some = λ null. some (sym (stays p live still) ∙ null)
 
   -- once the blocks that were left are given back, the set is exact
   pub exact-end : (free_after : ℕ → Bool) → ((p : Trail) → anew p ⊎ (anew p → ⊥)) →
-      ((p : Trail) → Pointer p → anew p → block_on old p ≢ 0 → free_after (block_on old p) ≡ true) →
+      ((p : Trail) → Pointer p → anew p → block_on old p ≢ 0 → kept (block_on old p) ≡ false → free_after (block_on old p) ≡ true) →
       ((b : ℕ) → free b ≡ true → free_after b ≡ true) →
-      ((b : ℕ) → free_after b ≡ true → (free b ≡ true) ⊎ ((p : Trail) × Pointer p × anew p × (block_on old p ≡ b) × (b ≢ 0))) →
-      IsExactSet now Pointer none_kept free_after
+      ((b : ℕ) → free_after b ≡ true → (free b ≡ true) ⊎ IsGiven old Pointer anew kept b) →
+      IsExactSet now Pointer kept free_after
   exact-end free_after decide given still from = record {
     live = λ b has. live b has (free_after b) refl;
-    dead = λ b low high none loose. dead b low high none (free b) refl;
+    dead = λ b low high none loose. dead b low high none loose (free b) refl;
     in_range = λ b is. in_range b (from b is);
-    loose = λ b is. refl;
+    loose = λ b is. loose b (from b is);
   }
     where
       clash : (b : ℕ) → free b ≡ true → free b ≡ false → ⊥
@@ -243,16 +258,16 @@ module _ (old now : Image) (Pointer : Trail → Type 0) (pointers : ArePointers 
       live b has false at = at
       live b has true at = absurd (go (from b at))
         where
-          go : (free b ≡ true) ⊎ ((p : Trail) × Pointer p × anew p × (block_on old p ≡ b) × (b ≢ 0)) → ⊥
+          go : (free b ≡ true) ⊎ IsGiven old Pointer anew kept b → ⊥
           go (inl is) = clash b is (stage.taken b (inr has))
           go (inr one) = left one.0 one.1 one.2 has.trail has.pointer (decide has.trail) (λ null. one.4 (sym one.3 ∙ null)) (has.named ∙ sym one.3)
 
-      dead : (b : ℕ) → 1 ≤ b → b < block_count now → (LeadsTo now Pointer b → ⊥) → (x : Bool) → free b ≡ x → free_after b ≡ true
-      dead b low high none true at = still b at
-      dead b low high none false at = go (free_after b) refl
+      dead : (b : ℕ) → 1 ≤ b → b < block_count now → (LeadsTo now Pointer b → ⊥) → kept b ≡ false → (x : Bool) → free b ≡ x → free_after b ≡ true
+      dead b low high none loose true at = still b at
+      dead b low high none loose false at = go (free_after b) refl
         where
           was : (LeadsTo old Pointer b → ⊥) → ⊥
-          was not_old = none (stage.known b low (subst (λ n. b < n / 512) stage.whole high) at not_old)
+          was not_old = none (stage.known b low (subst (λ n. b < n / 512) stage.whole high) at not_old loose)
 
           go : (x : Bool) → free_after b ≡ x → free_after b ≡ true
           go true is = is
@@ -260,13 +275,17 @@ module _ (old now : Image) (Pointer : Trail → Type 0) (pointers : ArePointers 
             where
               at_old : (has : LeadsTo old Pointer b) → anew has.trail ⊎ (anew has.trail → ⊥) → ⊥
               at_old has (inl made) =
-                  let yes_free : free_after b ≡ true = ap free_after (sym has.named) ∙ given has.trail has.pointer made (λ null. has.not_null (sym has.named ∙ null)) in
+                  let yes_free : free_after b ≡ true = ap free_after (sym has.named) ∙ given has.trail has.pointer made (λ null. has.not_null (sym has.named ∙ null)) (ap kept has.named ∙ loose) in
                   absurd (cc)
-              at_old has (inr kept) = none (record { trail = has.trail; pointer = has.pointer; named = stays has.trail has.pointer kept ∙ has.named; not_null = has.not_null })
+              at_old has (inr unturned) = none (record { trail = has.trail; pointer = has.pointer; named = stays has.trail has.pointer unturned ∙ has.named; not_null = has.not_null })
 
-      in_range : (b : ℕ) → (free b ≡ true) ⊎ ((p : Trail) × Pointer p × anew p × (block_on old p ≡ b) × (b ≢ 0)) → (1 ≤ b) × (b < block_count now)
+      in_range : (b : ℕ) → (free b ≡ true) ⊎ IsGiven old Pointer anew kept b → (1 ≤ b) × (b < block_count now)
       in_range b (inl is) = rw (ap (λ n. n / 512) stage.whole) (stage.in_range b is)
       in_range b (inr one) =
           let some : b ≢ 0 = one.4 in
           let low : block_on old one.0 < block_count old = before.in_range one.0 one.1 in
           rw (ap (λ n. n / 512) stage.whole) (omega (arith, some), subst (λ x. x < block_count old) one.3 low)
+
+      loose : (b : ℕ) → (free b ≡ true) ⊎ IsGiven old Pointer anew kept b → kept b ≡ false
+      loose b (inl is) = stage.loose b is
+      loose b (inr one) = one.5

@@ -26,12 +26,12 @@ module _ (plan : Plan) (from i depth : ℕ) (now : Image) (free : ℕ → Bool) 
       let some : block_on (seen plan now) p ≢ 0 = fresh.0 in
       let low : block_on (seen plan now) p < block_count (seen plan now) = made.stage.skeleton.in_range p live in
       let count : block_count (seen plan now) ≡ block_count plan.old = ap (λ n. n / 512) made.stage.whole in
-      can.exact.dead _ (omega (arith, some)) (rw count at low) fresh.1 refl
+      can.exact.dead _ (omega (arith, some)) (rw count at low) fresh.1 (made.stage.unkept p live new)
 
   pub still_free : (b : ℕ) → free b ≡ true → plan.free b ≡ true
   still_free b is =
       let range = made.stage.in_range b is in
-      can.exact.dead b range.0 range.1 (λ has. let full : free b ≡ false = made.stage.taken b (inl has) in absurd (cc)) refl
+      can.exact.dead b range.0 range.1 (λ has. let full : free b ≡ false = made.stage.taken b (inl has) in absurd (cc)) (made.stage.loose b is)
 
 module _ (plan : Plan) (from i depth : ℕ) (now : Image) (free : ℕ → Bool) (can : CanMake plan from) (here : i < ways plan.job) (low : from ≤ depth) (high : depth ≤ length (plan.job.way i))
     (made : IsMade plan from i depth now free) where
@@ -146,7 +146,7 @@ module _ (plan : Plan) (from i depth : ℕ) (now : Image) (free : ℕ → Bool) 
         let same : (i + 1) - plan.job.leaves ≡ i - plan.job.leaves = omega (arith, leaf) in
         building_same plan.old _ plan.place _ _ Pointer (IsAnew plan.job from i depth) (IsAnew plan.job from (i + 1) from) _ _ free
         (λ q n. anew_next plan.job from i depth last low (can.cover i here) q n) (λ q n. anew_next_back plan.job from i depth last low (can.cover i here) q n)
-        (subst (λ n. IsBuilding plan.old now plan.place (pointing_to (word plan.old plan.place) plan.top) (front plan.job 0 from) Pointer (IsAnew plan.job from i depth) (value_upto plan.job n) (laid_on plan.old plan.job) free) (sym same) made)
+        (subst (λ n. IsBuilding plan.old now plan.place (pointing_to (word plan.old plan.place) plan.top) (front plan.job 0 from) Pointer (IsAnew plan.job from i depth) (value_upto plan.job n) (laid_on plan.old plan.job) plan.kept free) (sym same) made)
 
     -- and the word at its end is given its value
     pub made_word : (w : ℕ) → plan.job.leaves + w ≡ i → (block : ℕ) → block ≡ reached plan i depth now → IsMade plan from (i + 1) from (set now (512 * block + plan.job.slot w) (plan.job.value w)) free
@@ -155,12 +155,12 @@ module _ (plan : Plan) (from i depth : ℕ) (now : Image) (free : ℕ → Bool) 
         let here_now : i - plan.job.leaves ≡ w = omega (arith, at) in
         let next : (i + 1) - plan.job.leaves ≡ w + 1 = omega (arith, at) in
         let end : word_trail plan.job w ≡ plan.job.slot w ∷ way = ap (λ k. plan.job.slot w ∷ end_of plan.job k) at ∙ ap (λ d. plan.job.slot w ∷ front plan.job i d) (sym last) in
-        let before : IsBuilding plan.old now plan.place (pointing_to (word plan.old plan.place) plan.top) (front plan.job 0 from) Pointer (IsAnew plan.job from i depth) (value_upto plan.job w) (laid_on plan.old plan.job) free =
-        subst (λ n. IsBuilding plan.old now plan.place (pointing_to (word plan.old plan.place) plan.top) (front plan.job 0 from) Pointer (IsAnew plan.job from i depth) (value_upto plan.job n) (laid_on plan.old plan.job) free) here_now made in
+        let before : IsBuilding plan.old now plan.place (pointing_to (word plan.old plan.place) plan.top) (front plan.job 0 from) Pointer (IsAnew plan.job from i depth) (value_upto plan.job w) (laid_on plan.old plan.job) plan.kept free =
+        subst (λ n. IsBuilding plan.old now plan.place (pointing_to (word plan.old plan.place) plan.top) (front plan.job 0 from) Pointer (IsAnew plan.job from i depth) (value_upto plan.job n) (laid_on plan.old plan.job) plan.kept free) here_now made in
         rw is
         (building_same plan.old _ plan.place _ _ Pointer (IsAnew plan.job from i depth) (IsAnew plan.job from (i + 1) from) _ _ free
         (λ q n. anew_next plan.job from i depth last low (can.cover i here) q n) (λ q n. anew_next_back plan.job from i depth last low (can.cover i here) q n)
-        (subst (λ n. IsBuilding plan.old (set now (512 * reached plan i depth now + plan.job.slot w) (plan.job.value w)) plan.place (pointing_to (word plan.old plan.place) plan.top) (front plan.job 0 from) Pointer (IsAnew plan.job from i depth) (value_upto plan.job n) (laid_on plan.old plan.job) free) (sym next)
+        (subst (λ n. IsBuilding plan.old (set now (512 * reached plan i depth now + plan.job.slot w) (plan.job.value w)) plan.place (pointing_to (word plan.old plan.place) plan.top) (front plan.job 0 from) Pointer (IsAnew plan.job from i depth) (value_upto plan.job n) (laid_on plan.old plan.job) plan.kept free) (sym next)
         (building_store plan.old now plan.place _ _ Pointer (pointers plan.old plan.bound can.forest) (IsAnew plan.job from i depth) (value_upto plan.job w) _ free before way (plan.job.slot w) live anew_here (can.word_slots w few)
         (plan.job.value w) (value_upto plan.job (w + 1))
         (λ p. can.contents w few (subst Pointer (sym end) p))

@@ -35,7 +35,7 @@ value-of job (suc n) i low once = go (cases_eq i n) (λ small. value-of job n i 
         differ false e = rw e (rest (omega (arith, low, other)))
         differ true e = absurd (other (once n (omega arith) ((bytes_eq-Decides (word_trail job i) (word_trail job n)).0 e)))
 
-module _ (old : Image) (bound : ℕ → ℕ) (touched : Touched) (free : ℕ → Bool) (wf : IsWellFormed old) (can : CanCommit old bound touched free) where
+module _ {kept : ℕ → Bool} (old : Image) (bound : ℕ → ℕ) (touched : Touched) (free : ℕ → Bool) (wf : IsWellFormed old) (can : CanCommit old bound kept touched free) where
   abbrev path : ℕ → List ℕ
   path i = path_of (word_paths touched) i
 

@@ -1,8 +1,9 @@
 -- What a commit asks.
 use Rattle.std.specs.Prelude.{◌≡◌, ◌≢◌, ℕ, suc, ◌-◌, ◌/◌, ◌<◌, ◌≤◌, length, Bool}
+use Rattle.bp_free.specs.Set.{Set, has}
 use Rattle.bp_layout.specs.Free.{AreUnheld}
 use Rattle.bp_layout.specs.Members.{Has}
-use Rattle.bp_layout.specs.Words.{Image, word, height_of}
+use Rattle.bp_layout.specs.Words.{Image, word, block_count, height_of}
 use Rattle.bp_layout.specs.Inode.{root_of, size_of}
 use Rattle.bp_layout.specs.Reached.{IsReached}
 use Rattle.bp_shapes.specs.Forest.{root_trail, IsForest, IsTreePointer}
@@ -10,7 +11,12 @@ use Rattle.bp_shapes.specs.Trail.{trail_of}
 use Rattle.bp_cow.specs.Touched.{IsTouched, run_end, run_path, path_of, word_paths, end_trail, touched_trail}
 use Rattle.bp_cow.specs.declared.touched.Run.{Run}
 use Rattle.bp_cow.specs.declared.touched.Touched.{Touched}
-use Rattle.bp_layout.specs.Thaw.{none_kept}
+use Rattle.bp_cow.specs.declared.touched.TreeSize.{TreeSize}
+
+-- a set tells of each block of the image whether it is kept
+pub record TellsKept (kept : ℕ → Bool) (image : Image) (set : Set) : Type 0 where
+  pub room : block_count image ≤ length set
+  pub same : (b : ℕ) → has set b ≡ kept b
 
 -- a run lies in the tree of a reached inode, which has that height, below the size that counts, and knows of all that do
 pub record IsRunIn (old : Image) (bound : ℕ → ℕ) (run : Run) : Type 0 where
@@ -21,18 +27,28 @@ pub record IsRunIn (old : Image) (bound : ℕ → ℕ) (run : Run) : Type 0 wher
   pub below : run_end run ≤ bound (suc inode)
   pub counts : bound (suc inode) ≤ run.size
 
+-- a tree is that of a reached inode or the inode file, has that height, and knows of all its bytes that count
+pub record IsTreeIn (old : Image) (bound : ℕ → ℕ) (tree : TreeSize) : Type 0 where
+  pub number : ℕ
+  pub reached : IsReached old number
+  pub root : trail_of tree.root.items (length tree.root.items) ≡ root_trail (height_of (word old 2)) number
+  pub height : tree.height ≡ height_of (root_of old number)
+  pub counts : bound number ≤ tree.size
+
 -- `bound`: of each tree the greater of its size and the size that it is given. Under these sizes the reached trees
--- are sound, no block is in two, and the free blocks are just those that none of them has. Each proper front of a
--- touched path is a pointer, and no touched path is one.
-pub record CanCommit (old : Image) (bound : ℕ → ℕ) (touched : Touched) (free : ℕ → Bool) : Type 0 where
+-- are sound, no block is in two, and the free blocks are just those that none of them has and that are not kept. Each
+-- proper front of a touched path is a pointer, and no touched path is one.
+pub record CanCommit (old : Image) (bound : ℕ → ℕ) (kept : ℕ → Bool) (touched : Touched) (free : ℕ → Bool)
+    : Type 0 where
   pub shape : IsTouched touched
   pub forest : IsForest old bound
   pub sizes : (t : ℕ) → IsReached old t → size_of old t ≤ bound t
-  pub exact : AreUnheld old (IsReached old) bound none_kept free
+  pub exact : AreUnheld old (IsReached old) bound kept free
   pub pointers : (i d : ℕ) → i < length touched.words.now → d < length (path_of (word_paths touched) i) →
       IsTreePointer old bound (trail_of (path_of (word_paths touched) i) d)
   pub contents : (i : ℕ) → i < length touched.words.now → ¬ IsTreePointer old bound (touched_trail touched i)
   pub runs : (run : Run) → Has touched.runs.now run → IsRunIn old bound run
+  pub trees : (tree : TreeSize) → Has touched.trees.now tree → IsTreeIn old bound tree
   -- the paths are different, and none is that of a word of a run
   pub apart : (i k : ℕ) → i < length touched.words.now → k < length touched.words.now
       → touched_trail touched i ≡ touched_trail touched k → i ≡ k

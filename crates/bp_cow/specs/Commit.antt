@@ -1,5 +1,5 @@
 -- What a commit does.
-use Rattle.std.specs.Prelude.{◌≡◌, ℕ, ◌+◌, ◌*◌, ◌≤◌, List, length, true}
+use Rattle.std.specs.Prelude.{◌≡◌, ℕ, ◌+◌, ◌*◌, ◌/◌, ◌≤◌, List, length, Bool, true, false}
 use Rattle.pm_region.specs.Memory.{Memory, current_words, room_in}
 use Rattle.pm_region.specs.Safe.{AddsCommit}
 use Rattle.bp_limits.specs.Limits.{block_words}
@@ -19,7 +19,6 @@ use Rattle.bp_cow.specs.Cover.{commit_cover, copied_count}
 use Rattle.bp_cow.specs.Job.{IsTurned}
 use Rattle.bp_cow.specs.Touched.{job_of}
 use Rattle.bp_cow.specs.declared.touched.Touched.{Touched}
-use Rattle.bp_layout.specs.Thaw.{none_kept}
 
 -- the stores that a commit makes at most: those of the words of each copy and of the pointer to it, of the touched
 -- words, and the last one
@@ -33,17 +32,25 @@ HasBlocks memory touched blocks = copied_count (current_words memory) touched �
 abbrev pub HasRoom : Memory → Touched → Type 0
 HasRoom memory touched = commit_stores (current_words memory) touched + 2 ≤ room_in memory
 
--- All that a commit asks for, of the memory and of the set of free blocks.
-pub record CanCommitIn (bound : ℕ → ℕ) (memory : Memory) (touched : Touched) (blocks : Set) : Type 0 where
-  pub well_formed : IsWellFormed (current_words memory)
-  pub can : CanCommit (current_words memory) bound touched (has blocks)
-  pub fits : block_count (current_words memory) ≤ length blocks
-  pub some : HasBlocks memory touched blocks
-  pub room : HasRoom memory touched
-
 -- the word of the cover
 abbrev pub cover_word : Image → Touched → ℕ
 cover_word image touched = address image (commit_cover image touched)
+
+-- the block that holds the word of the cover is not kept, where that is not the superblock
+abbrev pub HasLooseCover : Image → (ℕ → Bool) → Touched → Type 0
+HasLooseCover image kept touched =
+    block_words ≤ cover_word image touched → kept (cover_word image touched / block_words) ≡ false
+
+-- All that a commit asks for, of the memory and of the set of free blocks. The blocks that are kept are not among
+-- these, and the one store in place goes to none of them.
+pub record CanCommitIn (bound : ℕ → ℕ) (kept : ℕ → Bool) (memory : Memory) (touched : Touched) (blocks : Set)
+    : Type 0 where
+  pub well_formed : IsWellFormed (current_words memory)
+  pub can : CanCommit (current_words memory) bound kept touched (has blocks)
+  pub loose : HasLooseCover (current_words memory) kept touched
+  pub fits : block_count (current_words memory) ≤ length blocks
+  pub some : HasBlocks memory touched blocks
+  pub room : HasRoom memory touched
 
 -- what a commit makes of the words whose cover has so many slots
 abbrev pub IsCommittedBy : (ℕ → ℕ) → Touched → ℕ → Image → Image → Type 0
@@ -52,21 +59,22 @@ IsCommittedBy bound touched cover old new =
 
 -- By one store at the word of the cover, alone in its epoch after a quiet preparation, each touched word has its
 -- value. Before it there are stores to the blocks that are taken for the copies, to each of them, and nowhere else.
--- In the end just the blocks that no reached tree has are free, so those that were copied are.
-pub record CommitsTouched (bound : ℕ → ℕ) (touched : Touched) (old new : Memory)
+-- No store goes to a block that is kept. In the end just the blocks that no reached tree has and that are not kept are
+-- free, so those that were copied are, but for the kept ones.
+pub record CommitsTouched (bound : ℕ → ℕ) (kept : ℕ → Bool) (touched : Touched) (old new : Memory)
     (blocks blocks_after : Set) : Type 0 where
   pub value : ℕ
   pub commit : AddsCommit Same (cover_word (current_words old) touched) value 2
       (commit_stores (current_words old) touched) old new
   pub taken : List ℕ
-  pub takes : TakesBlocks (current_words old) none_kept taken commit.prepared
+  pub takes : TakesBlocks (current_words old) kept taken commit.prepared
   pub number : length taken ≡ copied_count (current_words old) touched
   -- the blocks were in the set of free ones
   pub from : Each (λ b. has blocks b ≡ true) taken
   -- the pointers above the cover's word stay
   pub stays : address (current_words new) (commit_cover (current_words old) touched)
       ≡ cover_word (current_words old) touched
+  pub loose : HasLooseCover (current_words old) kept touched
   pub words : IsCommittedBy bound touched (length (commit_cover (current_words old) touched)) (current_words old)
       (current_words new)
-  pub exact : AreUnheld (current_words new) (IsReached (current_words old)) bound none_kept
-      (has blocks_after)
+  pub exact : AreUnheld (current_words new) (IsReached (current_words old)) bound kept (has blocks_after)

@@ -5,6 +5,7 @@ use Rattle.bp_layout.specs.Members.{Has}
 use Rattle.bp_layout.specs.WordPaths.{WordPath}
 use Rattle.bp_cow.specs.Touched.{laid_word, leaves_of, live_of, patch_of, run_leaves, run_live, run_way, way_of}
 use Rattle.bp_cow.specs.declared.touched.Run.{Run}
+use Rattle.bp_cow.specs.declared.touched.TreeSize.{TreeSize}
 
 -- A way among those of some runs leads to a leaf of one of them, by the leaf's number in that run. What all runs that
 -- there are lay over it goes by the run's tree.
@@ -15,4 +16,4 @@ pub record IsLeaf (all runs : List Run) (paths : List WordPath) (i : ℕ) (run :
   pub way : way_of runs paths i ≡ run_way run leaf
   pub patch : (slot old : ℕ) → patch_of all runs i slot old
       ≡ laid_word all run.root.items (block_words * (run.off / block_size + leaf) + slot) old
-  pub live : (depth : ℕ) → live_of runs i depth ≡ run_live run leaf depth
+  pub live : (trees : List TreeSize) (depth : ℕ) → live_of runs trees paths i depth ≡ run_live run leaf depth

@@ -11,15 +11,14 @@ use Rattle.bp_cow.specs.Job.{Job, ways, front, end_of, word_trail, IsAnew, value
 use Rattle.bp_cow.specs.Stage.{IsBuilding}
 use Rattle.bp_cow.specs.Touched.{job_of}
 use Rattle.bp_cow.specs.declared.touched.Touched.{Touched}
-use Rattle.bp_layout.specs.Thaw.{none_kept}
 
 -- `bound`: the sizes under which the trees count; `from`: how many slots the cover has; `place`: where its word stands
-pub record IsFeasible (old : Image) (bound : ℕ → ℕ) (job : Job) (from place : ℕ) (free : ℕ → Bool) : Type 0 where
+pub record IsFeasible (old : Image) (bound : ℕ → ℕ) (job : Job) (from place : ℕ) (kept free : ℕ → Bool) : Type 0 where
   pub some : 0 < ways job
   pub some_blocks : 0 < block_count old
   pub whole : length old ≡ block_words * block_count old
   pub forest : IsForest old bound
-  pub exact : IsExactSet old (IsTreePointer old bound) none_kept free
+  pub exact : IsExactSet old (IsTreePointer old bound) kept free
   -- each way begins with the cover, and each of its fronts is a pointer
   pub below : (i : ℕ) → i < ways job → from ≤ length (job.way i)
   pub short : (i : ℕ) → i < ways job → length (job.way i) ≤ 11
@@ -41,11 +40,12 @@ pub record IsFeasible (old : Image) (bound : ℕ → ℕ) (job : Job) (from plac
   pub placed : IsPlaced old (IsTreePointer old bound) (front job 0 from)
   pub at : place_on old (front job 0 from) ≡ place
 
--- the image before, the sizes under which its trees count, the free blocks before, what is to be done, the place of
--- the cover, and the cover's copy
+-- the image before, the sizes under which its trees count, the blocks that are kept and those that are free before, what
+-- is to be done, the place of the cover, and the cover's copy
 pub record Plan : Type 0 where
   pub old : Image
   pub bound : ℕ → ℕ
+  pub kept : ℕ → Bool
   pub free : ℕ → Bool
   pub job : Job
   pub place : ℕ
@@ -66,10 +66,10 @@ abbrev pub IsMade : Plan → ℕ → ℕ → ℕ → Image → (ℕ → Bool) �
 IsMade plan from i depth now free =
     IsBuilding plan.old now plan.place (pointing_to (word plan.old plan.place) plan.top) (front plan.job 0 from)
     (IsTreePointer plan.old plan.bound) (IsAnew plan.job from i depth) (value_upto plan.job (i - plan.job.leaves))
-    (laid_on plan.old plan.job) free
+    (laid_on plan.old plan.job) plan.kept free
 
 abbrev pub CanMake : Plan → ℕ → Type 0
-CanMake plan from = IsFeasible plan.old plan.bound plan.job from plan.place plan.free
+CanMake plan from = IsFeasible plan.old plan.bound plan.job from plan.place plan.kept plan.free
 
 -- the block at a depth of a way
 abbrev pub reached : Plan → ℕ → ℕ → Image → ℕ

@@ -8,12 +8,17 @@ use Rattle.bp_shapes.specs.Forest.{IsTreePointer}
 use Rattle.bp_cow.specs.Job.{IsAnew}
 use Rattle.bp_cow.specs.Plan.{Plan, CanMake, IsOnWay}
 
--- the free set has grown by the blocks to which some pointers led before
-pub record IsReturned (old : Image) (Pointer anew : Trail → Type 0) (before after : ℕ → Bool) : Type 0 where
-  pub given : (p : Trail) → Pointer p → anew p → block_on old p ≢ 0 → after (block_on old p) ≡ true
+-- some pointer that was turned led to the block, which is not kept
+abbrev pub IsGiven : Image → (Trail → Type 0) → (Trail → Type 0) → (ℕ → Bool) → ℕ → Type 0
+IsGiven old Pointer anew kept b =
+    (p : Trail) × Pointer p × anew p × (block_on old p ≡ b) × (b ≢ 0) × (kept b ≡ false)
+
+-- the free set has grown by the blocks to which some pointers led before, but for those that are kept
+pub record IsReturned (old : Image) (Pointer anew : Trail → Type 0) (kept before after : ℕ → Bool) : Type 0 where
+  pub given : (p : Trail) → Pointer p → anew p → block_on old p ≢ 0 → kept (block_on old p) ≡ false
+      → after (block_on old p) ≡ true
   pub still : (b : ℕ) → before b ≡ true → after b ≡ true
-  pub from : (b : ℕ) → after b ≡ true → (before b ≡ true) ⊎ ((p : Trail) × Pointer p × anew p × (block_on old p ≡ b)
-      × (b ≢ 0))
+  pub from : (b : ℕ) → after b ≡ true → (before b ≡ true) ⊎ IsGiven old Pointer anew kept b
 
 -- the words as a commit leaves them: the old blocks from the cover down are as they were, and none of them is free
 pub record IsLeft (plan : Plan) (from : ℕ) (before : ℕ → Bool) (now : Image) : Type 0 where
@@ -25,7 +30,7 @@ pub record IsLeft (plan : Plan) (from : ℕ) (before : ℕ → Bool) (now : Imag
 
 abbrev pub IsBack : Plan → ℕ → ℕ → ℕ → (ℕ → Bool) → (ℕ → Bool) → Type 0
 IsBack plan from i depth before after =
-    IsReturned plan.old (IsTreePointer plan.old plan.bound) (IsAnew plan.job from i depth) before after
+    IsReturned plan.old (IsTreePointer plan.old plan.bound) (IsAnew plan.job from i depth) plan.kept before after
 
 -- the old blocks on a way can be given back from a depth on, behind those that have been
 pub record CanGive (plan : Plan) (from i depth : ℕ) (blocks : Set) (now : Image) : Type 0 where

@@ -34,4 +34,5 @@ pub record IsTurnedOver (plan : Plan) (touched : Touched) (from place : ℕ) (bl
       + (job_of touched).words) old new
   pub stage : IsStage plan.old (current_words new) (IsTreePointer plan.old plan.bound)
       (IsAnew (job_of touched) from (ways (job_of touched)) from)
-      (value_upto (job_of touched) (job_of touched).words) (laid_on plan.old (job_of touched)) (has left)
+      (value_upto (job_of touched) (job_of touched).words) (laid_on plan.old (job_of touched)) plan.kept
+      (has left)

@@ -7,12 +7,13 @@ ghost use Rattle.bp_layout.specs.Words.{word, block_count};
 ghost use Rattle.bp_shapes.specs.Forest.{IsExactSet, IsTreePointer};
 ghost use Rattle.pm_epochs.specs.Crash.{commit};
 ghost use Rattle.pm_region.specs.Memory.{current_words, room_in, Adds};
+ghost use Rattle.bp_cow.specs.CanCommit.{TellsKept};
 ghost use Rattle.bp_cow.specs.Commit.{CanCommitIn, CommitsTouched};
 ghost use Rattle.bp_cow.specs.Found.{IsCoverIn};
 ghost use Rattle.bp_cow.specs.Plan.{Plan};
 ghost use Rattle.bp_cow.specs.Touched.{IsTouched, only_value};
 ghost use Rattle.bp_cow.specs.Turned.{CanTurn, IsTurnedOver};
-ghost use Rattle.bp_layout.specs.Thaw.{none_kept};
+ghost use Rattle.bp_shapes.specs.Sets.{kept_of};
 
 use crate::build::make;
 use crate::covering::{FoundCover, find_cover};
@@ -47,29 +48,34 @@ fn turn_over<R: Region>(
     commit_word(region, place, turned);
 }
 
-/// The same, and the blocks that were left are given back.
-fn commit_copies<R: Region>(
-    region: &mut R,
-    blocks: &mut Blocks,
-    touched: &Touched<'_>,
-    from: usize,
-    place: u32,
-)
+/// The same, and the blocks that were left are given back, but for those that are kept.
+fn commit_copies<R: Region>(parts: &mut Parts<R>, touched: &Touched<'_>, from: usize, place: u32)
     ghost plan: { Plan }
     requires touched { IsTouched touched.now }
-    requires can { CanTurn plan touched.now from place blocks.old (R.memory region.old) }
-    requires fits { block_count plan.old ≤ length blocks.old }
-    ensures done { (taken : Set) × IsTurnedOver plan touched.now from place blocks.old taken
-        (R.memory region.old) (R.memory region.new) }
-    ensures exact { IsExactSet (current_words (R.memory region.new))
-        (IsTreePointer plan.old plan.bound) none_kept (has blocks.new) }
-    ensures size { length blocks.new ≡ length blocks.old }
+    requires can { CanTurn plan touched.now from place parts.old.blocks (R.memory parts.old.region) }
+    requires fits { block_count plan.old ≤ length parts.old.blocks }
+    requires kept { TellsKept plan.kept plan.old parts.old.frozen }
+    ensures done { (taken : Set) × IsTurnedOver plan touched.now from place parts.old.blocks taken
+        (R.memory parts.old.region) (R.memory parts.new.region) }
+    ensures exact { IsExactSet (current_words (R.memory parts.new.region))
+        (IsTreePointer plan.old plan.bound) plan.kept (has parts.new.blocks) }
+    ensures size { length parts.new.blocks ≡ length parts.old.blocks }
+    ensures inodes { parts.new.inodes ≡ parts.old.inodes }
+    ensures counts { parts.new.counts ≡ parts.old.counts }
+    ensures frozen { parts.new.frozen ≡ parts.old.frozen }
 {
-    let _words = region.words();
-    let pointer = region.load(place);
+    let _words = parts.region.words();
+    let pointer = parts.region.load(place);
     let top = pm_words::block_of(pointer) as u32;
-    turn_over(region, blocks, touched, from, place);
-    give_back(region, blocks, touched, from, top);
+    turn_over(&mut parts.region, &mut parts.blocks, touched, from, place);
+    give_back(
+        &parts.region,
+        &mut parts.blocks,
+        &parts.frozen,
+        touched,
+        from,
+        top,
+    );
 }
 
 /// Gives the only touched word, which stands at `place`, its value there.
@@ -87,9 +93,10 @@ fn commit_one<R: Region>(region: &mut R, touched: &Touched<'_>, place: u32)
 /// What [`commit`] does, for a caller that has found the cover of the touched words.
 pub fn commit_at<R: Region>(parts: &mut Parts<R>, touched: &Touched<'_>, cover: FoundCover)
     ghost bound: { ℕ → ℕ }
-    requires can { CanCommitIn bound (R.memory parts.old.region) touched.now parts.old.blocks }
+    requires can { CanCommitIn bound (kept_of parts.old) (R.memory parts.old.region) touched.now parts.old.blocks }
     requires cover { IsCoverIn (current_words (R.memory parts.old.region)) touched.now cover }
-    ensures commits { CommitsTouched bound touched.now
+    requires kept { TellsKept (kept_of parts.old) (current_words (R.memory parts.old.region)) parts.old.frozen }
+    ensures commits { CommitsTouched bound (kept_of parts.old) touched.now
         (R.memory parts.old.region) (R.memory parts.new.region) parts.old.blocks parts.new.blocks }
     ensures size { length parts.new.blocks ≡ length parts.old.blocks }
     ensures inodes { parts.new.inodes ≡ parts.old.inodes }
@@ -99,23 +106,19 @@ pub fn commit_at<R: Region>(parts: &mut Parts<R>, touched: &Touched<'_>, cover: 
     if touched.way_len(0) < cover.len {
         commit_one(&mut parts.region, touched, cover.place);
     } else {
-        commit_copies(
-            &mut parts.region,
-            &mut parts.blocks,
-            touched,
-            cover.len,
-            cover.place,
-        );
+        commit_copies(parts, touched, cover.len, cover.place);
     }
 }
 
 /// Gives the touched words their values by one store at the word of the cover, alone in its epoch: of the value,
 /// where the cover is the only touched word, and else of a pointer to copies of the blocks from there to the touched
-/// words. As many blocks are taken as `need_cover` tells. Those that were copied are given back in the end.
+/// words. As many blocks are taken as `need_cover` tells. Those that were copied are given back in the end, but for the
+/// blocks that are kept, to which no store goes.
 pub fn commit<R: Region>(parts: &mut Parts<R>, touched: &Touched<'_>)
     ghost bound: { ℕ → ℕ }
-    requires can { CanCommitIn bound (R.memory parts.old.region) touched.now parts.old.blocks }
-    ensures commits { CommitsTouched bound touched.now
+    requires can { CanCommitIn bound (kept_of parts.old) (R.memory parts.old.region) touched.now parts.old.blocks }
+    requires kept { TellsKept (kept_of parts.old) (current_words (R.memory parts.old.region)) parts.old.frozen }
+    ensures commits { CommitsTouched bound (kept_of parts.old) touched.now
         (R.memory parts.old.region) (R.memory parts.new.region) parts.old.blocks parts.new.blocks }
     ensures size { length parts.new.blocks ≡ length parts.old.blocks }
     ensures inodes { parts.new.inodes ≡ parts.old.inodes }

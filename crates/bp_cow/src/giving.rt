@@ -1,10 +1,11 @@
-//! The blocks that a commit left are given back.
+//! The blocks that a commit left are given back, but for those that are kept.
 
-ghost use Rattle.std.specs.Prelude.{◌≡◌, ℕ, ◌+◌, ◌<◌, ◌≤◌, length};
-ghost use Rattle.bp_free.specs.Set.{has};
+ghost use Rattle.std.specs.Prelude.{◌≡◌, ℕ, ◌+◌, ◌<◌, ◌≤◌, length, true, false};
+ghost use Rattle.bp_free.specs.Set.{TakesNumber, has};
 ghost use Rattle.bp_shapes.specs.Trail.{block_on};
 ghost use Rattle.bp_layout.specs.Words.{block_count};
 ghost use Rattle.pm_region.specs.Memory.{current_words};
+ghost use Rattle.bp_cow.specs.CanCommit.{TellsKept};
 ghost use Rattle.bp_cow.specs.Job.{ways, front};
 ghost use Rattle.bp_cow.specs.Plan.{Plan, planned};
 ghost use Rattle.bp_cow.specs.Return.{IsLeft, IsBack, CanGive};
@@ -18,39 +19,66 @@ use bp_free::Blocks;
 use bp_tree::load_slot;
 use pm_region::Region;
 
-/// One block further on the old way: the block there is given back, where no earlier way has had it given back.
+/// Gives a block back, but where it is kept.
+fn give_loose(blocks: &mut Blocks, frozen: &Blocks, block: u32)
+    requires in_range { block < length blocks.old }
+    requires known { block < length frozen.now }
+    requires used { has blocks.old block ≡ false }
+    ensures given { has frozen.now block ≡ false → TakesNumber (has blocks.new) (has blocks.old) block }
+    ensures stays { has frozen.now block ≡ true → blocks.new ≡ blocks.old }
+    ensures size { length blocks.new ≡ length blocks.old }
+{
+    if !frozen.is_free(block) {
+        give(blocks, block);
+    }
+}
+
+/// A block on an old way.
+#[derive(Clone, Copy)]
+struct OldBlock {
+    /// How many slots of the way lead to it.
+    depth: usize,
+    /// Its number.
+    block: u32,
+}
+
+/// One block further on the old way: the block there is given back, where it is not kept and no earlier way has had it
+/// given back.
 fn give_step<R: Region>(
     region: &R,
     blocks: &mut Blocks,
+    frozen: &Blocks,
     touched: &Touched<'_>,
     way: &Way<'_>,
     from: usize,
-    depth: usize,
-    block: u32,
+    at: OldBlock,
 ) -> u32
     ghost plan: { Plan }
     requires touched { IsTouched touched.now }
     requires is_way { IsWay touched.now way.now }
-    requires can { CanGive (planned plan touched.now) from way.now.index depth blocks.old (current_words (R.memory region.now)) }
-    requires more { depth < length ((job_of touched.now).way way.now.index) }
-    requires block { block ≡ block_on plan.old (front (job_of touched.now) way.now.index depth) }
-    ensures back { IsBack (planned plan touched.now) from way.now.index (depth + 1) plan.free_after (has blocks.new) }
-    ensures block { result ≡ block_on plan.old (front (job_of touched.now) way.now.index (depth + 1)) }
+    requires can { CanGive (planned plan touched.now) from way.now.index at.depth blocks.old
+        (current_words (R.memory region.now)) }
+    requires more { at.depth < length ((job_of touched.now).way way.now.index) }
+    requires block { at.block ≡ block_on plan.old (front (job_of touched.now) way.now.index at.depth) }
+    requires kept { TellsKept plan.kept plan.old frozen.now }
+    ensures back { IsBack (planned plan touched.now) from way.now.index (at.depth + 1) plan.free_after (has blocks.new) }
+    ensures block { result ≡ block_on plan.old (front (job_of touched.now) way.now.index (at.depth + 1)) }
     ensures size { length blocks.new ≡ length blocks.old }
 {
     let _words = region.words();
-    let pointer = load_slot(region, block as u64, touched.slot(way, depth) as u64);
+    let pointer = load_slot(region, at.block as u64, touched.slot(way, at.depth) as u64);
     let next = pm_words::block_of(pointer) as u32;
-    if next != 0 && is_new(touched, way, from, depth + 1) {
-        give(blocks, next);
+    if next != 0 && is_new(touched, way, from, at.depth + 1) {
+        give_loose(blocks, frozen, next);
     }
     next
 }
 
-/// Gives back the old blocks on a way that no earlier way has had given back.
+/// Gives back the old blocks on a way that are not kept and that no earlier way has had given back.
 fn give_way<R: Region>(
     region: &R,
     blocks: &mut Blocks,
+    frozen: &Blocks,
     touched: &Touched<'_>,
     way: &Way<'_>,
     from: usize,
@@ -61,20 +89,23 @@ fn give_way<R: Region>(
     requires is_way { IsWay touched.now way.now }
     requires can { CanGive (planned plan touched.now) from way.now.index from blocks.old (current_words (R.memory region.now)) }
     requires top { top ≡ block_on plan.old (front (job_of touched.now) 0 from) }
+    requires kept { TellsKept plan.kept plan.old frozen.now }
     ensures back { IsBack (planned plan touched.now) from (way.now.index + 1) from plan.free_after (has blocks.new) }
     ensures size { length blocks.new ≡ length blocks.old }
 {
     let end = way.len;
     let mut block = top;
     for depth in from..end {
-        block = give_step(region, blocks, touched, way, from, depth, block);
+        let at = OldBlock { depth, block };
+        block = give_step(region, blocks, frozen, touched, way, from, at);
     }
 }
 
-/// Gives back the old blocks on the ways. `top` is the block to which the cover's pointer led.
+/// Gives back the old blocks on the ways that are not kept. `top` is the block to which the cover's pointer led.
 pub(crate) fn give_back<R: Region>(
     region: &R,
     blocks: &mut Blocks,
+    frozen: &Blocks,
     touched: &Touched<'_>,
     from: usize,
     top: u32,
@@ -85,14 +116,15 @@ pub(crate) fn give_back<R: Region>(
     requires taken { plan.free_after ≡ has blocks.old }
     requires top { top ≡ block_on plan.old (front (job_of touched.now) 0 from) }
     requires fits { block_count plan.old ≤ length blocks.old }
+    requires kept { TellsKept plan.kept plan.old frozen.now }
     ensures back { IsBack (planned plan touched.now) from (ways (job_of touched.now)) from plan.free_after (has blocks.new) }
     ensures size { length blocks.new ≡ length blocks.old }
 {
     let ways = touched.ways();
     if top != 0 {
-        give(blocks, top);
+        give_loose(blocks, frozen, top);
     }
     for i in 0..ways {
-        give_way(region, blocks, touched, &touched.way(i), from, top);
+        give_way(region, blocks, frozen, touched, &touched.way(i), from, top);
     }
 }

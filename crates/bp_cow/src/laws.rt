@@ -27,10 +27,10 @@ ghost use Rattle.bp_layout.specs.Members.{Has};
 ghost use Rattle.bp_layout.specs.Reached.{IsReached};
 ghost use Rattle.bp_shapes.specs.Trail.{Trail, word_on, trail_of, LeadsTo};
 ghost use Rattle.bp_layout.specs.Tree.{IsFull, HasBlock};
-ghost use Rattle.bp_layout.specs.WordPaths.{WordPath};
+ghost use Rattle.bp_layout.specs.WordPaths.{WordPath, inode_path};
 ghost use Rattle.bp_layout.specs.Words.{word, height_of, byte_of};
 ghost use Rattle.bp_layout.specs.WellFormed.{IsWellFormed};
-ghost use Rattle.bp_cow.specs.CanCommit.{IsRunIn, CanCommit};
+ghost use Rattle.bp_cow.specs.CanCommit.{IsRunIn, IsTreeIn, CanCommit};
 ghost use Rattle.bp_cow.specs.Commit.{IsCommittedBy};
 ghost use Rattle.bp_cow.specs.Committed.{after_commit, changes_of};
 ghost use Rattle.bp_cow.specs.Cover.{end_path, BeginAlike, LeadsInside, IsCover, commit_cover};
@@ -48,9 +48,9 @@ ghost use Rattle.bp_cow.specs.Touched.{
   job_of,
 };
 ghost use Rattle.bp_cow.specs.declared.touched.Run.{Run};
-ghost use Rattle.bp_layout.specs.Thaw.{none_kept};
+ghost use Rattle.bp_cow.specs.declared.touched.TreeSize.{TreeSize};
 
-use crate::touched::{Run, Touched};
+use crate::touched::{Run, Touched, TreeSize};
 
 /// Where the paths that tell the cover begin alike, all touched paths do.
 pub fn all_touched_paths_begin_alike(touched: &Touched<'_>)
@@ -72,26 +72,26 @@ pub fn a_cover_is_determined(image: &[u64], touched: &Touched<'_>)
 /// Of touched words that can be committed, the cover and its need can be asked for.
 pub fn what_can_be_committed_has_a_cover(image: &[u64], touched: &Touched<'_>)
     requires { IsWellFormed image.now }
-    ensures inside { (bound : ℕ → ℕ) (free : ℕ → Bool) →
-        CanCommit image.now bound touched.now free → LeadsInside image.now touched.now }
-    ensures apart { (bound : ℕ → ℕ) (free : ℕ → Bool) →
-        CanCommit image.now bound touched.now free → NoneBegins (all_paths touched.now) }
+    ensures inside { (bound : ℕ → ℕ) (kept free : ℕ → Bool) →
+        CanCommit image.now bound kept touched.now free → LeadsInside image.now touched.now }
+    ensures apart { (bound : ℕ → ℕ) (kept free : ℕ → Bool) →
+        CanCommit image.now bound kept touched.now free → NoneBegins (all_paths touched.now) }
 {}
 
 /// After a commit each touched word has the value that it is given, a word of a run the new bytes beside those that it
 /// had, and each other word the value that it had.
 pub fn touched_words_have_their_values(image: &[u64], touched: &Touched<'_>)
     requires { IsWellFormed image.now }
-    ensures words { (bound : ℕ → ℕ) (free : ℕ → Bool) (i : ℕ) → CanCommit image.now bound touched.now free →
+    ensures words { (bound : ℕ → ℕ) (kept free : ℕ → Bool) (i : ℕ) → CanCommit image.now bound kept touched.now free →
         i < length touched.now.words.now →
         after_commit image.now (job_of touched.now) (touched_trail touched.now i) ≡ (job_of touched.now).value i }
-    ensures run { (bound : ℕ → ℕ) (free : ℕ → Bool) (run : Run) (k : ℕ) →
-        CanCommit image.now bound touched.now free → Has touched.now.runs.now run →
+    ensures run { (bound : ℕ → ℕ) (kept free : ℕ → Bool) (run : Run) (k : ℕ) →
+        CanCommit image.now bound kept touched.now free → Has touched.now.runs.now run →
         run.off / 8 ≤ k → k ≤ (run_end run - 1) / 8 →
         after_commit image.now (job_of touched.now) (end_trail (run_path run k)) ≡
         laid_word touched.now.runs.now run.root.items k (word_on image.now (end_trail (run_path run k))) }
-    ensures others { (bound : ℕ → ℕ) (free : ℕ → Bool) (slot : ℕ) (p : Trail) →
-        CanCommit image.now bound touched.now free → slot < block_words →
+    ensures others { (bound : ℕ → ℕ) (kept free : ℕ → Bool) (slot : ℕ) (p : Trail) →
+        CanCommit image.now bound kept touched.now free → slot < block_words →
         ((i : ℕ) → i < length touched.now.words.now → slot ∷ p ≢ touched_trail touched.now i) →
         ((run : Run) (k : ℕ) → Has touched.now.runs.now run → run.off / 8 ≤ k → k ≤ (run_end run - 1) / 8 →
         slot ∷ p ≢ end_trail (run_path run k)) →
@@ -132,17 +132,36 @@ pub fn commits_are_told_on_trees(old: &[u64], new: &[u64], touched: &Touched<'_>
 {}
 
 /// One word of a tree that a well-formed image has below its size, but for a root word in the inode file, can be
-/// committed; and so can runs of files and directories, below their sizes.
+/// committed; and so can runs of files and directories, below their sizes. Trees that are given have the image's sizes.
 pub fn a_word_or_runs_can_be_committed(image: &[u64], touched: &Touched<'_>)
     requires well_formed { IsWellFormed image.now }
     requires touched { IsTouched touched.now }
-    ensures word { (free : ℕ → Bool) (t k : ℕ) → AreFreeBlocks image.now none_kept free → touched.now.runs.now ≡ [] →
+    ensures word { (kept free : ℕ → Bool) (t k : ℕ) → AreFreeBlocks image.now kept free →
+        ((tree : TreeSize) → Has touched.now.trees.now tree → IsTreeIn image.now (size_of image.now) tree) →
+        touched.now.runs.now ≡ [] →
         length touched.now.words.now ≡ 1 →
         IsReached image.now t → 8 * k < size_of image.now t → (t ≡ 0 → k % 8 ≢ 1) →
         touched_trail touched.now 0 ≡
         tree_trail (height_of (word image.now super_root)) t (suc (height_of (root_of image.now t))) k →
-        CanCommit image.now (size_of image.now) touched.now free }
-    ensures runs { (free : ℕ → Bool) → AreFreeBlocks image.now none_kept free → length touched.now.words.now ≡ 0 →
+        CanCommit image.now (size_of image.now) kept touched.now free }
+    ensures runs { (kept free : ℕ → Bool) → AreFreeBlocks image.now kept free →
+        ((tree : TreeSize) → Has touched.now.trees.now tree → IsTreeIn image.now (size_of image.now) tree) →
+        length touched.now.words.now ≡ 0 →
         ((run : Run) → Has touched.now.runs.now run → IsRunIn image.now (size_of image.now) run) →
-        CanCommit image.now (size_of image.now) touched.now free }
+        CanCommit image.now (size_of image.now) kept touched.now free }
+{}
+
+/// The tree of a reached inode, and the inode file, can be given with the size that the image has. It still can where
+/// another image has the tree as high, and no more of it counts.
+pub fn trees_can_be_given_with_their_sizes(old: &[u64], new: &[u64], tree: &TreeSize)
+    ensures inode { (n : ℕ) → IsReached old.now (suc n) →
+        tree.now.root.items ≡ inode_path (height_of (root_of old.now 0)) (suc n) 1 →
+        tree.now.height ≡ height_of (root_of old.now (suc n)) → tree.now.size ≡ size_of old.now (suc n) →
+        IsTreeIn old.now (size_of old.now) tree.now }
+    ensures inode_file { tree.now.root.items ≡ [] → tree.now.height ≡ height_of (root_of old.now 0) →
+        tree.now.size ≡ size_of old.now 0 → IsTreeIn old.now (size_of old.now) tree.now }
+    ensures stays { (bound : ℕ → ℕ) (at : IsTreeIn old.now (size_of old.now) tree.now) →
+        IsReached new.now at.number → height_of (word new.now super_root) ≡ height_of (word old.now super_root) →
+        height_of (root_of new.now at.number) ≡ height_of (root_of old.now at.number) →
+        bound at.number ≤ size_of old.now at.number → IsTreeIn new.now bound tree.now }
 {}

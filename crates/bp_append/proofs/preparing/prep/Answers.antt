@@ -1,4 +1,4 @@
-use Rattle.std.proofs.Common.{◌≡◌, ◌⊎◌, ℕ, ◌+◌, ◌<◌, ◌≤◌, List, length, get_or, sym, ◌∙◌, ap, subst, subst₂, arith}
+use Rattle.std.proofs.Common.{◌≡◌, ◌⊎◌, ℕ, ◌+◌, ◌<◌, ◌≤◌, List, length, Bool, get_or, sym, ◌∙◌, ap, subst, subst₂, arith}
 use Rattle.bp_free.specs.Set.{members}
 use Rattle.bp_layout.specs.Words.{block_of}
 use Rattle.bp_layout.specs.Inode.{root_of, size_of, RootPlace}
@@ -12,23 +12,23 @@ use Rattle.bp_append.proofs.NullPrepared.{null_prepared}
 use Rattle.bp_append.proofs.TreePrepared.{tree_prepared}
 use Rattle.bp_append.proofs.preparing.prep.Goals as goal
 
-leads : (memory : Memory) (free : List ℕ) (t : ℕ) (path : WordPath) (from to : ℕ) → CanPrepare memory free t path from to → Leads (current_words memory) t path
+leads : {kept : ℕ → Bool} (memory : Memory) (free : List ℕ) (t : ℕ) (path : WordPath) (from to : ℕ) → CanPrepare kept memory free t path from to → Leads (current_words memory) t path
 leads memory free t path from to can = subst (Leads (current_words memory) t) (sym can.leads) (leads_to (current_words memory) t can.well can.reached)
 
 -- the words that were loaded are the root word and the size
-roots : (memory : Memory) (free : List ℕ) (t : ℕ) (path : WordPath) (from to place root size : ℕ) → CanPrepare memory free t path from to → place ≡ address (current_words memory) path →
+roots : {kept : ℕ → Bool} (memory : Memory) (free : List ℕ) (t : ℕ) (path : WordPath) (from to place root size : ℕ) → CanPrepare kept memory free t path from to → place ≡ address (current_words memory) path →
     root ≡ get_or (current_words memory) place 0 → size ≡ get_or (current_words memory) (place + 1) 0 → (root ≡ root_of (current_words memory) t) × (size ≡ size_of (current_words memory) t)
 roots memory free t path from to place root size can at one two =
     let there = leads memory free t path from to can in
     (one ∙ ap (λ p. get_or (current_words memory) p 0) at ∙ there.root, two ∙ ap (λ p. get_or (current_words memory) (p + 1) 0) at ∙ there.size)
 
-can_grow : (memory : Memory) (free : List ℕ) (t : ℕ) (path : WordPath) (from to place root size : ℕ) → CanPrepare memory free t path from to → place ≡ address (current_words memory) path →
+can_grow : {kept : ℕ → Bool} (memory : Memory) (free : List ℕ) (t : ℕ) (path : WordPath) (from to place root size : ℕ) → CanPrepare kept memory free t path from to → place ≡ address (current_words memory) path →
     root ≡ get_or (current_words memory) place 0 → size ≡ get_or (current_words memory) (place + 1) 0 → CanGrow memory free root size from to
 can_grow memory free t path from to place root size can at one two =
     let both = roots memory free t path from to place root size can at one two in
     subst₂ (λ r s. CanGrow memory free r s from to) (sym both.0) (sym both.1) (grow_can memory free t path from to can)
 
-place_low : (memory : Memory) (free : List ℕ) (t : ℕ) (path : WordPath) (from to place : ℕ) → CanPrepare memory free t path from to → place ≡ address (current_words memory) path → place + 1 < length memory.base
+place_low : {kept : ℕ → Bool} (memory : Memory) (free : List ℕ) (t : ℕ) (path : WordPath) (from to place : ℕ) → CanPrepare kept memory free t path from to → place ≡ address (current_words memory) path → place + 1 < length memory.base
 place_low memory free t path from to place can at = let there = leads memory free t path from to can in omega (arith, at, there.low, length-current_words memory)
 
 pub address-place-requires-clause-exists : goal.address-place-requires-clause-exists
@@ -76,7 +76,7 @@ returns-then-has_blocks-clause-prepares g c = λ tree can.
     let both = roots first (members c.args.parts.now.blocks) tree c.args.at.now.items c.args.from c.args.new_end c.address-place.result c.load.result c.load-2.result can c.address-place.ensures.address c.load.ensures c.load-2.ensures in
     let there = leads first (members c.args.parts.now.blocks) tree c.args.at.now.items c.args.from c.args.new_end can in
     let some = some_blocks c.load-2.result (block_of c.load.result) (sym c.has_blocks.ensures ∙ c.if-has_blocks.true) in
-    tree_prepared first (g.R.Region.memory c.prepare_tree.new.region) (members c.args.parts.now.blocks) (members c.prepare_tree.new.blocks) tree c.address-place.result c.args.from c.args.new_end c.args.at.now.items c.args.bytes.now can
+    tree_prepared _ first (g.R.Region.memory c.prepare_tree.new.region) (members c.args.parts.now.blocks) (members c.prepare_tree.new.blocks) tree c.address-place.result c.args.from c.args.new_end c.args.at.now.items c.args.bytes.now can
     (subst (RootPlace (current_words first) tree) (sym c.address-place.ensures.address) there.stands)
     (subst₂ (λ r s. Grows first (g.R.Region.memory c.prepare_tree.new.region) (members c.args.parts.now.blocks) (members c.prepare_tree.new.blocks) c.address-place.result r s c.args.from c.args.new_end c.args.bytes.now) both.0 both.1 c.prepare_tree.ensures.grows)
     (subst (λ s. 0 < s) both.1 some.0) (subst (λ r. 1 ≤ block_of r) both.0 some.1)
@@ -87,7 +87,7 @@ returns-else-has_blocks-clause-prepares g c = λ tree can.
     let both = roots first (members c.args.parts.now.blocks) tree c.args.at.now.items c.args.from c.args.new_end c.address-place.result c.load.result c.load-2.result can c.address-place.ensures.address c.load.ensures c.load-2.ensures in
     let there = leads first (members c.args.parts.now.blocks) tree c.args.at.now.items c.args.from c.args.new_end can in
     let none = no_blocks c.load-2.result (block_of c.load.result) (sym c.has_blocks.ensures ∙ c.if-has_blocks.false) in
-    null_prepared first (g.R.Region.memory c.prepare_null.new.region) (members c.args.parts.now.blocks) (members c.prepare_null.new.blocks) tree c.address-place.result c.args.from c.args.new_end c.args.at.now.items c.args.bytes.now can
+    null_prepared _ first (g.R.Region.memory c.prepare_null.new.region) (members c.args.parts.now.blocks) (members c.prepare_null.new.blocks) tree c.address-place.result c.args.from c.args.new_end c.args.at.now.items c.args.bytes.now can
     (subst (RootPlace (current_words first) tree) (sym c.address-place.ensures.address) there.stands)
     (subst₂ (λ r s. Makes first (g.R.Region.memory c.prepare_null.new.region) (members c.args.parts.now.blocks) (members c.prepare_null.new.blocks) c.address-place.result r s c.args.from c.args.new_end c.args.bytes.now) both.0 both.1 c.prepare_null.ensures.makes)
     (subst₂ (λ r s. (s ≡ 0) ⊎ (block_of r ≡ 0)) both.0 both.1 none)

@@ -16,7 +16,6 @@ use Rattle.bp_cow.proofs.StartLaws.{start_low}
 use Rattle.bp_cow.proofs.AddsLaws.{room_copies}
 use Rattle.bp_cow.proofs.QuietCopies.{copy_commit}
 use Rattle.bp_cow.proofs.committing.turn_over.Goals as goal
-use Rattle.bp_layout.specs.Thaw.{none_kept}
 
 pub load-pointer-requires : goal.load-pointer-requires
 load-pointer-requires g c =
@@ -40,15 +39,15 @@ returns-clause-done g c = record {
   size = c.make-top.ensures.makes.size;
   commit =
       let old : g.plan.old ≡ (current_words (g.R.Region.memory c.args.region.now)) = c.requires.1.1.old in let place : c.args.place ≡ g.plan.place = c.requires.1.1.at in
-      copy_commit g.plan.old g.plan.bound (has c.args.blocks.now) (has c.make-top.new.blocks) c.requires.1.1.well c.requires.1.1.can.forest c.requires.1.1.sizes (subst (λ (f : ℕ → Bool). IsExactSet g.plan.old (IsTreePointer g.plan.old g.plan.bound) none_kept f) c.requires.1.1.free c.requires.1.1.can.exact) (512 + (513 * turned_upto (job_of c.args.touched.now) c.args.from (ways (job_of c.args.touched.now)) + (job_of c.args.touched.now).words)) (513 * copies (job_of c.args.touched.now) c.args.from + (job_of c.args.touched.now).words) (omega arith) (g.R.Region.memory c.args.region.now) (g.R.Region.memory c.make-top.new.region) (g.R.Region.memory c.commit_word.new.region) old c.args.place _ (subst (λ (f : ℕ → Bool). AddsCopies f (has c.args.blocks.now) (has c.make-top.new.blocks) (512 + (513 * turned_upto (job_of c.args.touched.now) c.args.from (ways (job_of c.args.touched.now)) + (job_of c.args.touched.now).words)) (g.R.Region.memory c.args.region.now) (g.R.Region.memory c.make-top.new.region)) c.requires.1.1.free c.make-top.ensures.makes.stores) c.commit_word.ensures;
+      copy_commit g.plan.old g.plan.bound (has c.args.blocks.now) (has c.make-top.new.blocks) c.requires.1.1.well c.requires.1.1.can.forest c.requires.1.1.sizes (subst (λ (f : ℕ → Bool). IsExactSet g.plan.old (IsTreePointer g.plan.old g.plan.bound) g.plan.kept f) c.requires.1.1.free c.requires.1.1.can.exact) (512 + (513 * turned_upto (job_of c.args.touched.now) c.args.from (ways (job_of c.args.touched.now)) + (job_of c.args.touched.now).words)) (513 * copies (job_of c.args.touched.now) c.args.from + (job_of c.args.touched.now).words) (omega arith) (g.R.Region.memory c.args.region.now) (g.R.Region.memory c.make-top.new.region) (g.R.Region.memory c.commit_word.new.region) old c.args.place _ (subst (λ (f : ℕ → Bool). AddsCopies f (has c.args.blocks.now) (has c.make-top.new.blocks) (512 + (513 * turned_upto (job_of c.args.touched.now) c.args.from (ways (job_of c.args.touched.now)) + (job_of c.args.touched.now).words)) (g.R.Region.memory c.args.region.now) (g.R.Region.memory c.make-top.new.region)) c.requires.1.1.free c.make-top.ensures.makes.stores) c.commit_word.ensures;
   stage =
       let old : g.plan.old ≡ (current_words (g.R.Region.memory c.args.region.now)) = c.requires.1.1.old in let place : c.args.place ≡ g.plan.place = c.requires.1.1.at in let value : pointing_to (word g.plan.old g.plan.place) c.make-top.result ≡ c.pointer_word.result + c.load-pointer.result % 4096 =
       ap (λ w. 4096 * c.make-top.result + w % 4096) (sym (c.load-pointer.ensures ∙ ap (λ (ws : List ℕ). word ws c.args.place) (sym old) ∙ ap (word g.plan.old) place)) ∙ omega (arith, c.pointer_word.ensures) in
       let now : set (current_words (g.R.Region.memory c.make-top.new.region)) g.plan.place (pointing_to (word g.plan.old g.plan.place) c.make-top.result) ≡ current_words (g.R.Region.memory c.commit_word.new.region) =
       ap (set (current_words (g.R.Region.memory c.make-top.new.region)) g.plan.place) value ∙ ap (λ p. set (current_words (g.R.Region.memory c.make-top.new.region)) p (c.pointer_word.result + c.load-pointer.result % 4096)) (sym place) ∙ sym (current_words-adds (g.R.Region.memory c.make-top.new.region) (g.R.Region.memory c.commit_word.new.region) _ c.commit_word.ensures) in
       let words : ways (job_of c.args.touched.now) - (job_of c.args.touched.now).leaves ≡ (job_of c.args.touched.now).words = omega arith in
-      subst (λ n. IsStage g.plan.old (current_words (g.R.Region.memory c.commit_word.new.region)) (IsTreePointer g.plan.old g.plan.bound) (IsAnew (job_of c.args.touched.now) c.args.from (ways (job_of c.args.touched.now)) c.args.from) (value_upto (job_of c.args.touched.now) n) (laid_on g.plan.old (job_of c.args.touched.now)) (has c.make-top.new.blocks)) words
-      (subst (λ (ws : List ℕ). IsStage g.plan.old ws (IsTreePointer g.plan.old g.plan.bound) (IsAnew (job_of c.args.touched.now) c.args.from (ways (job_of c.args.touched.now)) c.args.from) (value_upto (job_of c.args.touched.now) (ways (job_of c.args.touched.now) - (job_of c.args.touched.now).leaves)) (laid_on g.plan.old (job_of c.args.touched.now)) (has c.make-top.new.blocks)) now
+      subst (λ n. IsStage g.plan.old (current_words (g.R.Region.memory c.commit_word.new.region)) (IsTreePointer g.plan.old g.plan.bound) (IsAnew (job_of c.args.touched.now) c.args.from (ways (job_of c.args.touched.now)) c.args.from) (value_upto (job_of c.args.touched.now) n) (laid_on g.plan.old (job_of c.args.touched.now)) g.plan.kept (has c.make-top.new.blocks)) words
+      (subst (λ (ws : List ℕ). IsStage g.plan.old ws (IsTreePointer g.plan.old g.plan.bound) (IsAnew (job_of c.args.touched.now) c.args.from (ways (job_of c.args.touched.now)) c.args.from) (value_upto (job_of c.args.touched.now) (ways (job_of c.args.touched.now) - (job_of c.args.touched.now).leaves)) (laid_on g.plan.old (job_of c.args.touched.now)) g.plan.kept (has c.make-top.new.blocks)) now
       c.make-top.ensures.made.stage);
 }
 

@@ -25,6 +25,12 @@ overflow_mul-from g c = omega (arith, c.requires.from, length-current_words (g.R
 pub overflow_add-from : goal.overflow_add-from
 overflow_add-from g c = omega (arith, c.requires.from, c.requires.few, length-current_words (g.R.Region.memory c.args.region.now), c.words-words.ensures, c.words-words.type_inv, c.loop-piece-test.true)
 
+pub copy_piece-requires-clause-from_behind_head : goal.copy_piece-requires-clause-from_behind_head
+copy_piece-requires-clause-from_behind_head g c = omega (arith, c.requires.present)
+
+pub copy_piece-requires-clause-to_behind_head : goal.copy_piece-requires-clause-to_behind_head
+copy_piece-requires-clause-to_behind_head g c = omega (arith, c.requires.to.not_null)
+
 pub copy_piece-requires-clause-from : goal.copy_piece-requires-clause-from
 copy_piece-requires-clause-from g c =
     omega (arith, c.requires.from, c.requires.few, c.loop-piece-test.true, front_long c.args.to _ (8 * c.loop-piece.piece) (g.R.Region.memory c.args.region.now) (g.R.Region.memory c.loop-piece.region) c.loop-piece.invariant.front)

@@ -17,5 +17,5 @@ overflow_cast-from g c = omega (arith, c.requires, length_now (g.R.Region.memory
 pub overflow_mul-from : goal.overflow_mul-from
 overflow_mul-from g c = omega (arith, c.requires, length_now (g.R.Region.memory c.args.region.now), c.words-words.ensures, c.words-words.type_inv)
 
-pub load_words-requires : goal.load_words-requires
-load_words-requires g c = omega (arith, c.requires, length_now (g.R.Region.memory c.args.region.now))
+pub load_words-requires-clause-in_range : goal.load_words-requires-clause-in_range
+load_words-requires-clause-in_range g c = omega (arith, c.requires, length_now (g.R.Region.memory c.args.region.now))

@@ -5,14 +5,14 @@ use Rattle.bp_tree.proofs.RegionWords.{length_now}
 use Rattle.bp_cow.proofs.copies.words_of.Goals as goal
 
 pub overflow_mul-block : goal.overflow_mul-block
-overflow_mul-block g c = omega (arith, c.requires, length_now (g.R.Region.memory c.args.region.now), c.words-words.ensures, c.words-words.type_inv)
+overflow_mul-block g c = omega (arith, c.requires.inside, length_now (g.R.Region.memory c.args.region.now), c.words-words.ensures, c.words-words.type_inv)
 
-pub load_words-requires : goal.load_words-requires
-load_words-requires g c = omega (arith, c.requires, length_now (g.R.Region.memory c.args.region.now))
+pub load_words-requires-clause-in_range : goal.load_words-requires-clause-in_range
+load_words-requires-clause-in_range g c = omega (arith, c.requires.inside, length_now (g.R.Region.memory c.args.region.now))
 
 pub returns-clause-size : goal.returns-clause-size
 returns-clause-size g c =
-    length-loaded (current_words (g.R.Region.memory c.args.region.now)) c.load_words.result.now (512 * c.args.block) 512 c.load_words.ensures (omega (arith, c.requires))
+    length-loaded (current_words (g.R.Region.memory c.args.region.now)) c.load_words.result.now (512 * c.args.block) 512 c.load_words.ensures (omega (arith, c.requires.inside))
 
 pub returns-clause-words : goal.returns-clause-words
 returns-clause-words g c slot low = loaded_word (current_words (g.R.Region.memory c.args.region.now)) c.load_words.result.now (512 * c.args.block) 512 c.load_words.ensures slot low

@@ -13,14 +13,20 @@ use Rattle.bp_cow.proofs.ReturnLaws.{back_null, back_cover, cover_used}
 use Rattle.bp_cow.proofs.giving.give_back.Goals as goal
 use Rattle.bp_cow.proofs.giving.give_back.Goals.{then-top-ne0, else-top-ne0}
 
-pub give-requires-clause-in_range : goal.give-requires-clause-in_range
-give-requires-clause-in_range g c =
+pub give_loose-requires-clause-in_range : goal.give_loose-requires-clause-in_range
+give_loose-requires-clause-in_range g c =
     let bones : IsSkeleton g.plan.old (IsTreePointer g.plan.old g.plan.bound) = skeleton g.plan.old g.plan.bound c.requires.1.1.0.can.forest c.requires.1.1.0.can.whole in
     let range : block_on g.plan.old (front (job_of c.args.touched.now) 0 c.args.from) < block_count g.plan.old = bones.in_range (front (job_of c.args.touched.now) 0 c.args.from) (c.requires.1.1.0.can.pointers 0 c.args.from c.requires.1.1.0.can.some (c.requires.1.1.0.can.below 0 c.requires.1.1.0.can.some)) in
-    omega (arith, c.requires.1.1.1.1.0, range, c.requires.1.1.1.1.1)
+    omega (arith, c.requires.1.1.1.1.0, range, c.requires.1.1.1.1.1.0)
 
-pub give-requires-clause-used : goal.give-requires-clause-used
-give-requires-clause-used g c =
+pub give_loose-requires-clause-known : goal.give_loose-requires-clause-known
+give_loose-requires-clause-known g c =
+    let bones : IsSkeleton g.plan.old (IsTreePointer g.plan.old g.plan.bound) = skeleton g.plan.old g.plan.bound c.requires.1.1.0.can.forest c.requires.1.1.0.can.whole in
+    let range : block_on g.plan.old (front (job_of c.args.touched.now) 0 c.args.from) < block_count g.plan.old = bones.in_range (front (job_of c.args.touched.now) 0 c.args.from) (c.requires.1.1.0.can.pointers 0 c.args.from c.requires.1.1.0.can.some (c.requires.1.1.0.can.below 0 c.requires.1.1.0.can.some)) in
+    omega (arith, c.requires.1.1.1.1.0, range, c.requires.1.1.1.1.1.1.room)
+
+pub give_loose-requires-clause-used : goal.give_loose-requires-clause-used
+give_loose-requires-clause-used g c =
     ap (λ (f : ℕ → Bool). f c.args.top) (sym c.requires.1.1.1.0) ∙ ap g.plan.free_after c.requires.1.1.1.1.0 ∙ cover_used (planned g.plan c.args.touched.now) c.args.from g.plan.free_after (current_words (g.R.Region.memory c.args.region.now)) c.requires.1.1.0 (λ null. c.if-top-ne0.true (c.requires.1.1.1.1.0 ∙ null))
 
 pub loop-i-init : goal.loop-i-init
@@ -29,9 +35,12 @@ loop-i-init g c =
     elim c.if-top-ne0.branch [
       | then-top-ne0 w ↦ record {
         back = subst (λ (bs : List Bool). IsBack (planned g.plan c.args.touched.now) c.args.from 0 c.args.from g.plan.free_after (has bs)) (sym w.blocks-is)
-            (back_cover (planned g.plan c.args.touched.now) c.args.from g.plan.free_after (current_words (g.R.Region.memory c.args.region.now)) c.requires.1.1.0 (λ null. w.if-top-ne0.true (c.requires.1.1.1.1.0 ∙ null)) (has w.give.new.blocks)
-            (subst (TakesNumber (has w.give.new.blocks) g.plan.free_after) c.requires.1.1.1.1.0 (subst (λ (f : ℕ → Bool). TakesNumber (has w.give.new.blocks) f c.args.top) (sym taken) w.give.ensures.given)));
-        size = ap (λ (bs : List Bool). length bs) w.blocks-is ∙ w.give.ensures.size;
+            (back_cover (planned g.plan c.args.touched.now) c.args.from g.plan.free_after (current_words (g.R.Region.memory c.args.region.now)) c.requires.1.1.0 (λ null. w.if-top-ne0.true (c.requires.1.1.1.1.0 ∙ null)) (has w.give_loose.new.blocks)
+            (λ loose.
+            subst (TakesNumber (has w.give_loose.new.blocks) g.plan.free_after) c.requires.1.1.1.1.0
+            (subst (λ (f : ℕ → Bool). TakesNumber (has w.give_loose.new.blocks) f c.args.top) (sym taken) (w.give_loose.ensures.given (c.requires.1.1.1.1.1.1.same c.args.top ∙ ap g.plan.kept c.requires.1.1.1.1.0 ∙ loose))))
+            (λ is. ap has (w.give_loose.ensures.stays (c.requires.1.1.1.1.1.1.same c.args.top ∙ ap g.plan.kept c.requires.1.1.1.1.0 ∙ is)) ∙ sym taken));
+        size = ap (λ (bs : List Bool). length bs) w.blocks-is ∙ w.give_loose.ensures.size;
       }
       | else-top-ne0 w ↦ record {
         back = subst (λ (bs : List Bool). IsBack (planned g.plan c.args.touched.now) c.args.from 0 c.args.from g.plan.free_after (has bs)) (sym w.blocks-is)
@@ -50,9 +59,9 @@ give_way-requires g c κs within =
       left = c.requires.1.1.0;
       way = record { can = c.requires.1.1.0.can; here = here; low = omega arith; high = c.requires.1.1.0.can.below c.loop-i.i here };
       back = c.loop-i.invariant.back;
-      fits = omega (arith, c.requires.1.1.1.1.1, c.loop-i.invariant.size);
+      fits = omega (arith, c.requires.1.1.1.1.1.0, c.loop-i.invariant.size);
     } in
-    (within, (c.requires.1.0, (c.way.ensures.way, (subst (λ n. CanGive (planned g.plan c.args.touched.now) c.args.from n c.args.from c.loop-i.blocks (current_words (g.R.Region.memory c.args.region.now))) (sym c.way.ensures.index) can, c.requires.1.1.1.1.0))))
+    (within, (c.requires.1.0, (c.way.ensures.way, (subst (λ n. CanGive (planned g.plan c.args.touched.now) c.args.from n c.args.from c.loop-i.blocks (current_words (g.R.Region.memory c.args.region.now))) (sym c.way.ensures.index) can, (c.requires.1.1.1.1.0, c.requires.1.1.1.1.1.1)))))
 
 pub loop-i-preserved : goal.loop-i-preserved
 loop-i-preserved g c =

@@ -10,7 +10,7 @@ use Rattle.bp_cow.proofs.giving.give_way.Goals as goal
 
 pub loop-depth-init : goal.loop-depth-init
 loop-depth-init g c =
-    record { back = c.requires.1.1.1.0.back; block = c.requires.1.1.1.1 ∙ ap (block_on g.plan.old) (sym (c.requires.1.1.1.0.way.can.cover c.args.way.now.index c.requires.1.1.1.0.way.here)); size = refl }
+    record { back = c.requires.1.1.1.0.back; block = c.requires.1.1.1.1.0 ∙ ap (block_on g.plan.old) (sym (c.requires.1.1.1.0.way.can.cover c.args.way.now.index c.requires.1.1.1.0.way.here)); size = refl }
 
 pub give_step-block-requires : goal.give_step-block-requires
 give_step-block-requires g c κs within =
@@ -21,7 +21,7 @@ give_step-block-requires g c κs within =
       back = c.loop-depth.invariant.back;
       fits = omega (arith, c.requires.1.1.1.0.fits, c.loop-depth.invariant.size);
     } in
-    (within, (c.requires.1.0, (c.requires.1.1.0, (can, (low, c.loop-depth.invariant.block)))))
+    (within, (c.requires.1.0, (c.requires.1.1.0, (can, (low, (c.loop-depth.invariant.block, c.requires.1.1.1.1.1))))))
 
 pub loop-depth-preserved : goal.loop-depth-preserved
 loop-depth-preserved g c =

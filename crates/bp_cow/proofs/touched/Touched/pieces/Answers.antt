@@ -1,14 +1,14 @@
-use Rattle.std.proofs.Common.{◌≡◌, ℕ, ◌+◌, ◌-◌, ◌/◌, ◌<◌, List, length, ◌∙◌, ap, subst, arith}
+use Rattle.std.proofs.Common.{◌≡◌, ℕ, ◌+◌, ◌-◌, ◌/◌, ◌<◌, List, length, sym, ◌∙◌, ap, subst, arith}
 use Rattle.std.specs.Prelude.{IfSome, Option, Some}
 use Rattle.bp_cow.specs.declared.touched.Touched.{Touched}
 use Rattle.bp_cow.specs.declared.ways.Leaf.{Leaf}
 use Rattle.bp_cow.specs.declared.ways.Way.{Way}
 use Rattle.bp_cow.specs.Leaves.{IsLeaf}
-use Rattle.bp_cow.specs.Touched.{node_live, word_paths}
+use Rattle.bp_cow.specs.Touched.{above, job_of, live_of, node_live, path_of, word_live, word_paths}
 use Rattle.bp_cow.specs.Ways.{IsWay}
 use Rattle.bp_cow.proofs.LiveLaws.{live-node}
 use Rattle.bp_cow.proofs.RunLaws.{length-run_way}
-use Rattle.bp_cow.proofs.RunsLaws.{way-short}
+use Rattle.bp_cow.proofs.RunsLaws.{live-word, way-short, way-word}
 use Rattle.bp_cow.proofs.touched.Touched.pieces.Goals as goal
 
 -- the length of a way to a leaf
@@ -35,4 +35,21 @@ returns-in-Some-clause-live c slot small counted =
     let up : length run.root.items + run.height - c.args.depth ≡ c.args.way.now.len - c.args.depth = omega (arith, long) in
     let is = live-node run c.in-Some.leaf.index c.args.depth (omega (arith, c.len.ensures.value, c.if-len-depth.true)) (omega (arith, long, c.if-depth-end.true)) in
     c.node_pieces.ensures.live slot small
-    (subst (λ l. slot < node_live run.size l (run.off / 4096 + c.in-Some.leaf.index)) up (subst (λ n. slot < n) (at.live c.args.depth ∙ is) counted))
+    (subst (λ l. slot < node_live run.size l (run.off / 4096 + c.in-Some.leaf.index)) up (subst (λ n. slot < n) (at.live c.args.self.now.trees.now c.args.depth ∙ is) counted))
+
+pub word_pieces-requires-clause-depth : goal.word_pieces-requires-clause-depth
+word_pieces-requires-clause-depth c =
+    let touched = c.args.self.now in
+    let way : length ((job_of touched).way c.args.way.now.index) ≡ length (above (path_of (word_paths touched) (c.args.way.now.index - c.leaves.result))) =
+    ap (λ (p : List ℕ). length p) (way-word touched.runs.now (word_paths touched) c.args.way.now.index (c.requires.way.none c.in-None.is))
+    ∙ ap (λ n. length (above (path_of (word_paths touched) (c.args.way.now.index - n)))) (sym c.leaves.ensures) in
+    omega (arith, way, c.requires.way.len, c.if-depth-end-2.true)
+
+pub returns-in-None-clause-live : goal.returns-in-None-clause-live
+returns-in-None-clause-live c slot small counted =
+    let touched = c.args.self.now in
+    let is : live_of touched.runs.now touched.trees.now (word_paths touched) c.args.way.now.index c.args.depth
+    ≡ word_live touched.trees.now (above (path_of (word_paths touched) (c.args.way.now.index - c.leaves.result))) c.args.depth =
+    live-word touched.runs.now touched.trees.now (word_paths touched) c.args.way.now.index c.args.depth (c.requires.way.none c.in-None.is)
+    ∙ ap (λ n. word_live touched.trees.now (above (path_of (word_paths touched) (c.args.way.now.index - n))) c.args.depth) (sym c.leaves.ensures) in
+    c.word_pieces.ensures.live slot small (subst (λ n. slot < n) is counted)

@@ -1,8 +1,10 @@
-use Rattle.std.proofs.Common.{ℕ, ◌<◌, List, length, sym, subst}
+use Rattle.std.proofs.Common.{◌≡◌, ℕ, ◌-◌, ◌<◌, ◌≤◌, List, length, sym, ap, subst, arith}
 use Rattle.std.specs.List.{slice_index}
 use Rattle.std.specs.Prelude.{◌↔◌}
 use Rattle.bp_cow.specs.Touched.{job_of}
 use Rattle.bp_cow.specs.Ways.{IsShared}
+use Rattle.bp_shapes.specs.Trail.{trail_of}
+use Rattle.bp_cow.proofs.RunsLaws.{way-short}
 use Rattle.bp_cow.proofs.SharedLaws.{shared-none, way-slots}
 use Rattle.bp_cow.proofs.touched.Touched.shared_before.Goals as goal
 
@@ -16,3 +18,20 @@ shared-requires-clause-slots c =
 
 pub returns : goal.returns
 returns c d = subst (λ (p : List ℕ). (d < c.shared.result) ↔ IsShared (job_of c.args.self.now).way c.args.i p d) c.way_slots.ensures (c.shared.ensures d)
+
+pub overflow_add-result : goal.overflow_add-result
+overflow_add-result c = omega (arith, c.len_of.ensures, way-short c.args.self.now c.requires.touched c.args.i c.requires.i)
+
+pub returns-then-repeats : goal.returns-then-repeats
+returns-then-repeats c d =
+    let way = (job_of c.args.self.now).way in
+    let same : way c.args.i ≡ way (c.args.i - 1) = c.repeats.ensures c.if-repeats.true in (
+      λ low. record {
+        which = c.args.i - 1;
+        early = omega (arith, c.if-i-eq0.false);
+        here = omega (arith, low, c.len_of.ensures);
+        there = subst (λ (p : List ℕ). d ≤ length p) same (omega (arith, low, c.len_of.ensures));
+        same = ap (λ p. trail_of p d) same;
+      },
+      λ s. omega (arith, s.here, c.len_of.ensures),
+    )

@@ -1,0 +1,17 @@
+pub mod Linked
+pub mod Marks
+pub mod Filled
+pub mod AllStored
+pub mod Told
+pub mod MarkAll
+pub mod ThawEnd
+pub mod CopySteps
+pub mod LinkSteps
+pub mod PointerPaths
+pub mod Found
+pub mod FindSteps
+pub mod Clear
+pub mod Whole
+pub mod ThawStores
+pub mod WayNumbers
+pub mod OneWay

@@ -1,0 +1,124 @@
+-- The numbers that slots tell, and the nodes by them.
+use Rattle.std.proofs.Common.{nat_le, ◌≡◌, ◌≢◌, ℕ, zero, suc, ◌+◌, ◌-◌, ◌*◌, ◌/◌, ◌^◌, ◌<◌, ◌≤◌, List, [], ◌∷◌, ◌++◌, length, take, drop, get_or, Bool, true, false, not, ◌&&◌, ◌==◌, pow-suc, refl, sym, ◌∙◌, ap, subst, arith}
+use Rattle.std.specs.Prelude.{nat_lt}
+use Rattle.std.proofs.lemmas.Bool.{le-leb, lt-leb, lt-ltb, ltb-true}
+use Rattle.std.proofs.lemmas.List.{length-append, length-take-le, take-take, take_more}
+use native.Mathlib.Nat.{pow-le-pow_right}
+use Rattle.bp_layout.specs.Inode.{root_of, size_of}
+use Rattle.bp_layout.specs.Need.{path_number, pointed}
+use Rattle.bp_layout.specs.Nodes.{TreeNode, is_present}
+use Rattle.bp_layout.specs.Reached.{IsReached}
+use Rattle.bp_layout.specs.Thaw.{heights_now, is_there_now}
+use Rattle.bp_layout.specs.Tree.{node, span}
+use Rattle.bp_layout.specs.WellFormed.{IsWellFormed}
+use Rattle.bp_layout.specs.WordPaths.{WordPath, digits, inode_path, tree_path}
+use Rattle.bp_layout.specs.Words.{Image, height_of, word}
+use Rattle.bp_tree.proofs.Digits.{length-digits}
+use Rattle.bp_thaw.specs.Fronts.{IsPointerPath, IsWay}
+use Rattle.bp_thaw.proofs.PointerPaths.{front_path, number-append, pointed_is}
+
+pub drop_all : (n : ℕ) (xs : List ℕ) → length xs ≤ n → drop n xs ≡ []
+drop_all zero [] low = refl
+drop_all zero (x ∷ xs) low = absurd (omega (arith, low))
+drop_all (suc n) [] low = refl
+drop_all (suc n) (x ∷ xs) low = drop_all n xs (omega (arith, low))
+
+drop_front : (n : ℕ) (xs ys : List ℕ) → n ≤ length xs → drop n (xs ++ ys) ≡ drop n xs ++ ys
+drop_front zero xs ys low = refl
+drop_front (suc n) [] ys low = absurd (omega (arith, low))
+drop_front (suc n) (x ∷ xs) ys low = drop_front n xs ys (omega (arith, low))
+
+pub number_start : (w : List ℕ) (from : ℕ) → from ≤ length w → 0 ≡ path_number (drop from (take from w))
+number_start w from low = ap path_number (sym (drop_all from (take from w) (omega (arith, length-take-le from w low))))
+
+pub number_more : (w : List ℕ) (from i : ℕ) → from ≤ i → i < length w → 512 * path_number (drop from (take i w)) + get_or w i 0 ≡ path_number (drop from (take (i + 1) w))
+number_more w from i low less =
+    sym (number-append (drop from (take i w)) (get_or w i 0))
+    ∙ ap path_number (sym (ap (drop from) (take_more w i 0 less) ∙ drop_front from (take i w) (get_or w i 0 ∷ []) (omega (arith, low, length-take-le i w (omega (arith, less))))))
+
+pub number_small : (n from i : ℕ) → n < 512 ^ (i - from) → i < from + 6 → n < 35184372088832
+number_small n from i below few =
+    let short : i - from ≤ 5 = omega (arith, few) in
+    let most : 512 ^ (i - from) ≤ 512 ^ 5 = pow-le-pow_right {n = 512} (omega arith) short in
+    omega (arith, below, most)
+
+pub number_next : (n slot from i : ℕ) → from ≤ i → n < 512 ^ (i - from) → slot < 512 → 512 * n + slot < 512 ^ (i + 1 - from)
+number_next n slot from i low below small =
+    let next : i + 1 - from ≡ suc (i - from) = omega (arith, low) in
+    rw (next, pow-suc) (omega (arith, below, small))
+
+-- ---- whether a node is there
+
+module _ (image : Image) (root size level index : ℕ) where
+  pub present_far : (index * span level < size → ⊥) → is_present image root size (record { level = level; index = index }) ≡ false
+  present_far past = go (nat_le level (height_of root)) (nat_lt (index * span level) size) refl
+    where
+      go : (x y : Bool) → nat_lt (index * span level) size ≡ y → (x && nat_lt (index * span level) size && not (node image root (height_of root - level) index == 0)) ≡ false
+      go false y e = refl
+      go true false e = rw e refl
+      go true true e = absurd (past (ltb-true (index * span level) size e))
+
+  pub present_near : level ≤ height_of root → index * span level < size → is_present image root size (record { level = level; index = index }) ≡ not (node image root (height_of root - level) index == 0)
+  present_near low below = rw (le-leb level (height_of root) low, lt-ltb (index * span level) size below) refl
+
+  pub present_none : size ≡ 0 → is_present image root size (record { level = level; index = index }) ≡ false
+  present_none none = present_far (λ below. omega (arith, below, none))
+
+module _ (image : Image) (wf : IsWellFormed image) (w : WordPath) (way : IsWay image w) (d : ℕ) (low : d < length w) where
+  abbrev top : ℕ
+  top = height_of (root_of image 0)
+
+  of : IsPointerPath image (take d w)
+  of = front_path image wf w d way low
+
+  long : length (take d w) ≡ d
+  long = length-take-le d w (omega (arith, low))
+
+  pub there_file : d ≤ height_of (root_of image 0) → is_there_now image (take d w) ≡ is_present image (root_of image 0) (size_of image 0) (record { level = height_of (root_of image 0) - d; index = path_number (take d w) })
+  there_file short = rw (le-leb (length (take d w)) (height_of (root_of image 0)) (omega (arith, long, short)))
+      (ap (λ n. is_present image (root_of image 0) (size_of image 0) (record { level = height_of (root_of image 0) - n; index = path_number (take d w) })) long)
+
+  abbrev tree : ℕ
+  tree = path_number (take (suc (height_of (root_of image 0))) (take d w)) / 8
+
+  pub there_tree : height_of (root_of image 0) < d →
+      is_there_now image (take d w) ≡ is_present image (root_of image (path_number (take (suc (height_of (root_of image 0))) (take d w)) / 8)) (size_of image (path_number (take (suc (height_of (root_of image 0))) (take d w)) / 8))
+      (record { level = height_of (root_of image (path_number (take (suc (height_of (root_of image 0))) (take d w)) / 8)) - (d - suc (height_of (root_of image 0))); index = path_number (drop (suc (height_of (root_of image 0))) (take d w)) })
+  there_tree past = rw (lt-leb (length (take d w)) (height_of (root_of image 0)) (omega (arith, long, past)))
+      (ap (λ n. is_present image (root_of image (path_number (take (suc (height_of (root_of image 0))) (take d w)) / 8)) (size_of image (path_number (take (suc (height_of (root_of image 0))) (take d w)) / 8))
+      (record { level = height_of (root_of image (path_number (take (suc (height_of (root_of image 0))) (take d w)) / 8)) - (n - suc (height_of (root_of image 0))); index = path_number (drop (suc (height_of (root_of image 0))) (take d w)) })) long)
+
+  first_slots : height_of (root_of image 0) < d → take (suc (height_of (root_of image 0))) (take d w) ≡ take (suc (height_of (root_of image 0))) w
+  first_slots past = take-take (suc (height_of (root_of image 0))) d w (omega (arith, past))
+
+  -- the tree whose pointer it is
+  tree_is : height_of (root_of image 0) < d → path_number (take (suc (height_of (root_of image 0))) (take d w)) / 8 ≡ of.tree
+  tree_is past = sym (ap (λ (p : ℕ × TreeNode). p.0) unfolded) ∙ ap (λ (p : ℕ × TreeNode). p.0) (pointed_is image wf (take d w) of)
+    where
+      unfolded : pointed (heights_now image) (take d w) ≡ (
+        path_number (take (suc (height_of (root_of image 0))) (take d w)) / 8,
+        record {
+          level = height_of (root_of image (path_number (take (suc (height_of (root_of image 0))) (take d w)) / 8)) - (length (take d w) - suc (height_of (root_of image 0)));
+          index = path_number (drop (suc (height_of (root_of image 0))) (take d w));
+        },
+      )
+      unfolded = rw (lt-leb (length (take d w)) (height_of (root_of image 0)) (omega (arith, long, past))) refl
+
+  depth_of : (t e k : ℕ) → e ≤ height_of (root_of image t) → take d w ≡ tree_path (height_of (word image 2)) t e k → height_of (root_of image 0) < d → (t ≢ 0) × (d ≡ suc (height_of (root_of image 0)) + e)
+  depth_of zero e k few is past =
+      let size : d ≡ e = sym long ∙ ap (λ (p : WordPath). length p) is ∙ length-digits e k in
+      absurd (omega (arith, size, few, past))
+  depth_of (suc i) e k few is past =
+      let size = sym long ∙ ap (λ (p : WordPath). length p) is ∙ length-append (inode_path (height_of (word image 2)) (suc i) 1) (digits e k) in
+      (λ none. omega (arith, none), omega (arith, size, length-digits e k, length-digits (suc (height_of (word image 2))) (8 * suc i + 1)))
+
+  pub tree_reached : (past : height_of (root_of image 0) < d) → IsReached image (path_number (take (suc (height_of (root_of image 0))) (take d w)) / 8)
+  tree_reached past = subst (IsReached image) (sym (tree_is past)) of.reached
+
+  pub tree_some : (past : height_of (root_of image 0) < d) → path_number (take (suc (height_of (root_of image 0))) (take d w)) / 8 ≢ 0
+  tree_some past none = (depth_of of.tree of.depth of.index of.low of.is past).0 (sym (tree_is past) ∙ none)
+
+  pub tree_low : (past : height_of (root_of image 0) < d) → d - suc (height_of (root_of image 0)) ≤ height_of (root_of image (path_number (take (suc (height_of (root_of image 0))) (take d w)) / 8))
+  tree_low past =
+      let deep = (depth_of of.tree of.depth of.index of.low of.is past).1 in
+      subst (λ (t : ℕ). d - suc (height_of (root_of image 0)) ≤ height_of (root_of image t)) (sym (tree_is past)) (omega (arith, deep, of.low))

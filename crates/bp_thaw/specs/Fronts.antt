@@ -1,0 +1,53 @@
+-- The ways to some words, and how the kept blocks on them are found.
+use Rattle.std.specs.Prelude.{◌≡◌, ℕ, zero, suc, ◌/◌, ◌≤◌, List, [], ◌∷◌, ◌++◌, length, take, Bool, not, ◌&&◌, ◌==◌, if◌then◌else◌}
+use Rattle.std.specs.List.{list_any}
+use Rattle.bp_limits.specs.Limits.{block_words, super_root}
+use Rattle.bp_layout.specs.Inode.{root_of}
+use Rattle.bp_layout.specs.Reached.{IsReached}
+use Rattle.bp_layout.specs.Thaw.{is_kept_at}
+use Rattle.bp_layout.specs.WordPaths.{WordPath, address, tree_path}
+use Rattle.bp_layout.specs.Words.{Image, height_of, word}
+use Rattle.bp_shapes.specs.Trail.{Trail, trail_of}
+
+-- a number of at most so many digits
+abbrev pub HasDigits : ℕ → ℕ → Type 0
+HasDigits zero index = index ≡ 0
+HasDigits (suc depth) index = HasDigits depth (index / block_words)
+
+-- The path of a word of a tree that is reached, where the trees have the heights that they have.
+pub record IsPathIn (image : Image) (most : ℕ → ℕ) (path : WordPath) : Type 0 where
+  pub tree : ℕ
+  pub depth : ℕ
+  pub index : ℕ
+  pub reached : IsReached image tree
+  pub low : depth ≤ most (height_of (root_of image tree))
+  pub few : HasDigits depth index
+  pub is : path ≡ tree_path (height_of (word image super_root)) tree depth index
+
+-- the way to a pointer or to a content word
+abbrev pub IsWay : Image → WordPath → Type 0
+IsWay image path = IsPathIn image suc path
+
+-- the path of a pointer
+abbrev pub IsPointerPath : Image → WordPath → Type 0
+IsPointerPath image path = IsPathIn image (λ height. height) path
+
+abbrev pub path_trail : WordPath → Trail
+path_trail path = trail_of path (length path)
+
+-- ---- as they are found
+
+-- a path to the same place is among these
+abbrev pub is_found : Image → List WordPath → WordPath → Bool
+is_found image found path = list_any (λ other. address image other == address image path) found
+
+-- with those of a path, up to a depth
+abbrev pub found_on : Image → (ℕ → Bool) → List WordPath → WordPath → ℕ → List WordPath
+found_on image kept found path zero = found
+found_on image kept found path (suc depth) =
+    if is_kept_at image kept (take depth path) && not (is_found image (found_on image kept found path depth) (take depth path))
+    then found_on image kept found path depth ++ take depth path ∷ [] else found_on image kept found path depth
+
+abbrev pub found_in : Image → (ℕ → Bool) → List WordPath → List WordPath → List WordPath
+found_in image kept found [] = found
+found_in image kept found (path ∷ paths) = found_in image kept (found_on image kept found path (length path)) paths

@@ -1,0 +1,5 @@
+pub mod Linked
+pub mod Copies
+pub mod Fronts
+pub mod Steps
+pub mod Thaws

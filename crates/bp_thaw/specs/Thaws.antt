@@ -1,0 +1,41 @@
+-- The blocks that are kept on the ways to some words are copied, and the pointers to them lead to the copies.
+use Rattle.std.specs.Prelude.{◌≡◌, ◌⊎◌, ℕ, ◌+◌, ◌*◌, ◌≤◌, List, [], map, length, Bool, true}
+use Rattle.arrayvec.specs.ArrayVec.{ArrayVec}
+use Rattle.bp_changes.specs.Thawed.{SameShape}
+use Rattle.bp_free.specs.Set.{Set, has, members}
+use Rattle.bp_layout.specs.Free.{AreFreeBlocks}
+use Rattle.bp_layout.specs.Members.{Each, Has}
+use Rattle.bp_layout.specs.Reached.{IsLiveBlock}
+use Rattle.bp_layout.specs.WellFormed.{IsWellFormed}
+use Rattle.bp_layout.specs.WordPaths.{WordPath}
+use Rattle.bp_limits.specs.Limits.{block_words}
+use Rattle.bp_layout.specs.Thaw.{thawed_on}
+use Rattle.bp_thaw.specs.Fronts.{IsWay}
+use Rattle.bp_commit.specs.Performs.{AddsTaking}
+use Rattle.pm_region.specs.Memory.{Memory, current_words, room_in}
+
+abbrev pub paths_in : ArrayVec (ArrayVec ℕ) → List WordPath
+paths_in targets = map (λ path. path.items) targets.items
+
+-- The image is well formed, and the paths are ways to its pointers and words. The set has just its free blocks, as many
+-- as are copied, and the log has room.
+pub record CanThaw (kept : ℕ → Bool) (paths : List WordPath) (memory : Memory) (blocks : Set) : Type 0 where
+  pub well_formed : IsWellFormed (current_words memory)
+  pub ways : (path : WordPath) → Has paths path → IsWay (current_words memory) path
+  pub free : AreFreeBlocks (current_words memory) kept (has blocks)
+  pub enough : length (thawed_on (current_words memory) kept paths) ≤ length (members blocks)
+  pub room : (block_words + 1) * length (thawed_on (current_words memory) kept paths) + 2 ≤ room_in memory
+
+-- Nobody sees it at any moment of a crash. All means the same, in trees of the same shape, and no pointer on these ways
+-- leads to a kept block any more. What is live then was live or is taken; what was live and is not any more is kept.
+pub record Thaws (kept : ℕ → Bool) (paths : List WordPath) (old new : Memory) (blocks after : Set) : Type 0 where
+  pub taken : List ℕ
+  pub adds : AddsTaking kept taken 2 ((block_words + 1) * length taken) old new
+  pub number : length taken ≡ length (thawed_on (current_words old) kept paths)
+  pub from : Each (λ b. has blocks b ≡ true) taken
+  pub shape : SameShape (current_words old) (current_words new)
+  pub clear : thawed_on (current_words new) kept paths ≡ []
+  pub live : (b : ℕ) → IsLiveBlock (current_words new) b → IsLiveBlock (current_words old) b ⊎ Has taken b
+  pub used : (b : ℕ) → Has taken b → IsLiveBlock (current_words new) b
+  pub stay : (b : ℕ) → IsLiveBlock (current_words old) b → IsLiveBlock (current_words new) b ⊎ (kept b ≡ true)
+  pub free : AreFreeBlocks (current_words new) kept (has after)

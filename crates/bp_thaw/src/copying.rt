@@ -1,0 +1,87 @@
+//! Copies of blocks that lead to one another.
+
+ghost use Rattle.std.specs.Prelude.{◌≡◌, ℕ, ◌+◌, ◌*◌, ◌/◌, ◌<◌, ◌≤◌, length, slice_index};
+ghost use Rattle.bp_free.specs.Set.{members};
+ghost use Rattle.bp_limits.specs.Limits.{block_words};
+ghost use Rattle.bp_layout.specs.Members.{AreApart};
+ghost use Rattle.bp_layout.specs.Words.{word, block_count, block_of};
+ghost use Rattle.pm_region.specs.Memory.{current_words, room_in};
+ghost use Rattle.bp_cow.specs.Copies.{CanFillBlock, FillsBlock, pointing_to};
+ghost use Rattle.bp_thaw.specs.Copies.{blocks_of, copy_at, places_of, turned_to, turned_word};
+ghost use Rattle.bp_thaw.specs.Steps.{CanFillCopies, FillsCopies, TakesAll};
+
+use crate::finding::Places;
+use arrayvec::ArrayVec;
+use bp_free::Blocks;
+use bp_limits::{BLOCK_SIZE, BLOCK_WORDS};
+use pm_region::Region;
+
+/// Copies of blocks: of each the place of the pointer to its block, and its number.
+pub(crate) type Copies = ArrayVec<(u32, u32), 96>;
+
+/// A pointer to another block, with its other bits.
+pub(crate) fn pointing_to(pointer: u64, block: u32) -> u64
+    ensures { result ≡ pointing_to pointer block }
+{
+    bp_layout::pointer_word(block as u64) + pointer % BLOCK_SIZE
+}
+
+/// A block is taken for the copy of each to which a pointer leads that stands at one of these places.
+pub(crate) fn take_all(blocks: &mut Blocks, places: &Places) -> Copies
+    requires { length places.now.items ≤ length (members blocks.old) }
+    ensures of { places_of result.items ≡ places.now.items }
+    ensures takes { TakesAll blocks.old blocks.new (blocks_of result.items) }
+{
+    let mut copies = Copies::new();
+    for i in 0..places.len() {
+        copies.push((places[i], blocks.take_least()));
+    }
+    copies
+}
+
+/// Turns the pointers among the words of a block to the copies.
+fn turn_words(copies: &Copies, block: u32, words: &mut [u64; 512])
+    requires { AreApart (places_of copies.now.items) }
+    ensures { (slot : ℕ) → slot < block_words → slice_index words.new slot ≡
+        turned_to (copy_at copies.now.items (block_words * block + slot)) (slice_index words.old slot) }
+{
+    for i in 0..copies.len() {
+        let (place, copy) = copies[i];
+        if place / BLOCK_WORDS == block {
+            let slot = (place % BLOCK_WORDS) as usize;
+            words[slot] = pointing_to(words[slot], copy);
+        }
+    }
+}
+
+/// Stores the words of a copy: those of its block, with the pointers turned to the copies.
+fn fill_copy<R: Region>(region: &mut R, copies: &Copies, place: u32, copy: u32)
+    requires apart { AreApart (places_of copies.now.items) }
+    requires place { place < length (current_words (R.memory region.old)) }
+    requires present { 0 < block_of (word (current_words (R.memory region.old)) place) }
+    requires block { block_of (word (current_words (R.memory region.old)) place) <
+        block_count (current_words (R.memory region.old)) }
+    requires copy { CanFillBlock copy (R.memory region.old) }
+    ensures fills { FillsBlock copy (R.memory region.old) (R.memory region.new) }
+    ensures words { (slot : ℕ) → slot < block_words → word (current_words (R.memory region.new)) (block_words * copy + slot) ≡
+        turned_word (current_words (R.memory region.old)) copies.now.items
+        (block_words * block_of (word (current_words (R.memory region.old)) place) + slot) }
+{
+    let _words = region.words();
+    let block = pm_words::block_of(region.load(place)) as u32;
+    let mut words = [0; 512];
+    words.copy_from_slice(region.load_words(BLOCK_WORDS * block, BLOCK_WORDS));
+    turn_words(copies, block, &mut words);
+    region.store_words(BLOCK_WORDS * copy, &words);
+}
+
+/// Stores the words of all copies.
+pub(crate) fn fill_all<R: Region>(region: &mut R, copies: &Copies)
+    requires { CanFillCopies copies.now.items (R.memory region.old) }
+    ensures { FillsCopies copies.now.items (R.memory region.old) (R.memory region.new) }
+{
+    for i in 0..copies.len() {
+        let (place, copy) = copies[i];
+        fill_copy(region, copies, place, copy);
+    }
+}

@@ -1,0 +1,87 @@
+//! The kept blocks on the ways to some words.
+
+ghost use Rattle.std.specs.Prelude.{◌≡◌, ℕ, ◌+◌, ◌<◌, ◌≤◌, ◌==◌, List, [], ◌∷◌, ◌++◌, true, false, length, map};
+ghost use Rattle.std.specs.List.{list_any};
+ghost use Rattle.bp_free.specs.Set.{has};
+ghost use Rattle.bp_layout.specs.Members.{Has};
+ghost use Rattle.bp_layout.specs.WellFormed.{IsWellFormed};
+ghost use Rattle.bp_layout.specs.WordPaths.{WordPath, address};
+ghost use Rattle.bp_layout.specs.Words.{block_count};
+ghost use Rattle.pm_region.specs.Memory.{current_words};
+ghost use Rattle.bp_thaw.specs.Fronts.{IsWay, found_in, found_on};
+ghost use Rattle.bp_thaw.specs.Thaws.{paths_in};
+
+use crate::ways::is_there;
+use arrayvec::ArrayVec;
+use bp_free::Blocks;
+use bp_limits::{BLOCK_WORDS, SUPER_ROOT};
+use bp_tree::Slots;
+use pm_region::Region;
+
+/// Places of pointers: as many as eight ways of twelve slots can have.
+pub(crate) type Places = ArrayVec<u32, 96>;
+
+/// Whether a place is among these.
+fn has_place(places: &Places, place: u32) -> bool
+    ensures { result ≡ list_any (λ other. other == place) places.now.items }
+{
+    for i in 0..places.len() {
+        if places[i] == place {
+            return true;
+        }
+    }
+    false
+}
+
+/// Adds a place, but where it is among these.
+fn add_place(places: &mut Places, place: u32)
+    requires { length places.old.items < 96 }
+    ensures old { list_any (λ other. other == place) places.old.items ≡ true → places.new.items ≡ places.old.items }
+    ensures new { list_any (λ other. other == place) places.old.items ≡ false →
+        places.new.items ≡ places.old.items ++ place ∷ [] }
+    ensures few { length places.new.items ≤ length places.old.items + 1 }
+{
+    if !has_place(places, place) {
+        places.push(place);
+    }
+}
+
+/// Adds the places of the pointers on a way that lead to kept blocks, but for those that are among them.
+fn find_on<R: Region>(region: &R, frozen: &Blocks, way: &Slots, places: &mut Places)
+    requires well_formed { IsWellFormed (current_words (R.memory region.now)) }
+    requires frozen { block_count (current_words (R.memory region.now)) ≤ length frozen.now }
+    requires way { IsWay (current_words (R.memory region.now)) way.now.items }
+    requires room { length places.old.items + 12 ≤ 96 }
+    ensures places { (found : List WordPath) → places.old.items ≡ map (address (current_words (R.memory region.now))) found →
+        places.new.items ≡ map (address (current_words (R.memory region.now)))
+        (found_on (current_words (R.memory region.now)) (has frozen.now) found way.now.items (length way.now.items)) }
+    ensures few { length places.new.items ≤ length places.old.items + 12 }
+{
+    let mut place = SUPER_ROOT;
+    let end = way.len();
+    for depth in 0..end {
+        if !is_there(region, way, depth) {
+            return;
+        }
+        let block = pm_words::block_of(region.load(place)) as u32;
+        if frozen.is_free(block) {
+            add_place(places, place);
+        }
+        place = BLOCK_WORDS * block + u32::from(way[depth]);
+    }
+}
+
+/// The places of the pointers on the ways that lead to kept blocks, each once.
+pub(crate) fn find<R: Region>(region: &R, frozen: &Blocks, ways: &ArrayVec<Slots, 8>) -> Places
+    requires well_formed { IsWellFormed (current_words (R.memory region.now)) }
+    requires frozen { block_count (current_words (R.memory region.now)) ≤ length frozen.now }
+    requires ways { (way : WordPath) → Has (paths_in ways.now) way → IsWay (current_words (R.memory region.now)) way }
+    ensures { result.items ≡ map (address (current_words (R.memory region.now)))
+        (found_in (current_words (R.memory region.now)) (has frozen.now) [] (paths_in ways.now)) }
+{
+    let mut places = Places::new();
+    for i in 0..ways.len() {
+        find_on(region, frozen, &ways[i], &mut places);
+    }
+    places
+}

@@ -1,0 +1,60 @@
+//! Pointers that are turned to copies in their places.
+
+ghost use Rattle.std.specs.Prelude.{◌≡◌, ℕ, ◌+◌, ◌/◌, ◌<◌, ◌≤◌, ◌++◌, ◌∷◌, [], length};
+ghost use Rattle.pm_epochs.specs.declared.event.Event.TheVariants.{Barrier};
+ghost use Rattle.pm_epochs.specs.May.{links_of};
+ghost use Rattle.pm_region.specs.Memory.{Adds, current_words, room_in};
+ghost use Rattle.bp_layout.specs.Members.{Has};
+ghost use Rattle.bp_thaw.specs.Copies.{is_copied, links_among};
+ghost use Rattle.bp_thaw.specs.Steps.{ArePlacesOf};
+
+use crate::copying::{Copies, pointing_to};
+use arrayvec::ArrayVec;
+use bp_limits::BLOCK_WORDS;
+use pm_region::Region;
+
+/// Places of pointers, and what is stored there.
+pub(crate) type Links = ArrayVec<(u32, u64), 96>;
+
+/// Whether a block is copied.
+fn is_copied<R: Region>(region: &R, copies: &Copies, block: u32) -> bool
+    requires { ArePlacesOf (current_words (R.memory region.now)) copies.now.items }
+    ensures { result ≡ is_copied (current_words (R.memory region.now)) copies.now.items block }
+{
+    for i in 0..copies.len() {
+        let (place, _) = copies[i];
+        if pm_words::block_of(region.load(place)) == u64::from(block) {
+            return true;
+        }
+    }
+    false
+}
+
+/// The pointers to copies that stand in blocks that are not copied.
+pub(crate) fn links_to<R: Region>(region: &R, copies: &Copies) -> Links
+    requires { ArePlacesOf (current_words (R.memory region.now)) copies.now.items }
+    ensures { result.items ≡ links_among (current_words (R.memory region.now)) copies.now.items copies.now.items }
+{
+    let mut links = Links::new();
+    for i in 0..copies.len() {
+        let (place, copy) = copies[i];
+        if !is_copied(region, copies, place / BLOCK_WORDS) {
+            links.push((place, pointing_to(region.load(place), copy)));
+        }
+    }
+    links
+}
+
+/// Stores them, in an epoch of their own.
+pub(crate) fn store_links<R: Region>(region: &mut R, links: &Links)
+    requires places { ArePlacesOf (current_words (R.memory region.old)) links.now.items }
+    requires room { length links.now.items + 2 ≤ room_in (R.memory region.old) }
+    ensures { Adds (R.memory region.old) (R.memory region.new) (Barrier ∷ links_of links.now.items ++ Barrier ∷ []) }
+{
+    region.barrier();
+    for i in 0..links.len() {
+        let (place, value) = links[i];
+        region.store(place, value);
+    }
+    region.barrier();
+}

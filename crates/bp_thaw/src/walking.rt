@@ -1,0 +1,35 @@
+//! Whether a kept block is on a way.
+
+ghost use Rattle.std.specs.Prelude.{◌≡◌, ◌↔◌, ℕ, ◌<◌, ◌≤◌, [], ◌∷◌, length, take, true};
+ghost use Rattle.bp_free.specs.Set.{has};
+ghost use Rattle.bp_layout.specs.Thaw.{is_there_now, thawed_on};
+ghost use Rattle.bp_layout.specs.WellFormed.{IsWellFormed};
+ghost use Rattle.bp_layout.specs.Words.{block_count};
+ghost use Rattle.pm_region.specs.Memory.{current_words};
+ghost use Rattle.bp_thaw.specs.Fronts.{IsWay};
+
+use bp_free::Parts;
+use bp_limits::{BLOCK_WORDS, SUPER_ROOT};
+use bp_tree::Slots;
+use pm_region::Region;
+
+/// Whether no kept block is on a way that is there wholly.
+pub fn is_clear<R: Region>(parts: &Parts<R>, way: &Slots) -> bool
+    requires well_formed { IsWellFormed (current_words (R.memory parts.now.region)) }
+    requires frozen { block_count (current_words (R.memory parts.now.region)) ≤ length parts.now.frozen }
+    requires way { IsWay (current_words (R.memory parts.now.region)) way.now.items }
+    requires there { (depth : ℕ) → depth < length way.now.items →
+        is_there_now (current_words (R.memory parts.now.region)) (take depth way.now.items) ≡ true }
+    ensures { (result ≡ true) ↔
+        (thawed_on (current_words (R.memory parts.now.region)) (has parts.now.frozen) (way.now.items ∷ []) ≡ []) }
+{
+    let mut place = SUPER_ROOT;
+    for depth in 0..way.len() {
+        let block = pm_words::block_of(parts.region.load(place)) as u32;
+        if parts.frozen.is_free(block) {
+            return false;
+        }
+        place = BLOCK_WORDS * block + u32::from(way[depth]);
+    }
+    true
+}

@@ -1,0 +1,98 @@
+//! How far a way to a word is there.
+
+ghost use Rattle.std.specs.Prelude.{◌≡◌, ◌≢◌, ℕ, suc, ◌+◌, ◌-◌, ◌*◌, ◌/◌, ◌^◌, ◌<◌, ◌≤◌, length, slice_index, take, drop};
+ghost use Rattle.bp_layout.specs.Inode.{root_of, size_of};
+ghost use Rattle.bp_layout.specs.Need.{path_number};
+ghost use Rattle.bp_layout.specs.Nodes.{is_present};
+ghost use Rattle.bp_layout.specs.Reached.{IsReached};
+ghost use Rattle.bp_layout.specs.Thaw.{is_there_now};
+ghost use Rattle.bp_layout.specs.Tree.{IsSound};
+ghost use Rattle.bp_layout.specs.WellFormed.{IsWellFormed};
+ghost use Rattle.bp_layout.specs.Words.{height_of};
+ghost use Rattle.bp_limits.specs.Limits.{block_words};
+ghost use Rattle.pm_region.specs.Memory.{current_words};
+ghost use Rattle.bp_thaw.specs.Fronts.{IsWay};
+
+use bp_limits::{INODE_WORDS, SUPER_ROOT, SUPER_SIZE};
+use bp_tree::{Slots, Tree};
+use pm_region::Region;
+
+/// The number that the slots of a way from one on tell, in base 512. There are at most six of them.
+fn number(way: &Slots, from: usize, to: usize) -> u64
+    requires order { from ≤ to }
+    requires in_range { to ≤ length way.now.items }
+    requires few { to ≤ from + 6 }
+    requires slots { (n : ℕ) → slice_index way.now.items n < block_words }
+    ensures { result ≡ path_number (drop from (take to way.now.items)) }
+{
+    let mut number = 0;
+    for i in from..to {
+        number = 512 * number + u64::from(way[i]);
+    }
+    number
+}
+
+/// Whether a node of a tree is live and neither it nor one above it is null.
+fn is_present<R: Region>(region: &R, tree: Tree, level: u32, index: u64) -> bool
+    requires sound { IsSound (current_words (R.memory region.now)) tree.root tree.size }
+    requires some { 0 < tree.size }
+    requires level { level ≤ height_of tree.root }
+    ensures { result ≡ is_present (current_words (R.memory region.now)) tree.root tree.size
+        (record { level = level; index = index }) }
+{
+    index <= (tree.size - 1) / pm_words::span(level)
+        && bp_tree::node(region, tree, level, index) != 0
+}
+
+/// The inode file.
+fn inode_file<R: Region>(region: &R) -> Tree
+    requires { IsWellFormed (current_words (R.memory region.now)) }
+    ensures root { result.root ≡ root_of (current_words (R.memory region.now)) 0 }
+    ensures size { result.size ≡ size_of (current_words (R.memory region.now)) 0 }
+{
+    Tree {
+        root: region.load(SUPER_ROOT),
+        size: region.load(SUPER_SIZE),
+    }
+}
+
+/// The tree of an inode.
+fn tree_of<R: Region>(region: &R, file: Tree, inode: u64) -> Tree
+    requires well_formed { IsWellFormed (current_words (R.memory region.now)) }
+    requires file { (file.root ≡ root_of (current_words (R.memory region.now)) 0) ×
+        (file.size ≡ size_of (current_words (R.memory region.now)) 0) }
+    requires reached { IsReached (current_words (R.memory region.now)) inode }
+    requires inode { inode ≢ 0 }
+    requires few { inode < 2 ^ 61 }
+    ensures root { result.root ≡ root_of (current_words (R.memory region.now)) inode }
+    ensures size { result.size ≡ size_of (current_words (R.memory region.now)) inode }
+{
+    let first = INODE_WORDS as u64 * inode;
+    Tree {
+        root: bp_tree::content_word(region, file, first + 1),
+        size: bp_tree::content_word(region, file, first + 2),
+    }
+}
+
+/// Whether the pointer behind the first slots of a way is there: it is live, and no null stands on the way to the block
+/// to which it leads.
+pub(crate) fn is_there<R: Region>(region: &R, way: &Slots, depth: usize) -> bool
+    requires well_formed { IsWellFormed (current_words (R.memory region.now)) }
+    requires way { IsWay (current_words (R.memory region.now)) way.now.items }
+    requires depth { depth < length way.now.items }
+    ensures { result ≡ is_there_now (current_words (R.memory region.now)) (take depth way.now.items) }
+{
+    let file = inode_file(region);
+    let top = file.height() as usize;
+    if depth <= top {
+        return is_present(region, file, (top - depth) as u32, number(way, 0, depth));
+    }
+    let inode = number(way, 0, top + 1) / INODE_WORDS as u64;
+    let tree = tree_of(region, file, inode);
+    if tree.size == 0 {
+        return false;
+    }
+    let below = depth - (top + 1);
+    let level = tree.height() - below as u32;
+    is_present(region, tree, level, number(way, top + 1, depth))
+}

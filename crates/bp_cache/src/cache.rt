@@ -98,6 +98,28 @@ impl DirectoryCache {
         }
     }
 
+    /// What is remembered of a name in a large directory. An index that is held tells it. Else the search is counted, and an
+    /// index is made where there were many.
+    fn recall_large<R: Region>(&mut self, region: &R, dir: u32, tree: Tree, name: &[u8]) -> Recalled
+        requires tree { HasTree (current_words (R.memory region.now)) dir tree }
+        requires short { length name.now ≤ max_name }
+        requires right { IsCacheOf (current_words (R.memory region.now)) self.old }
+        ensures told { IsRecalled (current_words (R.memory region.now)) tree name.now result }
+        ensures right { IsCacheOf (current_words (R.memory region.now)) self.new }
+    {
+        match self.directories.get(&dir) {
+            None | Some(Held::Lost) => {}
+            Some(held) => return held.recall(region, tree, name),
+        }
+        if !self.make_held(region, dir, tree) {
+            return Recalled::Unknown;
+        }
+        match self.directories.peek(&dir) {
+            Some(held) => held.recall(region, tree, name),
+            None => Recalled::Unknown,
+        }
+    }
+
     /// What is remembered of a name in a directory of more than a few entries.
     #[inline(never)]
     fn recall_larger<R: Region>(
@@ -116,13 +138,7 @@ impl DirectoryCache {
         if tree.size <= SMALL_SIZE {
             return self.recall_name(region, dir, tree, name);
         }
-        if !self.count_search(region, dir, tree) {
-            return Recalled::Unknown;
-        }
-        match self.directories.peek(&dir) {
-            Some(held) => held.recall(region, tree, name),
-            None => Recalled::Unknown,
-        }
+        self.recall_large(region, dir, tree, name)
     }
 
     /// What is remembered of a name in a directory.
@@ -162,21 +178,28 @@ impl DirectoryCache {
         }
     }
 
-    /// Counts a search of a large directory, and makes an index of it where it was searched often. Tells whether something is held of it.
-    fn count_search<R: Region>(&mut self, region: &R, dir: u32, tree: Tree) -> bool
+    /// Counts a search of a large directory of which nothing is held, and makes an index of it where it was searched often. Tells
+    /// whether something is held of it then.
+    fn make_held<R: Region>(&mut self, region: &R, dir: u32, tree: Tree) -> bool
         requires tree { HasTree (current_words (R.memory region.now)) dir tree }
         requires right { IsCacheOf (current_words (R.memory region.now)) self.old }
         ensures right { IsCacheOf (current_words (R.memory region.now)) self.new }
     {
-        if self.is_held(dir) {
-            return true;
-        }
         if !self.searches.count(dir) {
             return false;
         }
         let held = Held::of(self.alloc, region, tree);
         let _ = self.directories.put(dir, held);
         true
+    }
+
+    /// Counts a search of a large directory, and makes an index of it where it was searched often. Tells whether something is held of it.
+    fn count_search<R: Region>(&mut self, region: &R, dir: u32, tree: Tree) -> bool
+        requires tree { HasTree (current_words (R.memory region.now)) dir tree }
+        requires right { IsCacheOf (current_words (R.memory region.now)) self.old }
+        ensures right { IsCacheOf (current_words (R.memory region.now)) self.new }
+    {
+        self.is_held(dir) || self.make_held(region, dir, tree)
     }
 
     /// What [`bp_dirs::find_or_free`] tells of a directory, which is told by its inode and has this tree.

@@ -1,7 +1,6 @@
 use Rattle.std.proofs.Common.{sym, ◌∙◌}
 use Rattle.bp_layout.specs.Hints.{IsSlotOf}
-use Rattle.bp_layout.proofs.HintLaws.{entry_of_slot, right-same}
-use Rattle.bp_names.specs.Names.{known_of}
+use Rattle.bp_layout.proofs.HintLaws.{entry_of_slot}
 use Rattle.pm_region.specs.Memory.{current_words}
 use Rattle.bp_cache.proofs.cache.DirectoryCache.recall_name.Goals as goal
 

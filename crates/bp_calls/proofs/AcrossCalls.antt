@@ -1,8 +1,8 @@
 -- A write across the size of a file, by the number of its inode: what its parts ask and give.
-use Rattle.std.proofs.Common.{◌≡◌, ℕ, zero, suc, ◌+◌, ◌-◌, ◌*◌, ◌/◌, ◌<◌, ◌≤◌, List, ◌++◌, [], ◌∷◌, length, take, drop, slice_index, sym, ◌∙◌, ap, subst, subst₂, inl, inr, arith}
+use Rattle.std.proofs.Common.{◌≡◌, ℕ, zero, suc, ◌+◌, ◌-◌, ◌*◌, ◌/◌, ◌<◌, ◌≤◌, Bool, List, ◌++◌, [], ◌∷◌, length, take, drop, slice_index, refl, sym, ◌∙◌, ap, subst, subst₂, inl, inr, arith}
 use Rattle.std.proofs.lemmas.List.{append-nil, length-append}
+use Rattle.arrayvec.specs.ArrayVec.{ArrayVec}
 use Rattle.bp_free.specs.Set.{Set, members}
-use Rattle.bp_layout.specs.Free.{HasFree}
 use Rattle.bp_layout.specs.Inode.{root_of, size_of}
 use Rattle.bp_layout.specs.Need.{need}
 use Rattle.bp_layout.specs.Need.Change.{writes}
@@ -10,56 +10,64 @@ use Rattle.bp_layout.specs.Nodes.{nodes_for}
 use Rattle.bp_layout.specs.WordPaths.{WordPath, inode_path}
 use Rattle.bp_layout.specs.Words.{Image, height_of}
 use Rattle.bp_limits.specs.Limits.{block_words, max_height}
-use Rattle.bp_append.specs.Prepared.{CanPrepare, PreparesWith, need_for}
+use Rattle.bp_append.specs.Prepared.{CanPrepare, HasLooseEnd, PreparesWith, need_for}
 use Rattle.bp_append.proofs.StoresLaws.{behind_whole, room_behind_whole}
 use Rattle.bp_shapes.specs.Sets.{AreExact}
-use Rattle.bp_commit.specs.Performs.{Performs, room_for}
+use Rattle.bp_commit.specs.Performs.{PerformsThawed, room_for}
 use Rattle.bp_cow.specs.Commit.{CanCommitIn, CommitsTouched}
 use Rattle.bp_cow.specs.Cover.{LeadsInside, copied_count}
 use Rattle.bp_cow.specs.Touched.{IsTouched, NoneBegins, all_paths}
 use Rattle.bp_cow.specs.declared.touched.Touched.{Touched}
 use Rattle.pm_region.specs.Memory.{Memory, current_words, room_in}
 use Rattle.pm_region.proofs.MemoryLaws.{length-current_words, room_in-piece}
-use Rattle.bp_calls.specs.CanWrite.{CanWrite}
-use Rattle.bp_calls.specs.Space.{LacksSpace}
+use Rattle.bp_calls.specs.CanWrite.{CanWriteInto}
+use Rattle.bp_calls.specs.Space.{HasRoomThawed}
 use Rattle.bp_calls.specs.TouchedAcross.{IsRunAcross, IsSizeWord, TouchesAcross, WritesAcross}
 use Rattle.bp_cow.specs.declared.touched.Run.{Run}
 use Rattle.bp_calls.specs.WritesFile.{WritesFile}
 use Rattle.bp_calls.proofs.AcrossDone.{across_exact, across_performs}
-use Rattle.bp_calls.proofs.AcrossMiddle.{across_can, middle_count, middle_formed}
+use Rattle.bp_calls.proofs.AcrossMiddle.{across_can, middle_count, middle_formed, middle_loose}
 use Rattle.bp_calls.proofs.SizesWith.{sizes_with}
 use Rattle.bp_calls.proofs.AcrossTouched.{across_apart, across_few, across_inside, across_needs, across_shape, across_words}
-use Rattle.bp_calls.proofs.FreeCounts.{free_members}
-use Rattle.bp_calls.proofs.TakenBlocks.{unused_members, usable_members}
-use Rattle.bp_layout.specs.Thaw.{none_kept}
-use Rattle.bp_calls.proofs.Unthawed.{lacks_thawed, room_asked, across_room}
+use Rattle.bp_append.proofs.EndWays.{loose_end}
+use Rattle.bp_calls.proofs.TakenBlocks.{members_free, usable_members}
+use Rattle.bp_layout.specs.Thaw.{end_path_now, root_path_now, targets, thawed}
+use Rattle.bp_layout.proofs.ThawLaws.{loose-on}
+use Rattle.bp_layout.specs.Members.{Has}
+use Rattle.bp_calls.proofs.Unthawed.{across_room}
+use Rattle.bp_calls.proofs.WriteTargets.{across_targets}
 
 parted : (taken rest : List ℕ) {all : List ℕ} → all ≡ taken ++ rest → length all ≡ length taken + length rest
 parted taken rest e = ap (λ (xs : List ℕ). length xs) e ∙ length-append taken rest
 
 -- the log has room for both parts
-roomy : (made behind copied needed words room left : ℕ) → room ≤ left + (2 + (block_words * made + behind + 2)) → behind ≤ block_words * suc max_height → needed ≡ made + copied → words ≡ 1 → room_for needed ≤ room →
+roomy : (made behind copied needed words room left : ℕ) → room ≤ left + (2 + (block_words * made + behind + 2)) → behind ≤ block_words * suc max_height → needed ≡ made + copied → words ≡ 1 → room_for needed ≤ room + 2 →
     (block_words + 1) * copied + words + 1 + 2 ≤ left
 roomy made behind copied needed words room left a b c d e = omega (arith, a, b, c, d, e)
 
+-- the word of the size, with the path that was read
+pub sized_word : (image : Image) (i end : ℕ) (path : ArrayVec ℕ) → path.items ≡ inode_path (height_of (root_of image 0)) i 2 → {words : List (ArrayVec ℕ × ℕ)} → words ≡ (path, end) ∷ [] → IsSizeWord image i end words
+sized_word image i end path is words = subst (λ (ws : List (ArrayVec ℕ × ℕ)). IsSizeWord image i end ws) (sym words) (record { path = ap (λ (p : List ℕ). p ∷ []) is; value = refl })
+
 -- a run and a word make what is touched
 pub touches_across : (image : Image) (i off end : ℕ) (bytes : List ℕ) (touched : Touched) (run : Run) → touched.runs.now ≡ run ∷ [] → IsRunAcross image i off end bytes run → IsSizeWord image i end touched.words.now →
-    TouchesAcross image i off end bytes touched
-touches_across image i off end bytes touched run one is sized = record { run = run; one = one; is = is; sized = sized.path; value = sized.value }
+    touched.trees.now ≡ [] → TouchesAcross image i off end bytes touched
+touches_across image i off end bytes touched run one is sized none = record { run = run; one = one; is = is; sized = sized.path; value = sized.value; no_trees = none }
 
-module _ (old : Memory) (blocks inodes : Set) (off : ℕ) (bytes : List ℕ) (touched : Touched) where
-  abbrev image : Image
-  image = current_words old
+-- the nodes that are made, by the root word and the size that were read
+abbrev made_for : Image → ℕ → ℕ → ℕ → ℕ
+made_for image end root size = length (nodes_for image root size size end)
 
-  abbrev end : ℕ
-  end = off + length bytes
+made_is : (image : Image) (end i root size : ℕ) → root ≡ root_of image i → size ≡ size_of image i → made_for image end root size ≡ need_for image i (size_of image i) end
+made_is image end i root size one two = ap (λ r. made_for image end r size) one ∙ ap (made_for image end (root_of image i)) two
 
-  not_inodes : (P : Type 0) → WritesAcross old blocks inodes 0 off bytes touched → P
+module _ {kept : ℕ → Bool} (old : Memory) (blocks inodes : Set) (off : ℕ) (bytes : List ℕ) (touched : Touched) where
+  not_inodes : (P : Type 0) → WritesAcross kept old blocks inodes 0 off bytes touched → P
   not_inodes P across = absurd (omega (arith, across.can.file))
 
   -- the bytes are split at the size
-  pub splits_at : (i size : ℕ) (below : List ℕ) → CanWrite old blocks inodes i off bytes → off < size_of (current_words old) i → size_of (current_words old) i < off + length bytes → size ≡ size_of (current_words old) i →
-      below ≡ take (size - off) bytes → TouchesAcross (current_words old) i off (off + length bytes) below touched → WritesAcross old blocks inodes i off bytes touched
+  pub splits_at : (i size : ℕ) (below : List ℕ) → CanWriteInto kept (current_words old) blocks inodes i off bytes → off < size_of (current_words old) i → size_of (current_words old) i < off + length bytes → size ≡ size_of (current_words old) i →
+      below ≡ take (size - off) bytes → TouchesAcross (current_words old) i off (off + length bytes) below touched → WritesAcross kept old blocks inodes i off bytes touched
   splits_at i size below can low past is split touches = record {
     can = can;
     below = low;
@@ -67,49 +75,47 @@ module _ (old : Memory) (blocks inodes : Set) (off : ℕ) (bytes : List ℕ) (to
     touches = subst (λ bs. TouchesAcross (current_words old) i off (off + length bytes) bs touched) (split ∙ ap (λ s. take (s - off) bytes) is) touches;
   }
 
-  pub at_shape : (i : ℕ) → WritesAcross old blocks inodes i off bytes touched → IsTouched touched
+  pub at_shape : (i : ℕ) → WritesAcross kept old blocks inodes i off bytes touched → IsTouched touched
   at_shape zero across = not_inodes _ across
   at_shape (suc n) across = across_shape old blocks inodes n off bytes touched across
 
-  pub at_inside : (i : ℕ) → WritesAcross old blocks inodes i off bytes touched → LeadsInside (current_words old) touched
+  pub at_inside : (i : ℕ) → WritesAcross kept old blocks inodes i off bytes touched → LeadsInside (current_words old) touched
   at_inside zero across = not_inodes _ across
   at_inside (suc n) across = across_inside old blocks inodes n off bytes touched across
 
-  pub at_apart : (i : ℕ) → WritesAcross old blocks inodes i off bytes touched → NoneBegins (all_paths touched)
+  pub at_apart : (i : ℕ) → WritesAcross kept old blocks inodes i off bytes touched → NoneBegins (all_paths touched)
   at_apart zero across = not_inodes _ across
   at_apart (suc n) across = across_apart old blocks inodes n off bytes touched across
 
-  -- the nodes that are made, by the root word and the size that were read
-  abbrev made_for : ℕ → ℕ → ℕ
-  made_for root size = length (nodes_for (current_words old) root size size (off + length bytes))
-
-  made_is : (i root size : ℕ) → root ≡ root_of (current_words old) i → size ≡ size_of (current_words old) i → made_for root size ≡ need_for (current_words old) i (size_of (current_words old) i) (off + length bytes)
-  made_is i root size one two = ap (λ r. made_for r size) one ∙ ap (made_for (root_of (current_words old) i)) two
-
-  pub at_few : (i root size : ℕ) → WritesAcross old blocks inodes i off bytes touched → root ≡ root_of (current_words old) i → size ≡ size_of (current_words old) i →
+  pub at_few : (i root size : ℕ) → WritesAcross kept old blocks inodes i off bytes touched → root ≡ root_of (current_words old) i → size ≡ size_of (current_words old) i →
       length (nodes_for (current_words old) root size size (off + length bytes)) + copied_count (current_words old) touched ≤ 320
   at_few zero root size across = not_inodes _ across
   at_few (suc n) root size across = λ one two.
-      omega (arith, made_is (suc n) root size one two, across_few old blocks inodes n off bytes touched across (current_words old))
+      omega (arith, made_is (current_words old) (off + length bytes) (suc n) root size one two, across_few old blocks inodes n off bytes touched across (current_words old))
 
-  pub at_lacks : (i root size made copied free : ℕ) → WritesAcross old blocks inodes i off bytes touched → root ≡ root_of (current_words old) i → size ≡ size_of (current_words old) i →
-      made ≡ length (nodes_for (current_words old) root size size (off + length bytes)) → copied ≡ copied_count (current_words old) touched → free ≡ length (members blocks) → free < made + copied →
-      LacksSpace (current_words old) none_kept (writes i off (length bytes)) (record { need = made + copied; free = free })
-  at_lacks zero root size made copied free across = not_inodes _ across
-  at_lacks (suc n) root size made copied free across = λ one two counted also is fewer.
-      lacks_thawed (current_words old) (writes (suc n) off (length bytes)) (made + copied) free
-      (omega (arith, across_needs old blocks inodes n off bytes touched across, made_is (suc n) root size one two, counted, also))
-      (subst (HasFree (current_words old) none_kept) (sym is) (free_members (current_words old) none_kept blocks across.can.exact.free_blocks across.can.exact.block_room)) fewer
+  -- so many blocks it takes
+  pub at_needs : (i root size made copied : ℕ) → WritesAcross kept old blocks inodes i off bytes touched → root ≡ root_of (current_words old) i → size ≡ size_of (current_words old) i →
+      made ≡ length (nodes_for (current_words old) root size size (off + length bytes)) → copied ≡ copied_count (current_words old) touched → made + copied ≡ need (current_words old) (writes i off (length bytes))
+  at_needs zero root size made copied across = not_inodes _ across
+  at_needs (suc n) root size made copied across = λ one two counted also.
+      omega (arith, across_needs old blocks inodes n off bytes touched across, made_is (current_words old) (off + length bytes) (suc n) root size one two, counted, also)
 
-  pub at_prepare : (i root size made : ℕ) (path : WordPath) → WritesAcross old blocks inodes i off bytes touched → root ≡ root_of (current_words old) i → size ≡ size_of (current_words old) i →
-      made ≡ length (nodes_for (current_words old) root size size (off + length bytes)) → made + copied_count (current_words old) touched ≤ length (members blocks) → path ≡ inode_path (height_of (root_of (current_words old) 0)) i 1 →
-      CanPrepare old (members blocks) i path size (off + length bytes)
-  at_prepare zero root size made path across = not_inodes _ across
-  at_prepare (suc n) root size made path across = λ one two counted enough is.
+  -- the ways to the end of the file are loose
+  end_loose : (n : ℕ) → WritesAcross kept old blocks inodes (suc n) off bytes touched → thawed (current_words old) kept (writes (suc n) off (length bytes)) ≡ [] → HasLooseEnd (current_words old) kept (suc n)
+  end_loose n across clear =
+      loose_end (current_words old) across.can.well_formed kept (suc n) across.can.reached
+      (loose-on (current_words old) kept (targets (current_words old) (writes (suc n) off (length bytes))) clear (end_path_now (current_words old) (suc n))
+      (subst (λ ps. Has ps (end_path_now (current_words old) (suc n))) (sym (across_targets (current_words old) across.can.well_formed n across.can.reached off (length bytes) across.below across.past)) (inr (inr (inl refl))))
+      (length (root_path_now (current_words old) (suc n)) - 1))
+
+  pub at_prepare : (i size : ℕ) (path : WordPath) → WritesAcross kept old blocks inodes i off bytes touched → thawed (current_words old) kept (writes i off (length bytes)) ≡ [] → HasRoomThawed old blocks (writes i off (length bytes)) →
+      need (current_words old) (writes i off (length bytes)) ≤ length (members blocks) → size ≡ size_of (current_words old) i → path ≡ inode_path (height_of (root_of (current_words old) 0)) i 1 →
+      CanPrepare kept old (members blocks) i path size (off + length bytes)
+  at_prepare zero size path across = not_inodes _ across
+  at_prepare (suc n) size path across = λ clear room enough two is.
       let needs = across_needs old blocks inodes n off bytes touched across in
-      let has : room_for (need (current_words old) (writes (suc n) off (length bytes))) ≤ room_in old =
-      room_asked old blocks (writes (suc n) off (length bytes)) across.can.room (omega (arith, enough, counted, made_is (suc n) root size one two, needs)) in
-      let can : CanPrepare old (members blocks) (suc n) path (size_of (current_words old) (suc n)) (off + length bytes) = record {
+      let has : room_for (need (current_words old) (writes (suc n) off (length bytes))) ≤ room_in old + 2 = room enough in
+      let can : CanPrepare kept old (members blocks) (suc n) path (size_of (current_words old) (suc n)) (off + length bytes) = record {
         well = across.can.well_formed;
         reached = across.can.reached;
         leads = is ∙ sym (append-nil (inode_path (height_of (root_of (current_words old) 0)) (suc n) 1));
@@ -118,46 +124,46 @@ module _ (old : Memory) (blocks inodes : Set) (off : ℕ) (bytes : List ℕ) (to
         fits = across.can.fits;
         by_words = λ by. elim by [ inl e ↦ omega (arith, e) | inr kind ↦ omega (arith, kind, across.can.file) ];
         usable = usable_members (current_words old) blocks inodes across.can.exact _ (omega (arith, length-current_words old));
-        unused = unused_members (current_words old) blocks inodes across.can.exact;
-        enough = omega (arith, enough, counted, made_is (suc n) root size one two);
+        are_free = members_free (current_words old) blocks inodes across.can.exact;
+        loose = end_loose n across clear;
+        enough = omega (arith, enough, needs);
         room = across_room _ _ _ _ _ needs (room_behind_whole (size_of (current_words old) (suc n)) (size_of (current_words old) (suc n)) (off + length bytes) max_height) has;
       } in
-      subst (λ s. CanPrepare old (members blocks) (suc n) path s (off + length bytes)) (sym two) can
+      subst (λ s. CanPrepare kept old (members blocks) (suc n) path s (off + length bytes)) (sym two) can
 
   module _ (middle : Memory) (after : Set) where
     -- the preparation, told at the size of the file
-    pub at_prepared : (i size : ℕ) (beyond : List ℕ) → PreparesWith old middle (members blocks) (members after) i size (off + length bytes) beyond → size ≡ size_of (current_words old) i → beyond ≡ drop (size - off) bytes →
-        PreparesWith old middle (members blocks) (members after) i (size_of (current_words old) i) (off + length bytes) (drop (size_of (current_words old) i - off) bytes)
+    pub at_prepared : (i size : ℕ) (beyond : List ℕ) → PreparesWith kept old middle (members blocks) (members after) i size (off + length bytes) beyond → size ≡ size_of (current_words old) i → beyond ≡ drop (size - off) bytes →
+        PreparesWith kept old middle (members blocks) (members after) i (size_of (current_words old) i) (off + length bytes) (drop (size_of (current_words old) i - off) bytes)
     at_prepared i size beyond prepared is split =
-        subst₂ (λ s bs. PreparesWith old middle (members blocks) (members after) i s (off + length bytes) bs) is (split ∙ ap (λ s. drop (s - off) bytes) is) prepared
+        subst₂ (λ s bs. PreparesWith kept old middle (members blocks) (members after) i s (off + length bytes) bs) is (split ∙ ap (λ s. drop (s - off) bytes) is) prepared
 
-    pub at_commit : (i root size made : ℕ) → WritesAcross old blocks inodes i off bytes touched → root ≡ root_of (current_words old) i → size ≡ size_of (current_words old) i →
-        made ≡ length (nodes_for (current_words old) root size size (off + length bytes)) → made + copied_count (current_words old) touched ≤ length (members blocks) →
-        PreparesWith old middle (members blocks) (members after) i (size_of (current_words old) i) (off + length bytes) (drop (size_of (current_words old) i - off) bytes) → length after ≡ length blocks →
-        CanCommitIn (sizes_with (current_words middle) touched) middle touched after
-    at_commit zero root size made across = not_inodes _ across
-    at_commit (suc n) root size made across = λ one two counted enough prepared room.
+    pub at_commit : (i : ℕ) → WritesAcross kept old blocks inodes i off bytes touched → thawed (current_words old) kept (writes i off (length bytes)) ≡ [] → HasRoomThawed old blocks (writes i off (length bytes)) →
+        need (current_words old) (writes i off (length bytes)) ≤ length (members blocks) →
+        PreparesWith kept old middle (members blocks) (members after) i (size_of (current_words old) i) (off + length bytes) (drop (size_of (current_words old) i - off) bytes) → length after ≡ length blocks →
+        CanCommitIn (sizes_with (current_words middle) touched) kept middle touched after
+    at_commit zero across = not_inodes _ across
+    at_commit (suc n) across = λ clear asked enough prepared room.
         let count = middle_count old middle blocks inodes after n off bytes touched across prepared in
-        let need_is = made_is (suc n) root size one two in
         let needs = across_needs old blocks inodes n off bytes touched across in
-        let has : room_for (need (current_words old) (writes (suc n) off (length bytes))) ≤ room_in old =
-        room_asked old blocks (writes (suc n) off (length bytes)) across.can.room (omega (arith, enough, counted, need_is, needs)) in
+        let has : room_for (need (current_words old) (writes (suc n) off (length bytes))) ≤ room_in old + 2 = asked enough in
         let parts : length (members blocks) ≡ length prepared.taken + length (members after) = parted prepared.taken (members after) prepared.takes in
         record {
           well_formed = middle_formed old middle blocks inodes after n off bytes touched across prepared;
           can = across_can old middle blocks inodes after n off bytes touched across prepared;
+          loose = middle_loose old middle blocks inodes after n off bytes touched across prepared clear;
           fits = let whole = ap (λ words. words / 512) prepared.ready.meaning.trees.whole in omega (arith, whole, room, across.can.exact.block_room);
-          some = omega (arith, parts, prepared.counted, counted, need_is, count, enough);
+          some = omega (arith, parts, prepared.counted, count, needs, enough);
           room = let left = room_in-piece _ _ old middle prepared.adds.part.added prepared.adds.part.adds prepared.adds.part.piece in
               roomy _ _ _ _ _ _ _ left (behind_whole (size_of (current_words old) (suc n)) (size_of (current_words old) (suc n)) (off + length bytes) max_height) (omega (arith, needs, count))
               (across_words old blocks inodes n off bytes touched across) has;
         }
 
     module _ (new : Memory) (last : Set) where
-      pub at_done : (i : ℕ) → WritesAcross old blocks inodes i off bytes touched →
-          PreparesWith old middle (members blocks) (members after) i (size_of (current_words old) i) (off + length bytes) (drop (size_of (current_words old) i - off) bytes) → ((k : ℕ) → slice_index bytes k < 256) →
-          CommitsTouched (sizes_with (current_words middle) touched) touched middle new after last → length last ≡ length after → length after ≡ length blocks →
-          Performs none_kept old new (writes i off (length bytes)) (WritesFile i off bytes) × AreExact (current_words new) none_kept last inodes
+      pub at_done : (i : ℕ) → WritesAcross kept old blocks inodes i off bytes touched →
+          PreparesWith kept old middle (members blocks) (members after) i (size_of (current_words old) i) (off + length bytes) (drop (size_of (current_words old) i - off) bytes) → ((k : ℕ) → slice_index bytes k < 256) →
+          CommitsTouched (sizes_with (current_words middle) touched) kept touched middle new after last → length last ≡ length after → length after ≡ length blocks →
+          PerformsThawed kept old new (writes i off (length bytes)) (WritesFile i off bytes) × AreExact (current_words new) kept last inodes
       at_done zero across = not_inodes _ across
       at_done (suc n) across = λ prepared small done same room.
           (across_performs old middle new blocks inodes after last n off bytes touched across prepared small done, across_exact old middle new blocks inodes after last n off bytes touched across prepared small done same room)

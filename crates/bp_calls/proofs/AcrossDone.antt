@@ -1,5 +1,5 @@
 -- What a write across the size of a file makes of an image, and that it is performed.
-use Rattle.std.proofs.Common.{◌≡◌, ◌⊎◌, ℕ, zero, suc, ◌+◌, ◌-◌, ◌*◌, ◌<◌, ◌≤◌, List, [], ◌∷◌, length, take, drop, slice_index, sym, ◌∙◌, ap, subst, inl, inr, arith}
+use Rattle.std.proofs.Common.{◌≡◌, ◌⊎◌, ℕ, zero, suc, ◌+◌, ◌-◌, ◌*◌, ◌<◌, ◌≤◌, Bool, List, [], ◌∷◌, length, take, drop, slice_index, sym, ◌∙◌, ap, subst, inl, inr, arith}
 use Rattle.std.proofs.lemmas.Bool.{cases_eq}
 use Rattle.std.proofs.lemmas.List.{get_or-drop}
 use Rattle.bp_free.specs.Set.{Set, has, members}
@@ -19,7 +19,7 @@ use Rattle.bp_append.specs.Stores.{prep_stores}
 use Rattle.bp_append.proofs.StoresLaws.{behind_near}
 use Rattle.bp_shapes.specs.Sets.{AreExact}
 use Rattle.bp_shapes.proofs.FreeSets.{wf_forest}
-use Rattle.bp_commit.specs.Performs.{IsOpen, Performs, most_stores_thawed}
+use Rattle.bp_commit.specs.Performs.{IsOpen, PerformsThawed, most_stores_thawed}
 use Rattle.bp_cow.specs.CanCommit.{CanCommit}
 use Rattle.bp_cow.specs.Commit.{CommitsTouched, commit_stores, cover_word}
 use Rattle.bp_cow.specs.Cover.{commit_cover, copied_count}
@@ -38,8 +38,6 @@ use Rattle.bp_calls.proofs.SizesWith.{sizes_with}
 use Rattle.bp_calls.proofs.AcrossTouched.{across_copies, across_cover, across_end, across_needs, across_shape, across_words}
 use Rattle.bp_calls.proofs.RunCommits.{commit_exact, commit_writes_file, laid_past}
 use Rattle.bp_calls.proofs.WriteBehind.{given_inside}
-use Rattle.bp_layout.specs.Thaw.{none_kept}
-use Rattle.bp_calls.proofs.Unthawed.{unthawed}
 
 -- ---- one byte
 
@@ -51,9 +49,9 @@ small_take (suc count) (b ∷ bytes) small (suc k) = small_take count bytes (λ 
 
 -- ---- the call
 
-module _ (old middle new : Memory) (blocks inodes after last : Set) (n off : ℕ) (bytes : List ℕ) (touched : Touched) (across : WritesAcross old blocks inodes (suc n) off bytes touched)
-    (prepared : PreparesWith old middle (members blocks) (members after) (suc n) (size_of (current_words old) (suc n)) (off + length bytes) (drop (size_of (current_words old) (suc n) - off) bytes))
-    (small : (k : ℕ) → slice_index bytes k < 256) (done : CommitsTouched (sizes_with (current_words middle) touched) touched middle new after last) where
+module _ {kept : ℕ → Bool} (old middle new : Memory) (blocks inodes after last : Set) (n off : ℕ) (bytes : List ℕ) (touched : Touched) (across : WritesAcross kept old blocks inodes (suc n) off bytes touched)
+    (prepared : PreparesWith kept old middle (members blocks) (members after) (suc n) (size_of (current_words old) (suc n)) (off + length bytes) (drop (size_of (current_words old) (suc n) - off) bytes))
+    (small : (k : ℕ) → slice_index bytes k < 256) (done : CommitsTouched (sizes_with (current_words middle) touched) kept touched middle new after last) where
   abbrev image : Image
   image = current_words old
 
@@ -75,7 +73,7 @@ module _ (old middle new : Memory) (blocks inodes after last : Set) (n off : ℕ
   wf_mid : IsWellFormed mid
   wf_mid = middle_formed old middle blocks inodes after n off bytes touched across prepared
 
-  can : CanCommit mid bound touched (has after)
+  can : CanCommit mid bound kept touched (has after)
   can = across_can old middle blocks inodes after n off bytes touched across prepared
 
   file : IsFileRun mid bound touched across.touches.run n
@@ -128,11 +126,11 @@ module _ (old middle new : Memory) (blocks inodes after last : Set) (n off : ℕ
 
   -- ---- the stores
 
-  open_cover : IsOpen mid none_kept done.taken (cover_word mid touched)
+  open_cover : IsOpen mid kept done.taken (cover_word mid touched)
   open_cover =
-      cover_open mid wf_mid touched (across_shape old blocks inodes n off bytes touched across) (inode_path (height_of (root_of mid 0)) (suc n) 2)
+      cover_open kept mid wf_mid touched (across_shape old blocks inodes n off bytes touched across) (inode_path (height_of (root_of mid 0)) (suc n) 2)
       (has_size (height_of (root_of mid 0)) (suc n) touched across.touches.run (run_there old middle blocks inodes after n off bytes touched across prepared) (across_shape old blocks inodes n off bytes touched across))
-      (size_fronts old middle blocks inodes after n off bytes touched across prepared (size_of mid) (wf_forest mid wf_mid) (omega arith)) done.taken
+      (size_fronts old middle blocks inodes after n off bytes touched across prepared (size_of mid) (wf_forest mid wf_mid) (omega arith)) done.loose done.taken
 
   count_is : copied_count mid touched ≡ copied_count image touched
   count_is = middle_count old middle blocks inodes after n off bytes touched across prepared
@@ -149,16 +147,15 @@ module _ (old middle new : Memory) (blocks inodes after last : Set) (n off : ℕ
           block_words * made + behind + 2 + ((block_words + 1) * copied_mid + words + 1) ≤ most_stores_thawed needed
       go made copied copied_mid words needed behind a b c d e = omega (arith, a, b, c, d, e)
 
-  pub across_performs : Performs none_kept old new (writes (suc n) off (length bytes)) (WritesFile (suc n) off bytes)
+  pub across_performs : PerformsThawed kept old new (writes (suc n) off (length bytes)) (WritesFile (suc n) off bytes)
   across_performs =
-      unthawed old new (writes (suc n) off (length bytes)) (WritesFile (suc n) off bytes)
-      (commit_performs_after old middle new (writes (suc n) off (length bytes)) (WritesFile (suc n) off bytes) bound touched after last prepared.taken 2
+      commit_performs_after old middle new (writes (suc n) off (length bytes)) (WritesFile (suc n) off bytes) bound touched after last prepared.taken 2
       (prep_stores (size_of image (suc n)) (size_of image (suc n)) (off + length bytes) (need_for image (suc n) (size_of image (suc n)) (off + length bytes))) prepared.adds done
       (middle_live old middle blocks inodes after n off bytes touched across prepared)
       (left_free old middle blocks inodes after n off bytes touched across prepared)
       (middle_cover old middle blocks inodes after n off bytes touched across prepared ∙ sym (across_cover old blocks inodes n off bytes touched across)) (omega arith) few
       (omega (arith, prepared.counted, count_is, needs)) open_cover
-      (changed.well_formed-same image (current_words new) (suc n) wf changes) across_writes)
+      (changed.well_formed-same image (current_words new) (suc n) wf changes) across_writes
 
   -- ---- the sets
 
@@ -169,6 +166,6 @@ module _ (old middle new : Memory) (blocks inodes after last : Set) (n off : ℕ
       go (inl e) = rw e (size_is ∙ sym bound_is)
       go (inr other) = changes_mid.size t reached other ∙ sym (bound_other old middle blocks inodes after n off bytes touched across prepared t other)
 
-  pub across_exact : length last ≡ length after → length after ≡ length blocks → AreExact (current_words new) none_kept last inodes
+  pub across_exact : length last ≡ length after → length after ≡ length blocks → AreExact (current_words new) kept last inodes
   across_exact same room =
       commit_exact mid (current_words new) wf_mid (changed.keeps mid (current_words new) (suc n) wf_mid changes_mid) bound bounds after last inodes (middle_sets old middle blocks inodes after n off bytes touched across prepared room) same done.exact

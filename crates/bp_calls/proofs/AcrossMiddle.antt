@@ -1,5 +1,5 @@
 -- Behind the preparation of a write across the size of a file, what is touched can be committed: the sizes that count are those that the trees have, and for the file the end of the bytes.
-use Rattle.std.proofs.Common.{◌≡◌, ◌≢◌, ◌⊎◌, ℕ, suc, ◌+◌, ◌-◌, ◌*◌, ◌<◌, ◌≤◌, List, [], ◌∷◌, length, drop, slice_index, refl, sym, ◌∙◌, ap, subst, suc-ne-zero, arith, true, inl, inr}
+use Rattle.std.proofs.Common.{◌≡◌, ◌≢◌, ◌⊎◌, ℕ, zero, suc, ◌+◌, ◌-◌, ◌*◌, ◌/◌, ◌%◌, ◌<◌, ◌≤◌, Bool, false, List, [], ◌∷◌, length, drop, slice_index, refl, sym, ◌∙◌, ap, subst, suc-ne-zero, arith, true, inl, inr}
 use Rattle.bp_free.specs.Set.{Set, has, members}
 use Rattle.bp_layout.specs.Free.{AreUnheld}
 use Rattle.bp_layout.specs.Inode.{root_of, size_of, inode_count}
@@ -7,8 +7,16 @@ use Rattle.bp_layout.specs.Members.{Has}
 use Rattle.bp_layout.specs.Reached.{IsReached, IsLiveBlock, IsFreeBlock}
 use Rattle.bp_layout.specs.Reached.IsReached.{inode_file}
 use Rattle.bp_layout.specs.WellFormed.{IsWellFormed}
-use Rattle.bp_layout.specs.WordPaths.{WordPath, inode_path}
-use Rattle.bp_layout.specs.Words.{Image, word, height_of}
+use Rattle.bp_layout.specs.WordPaths.{WordPath, address, digits, inode_path}
+use Rattle.bp_layout.specs.Need.Change.{writes}
+use Rattle.bp_layout.specs.Tree.{IsLivePointer, IsLiveWord, node, word_at}
+use Rattle.bp_layout.proofs.Addresses.{address_from-digits}
+use Rattle.bp_layout.proofs.ThawLaws.{loose-on}
+use Rattle.bp_layout.proofs.TreeLaws.{live_above, live_content, live_pointer_word}
+use Rattle.bp_tree.proofs.LooseWays.{loose_word}
+use Rattle.bp_cow.specs.Commit.{HasLooseCover}
+use Rattle.bp_calls.proofs.WriteTargets.{across_targets}
+use Rattle.bp_layout.specs.Words.{Image, block_of, word, height_of}
 use Rattle.bp_layout.proofs.Reached.{reached-in_file}
 use Rattle.bp_changes.proofs.ReachedOn.{reached_on}
 use Rattle.bp_changes.proofs.SameMeaning as meaning
@@ -19,7 +27,7 @@ use Rattle.bp_shapes.specs.Sets.{AreExactFor}
 use Rattle.bp_shapes.specs.Trail.{Trail, trail_of}
 use Rattle.bp_shapes.proofs.FreeSets.{content_fronts, content_no_pointer}
 use Rattle.bp_shapes.proofs.PathTrails.{length-trail_of}
-use Rattle.bp_cow.specs.CanCommit.{CanCommit, IsRunIn}
+use Rattle.bp_cow.specs.CanCommit.{CanCommit, IsRunIn, IsTreeIn}
 use Rattle.bp_cow.specs.Cover.{commit_cover, copied_count}
 use Rattle.bp_cow.specs.Touched.{path_of, run_path, word_paths}
 use Rattle.bp_cow.specs.declared.touched.Run.{Run}
@@ -32,10 +40,11 @@ use Rattle.bp_calls.specs.TouchedAcross.{WritesAcross}
 use Rattle.bp_calls.proofs.AcrossTouched.{across_end, across_run, across_shape, across_some, across_words}
 use Rattle.bp_calls.proofs.SizesWith.{size_with_here, size_with_other, sizes_with}
 use Rattle.bp_calls.proofs.PreparedSets.{live_before, prepared_exact, prepared_forest, prepared_sets, sizes_low, still_free}
-use Rattle.bp_layout.specs.Thaw.{none_kept}
+use Rattle.bp_layout.specs.Thaw.{IsLoose, targets, thawed}
+use Rattle.bp_cow.proofs.CallerLaws.{no_trees}
 
-module _ (old middle : Memory) (blocks inodes after : Set) (n off : ℕ) (bytes : List ℕ) (touched : Touched) (across : WritesAcross old blocks inodes (suc n) off bytes touched)
-    (prepared : PreparesWith old middle (members blocks) (members after) (suc n) (size_of (current_words old) (suc n)) (off + length bytes) (drop (size_of (current_words old) (suc n) - off) bytes)) where
+module _ {kept : ℕ → Bool} (old middle : Memory) (blocks inodes after : Set) (n off : ℕ) (bytes : List ℕ) (touched : Touched) (across : WritesAcross kept old blocks inodes (suc n) off bytes touched)
+    (prepared : PreparesWith kept old middle (members blocks) (members after) (suc n) (size_of (current_words old) (suc n)) (off + length bytes) (drop (size_of (current_words old) (suc n) - off) bytes)) where
   abbrev image : Image
   image = current_words old
 
@@ -106,18 +115,18 @@ module _ (old middle : Memory) (blocks inodes after : Set) (n off : ℕ) (bytes 
       live_before old middle blocks inodes after (suc n) (size_of (current_words old) (suc n)) (off + length bytes) (drop (size_of (current_words old) (suc n) - off) bytes) across.can.well_formed across.can.exact across.can.reached
       some past prepared (sizes_with (current_words middle) touched) bound_here bound_other
 
-  pub left_free : (b : ℕ) → has after b ≡ true → IsFreeBlock (current_words old) none_kept b × (Has prepared.taken b → ⊥)
+  pub left_free : (b : ℕ) → has after b ≡ true → IsFreeBlock (current_words old) kept b × (Has prepared.taken b → ⊥)
   left_free =
       still_free old middle blocks inodes after (suc n) (size_of (current_words old) (suc n)) (off + length bytes) (drop (size_of (current_words old) (suc n) - off) bytes) across.can.well_formed across.can.exact across.can.reached
       some past prepared (sizes_with (current_words middle) touched) bound_here bound_other
 
   -- so the sets are exact under these sizes
-  pub middle_sets : length after ≡ length blocks → AreExactFor (current_words middle) (IsReached (current_words middle)) (sizes_with (current_words middle) touched) none_kept after inodes
+  pub middle_sets : length after ≡ length blocks → AreExactFor (current_words middle) (IsReached (current_words middle)) (sizes_with (current_words middle) touched) kept after inodes
   middle_sets =
       prepared_sets old middle blocks inodes after (suc n) (size_of (current_words old) (suc n)) (off + length bytes) (drop (size_of (current_words old) (suc n) - off) bytes) across.can.well_formed across.can.exact across.can.reached
       some past prepared (sizes_with (current_words middle) touched) bound_here bound_other
 
-  pub middle_exact : AreUnheld (current_words middle) (IsReached (current_words middle)) (sizes_with (current_words middle) touched) none_kept (has after)
+  pub middle_exact : AreUnheld (current_words middle) (IsReached (current_words middle)) (sizes_with (current_words middle) touched) kept (has after)
   middle_exact =
       prepared_exact old middle blocks inodes after (suc n) (size_of (current_words old) (suc n)) (off + length bytes) (drop (size_of (current_words old) (suc n) - off) bytes) across.can.well_formed across.can.exact across.can.reached
       some past prepared (sizes_with (current_words middle) touched) bound_here bound_other
@@ -159,7 +168,7 @@ module _ (old middle : Memory) (blocks inodes after : Set) (n off : ℕ) (bytes 
     others = λ t reached other. bound_other t other;
   }
 
-  pub across_can : CanCommit (current_words middle) (sizes_with (current_words middle) touched) touched (has after)
+  pub across_can : CanCommit (current_words middle) (sizes_with (current_words middle) touched) kept touched (has after)
   across_can = record {
     shape = across_shape old blocks inodes n off bytes touched across;
     forest = middle_forest;
@@ -179,6 +188,7 @@ module _ (old middle : Memory) (blocks inodes after : Set) (n off : ℕ) (bytes 
       below = omega (arith, across_end old blocks inodes n off bytes touched across, bound_here, across.past);
       counts = omega (arith, bound_here, across.touches.is.size);
     });
+    trees = no_trees (IsTreeIn mid bound) across.touches.no_trees;
     apart = λ i k low few same. omega (arith, low, few, across_words old blocks inodes n off bytes touched across);
     beside = λ r i k has low first last.
         only_word (λ p. trail_of p (length p) ≢ trail_of (run_path r k) (length (run_path r k))) (λ same. longer r k has same) i low;
@@ -221,3 +231,43 @@ module _ (old middle : Memory) (blocks inodes after : Set) (n off : ℕ) (bytes 
       leaf_count (height_of (root_of image 0)) (suc n) touched across.touches.run (across_run old blocks inodes n off bytes touched across) (across_shape old blocks inodes n off bytes touched across) mid middle_formed
       (ap height_of (sym root_stays)) in_file
       ∙ sym (leaf_count (height_of (root_of image 0)) (suc n) touched across.touches.run (across_run old blocks inodes n off bytes touched across) (across_shape old blocks inodes n off bytes touched across) image wf refl in_image)
+
+  -- ---- the store in place
+
+  -- No pointer on the way to the leaf of the inode is kept, and these are the same behind the preparation.
+  module _ (clear : thawed (current_words old) kept (writes (suc n) off (length bytes)) ≡ []) where
+    abbrev leaf_number : ℕ
+    leaf_number = (8 * suc n + 1) / 512
+
+    leaf_loose : IsLoose image kept (length (leaf_path (height_of (root_of image 0)) (suc n)) - 1) (leaf_path (height_of (root_of image 0)) (suc n))
+    leaf_loose =
+        loose-on image kept (targets image (writes (suc n) off (length bytes))) clear (leaf_path (height_of (root_of image 0)) (suc n))
+        (subst (λ ps. Has ps (leaf_path (height_of (root_of image 0)) (suc n))) (sym (across_targets image wf n across.can.reached off (length bytes) across.below across.past)) (inl refl))
+        (length (leaf_path (height_of (root_of image 0)) (suc n)) - 1)
+
+    under_leaf : (d : ℕ) → suc d ≡ height_of (root_of image 0) → IsLivePointer (root_of image 0) (size_of image 0) d (leaf_number / 512)
+    under_leaf d high =
+        live_above _ _ d leaf_number
+        (subst (λ h. IsLiveWord (root_of image 0) (size_of image 0) h leaf_number) (sym high)
+        (live_pointer_word _ _ (height_of (root_of image 0)) leaf_number (live_above _ _ (height_of (root_of image 0)) (8 * suc n + 1) (live_content _ _ (8 * suc n + 1) (omega (arith, in_image))))))
+
+    node_stays : (d : ℕ) → suc d ≡ height_of (root_of image 0) → node mid (root_of mid 0) d (leaf_number / 512) ≡ node image (root_of image 0) d (leaf_number / 512)
+    unfolding word_at
+    node_stays zero high = ap block_of root_stays
+    node_stays (suc d) high =
+        ap block_of
+        (prepared.ready.others 0 d (leaf_number / 512) inode_file (λ e. suc-ne-zero n (sym e)) (live_pointer_word _ _ (suc d) (leaf_number / 512) (under_leaf (suc d) high)) (λ _ deep _. omega (arith, deep, high)))
+
+    leaf_open : (h : ℕ) → h ≡ height_of (root_of image 0) → 512 ≤ address mid (digits h leaf_number) → kept (address mid (digits h leaf_number) / 512) ≡ false
+    leaf_open zero high low = absurd (omega (arith, low))
+    leaf_open (suc d) high low =
+        let present : node image (root_of image 0) d (leaf_number / 512) ≢ 0 = wf.full_inode_file d (leaf_number / 512) (under_leaf d high) in
+        let at : address mid (digits (suc d) leaf_number) ≡ 512 * node mid (root_of mid 0) d (leaf_number / 512) + leaf_number % 512 =
+        address_from-digits mid 2 (word mid 2) refl (suc d) leaf_number (λ null. present (sym (node_stays d high) ∙ null)) in
+        let block : address mid (digits (suc d) leaf_number) / 512 ≡ node image (root_of image 0) d (leaf_number / 512) = omega (arith, at, node_stays d high) in
+        ap kept block
+        ∙ loose_word image wf kept 0 d leaf_number inode_file (under_leaf d high) present
+        (subst (λ h. IsLoose image kept (length (digits h leaf_number) - 1) (digits h leaf_number)) (sym high) leaf_loose)
+
+    pub middle_loose : HasLooseCover (current_words middle) kept touched
+    middle_loose = subst (λ (p : WordPath). 512 ≤ address mid p → kept (address mid p / 512) ≡ false) (sym middle_cover) (leaf_open (height_of (root_of image 0)) refl)

@@ -32,6 +32,7 @@ use Rattle.bp_cow.proofs.LeafCover.{IsSizedRun, leaf_path, change_count, change_
 use Rattle.pm_region.specs.Memory.{Memory, current_words}
 use Rattle.bp_calls.specs.TouchedAcross.{WritesAcross}
 use Rattle.bp_calls.proofs.RunCommits.{few_leaves}
+use Rattle.bp_cow.proofs.CallerLaws.{no_trees}
 
 -- ---- the change
 
@@ -78,7 +79,7 @@ module _ (image : Image) (n off len : ℕ) (below : off < size_of image (suc n))
 
 -- ---- the call
 
-module _ (old : Memory) (blocks inodes : Set) (n off : ℕ) (bytes : List ℕ) (touched : Touched) (across : WritesAcross old blocks inodes (suc n) off bytes touched) where
+module _ {kept : ℕ → Bool} (old : Memory) (blocks inodes : Set) (n off : ℕ) (bytes : List ℕ) (touched : Touched) (across : WritesAcross kept old blocks inodes (suc n) off bytes touched) where
   abbrev image : Image
   image = current_words old
 
@@ -125,6 +126,7 @@ module _ (old : Memory) (blocks inodes : Set) (n off : ℕ) (bytes : List ℕ) (
       (omega (arith, across_long, across.past, across.can.short))
       (subst (λ h. h ≤ max_height) (sym across.touches.is.height) low_tree)
       (subst (λ h. run_end across.touches.run ≤ block_size * block_words ^ h) (sym across.touches.is.height) (omega (arith, fits, wide, across_end, across.past)))
+      (no_trees (λ tree. tree.height ≤ max_height) across.touches.no_trees)
 
   pub across_apart : NoneBegins (all_paths touched)
   across_apart = sized_apart (height_of (root_of image 0)) (suc n) touched across.touches.run across_run across_shape

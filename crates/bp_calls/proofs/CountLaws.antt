@@ -6,7 +6,7 @@ use Rattle.bp_changes.specs.KeepsDirectories.{KeepsDirectories}
 use Rattle.bp_changes.specs.SameMeaning.{SameMeaning}
 use Rattle.bp_changes.proofs.ChangesFile as changed
 use Rattle.bp_changes.proofs.Named.{changed_counts, meaning_counts}
-use Rattle.bp_free.specs.Set.{Set}
+use Rattle.bp_free.specs.Set.{Set, has}
 use Rattle.bp_free.specs.declared.parts.Parts.{Parts}
 use Rattle.bp_layout.specs.Directory.{EntryNames}
 use Rattle.bp_layout.specs.Members.{AreApart, Each, Has}
@@ -14,19 +14,18 @@ use Rattle.bp_layout.specs.Names.{AreCounts, HasNames, IsNamed}
 use Rattle.bp_layout.specs.Inode.{inode_count, root_of, size_of}
 use Rattle.bp_layout.specs.Reached.{IsReached}
 use Rattle.bp_layout.specs.Reached.IsReached.{inode_file}
-use Rattle.bp_layout.specs.Thaw.{none_kept}
 use Rattle.bp_layout.specs.WellFormed.{IsWellFormed}
 use Rattle.bp_layout.specs.Words.{Image, block_count}
 use Rattle.bp_layout.proofs.FewLeaves.{few_inodes}
 use Rattle.bp_layout.proofs.Reached.{reached-in_file}
-use Rattle.bp_shapes.specs.Sets.{AreExact, IsExact}
+use Rattle.bp_shapes.specs.Sets.{AreExact, IsExact, kept_of}
 
 -- ---- the parts
 
-module _ {R : Type 0} (old new : Image) (before after : Parts R) (exact : IsExact old before) (sets : AreExact new none_kept after.blocks after.inodes) (frozen : after.frozen ≡ before.frozen) where
+module _ {R : Type 0} (old new : Image) (before after : Parts R) (exact : IsExact old before) (sets : AreExact new (kept_of before) after.blocks after.inodes) (frozen : after.frozen ≡ before.frozen) where
   pub exact_with : length new ≡ length old → length after.counts ≡ length before.counts → AreCounts new after.counts → IsExact new after
   exact_with whole room counts = record {
-    sets = sets;
+    sets = subst (λ (kept : Set). AreExact new (has kept) after.blocks after.inodes) (sym frozen) sets;
     counts = counts;
     count_room = room ∙ exact.count_room ∙ ap (λ n. 64 * (n / 512)) (sym whole);
     frozen_room = ap (λ (blocks : Set). length blocks) frozen ∙ exact.frozen_room ∙ ap (λ n. n / 512) (sym whole);

@@ -1,9 +1,11 @@
 -- How many blocks are free, by a set that has just the free blocks.
-use Rattle.std.proofs.Common.{◌≡◌, ◌⊎◌, ℕ, [], length, filter, Bool, true, false, sym, ◌∙◌, ap, inl, inr}
+use Rattle.std.proofs.Common.{◌≡◌, ◌⊎◌, ℕ, ◌≤◌, [], length, filter, Bool, true, false, sym, ◌∙◌, ap, arith, inl, inr}
 use Rattle.std.specs.List.{range_with_len}
 use Rattle.std.proofs.lemmas.Bool.{cases_Bool}
 use Rattle.std.proofs.lemmas.List.Elements.{filter_agree}
 use Rattle.bp_free.specs.Set.{Set, has, members}
+use Rattle.bp_free.specs.declared.parts.NoSpace.{NoSpace}
+use Rattle.bp_calls.specs.Space.{LacksBlocks}
 use Rattle.bp_free.proofs.Members.{filter_none}
 use Rattle.bp_free.proofs.Summary.{none_in}
 use Rattle.bp_layout.specs.Words.{Image, block_count}
@@ -33,3 +35,9 @@ no_free image kept blocks are none = record {
   are = are;
   number = ap length (filter_none (has blocks) 0 (block_count image) (λ k low high. none_in blocks none k));
 }
+
+-- where enough blocks are free none are lacking
+pub lacks_nothing : (image : Image) (kept : ℕ → Bool) (blocks : Set) → AreFreeBlocks image kept (has blocks) → length blocks ≡ block_count image → (wanted : ℕ) → wanted ≤ length (members blocks) → (lacks : NoSpace) → LacksBlocks image kept wanted lacks → ⊥
+lacks_nothing image kept blocks are room wanted enough lacks has =
+    let number : lacks.free ≡ length (members blocks) = free_once image kept lacks.free (length (members blocks)) has.free (free_members image kept blocks are room) in
+    absurd (omega (arith, number, enough, has.needed, has.fewer))

@@ -1,5 +1,5 @@
 -- The blocks of a tree behind a smaller size: those that it has under its size and not under the smaller one.
-use Rattle.std.proofs.Common.{◌≡◌, ◌≢◌, ◌⊎◌, ℕ, zero, suc, ◌+◌, ◌-◌, ◌*◌, ◌/◌, ◌<◌, ◌≤◌, min, true, false, refl, sym, ◌∙◌, ap, subst, subst₂, arith, inl, inr, lt_of_lt_of_le}
+use Rattle.std.proofs.Common.{◌≡◌, ◌≢◌, ◌⊎◌, ℕ, zero, suc, ◌+◌, ◌-◌, ◌*◌, ◌/◌, ◌<◌, ◌≤◌, min, Bool, true, false, refl, sym, ◌∙◌, ap, subst, subst₂, arith, inl, inr, lt_of_lt_of_le}
 use Rattle.std.proofs.lemmas.Bool.{cases_eq, cases_lt, cases_Bool, true≢false}
 use Rattle.std.proofs.Math.Nat.{le-div_iff_mul-le}
 use Rattle.bp_free.specs.Set.{Set, has}
@@ -19,23 +19,23 @@ use Rattle.bp_calls.specs.GivenBack.{GivesBack}
 
 module _ (P Q : ℕ → Type 0) (old new : Set) where
   -- the same numbers, told in other words
-  pub gives_as : ((b : ℕ) → P b → Q b) → ((b : ℕ) → Q b → P b) → GivesBack P old new → GivesBack Q old new
+  pub gives_as : {kept : ℕ → Bool} → ((b : ℕ) → P b → Q b) → ((b : ℕ) → Q b → P b) → GivesBack kept P old new → GivesBack kept Q old new
   gives_as there back gives = record {
     room = gives.room;
-    given = λ b q. gives.given b (back b q);
+    given = λ b q loose. gives.given b (back b q) loose;
     still = gives.still;
-    only = λ b is. elim (gives.only b is) [ inl was ↦ inl was | inr p ↦ inr (there b p) ];
+    only = λ b is. elim (gives.only b is) [ inl was ↦ inl was | inr (p, loose) ↦ inr (there b p, loose) ];
   }
 
-pub gives_none : (P : ℕ → Type 0) (set : Set) → ((b : ℕ) → P b → ⊥) → GivesBack P set set
-gives_none P set none = record { room = refl; given = λ b p. absurd (none b p); still = λ b is. is; only = λ b is. inl is }
+pub gives_none : {kept : ℕ → Bool} (P : ℕ → Type 0) (set : Set) → ((b : ℕ) → P b → ⊥) → GivesBack kept P set set
+gives_none P set none = record { room = refl; given = λ b p loose. absurd (none b p); still = λ b is. is; only = λ b is. inl is }
 
-pub gives_twice : (P Q R : ℕ → Type 0) (old mid new : Set) → ((b : ℕ) → P b → R b) → ((b : ℕ) → Q b → R b) → ((b : ℕ) → R b → P b ⊎ Q b) → GivesBack P old mid → GivesBack Q mid new → GivesBack R old new
+pub gives_twice : {kept : ℕ → Bool} (P Q R : ℕ → Type 0) (old mid new : Set) → ((b : ℕ) → P b → R b) → ((b : ℕ) → Q b → R b) → ((b : ℕ) → R b → P b ⊎ Q b) → GivesBack kept P old mid → GivesBack kept Q mid new → GivesBack kept R old new
 gives_twice P Q R old mid new first second both one two = record {
   room = two.room ∙ one.room;
-  given = λ b r. elim (both b r) [ inl p ↦ two.still b (one.given b p) | inr q ↦ two.given b q ];
+  given = λ b r loose. elim (both b r) [ inl p ↦ two.still b (one.given b p loose) | inr q ↦ two.given b q loose ];
   still = λ b is. two.still b (one.still b is);
-  only = λ b is. elim (two.only b is) [ inl was ↦ elim (one.only b was) [ inl before ↦ inl before | inr p ↦ inr (first b p) ] | inr q ↦ inr (second b q) ];
+  only = λ b is. elim (two.only b is) [ inl was ↦ elim (one.only b was) [ inl before ↦ inl before | inr (p, loose) ↦ inr (first b p, loose) ] | inr (q, loose) ↦ inr (second b q, loose) ];
 }
 
 -- ---- one tree under two sizes
@@ -112,7 +112,7 @@ module _ (image : Image) (root : ℕ) where
             record { whole = omega (arith, rw first at past); is = sym named ∙ ap block_of (word_at-zero image root k) }
         go (suc d) k live named past = absurd (omega (arith, live.height, leaf))
 
-    pub leaf_gives : (old new : Set) → GivesBack (IsTopGivenUp (block_of root) shorter) old new → GivesBack (IsGivenUp image root size shorter) old new
+    pub leaf_gives : {kept : ℕ → Bool} (old new : Set) → GivesBack kept (IsTopGivenUp (block_of root) shorter) old new → GivesBack kept (IsGivenUp image root size shorter) old new
     leaf_gives old new gives = gives_as (IsTopGivenUp (block_of root) shorter) (IsGivenUp image root size shorter) old new leaf_there leaf_back gives
 
 -- ---- a tree that is higher
@@ -222,14 +222,14 @@ module _ (image : Image) (root size level shorter : ℕ) (sound : IsSound image 
 
   -- ---- the walk over the slots
 
-  pub slots_begin : (old new : Set) → GivesBack (IsTopGivenUp (block_of root) shorter) old new → GivesBack (IsGivenUpIn image root size level shorter (shorter / span level)) old new
+  pub slots_begin : {kept : ℕ → Bool} (old new : Set) → GivesBack kept (IsTopGivenUp (block_of root) shorter) old new → GivesBack kept (IsGivenUpIn image root size level shorter (shorter / span level)) old new
   slots_begin old new gives = gives_as (IsTopGivenUp (block_of root) shorter) (IsGivenUpIn image root size level shorter (shorter / span level)) old new (λ b is. top is) back gives
     where
       back : (b : ℕ) → IsGivenUpIn image root size level shorter (shorter / span level) b → IsTopGivenUp (block_of root) shorter b
       back b (top is) = is
       back b (below slot low live gone) = absurd (before_first slot b low gone)
 
-  pub slots_step : (slot : ℕ) (old now new : Set) → slot * span level < size → GivesBack (IsGivenUpIn image root size level shorter slot) old now → GivesBack (GivenUpAt slot) now new → GivesBack (IsGivenUpIn image root size level shorter (slot + 1)) old new
+  pub slots_step : {kept : ℕ → Bool} (slot : ℕ) (old now new : Set) → slot * span level < size → GivesBack kept (IsGivenUpIn image root size level shorter slot) old now → GivesBack kept (GivenUpAt slot) now new → GivesBack kept (IsGivenUpIn image root size level shorter (slot + 1)) old new
   slots_step slot old now new live one two =
       gives_twice (IsGivenUpIn image root size level shorter slot) (GivenUpAt slot) (IsGivenUpIn image root size level shorter (slot + 1)) old now new there (λ b gone. below slot (omega arith) live gone) both one two
     where
@@ -241,11 +241,11 @@ module _ (image : Image) (root size level shorter : ℕ) (sound : IsSound image 
       both b (top is) = inl (top is)
       both b (below c low at gone) = elim (cases_eq c slot) [ inl e ↦ inr (subst (λ x. GivenUpAt x b) e gone) | inr other ↦ inl (below c (omega (arith, low, other)) at gone) ]
 
-  pub slots_end : (old new : Set) → GivesBack (IsGivenUpIn image root size level shorter ((size - 1) / span level + 1)) old new → GivesBack (IsGivenUp image root size shorter) old new
+  pub slots_end : {kept : ℕ → Bool} (old new : Set) → GivesBack kept (IsGivenUpIn image root size level shorter ((size - 1) / span level + 1)) old new → GivesBack kept (IsGivenUp image root size shorter) old new
   slots_end old new gives = gives_as (IsGivenUpIn image root size level shorter ((size - 1) / span level + 1)) (IsGivenUp image root size shorter) old new (given_up_out _) given_up_in gives
 
   -- the blocks in a slot are not yet in the set
-  pub not_yet : (slot : ℕ) (old now : Set) → slot * span level < size → ((b : ℕ) → HasBlock image root size b → has old b ≡ false) → GivesBack (IsGivenUpIn image root size level shorter slot) old now →
+  pub not_yet : {kept : ℕ → Bool} (slot : ℕ) (old now : Set) → slot * span level < size → ((b : ℕ) → HasBlock image root size b → has old b ≡ false) → GivesBack kept (IsGivenUpIn image root size level shorter slot) old now →
       (b : ℕ) → Child slot (piece size level slot) b → has now b ≡ false
   not_yet slot old now live taken gives b here = go (cases_Bool (has now b))
     where
@@ -258,4 +258,4 @@ module _ (image : Image) (root size level shorter : ℕ) (sound : IsSound image 
 
       go : (has now b ≡ true) ⊎ (has now b ≡ false) → has now b ≡ false
       go (inr not) = not
-      go (inl is) = elim (gives.only b is) [ inl was ↦ absurd (true≢false (sym was ∙ out)) | inr gone ↦ absurd (never gone) ]
+      go (inl is) = elim (gives.only b is) [ inl was ↦ absurd (true≢false (sym was ∙ out)) | inr (gone, loose) ↦ absurd (never gone) ]

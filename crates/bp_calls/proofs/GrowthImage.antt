@@ -159,6 +159,7 @@ module _ (old mid : Image) (taken : List ℕ) (wf : IsWellFormed old) (ready : P
     blocks = λ b has. ready.blocks b (file_back b has);
     has_old = λ b has. file_on b (ready.has_old b has);
     has_taken = λ b took. file_on b (ready.has_taken b took);
+    nodes = λ d k live present. rw (root_stays mid end 0) (ap block_of (tree_word mid end (root_of mid 0) (height_of (root_of mid 0) - height_of (root_of old 0) + d) k)) ∙ ready.nodes d k live present;
     roots = λ u r other. root_stays mid end u ∙ ready.roots u r other;
     words = λ u d k r other live. rw (root_stays mid end u) (tree_word mid end (root_of mid u) (suc d) k) ∙ ready.others u d k r other live (λ e. absurd (other e));
   }

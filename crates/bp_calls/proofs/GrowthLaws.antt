@@ -1,5 +1,5 @@
 -- What stays where the inode file gets one more leaf: trees, entries and blocks.
-use Rattle.std.proofs.Common.{◌≡◌, ◌≢◌, ◌⊎◌, ℕ, zero, suc, List, ◌==◌, refl, sym, ◌∙◌, ap, subst, subst₂, inl, inr, arith}
+use Rattle.std.proofs.Common.{◌≡◌, ◌≢◌, ◌⊎◌, ℕ, Bool, zero, suc, List, ◌==◌, refl, sym, ◌∙◌, ap, subst, subst₂, inl, inr, arith}
 use Rattle.std.proofs.lemmas.Bool.{cases_eq}
 use Rattle.bp_layout.specs.Words.{Image, block_of}
 use Rattle.bp_layout.specs.Tree.{node, HasBlock, IsLivePointer}
@@ -14,7 +14,6 @@ use Rattle.bp_layout.proofs.TreeLaws.{word_at-zero, live_pointer_word}
 use Rattle.bp_changes.proofs.ReachedOn.{reached_on}
 use Rattle.bp_changes.proofs.SameMeaning.{reached-back, well_formed-same}
 use Rattle.bp_calls.specs.Growth.{AddsInodes}
-use Rattle.bp_layout.specs.Thaw.{none_kept}
 
 module _ (old new : Image) (taken : List ℕ) (wf : IsWellFormed old) (adds : AddsInodes old new taken) where
   pub longer_well_formed : IsWellFormed new
@@ -84,7 +83,7 @@ module _ (old new : Image) (taken : List ℕ) (wf : IsWellFormed old) (adds : Ad
   longer_taken b took = record { tree = 0; reached = inode_file; has = adds.has_taken b took }
 
   -- what is free now was free, and was not taken
-  pub longer_free : (b : ℕ) → IsFreeBlock new none_kept b → IsFreeBlock old none_kept b × (Has taken b → ⊥)
+  pub longer_free : {kept : ℕ → Bool} (b : ℕ) → IsFreeBlock new kept b → IsFreeBlock old kept b × (Has taken b → ⊥)
   longer_free b free = (
     record { low = free.low; high = rw adds.meaning.trees.whole at free.high; free = λ live. free.free (longer_stays b live); loose = free.loose },
     λ took. free.free (longer_taken b took),

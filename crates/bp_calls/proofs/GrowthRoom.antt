@@ -1,5 +1,5 @@
 -- One more leaf of the inode file: what its preparation asks, and what it leaves.
-use Rattle.std.proofs.Common.{◌≡◌, ℕ, suc, ◌+◌, ◌*◌, ◌/◌, ◌<◌, ◌≤◌, [], ◌∷◌, length, refl, sym, ◌∙◌, ap, subst, subst₂, arith, le_trans}
+use Rattle.std.proofs.Common.{◌≡◌, ℕ, Bool, suc, ◌+◌, ◌*◌, ◌/◌, ◌<◌, ◌≤◌, [], ◌∷◌, length, refl, sym, ◌∙◌, ap, subst, subst₂, arith, le_trans}
 use Rattle.bp_limits.specs.declared.version.Version.TheVariants.{One}
 use Rattle.bp_limits.proofs.Versions.{size_least}
 use Rattle.bp_layout.specs.Formatted.{version_of}
@@ -24,9 +24,8 @@ use Rattle.pm_region.proofs.MemoryLaws.{base-adds, length-current_words, room_in
 use Rattle.bp_calls.specs.Growth.{AddsInodes, CanGrowInodes, GrowsInodes, growth_need}
 use Rattle.bp_calls.proofs.GrowthMemory.{grown, grows, growth_need_is}
 use Rattle.bp_calls.proofs.GrowthSets.{exact_grown}
-use Rattle.bp_calls.proofs.TakenBlocks.{unused_members, usable_members}
-use Rattle.bp_layout.specs.Thaw.{none_kept}
-use Rattle.bp_calls.proofs.Unthawed.{prepared_room_of}
+use Rattle.bp_calls.proofs.TakenBlocks.{members_free, usable_members}
+use Rattle.bp_calls.proofs.Unthawed.{prepared_room_thawed}
 
 module _ (image : Image) (wf : IsWellFormed image) where
   -- its leaves are different blocks, and block 0 is none of them
@@ -45,8 +44,8 @@ module _ (image : Image) (wf : IsWellFormed image) where
       le_trans (few_needed image (root_of image 0) (size_of image 0) (size_of image 0) (size_of image 0 + block_size) 1 (omega arith) (omega arith) (omega arith) (wf.sound 0 inode_file).low) (omega arith) in
       omega (arith, few, growth_need_is image)
 
-can_prepare : (old : Memory) (blocks inodes : Set) → CanGrowInodes old blocks inodes →
-    CanPrepare old (members blocks) 0 [] (size_of (current_words old) 0) (size_of (current_words old) 0 + block_size)
+can_prepare : {kept : ℕ → Bool} (old : Memory) (blocks inodes : Set) → CanGrowInodes kept old blocks inodes →
+    CanPrepare kept old (members blocks) 0 [] (size_of (current_words old) 0) (size_of (current_words old) 0 + block_size)
 can_prepare old blocks inodes can = record {
   well = can.well_formed;
   reached = inode_file;
@@ -56,17 +55,18 @@ can_prepare old blocks inodes can = record {
   fits = le_trans (inodes_end_fits (current_words old) can.well_formed) (size_least (version_of (current_words old)));
   by_words = λ by. refl;
   usable = usable_members (current_words old) blocks inodes can.exact (length old.base / 512) (omega (arith, length_now old));
-  unused = unused_members (current_words old) blocks inodes can.exact;
+  are_free = members_free (current_words old) blocks inodes can.exact;
+  loose = can.loose;
   enough = omega (arith, can.enough, growth_need_is (current_words old));
-  room = prepared_room_of _ _ _ _ (growth_need_is (current_words old))
+  room = prepared_room_thawed _ _ _ _ (growth_need_is (current_words old))
       (room_behind_whole (size_of (current_words old) 0) (size_of (current_words old) 0) (size_of (current_words old) 0 + block_size) max_height) can.room;
 }
 
 -- ---- the parts of the growth, by the path and the size that are read
 
-module _ (old : Memory) (blocks inodes : Set) (path : WordPath) (size : ℕ) (can : CanGrowInodes old blocks inodes) (top : path ≡ []) (is : size ≡ size_of (current_words old) 0) where
+module _ {kept : ℕ → Bool} (old : Memory) (blocks inodes : Set) (path : WordPath) (size : ℕ) (can : CanGrowInodes kept old blocks inodes) (top : path ≡ []) (is : size ≡ size_of (current_words old) 0) where
   abbrev Ready : WordPath → ℕ → Type 0
-  Ready at from = CanPrepare old (members blocks) 0 at from (from + block_size)
+  Ready at from = CanPrepare kept old (members blocks) 0 at from (from + block_size)
 
   pub can_prepare_at : Ready path size
   can_prepare_at = subst₂ Ready (sym top) (sym is) (can_prepare old blocks inodes can)
@@ -78,9 +78,9 @@ module _ (old : Memory) (blocks inodes : Set) (path : WordPath) (size : ℕ) (ca
   pub last_low : (size + block_size) / inode_size ≤ block_size / inode_size * max_blocks
   last_low = omega (arith, last_fits, can.exact.inode_room, can.well_formed.formatted.sized.at_most)
 
-  module _ (middle : Memory) (after : Set) (prepares : Ready path size → PreparesWith old middle (members blocks) (members after) 0 size (size + block_size) []) where
-    prepared : PreparesWith old middle (members blocks) (members after) 0 (size_of (current_words old) 0) (size_of (current_words old) 0 + block_size) []
-    prepared = subst (λ s. PreparesWith old middle (members blocks) (members after) 0 s (s + block_size) []) is (prepares can_prepare_at)
+  module _ (middle : Memory) (after : Set) (prepares : Ready path size → PreparesWith kept old middle (members blocks) (members after) 0 size (size + block_size) []) where
+    prepared : PreparesWith kept old middle (members blocks) (members after) 0 (size_of (current_words old) 0) (size_of (current_words old) 0 + block_size) []
+    prepared = subst (λ s. PreparesWith kept old middle (members blocks) (members after) 0 s (s + block_size) []) is (prepares can_prepare_at)
 
     pub base_prepared : super_size < length middle.base
     base_prepared = omega (arith, ap length (base-adds old middle prepared.adds.part.added prepared.adds.part.adds), length-current_words old, can.well_formed.formatted.sized.whole, can.well_formed.formatted.sized.at_least)
@@ -92,15 +92,15 @@ module _ (old : Memory) (blocks inodes : Set) (path : WordPath) (size : ℕ) (ca
         let left = room_in-piece _ _ old middle prepared.adds.part.added prepared.adds.part.adds prepared.adds.part.piece in
         enough _ _ _ _ left stores (rw (growth_need_is (current_words old)) at can.room)
       where
-        enough : (needed behind room left : ℕ) → room ≤ left + (2 + (512 * needed + behind + 2)) → behind ≤ 512 * suc max_height → room_for needed ≤ room → 2 ≤ left
+        enough : (needed behind room left : ℕ) → room ≤ left + (2 + (512 * needed + behind + 2)) → behind ≤ 512 * suc max_height → room_for needed ≤ room + 2 → 2 ≤ left
         enough needed behind room left a b c = omega (arith, a, b, c)
 
     module _ (new : Memory) (stored : Adds middle new (Store super_size (size + block_size) ∷ Barrier ∷ [])) where
-      pub grew : GrowsInodes old new
+      pub grew : GrowsInodes kept old new
       grew = grows old middle new (members blocks) (members after) can.well_formed prepared (subst (λ s. Adds middle new (Store super_size (s + block_size) ∷ Barrier ∷ [])) is stored)
 
       module _ (filled : Set) (room : length after ≡ length blocks) (fills : Fills (size / inode_size) ((size + block_size) / inode_size) inodes filled) where
-        pub exact_behind : AreExact (current_words new) none_kept after filled
+        pub exact_behind : AreExact (current_words new) kept after filled
         exact_behind =
             exact_grown (current_words old) (current_words new) prepared.taken can.well_formed grown_here blocks after inodes filled can.exact prepared.takes room
             (subst (λ s. Fills (s / inode_size) ((s + block_size) / inode_size) inodes filled) is fills)

@@ -1,5 +1,5 @@
 -- The sets of free numbers stay exact where the inode file gets one more leaf: its blocks are taken, and its inodes are free.
-use Rattle.std.proofs.Common.{◌≡◌, ◌⊎◌, ℕ, ◌+◌, ◌/◌, ◌<◌, ◌≤◌, List, [], ◌∷◌, ◌++◌, length, true, sym, ◌∙◌, inl, inr, subst, arith}
+use Rattle.std.proofs.Common.{◌≡◌, ◌⊎◌, ℕ, Bool, ◌+◌, ◌/◌, ◌<◌, ◌≤◌, List, [], ◌∷◌, ◌++◌, length, true, sym, ◌∙◌, inl, inr, subst, arith}
 use Rattle.std.proofs.lemmas.Bool.{cases_lt}
 use Rattle.bp_layout.proofs.MemberLaws.{has-behind}
 use Rattle.bp_append.proofs.FillLaws.{apart_parts}
@@ -16,7 +16,6 @@ use Rattle.bp_shapes.specs.Sets.{AreExact}
 use Rattle.bp_calls.specs.Growth.{AddsInodes}
 use Rattle.bp_calls.proofs.GrowthLaws.{longer_live, longer_stays, longer_taken, longer_reached, shorter_reached}
 use Rattle.bp_calls.proofs.TakenBlocks.{in_members, members_apart, of_members}
-use Rattle.bp_layout.specs.Thaw.{none_kept}
 
 -- a member of two lists in a row is in one of them
 has_either : (xs ys : List ℕ) (b : ℕ) → Has (xs ++ ys) b → Has xs b ⊎ Has ys b
@@ -24,17 +23,17 @@ has_either [] ys b there = inr there
 has_either (x ∷ xs) ys b (inl e) = inl (inl e)
 has_either (x ∷ xs) ys b (inr later) = elim (has_either xs ys b later) [ inl early ↦ inl (inr early) | inr late ↦ inr late ]
 
-module _ (old new : Image) (taken : List ℕ) (wf : IsWellFormed old) (adds : AddsInodes old new taken) (blocks after inodes filled : Set) (exact : AreExact old none_kept blocks inodes)
+module _ {kept : ℕ → Bool} (old new : Image) (taken : List ℕ) (wf : IsWellFormed old) (adds : AddsInodes old new taken) (blocks after inodes filled : Set) (exact : AreExact old kept blocks inodes)
     (takes : members blocks ≡ taken ++ members after) (room : length after ≡ length blocks) (fills : Fills (size_of old 0 / inode_size) ((size_of old 0 + block_size) / inode_size) inodes filled) where
   -- ---- blocks
 
   apart : AreApart (taken ++ members after)
   apart = subst AreApart takes (members_apart blocks)
 
-  free_now : (b : ℕ) → has after b ≡ true → IsFreeBlock new none_kept b
+  free_now : (b : ℕ) → has after b ≡ true → IsFreeBlock new kept b
   free_now b is =
       let there : Has (members blocks) b = subst (λ bs. Has bs b) (sym takes) (has-behind taken (members after) b (in_members after b is)) in
-      let free : IsFreeBlock old none_kept b = exact.free_blocks.free b (of_members blocks b there) in
+      let free : IsFreeBlock old kept b = exact.free_blocks.free b (of_members blocks b there) in
       record {
         low = free.low;
         high = rw adds.meaning.trees.whole free.high;
@@ -42,7 +41,7 @@ module _ (old new : Image) (taken : List ℕ) (wf : IsWellFormed old) (adds : Ad
         loose = free.loose;
       }
 
-  all_now : (b : ℕ) → IsFreeBlock new none_kept b → has after b ≡ true
+  all_now : (b : ℕ) → IsFreeBlock new kept b → has after b ≡ true
   all_now b free =
       let was : has blocks b ≡ true =
       exact.free_blocks.all b (record { low = free.low; high = rw adds.meaning.trees.whole at free.high; free = λ live. free.free (longer_stays old new taken wf adds b live); loose = free.loose }) in
@@ -81,7 +80,7 @@ module _ (old new : Image) (taken : List ℕ) (wf : IsWellFormed old) (adds : Ad
       go (inl early) = fills.below k early ∙ exact.free_inodes.all k (record { low = free.low; high = early; free = λ reached. free.free (longer_reached old new taken wf adds k reached) })
       go (inr late) = fills.inside k late (omega (arith, free.high, adds.size))
 
-  pub exact_grown : AreExact new none_kept after filled
+  pub exact_grown : AreExact new kept after filled
   exact_grown = record {
     block_room = rw adds.meaning.trees.whole (room ∙ exact.block_room);
     inode_room = rw adds.meaning.trees.whole (fills.room ∙ exact.inode_room);

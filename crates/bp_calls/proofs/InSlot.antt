@@ -1,5 +1,5 @@
 -- A new inode, a name in an empty entry, and then the inumber.
-use Rattle.std.proofs.Common.{◌≡◌, ◌≢◌, ℕ, ◌+◌, ◌-◌, ◌*◌, ◌/◌, ◌%◌, ◌<◌, ◌≤◌, List, [], None, Some, set, refl, sym, ◌∙◌, ap, subst, arith}
+use Rattle.std.proofs.Common.{◌≡◌, ◌≢◌, ℕ, Bool, false, ◌+◌, ◌-◌, ◌*◌, ◌/◌, ◌%◌, ◌<◌, ◌≤◌, List, [], None, Some, set, refl, sym, ◌∙◌, ap, subst, arith}
 use Rattle.bp_calls.specs.Entered.{IsNewInode, IsReadyEntry}
 use Rattle.bp_calls.specs.Created.{CountsName, EntersName}
 use Rattle.bp_layout.specs.Need.Change.{enters as gains}
@@ -14,7 +14,7 @@ use Rattle.bp_layout.specs.Directory.{empty_slot, Name, entry_count, slot_named}
 use Rattle.bp_layout.specs.Inode.{ContentStandsAt, root_of, inode_count}
 use Rattle.bp_shapes.specs.Sets.{AreExact}
 use Rattle.bp_calls.specs.Spare.{IsSpare}
-use Rattle.bp_calls.specs.Steps.{CanName, name_need}
+use Rattle.bp_calls.specs.Steps.{CanName, HasLooseWord, name_need}
 use Rattle.bp_dirs.specs.Written.{HasNameAt}
 use Rattle.bp_inodes.specs.Filled.{FillsInode}
 use Rattle.bp_tree.specs.Within.{IsWithin}
@@ -37,7 +37,6 @@ use Rattle.bp_calls.proofs.ReadBack.{inode_stays, new_inode}
 use Rattle.bp_calls.proofs.SetLaws.{exact_prepared, exact_entered}
 use Rattle.bp_calls.proofs.Spares.{no_inode_file, row_stands, one_content, spare_inode}
 use Rattle.bp_calls.proofs.Trees.{SameTrees}
-use Rattle.bp_layout.specs.Thaw.{none_kept}
 use Rattle.bp_changes.proofs.Named.{added_counts}
 use Rattle.bp_calls.proofs.SlotStores.{IsHidden, name_hidden, slot_committed, slot_entry, slot_is, slot_mid, slot_missing, slot_ready, slot_trees, slot_within}
 
@@ -53,16 +52,18 @@ inode_spare image wf j at free stands p v inside =
     let f : ℕ = p - at in
     spare_inode image wf j f p free (omega arith) (row_stands image 0 (8 * j + 0) f (8 * j + f) at p (omega arith) (omega arith) (omega arith) stands)
 
--- where the file has its words: nobody reads them, and they are in a live block
-pub inode_inside : (image : Image) → IsWellFormed image → (j at : ℕ) (took : List ℕ) → IsFreeInode image j → ContentStandsAt image 0 (8 * j + 0) at → (p v : ℕ) → AnyAt (IsWithin at 3) p v →
-    AnyAt (λ q. IsSpare image q × IsOpen image none_kept took q) p v
-inode_inside image wf j at took free stands p v inside =
+-- where the file has its words: nobody reads them, and they are in a live block that is not kept
+pub inode_inside : {kept : ℕ → Bool} (image : Image) → IsWellFormed image → (j at : ℕ) (took : List ℕ) → IsFreeInode image j → ContentStandsAt image 0 (8 * j + 0) at → kept (at / 512) ≡ false → (p v : ℕ) → AnyAt (IsWithin at 3) p v →
+    AnyAt (λ q. IsSpare image q × IsOpen image kept took q) p v
+inode_inside {kept = kept} image wf j at took free stands loose p v inside =
     let low : at ≤ p = inside.low in
     let high : p < at + 3 = inside.high in
     let f : ℕ = p - at in
+    let block : at / 512 ≡ p / 512 = omega (arith, low, high, stands.at) in
     let in_file : j < inode_count image = free.high in (
       inode_spare image wf j at free stands p v inside,
-      content_open image took 0 (8 * j + f) p inode_file (omega (arith, in_file)) (row_stands image 0 (8 * j + 0) f (8 * j + f) at p (omega arith) (omega arith) (omega arith) stands),
+      content_open image took 0 (8 * j + f) p inode_file (omega (arith, in_file)) (row_stands image 0 (8 * j + 0) f (8 * j + f) at p (omega arith) (omega arith) (omega arith) stands)
+          (subst (λ b. kept b ≡ false) block loose),
     )
 
 -- an entry of a tree that was read from an inode
@@ -72,8 +73,8 @@ entry_stands image i s entry root same at present =
     let leaf : node image root (height_of root) ((32 * s + 0) / 512) ≡ node image (root_of image i) (height_of (root_of image i)) ((32 * s + 0) / 512) = ap (λ r. node image r (height_of r) ((32 * s + 0) / 512)) same in
     record { present = λ null. present (leaf ∙ null); at = ap (λ b. 512 * b + (32 * s + 0) % 512) (sym leaf) ∙ sym at }
 
-module _ (first second third last : Memory) (i s j entry : ℕ) (name : Name) (kind : Kind) (can : CanName (current_words first) i j name)
-    (found : empty_slot (current_words first) i ≡ Some s) (entry_at : ContentStandsAt (current_words first) i (32 * s + 0) entry) (filled : FillsInode first second j (kind_word kind))
+module _ (kept : ℕ → Bool) (first second third last : Memory) (i s j entry : ℕ) (name : Name) (kind : Kind) (can : CanName (current_words first) i j name)
+    (found : empty_slot (current_words first) i ≡ Some s) (entry_at : ContentStandsAt (current_words first) i (32 * s + 0) entry) (loose_entry : HasLooseWord (current_words first) kept i (32 * s + 0)) (loose_inode : HasLooseWord (current_words first) kept 0 (8 * j + 0)) (filled : FillsInode first second j (kind_word kind))
     (spells : AddsMay (AnyAt (IsWithin (entry + 1) 31)) 0 31 second third) (named : HasNameAt (current_words third) entry name)
     (commits : Adds third last (commit entry j)) where
   abbrev image : Image
@@ -88,6 +89,9 @@ module _ (first second third last : Memory) (i s j entry : ℕ) (name : Name) (k
   inode_at : ContentStandsAt image 0 (8 * j + 0) at
   inode_at = inode_row image j at filled.stands
 
+  loose : kept (entry / 512) ≡ false
+  loose = loose_entry entry entry_at
+
   in_size : s < entry_count image i
   in_size = (found_empty image i s found).0
 
@@ -97,28 +101,28 @@ module _ (first second third last : Memory) (i s j entry : ℕ) (name : Name) (k
   reached : IsReached image i
   reached = can.lacks.reached
 
-  all_hidden : AddsMay (AnyAt (IsHidden image)) 0 34 first third
-  all_hidden = may_twice (AnyAt (IsHidden image)) 0 3 first 0 31 second third
-      (may_weaker (AnyAt (IsWithin at 3)) (AnyAt (IsHidden image)) 0 3 first second (inode_inside image wf j at [] can.free inode_at) filled.stores)
-      (may_weaker (AnyAt (IsWithin (entry + 1) 31)) (AnyAt (IsHidden image)) 0 31 second third (name_hidden image wf i s entry reached can.lacks.directory found entry_at) spells)
+  all_hidden : AddsMay (AnyAt (IsHidden kept image)) 0 34 first third
+  all_hidden = may_twice (AnyAt (IsHidden kept image)) 0 3 first 0 31 second third
+      (may_weaker (AnyAt (IsWithin at 3)) (AnyAt (IsHidden kept image)) 0 3 first second (inode_inside image wf j at [] can.free inode_at (loose_inode at inode_at)) filled.stores)
+      (may_weaker (AnyAt (IsWithin (entry + 1) 31)) (AnyAt (IsHidden kept image)) 0 31 second third (name_hidden image wf i s entry reached can.lacks.directory found entry_at loose) spells)
 
   trees : SameTrees image mid
-  trees = slot_trees first third last i s j entry 34 name can.lacks found entry_at all_hidden named commits
+  trees = slot_trees first third last i s j entry 34 name can.lacks found entry_at loose all_hidden named commits
 
   mid_well_formed : IsWellFormed mid
-  mid_well_formed = slot_mid first third last i s j entry 34 name can.lacks found entry_at all_hidden named commits
+  mid_well_formed = slot_mid first third last i s j entry 34 name can.lacks found entry_at loose all_hidden named commits
 
   ready : IsReadyEntry mid i s name
-  ready = slot_ready first third last i s j entry 34 name can.lacks found entry_at all_hidden named commits
+  ready = slot_ready first third last i s j entry 34 name can.lacks found entry_at loose all_hidden named commits
 
   missing : slot_named mid i name ≡ None
-  missing = slot_missing first third last i s j entry 34 name can.lacks found entry_at all_hidden named commits
+  missing = slot_missing first third last i s j entry 34 name can.lacks found entry_at loose all_hidden named commits
 
   mid_entry : ContentStandsAt mid i (32 * s + 0) entry
-  mid_entry = slot_entry first third last i s j entry 34 name can.lacks found entry_at all_hidden named commits
+  mid_entry = slot_entry first third last i s j entry 34 name can.lacks found entry_at loose all_hidden named commits
 
   committed : current_words last ≡ set mid entry j
-  committed = slot_committed first third last i s j entry 34 name can.lacks found entry_at all_hidden named commits
+  committed = slot_committed first third last i s j entry 34 name can.lacks found entry_at loose all_hidden named commits
 
   -- no word of the inode is one of the entry
   apart : (p : ℕ) → at ≤ p → p < at + 3 → IsWithin (entry + 1) 31 p → ⊥
@@ -142,16 +146,16 @@ module _ (first second third last : Memory) (i s j entry : ℕ) (name : Name) (k
   effect : EntersName i name kind image (current_words last)
   effect =
       subst (λ w. EntersName i name kind image w) (sym committed)
-      (enters_over image mid (set mid entry j) wf trees.prepared.meaning i s j name kind can.free (slot_is first third last i s j entry 34 name can.lacks found entry_at all_hidden named commits) enters)
+      (enters_over image mid (set mid entry j) wf trees.prepared.meaning i s j name kind can.free (slot_is first third last i s j entry 34 name can.lacks found entry_at loose all_hidden named commits) enters)
 
-  pub slot_performs : PerformsWithin none_kept (name_need image i) 5 (stores_behind_growth (name_need image i)) first last (gains i (taken j)) (EntersName i name kind)
+  pub slot_performs : PerformsWithin kept (name_need image i) 5 (stores_behind_growth (name_need image i)) first last (gains i (taken j)) (EntersName i name kind)
   slot_performs =
-      slot_within first third last i s j entry 34 name can.lacks found entry_at all_hidden named commits (gains i (taken j)) (EntersName i name kind) (omega arith) refl refl
+      slot_within first third last i s j entry 34 name can.lacks found entry_at loose all_hidden named commits (gains i (taken j)) (EntersName i name kind) (omega arith) refl refl
       (enters_well_formed mid (set mid entry j) mid_well_formed i s j (kind_word kind) name enters) (reached_stays mid (set mid entry j) mid_well_formed i s j enters.adds i ready.reached) effect
 
-  pub slot_exact : (blocks inodes : Set) → AreExact image none_kept blocks inodes → AreExact (current_words last) none_kept blocks (without inodes j)
-  slot_exact blocks inodes exact =
-      subst (λ w. AreExact w none_kept blocks (without inodes j)) (sym committed)
+  pub slot_exact : (held : ℕ → Bool) (blocks inodes : Set) → AreExact image held blocks inodes → AreExact (current_words last) held blocks (without inodes j)
+  slot_exact held blocks inodes exact =
+      subst (λ w. AreExact w held blocks (without inodes j)) (sym committed)
       (exact_entered mid mid_well_formed i s j entry name ready can.lacks.form missing mid_entry blocks inodes (exact_prepared image mid wf trees.prepared blocks inodes exact) (kind_word kind) fresh)
 
   pub slot_counts : CountsName image (current_words last) j

@@ -1,10 +1,10 @@
 -- A name leaves its directory by a store of 0 to its inumber, and the blocks and the number of its inode come back.
-use Rattle.std.proofs.Common.{◌≡◌, ◌≢◌, ◌⊎◌, ℕ, suc, ◌+◌, ◌*◌, ◌/◌, ◌%◌, ◌<◌, ◌≤◌, List, [], length, set, slice_index, true, false, refl, sym, ◌∙◌, ap, ap₂, subst, arith, inl, inr}
+use Rattle.std.proofs.Common.{◌≡◌, ◌≢◌, ◌⊎◌, ℕ, suc, ◌+◌, ◌*◌, ◌/◌, ◌%◌, ◌<◌, ◌≤◌, List, [], length, set, slice_index, Bool, true, false, ◌-◌, refl, sym, ◌∙◌, ap, ap₂, subst, arith, inl, inr}
 use Rattle.std.proofs.lemmas.Bool.{cases_Bool, cases_eq}
 use Rattle.std.proofs.lemmas.List.{length-set}
 use Rattle.bp_calls.specs.GivenBack.{GivesBack}
 use Rattle.bp_calls.proofs.GivenUpLaws.{gives_as}
-use Rattle.bp_calls.proofs.OpenPlaces.{content_address, content_open, root_word_stays, stands_stored}
+use Rattle.bp_calls.proofs.OpenPlaces.{content_address, content_live, root_word_stays, stands_stored}
 use Rattle.bp_calls.proofs.ReadingLaws.{few_inode}
 use Rattle.bp_calls.proofs.Shorter.{CanGiveBack}
 use Rattle.bp_changes.specs.Effects.{CanUnlink, HasOtherName, IsLastName, KeepsBlocks, RemovesEntry}
@@ -23,9 +23,9 @@ use Rattle.bp_layout.specs.Need.Change.{leaves}
 use Rattle.bp_layout.specs.Reached.{IsReached}
 use Rattle.bp_layout.specs.Reached.IsReached.{inode_file, named}
 use Rattle.bp_layout.specs.Same.{Same}
-use Rattle.bp_layout.specs.Tree.{HasBlock, node}
+use Rattle.bp_layout.specs.Tree.{HasBlock, IsLivePointer, node}
 use Rattle.bp_layout.specs.WellFormed.{IsWellFormed}
-use Rattle.bp_layout.specs.WordPaths.{address, tree_path}
+use Rattle.bp_layout.specs.WordPaths.{WordPath, address, tree_path}
 use Rattle.bp_layout.specs.Words.{Image, block_count, height_of}
 use Rattle.bp_layout.proofs.Reached.{reached-in_file}
 use Rattle.bp_layout.proofs.SameLaws.{same_self}
@@ -33,7 +33,7 @@ use Rattle.bp_layout.proofs.TreeLaws.{KeepsPointers, has_block-kept, has_block-s
 use Rattle.bp_shapes.specs.Freed.{IsGivenUp}
 use Rattle.bp_shapes.specs.Sets.{AreExact}
 use Rattle.bp_shapes.proofs.Freed.{freed_blocks, remove_frees, removed_inode}
-use Rattle.bp_commit.specs.Performs.{Performs}
+use Rattle.bp_commit.specs.Performs.{PerformsThawed}
 use Rattle.bp_tree.proofs.ExistingPaths.{AllThere, content_path-there, copied-one, cover-one}
 use Rattle.bp_commit.proofs.PerformsLaws.{performs_committed, takes_none}
 use Rattle.pm_epochs.specs.Crash.{commit}
@@ -41,8 +41,13 @@ use Rattle.pm_epochs.proofs.CrashLaws.{quiet_none}
 use Rattle.pm_epochs.proofs.PieceLaws.{IsPiece-commit}
 use Rattle.pm_region.specs.Memory.{Adds, Memory, current_words}
 use Rattle.pm_region.proofs.MemoryLaws.{current_words-adds}
-use Rattle.bp_layout.specs.Thaw.{none_kept}
-use Rattle.bp_calls.proofs.Unthawed.{unthawed}
+use Rattle.bp_layout.specs.Thaw.{targets, thawed}
+use Rattle.bp_layout.specs.Members.{Has}
+use Rattle.bp_layout.proofs.ThawLaws.{loose-on}
+use Rattle.bp_tree.proofs.LooseWays.{loose_word}
+use Rattle.bp_commit.specs.Performs.IsOpen.{in_live}
+use Rattle.bp_calls.proofs.Trees.{live_leaf}
+use Rattle.bp_calls.proofs.TargetPaths.{leaving_targets}
 use Rattle.bp_calls.proofs.SetLaws.{free_blocks_stay, free_inodes_stay}
 
 -- an entry that may go, and where its inumber stands
@@ -144,7 +149,7 @@ module _ (image : Image) (i s j place : ℕ) (can : CanLeave image i s j place) 
   gone_on b has = record { has = has_block-stays image last root size keeps b has; past = omega arith }
 
   -- where it is the last name of its inode, the blocks and the number come back
-  module _ (blocks inodes : Set) (exact : AreExact image none_kept blocks inodes) where
+  module _ {kept : ℕ → Bool} (blocks inodes : Set) (exact : AreExact image kept blocks inodes) where
     can_give_blocks : CanGiveBack last root size blocks
     can_give_blocks = record {
       sound = sound-kept image last root size keeps (length-set image place 0) (wf.sound j named_reached);
@@ -169,16 +174,16 @@ module _ (image : Image) (i s j place : ℕ) (can : CanLeave image i s j place) 
         go (inl is) = absurd ((exact.free_inodes.free j is).free named_reached)
         go (inr not) = not
 
-    exact_last : IsLastName image i s j → (after : Set) → GivesBack (IsGivenUp last root size 0) blocks after → AreExact last none_kept after (with inodes j)
+    exact_last : IsLastName image i s j → (after : Set) → GivesBack kept (IsGivenUp last root size 0) blocks after → AreExact last kept after (with inodes j)
     exact_last last_name after gives = record {
       block_room = rw (length-set image place 0) (gives.room ∙ exact.block_room);
       inode_room = rw (length-set image place 0) (length-set inodes j true ∙ exact.inode_room);
-      free_blocks = freed_blocks image last wf (length-set image place 0) (HasBlock image root size) (remove_frees image wf i s j place can.unlink last_name can.stands) none_kept (has blocks) (has after) exact.free_blocks
-          (λ b is. elim (told.only b is) [ inl was ↦ inl was | inr gone ↦ inr (gone, refl) ]) told.still (λ b gone loose. told.given b gone);
+      free_blocks = freed_blocks image last wf (length-set image place 0) (HasBlock image root size) (remove_frees image wf i s j place can.unlink last_name can.stands) kept (has blocks) (has after) exact.free_blocks
+          told.only told.still told.given;
       free_inodes = removed_inode image last wf i s j can.unlink removes last_name (has inodes) (has (with inodes j)) exact.free_inodes (has_with_same inodes j inode_in_room) (has_with_other inodes j);
     }
       where
-        told : GivesBack (HasBlock image root size) blocks after
+        told : GivesBack kept (HasBlock image root size) blocks after
         told = gives_as (IsGivenUp last root size 0) (HasBlock image root size) blocks after gone_back gone_on gives
 
   -- ---- where it has another name all stays
@@ -207,7 +212,7 @@ module _ (image : Image) (i s j place : ℕ) (can : CanLeave image i s j place) 
     blocks_kept : KeepsBlocks image last
     blocks_kept = store_blocks image wf i s 0 place reached entry.directory entry.in_size can.stands
 
-    exact_named : (blocks inodes : Set) → AreExact image none_kept blocks inodes → AreExact last none_kept blocks inodes
+    exact_named : {kept : ℕ → Bool} (blocks inodes : Set) → AreExact image kept blocks inodes → AreExact last kept blocks inodes
     exact_named blocks inodes exact = record {
       block_room = rw (length-set image place 0) exact.block_room;
       inode_room = rw (length-set image place 0) exact.inode_room;
@@ -224,32 +229,44 @@ module _ (old new : Memory) (i s j place : ℕ) (can : CanLeave (current_words o
   stored : current_words new ≡ set (current_words old) place 0
   stored = current_words-adds old new (commit place 0) adds
 
-  pub leaving_performs : Performs none_kept old new (leaves i s) (λ image after. RemovesEntry image after i s)
-  leaving_performs =
-      unthawed old new (leaves i s) (λ image after. RemovesEntry image after i s)
-      (performs_committed none_kept old new (leaves i s) (λ image after. RemovesEntry image after i s) place 0 2 1 []
+  -- the block of the entry is not kept, where nothing is left to thaw
+  leaving_loose : (kept : ℕ → Bool) → thawed (current_words old) kept (leaves i s) ≡ [] → kept (place / 512) ≡ false
+  leaving_loose kept clear =
+      let image : Image = current_words old in
+      let live : IsLivePointer (root_of image i) (size_of image i) (height_of (root_of image i)) ((32 * s + 0) / 512) =
+      live_leaf (root_of image i) (size_of image i) ((32 * s + 0) / 512) (omega (arith, can.unlink.entry.in_size)) in
+      let here : node image (root_of image i) (height_of (root_of image i)) ((32 * s + 0) / 512) ≡ place / 512 = omega (arith, can.stands.at) in
+      let way : WordPath = tree_path (height_of (root_of image 0)) i (suc (height_of (root_of image i))) (32 * s + 0) in
+      let among : Has (targets image (leaves i s)) way = subst (λ ps. Has ps way) (sym (leaving_targets image can.well_formed i s j can.unlink)) (inl refl) in
+      ap kept (sym here)
+      ∙ loose_word image can.well_formed kept i (height_of (root_of image i)) (32 * s + 0) can.unlink.reached live can.stands.present
+      (loose-on image kept (targets image (leaves i s)) clear way among (length way - 1))
+
+  pub leaving_performs : (kept : ℕ → Bool) → thawed (current_words old) kept (leaves i s) ≡ [] → PerformsThawed kept old new (leaves i s) (λ image after. RemovesEntry image after i s)
+  leaving_performs kept clear =
+      performs_committed kept old new (leaves i s) (λ image after. RemovesEntry image after i s) place 0 2 1 []
       (record {
         prepared = [];
         adds = adds;
         quiet = quiet_none Same (current_words old) (same_self (current_words old) can.well_formed);
         piece = IsPiece-commit place 0;
       })
-      (takes_none (current_words old) none_kept)
+      (takes_none (current_words old) kept)
       (rw stored (sym (at_cover (current_words old) i s j place can)))
       (omega arith) (omega arith)
       (sym (none_leaving (current_words old) can.well_formed i s j can.unlink.reached can.unlink.entry))
-      (content_open (current_words old) [] i (32 * s + 0) place can.unlink.reached (omega (arith, can.unlink.entry.in_size)) can.stands)
+      (in_live (content_live (current_words old) i (32 * s + 0) place can.unlink.reached (omega (arith, can.unlink.entry.in_size)) can.stands) (leaving_loose kept clear))
       (rw stored (last_well_formed (current_words old) i s j place can))
-      (rw stored (removes (current_words old) i s j place can)))
+      (rw stored (removes (current_words old) i s j place can))
 
-  module _ (blocks inodes : Set) (exact : AreExact (current_words old) none_kept blocks inodes) where
+  module _ {kept : ℕ → Bool} (blocks inodes : Set) (exact : AreExact (current_words old) kept blocks inodes) where
     pub can_give : CanGiveBack (current_words new) (root_of (current_words old) j) (size_of (current_words old) j) blocks
     can_give = rw stored (can_give_blocks (current_words old) i s j place can blocks inodes exact)
 
-    pub leaving_exact : IsLastName (current_words old) i s j → (after : Set) → GivesBack (IsGivenUp (current_words new) (root_of (current_words old) j) (size_of (current_words old) j) 0) blocks after → AreExact (current_words new) none_kept after (with inodes j)
+    pub leaving_exact : IsLastName (current_words old) i s j → (after : Set) → GivesBack kept (IsGivenUp (current_words new) (root_of (current_words old) j) (size_of (current_words old) j) 0) blocks after → AreExact (current_words new) kept after (with inodes j)
     leaving_exact last_name after gives = rw stored (exact_last (current_words old) i s j place can blocks inodes exact last_name after (rw stored at gives))
 
-    pub named_exact : HasOtherName (current_words old) i s j → AreExact (current_words new) none_kept blocks inodes
+    pub named_exact : HasOtherName (current_words old) i s j → AreExact (current_words new) kept blocks inodes
     named_exact more = rw stored (exact_named (current_words old) i s j place can more blocks inodes exact)
 
   pub leaving_counts : (counts : List ℕ) → AreCounts (current_words old) counts → j < length counts → (rest : ℕ) → slice_index counts j ≡ rest + 1 → AreCounts (current_words new) (set counts j rest)

@@ -48,8 +48,20 @@ pub mod GrowthNeed
 pub mod GrowthCover
 pub mod Unthawed
 pub mod CountLaws
+pub mod ThawedParts
+pub mod TargetPaths
+pub mod WriteTargets
+pub mod SameWrites
+pub mod ThawedRoom
+pub mod ThawedNeed
+pub mod LeavingThawed
+pub mod ThawedShows
+pub mod NothingKept
 pub mod FewNames
 pub mod GrowthPerforms
+pub mod GrowthLoose
+pub mod EnterTargets
+pub mod EnterThawed
 pub mod NewNames
 pub mod ShareLaws
 pub mod WrittenStands
@@ -62,3 +74,4 @@ pub mod CommitResults
 pub mod RunCommits
 pub mod WriteBelow
 pub mod RowLaws
+pub mod CoverPaths

@@ -1,5 +1,5 @@
 -- An entry behind the last one of a directory for a file that has a name, and then the directory's size.
-use Rattle.std.proofs.Common.{◌≡◌, ℕ, ◌+◌, ◌*◌, ◌/◌, length, set, ◌∙◌, arith, refl}
+use Rattle.std.proofs.Common.{◌≡◌, ℕ, Bool, ◌+◌, ◌*◌, ◌/◌, length, set, ◌∙◌, arith, refl}
 use Rattle.bp_changes.specs.SameMeaning.{SameMeaning}
 use Rattle.bp_free.specs.Set.{Set, has as contains, members}
 use Rattle.bp_layout.specs.Directory.{Name}
@@ -18,7 +18,6 @@ use Rattle.bp_calls.specs.Entered.{IsReadyBehind}
 use Rattle.bp_calls.specs.Entries.{PutsBehind}
 use Rattle.bp_calls.specs.Growth.{stores_behind_growth}
 use Rattle.bp_calls.specs.Steps.{name_need, CanLinkBehind}
-use Rattle.bp_layout.specs.Thaw.{none_kept}
 use Rattle.bp_calls.specs.Created.{CountsMore, LinksEntry}
 use Rattle.bp_layout.specs.Need.Entrant.{linked}
 use Rattle.pm_region.proofs.MayLaws.{may_none}
@@ -31,8 +30,8 @@ use Rattle.bp_calls.proofs.SetLaws.{free_inodes_stay}
 use Rattle.bp_calls.proofs.SlotStores.{IsHidden}
 use Rattle.bp_calls.proofs.BehindStores.{KeepsGrown, behind_committed, behind_sets, behind_slot, behind_within, done_file, full_before, full_file, full_meaning, full_missing, full_size_at, full_there, full_well_formed, put_ready}
 
-module _ (first second last : Memory) (blocks after : Set) (i j place : ℕ) (name : Name) (can : CanLinkBehind first blocks i j name)
-    (puts : PutsBehind first second (members blocks) (members after) i j name) (size_at : ContentStandsAt (current_words first) 0 (8 * i + 2) place)
+module _ {kept : ℕ → Bool} (first second last : Memory) (blocks after : Set) (i j place : ℕ) (name : Name) (can : CanLinkBehind kept first blocks i j name)
+    (puts : PutsBehind kept first second (members blocks) (members after) i j name) (size_at : ContentStandsAt (current_words first) 0 (8 * i + 2) place)
     (commits : Adds second last (commit place (size_of (current_words first) i + 256))) where
   abbrev image : Image
   image = current_words first
@@ -48,8 +47,8 @@ module _ (first second last : Memory) (blocks after : Set) (i j place : ℕ) (na
 
   -- ---- nothing is stored behind the preparation
 
-  none : AddsMay (AnyAt (IsHidden mid)) 0 0 second second
-  none = may_none (AnyAt (IsHidden mid)) second
+  none : AddsMay (AnyAt (IsHidden kept mid)) 0 0 second second
+  none = may_none (AnyAt (IsHidden kept mid)) second
 
   keeps : KeepsGrown mid mid i
   keeps = record { back = λ b has. has; stay = λ b has. has }
@@ -80,7 +79,7 @@ module _ (first second last : Memory) (blocks after : Set) (i j place : ℕ) (na
   effect : LinksEntry i name j image done
   effect = links_entry_over image mid done wf meaning i (size_of mid i / 256) j name (behind_slot first second second last blocks after i j place 0 name can.can puts none mid_ready keeps size_at commits) same_file links
 
-  pub link_behind_performs : PerformsWithin none_kept (name_need image i) 5 (stores_behind_growth (name_need image i)) first last (gains i linked) (LinksEntry i name j)
+  pub link_behind_performs : PerformsWithin kept (name_need image i) 5 (stores_behind_growth (name_need image i)) first last (gains i linked) (LinksEntry i name j)
   link_behind_performs =
       behind_within first second second last blocks after i j place 0 name can.can puts none mid_ready keeps size_at commits (gains i linked) (LinksEntry i name j) (omega arith) refl
       (linking.linked_well_formed mid done well i (size_of mid i / 256) j links.adds) effect
@@ -93,7 +92,7 @@ module _ (first second last : Memory) (blocks after : Set) (i j place : ℕ) (na
   done_stays : (t : ℕ) → IsReached image t → IsReached done t
   done_stays t there = linking.reached_stays mid done well i (size_of mid i / 256) j links.adds t (full_there first second second last blocks after i j place 0 name can.can puts none mid_ready keeps size_at commits t there)
 
-  pub link_behind_exact : length after ≡ length blocks → (inodes : Set) → AreExact image none_kept blocks inodes → AreExact (current_words last) none_kept after inodes
+  pub link_behind_exact : length after ≡ length blocks → (inodes : Set) → AreExact image kept blocks inodes → AreExact (current_words last) kept after inodes
   link_behind_exact room inodes exact =
       rw committed
       (behind_sets first second second last blocks after i j place 0 name can.can puts none mid_ready keeps size_at commits (λ t b there has. done_before t there) done_stays

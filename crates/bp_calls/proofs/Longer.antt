@@ -1,36 +1,48 @@
 -- A file gets longer, with zeros behind its bytes: what its preparation asks, and what it leaves with the store of the size.
-use Rattle.std.proofs.Common.{◌≡◌, ℕ, zero, suc, ◌+◌, ◌-◌, ◌*◌, ◌/◌, ◌<◌, ◌≤◌, List, [], length, Bool, true, false, refl, sym, ◌∙◌, ap, arith, inl, inr}
+use Rattle.std.proofs.Common.{◌≡◌, ℕ, zero, suc, ◌+◌, ◌-◌, ◌*◌, ◌/◌, ◌<◌, ◌≤◌, List, [], ◌∷◌, length, Bool, true, false, refl, sym, ◌∙◌, ap, ap₂, subst, arith, inl, inr}
 use Rattle.std.specs.Prelude.{nat_le, if◌then◌else◌, slice_index}
 use Rattle.std.proofs.lemmas.Bool.{lt-ltb}
 use Rattle.std.proofs.lemmas.List.{append-nil, length-append}
 use Rattle.bp_append.specs.Given.{given}
-use Rattle.bp_append.specs.Prepared.{CanPrepare, PreparesWith, need_for}
+use Rattle.bp_append.specs.Prepared.{CanPrepare, HasLooseEnd, PreparesWith, need_for}
 use Rattle.bp_append.proofs.GrownEffect.{grown_changes, grown_bytes, grown_live, grown_stays, grown_taken}
 use Rattle.bp_append.proofs.GrowsTree.{OnlyGrows, GrowsTree, only_need, grown_performs, grown_size}
 use Rattle.bp_append.proofs.StoresLaws.{behind_whole, room_behind_whole}
 use Rattle.bp_calls.specs.CanGrow.{CanGrowFile}
 use Rattle.bp_calls.specs.Resized.{ResizesFile}
-use Rattle.bp_calls.specs.Space.{LacksSpace}
-use Rattle.bp_calls.proofs.FreeCounts.{free_members}
-use Rattle.bp_calls.proofs.TakenBlocks.{exact_taken, unused_members, usable_members}
+use Rattle.bp_layout.specs.Members.{Has}
+use Rattle.bp_layout.specs.Thaw.{IsLoose, cover_now}
+use Rattle.bp_layout.proofs.ThawLaws.{loose-on}
+use Rattle.bp_append.proofs.EndWays.{loose_end}
+use Rattle.bp_calls.proofs.TakenBlocks.{exact_taken, members_free, usable_members}
 use Rattle.bp_free.specs.Set.{Set, members}
 use Rattle.bp_layout.specs.Inode.{ContentStandsAt, kind_of, root_of, size_of}
 use Rattle.bp_layout.specs.Need.{need}
 use Rattle.bp_layout.specs.Need.Change.{resizes}
 use Rattle.bp_layout.specs.WordPaths.{WordPath, inode_path}
+use Rattle.bp_layout.specs.Nodes.{nodes_for}
+use Rattle.bp_layout.specs.Reached.{IsReached}
+use Rattle.bp_layout.specs.WellFormed.{IsWellFormed}
 use Rattle.bp_layout.specs.Words.{Image, height_of}
 use Rattle.bp_limits.specs.Limits.{max_height}
 use Rattle.bp_shapes.specs.Sets.{AreExact}
-use Rattle.bp_commit.specs.Performs.{Performs}
+use Rattle.bp_commit.specs.Performs.{PerformsThawed}
 use Rattle.bp_tree.proofs.RegionWords.{length_now}
 use Rattle.pm_epochs.specs.Crash.{commit}
 use Rattle.pm_region.specs.Memory.{Memory, Adds, current_words, room_in}
 use Rattle.pm_region.proofs.MemoryLaws.{base-adds, room_in-piece}
-use Rattle.bp_layout.specs.Thaw.{none_kept}
-use Rattle.bp_calls.proofs.Unthawed.{lacks_thawed, room_asked, unthawed, prepared_room_of}
+use Rattle.bp_layout.specs.Thaw.{end_path_now, root_path_now, targets}
+use Rattle.bp_calls.proofs.Unthawed.{prepared_room_thawed}
 
 only_grows : (image : Image) (i size : ℕ) → size_of image i < size → OnlyGrows image (resizes i size) i size size
 only_grows image i size longer = record { prepares = rw (lt-ltb (size_of image i) size longer) refl; no_inodes = refl; touches = refl }
+
+-- so many blocks it takes, told by the root word and the size of its tree
+pub growing_needs : (image : Image) → IsWellFormed image → (i size root long : ℕ) → IsReached image i → kind_of image i ≡ 1 → size_of image i < size → root ≡ root_of image i → long ≡ size_of image i →
+    need image (resizes i size) ≡ length (nodes_for image root long size size)
+growing_needs image wf zero size root long reached file longer one two = absurd (omega (arith, file))
+growing_needs image wf (suc n) size root long reached file longer one two =
+    only_need image (resizes (suc n) size) n size size wf reached (only_grows image (suc n) size longer) ∙ sym (ap₂ (λ r s. length (nodes_for image r s size size)) one two)
 
 -- the bytes behind the file's own are 0
 none_given : (from o : ℕ) → given from [] o ≡ 0
@@ -40,18 +52,24 @@ none_given from o = go (nat_le from o)
     go true = refl
     go false = refl
 
-module _ (old : Memory) (blocks inodes : Set) (n size : ℕ) (can : CanGrowFile old blocks inodes (suc n) size) where
+module _ {kept : ℕ → Bool} (old : Memory) (blocks inodes : Set) (n size : ℕ) (can : CanGrowFile kept old blocks inodes (suc n) size) where
   abbrev image : Image
   image = current_words old
 
   needs : need image (resizes (suc n) size) ≡ need_for image (suc n) size size
   needs = only_need image (resizes (suc n) size) n size size can.well_formed can.reached (only_grows image (suc n) size can.longer)
 
-  no_space : (needed free : ℕ) → needed ≡ need_for image (suc n) size size → free ≡ length (members blocks) → free < needed → LacksSpace image none_kept (resizes (suc n) size) (record { need = needed; free = free })
-  no_space needed free is count fewer =
-      lacks_thawed image (resizes (suc n) size) needed free (needs ∙ sym is) (rw count (free_members image none_kept blocks can.exact.free_blocks can.exact.block_room)) fewer
+  -- the ways to the end of the file are loose
+  ends : targets image (resizes (suc n) size) ≡ cover_now image (resizes (suc n) size) ∷ root_path_now image (suc n) ∷ end_path_now image (suc n) ∷ []
+  ends = rw (lt-ltb (size_of image (suc n)) size can.longer) refl
 
-  can_prepare : (path : WordPath) → path ≡ inode_path (height_of (root_of image 0)) (suc n) 1 → need_for image (suc n) size size ≤ length (members blocks) → CanPrepare old (members blocks) (suc n) path size size
+  end_loose : HasLooseEnd image kept (suc n)
+  end_loose =
+      let loose : (path : WordPath) → Has (targets image (resizes (suc n) size)) path → (shortest : ℕ) → IsLoose image kept shortest path = loose-on image kept (targets image (resizes (suc n) size)) can.clear in
+      loose_end image can.well_formed kept (suc n) can.reached
+      (loose (end_path_now image (suc n)) (subst (λ ps. Has ps (end_path_now image (suc n))) (sym ends) (inr (inr (inl refl)))) (length (root_path_now image (suc n)) - 1))
+
+  can_prepare : (path : WordPath) → path ≡ inode_path (height_of (root_of image 0)) (suc n) 1 → need image (resizes (suc n) size) ≤ length (members blocks) → CanPrepare kept old (members blocks) (suc n) path size size
   can_prepare path leads enough = record {
     well = can.well_formed;
     reached = can.reached;
@@ -61,44 +79,44 @@ module _ (old : Memory) (blocks inodes : Set) (n size : ℕ) (can : CanGrowFile 
     fits = can.fits;
     by_words = λ by. elim by [ inl e ↦ omega (arith, e) | inr two ↦ omega (arith, two, can.file) ];
     usable = usable_members image blocks inodes can.exact (length old.base / 512) (omega (arith, length_now old));
-    unused = unused_members image blocks inodes can.exact;
-    enough = enough;
-    room = let room = room_asked old blocks (resizes (suc n) size) can.room (omega (arith, needs, enough)) in
-        prepared_room_of _ _ _ _ needs (room_behind_whole (size_of image (suc n)) size size max_height) room;
+    are_free = members_free image blocks inodes can.exact;
+    loose = end_loose;
+    enough = omega (arith, enough, needs);
+    room = let room = can.room enough in
+        prepared_room_thawed _ _ _ _ needs (room_behind_whole (size_of image (suc n)) size size max_height) room;
   }
 
   -- behind the preparation there is room for the store
-  room_left : (middle : Memory) (free_new bytes : List ℕ) → PreparesWith old middle (members blocks) free_new (suc n) size size bytes → (3 ≤ room_in middle) × (length middle.base ≡ length old.base)
+  room_left : (middle : Memory) (free_new bytes : List ℕ) → PreparesWith kept old middle (members blocks) free_new (suc n) size size bytes → (3 ≤ room_in middle) × (length middle.base ≡ length old.base)
   room_left middle free_new bytes prepared =
       let stores = behind_whole (size_of image (suc n)) size size max_height in
       let left = room_in-piece _ _ old middle prepared.adds.part.added prepared.adds.part.adds prepared.adds.part.piece in
       let all : length (members blocks) ≡ length prepared.taken + length free_new = ap (λ (xs : List ℕ). length xs) prepared.takes ∙ length-append prepared.taken free_new in
-      let has = room_asked old blocks (resizes (suc n) size) can.room (omega (arith, needs, prepared.counted, all)) in
+      let has = can.room (omega (arith, needs, prepared.counted, all)) in
       (omega (arith, needs, stores, left, has), ap length (base-adds old middle prepared.adds.part.added prepared.adds.part.adds))
 
-  module _ (middle new : Memory) (rest : Set) (path : WordPath) (place : ℕ) (grows : GrowsTree old middle new (members blocks) (members rest) path n size size place []) (room : length rest ≡ length blocks) where
+  module _ (middle new : Memory) (rest : Set) (path : WordPath) (place : ℕ) (grows : GrowsTree kept old middle new (members blocks) (members rest) path n size size place []) (room : length rest ≡ length blocks) where
     only : OnlyGrows image (resizes (suc n) size) (suc n) size size
     only = only_grows image (suc n) size can.longer
 
     resized : ResizesFile (suc n) size image (current_words new)
     resized = record {
-      changes = grown_changes old middle new (members blocks) (members rest) path n size size place [] grows (resizes (suc n) size) only;
-      size_is = grown_size old middle new (members blocks) (members rest) path n size size place [] grows (resizes (suc n) size) only;
-      kept = λ o low was. grown_bytes old middle new (members blocks) (members rest) path n size size place [] grows (resizes (suc n) size) only o low ∙ grows.prepared.ready.kept o was;
-      zeros = λ o low past. grown_bytes old middle new (members blocks) (members rest) path n size size place [] grows (resizes (suc n) size) only o low ∙ grows.prepared.ready.bytes_are o past low ∙ none_given size o;
+      changes = grown_changes kept old middle new (members blocks) (members rest) path n size size place [] grows (resizes (suc n) size) only;
+      size_is = grown_size kept old middle new (members blocks) (members rest) path n size size place [] grows (resizes (suc n) size) only;
+      kept = λ o low was. grown_bytes kept old middle new (members blocks) (members rest) path n size size place [] grows (resizes (suc n) size) only o low ∙ grows.prepared.ready.kept o was;
+      zeros = λ o low past. grown_bytes kept old middle new (members blocks) (members rest) path n size size place [] grows (resizes (suc n) size) only o low ∙ grows.prepared.ready.bytes_are o past low ∙ none_given size o;
     }
 
-    performs : Performs none_kept old new (resizes (suc n) size) (ResizesFile (suc n) size)
+    performs : PerformsThawed kept old new (resizes (suc n) size) (ResizesFile (suc n) size)
     performs =
-        unthawed old new (resizes (suc n) size) (ResizesFile (suc n) size)
-        (grown_performs old middle new (members blocks) (members rest) path n size size place [] grows (resizes (suc n) size) only (ResizesFile (suc n) size) resized)
+        grown_performs kept old middle new (members blocks) (members rest) path n size size place [] grows (resizes (suc n) size) only (ResizesFile (suc n) size) resized
 
-    exact : AreExact (current_words new) none_kept rest inodes
+    exact : AreExact (current_words new) kept rest inodes
     exact =
         exact_taken image (current_words new) (suc n) can.well_formed resized.changes grows.prepared.taken blocks rest inodes can.exact grows.prepared.takes room
-        (grown_live old middle new (members blocks) (members rest) path n size size place [] grows (resizes (suc n) size) only)
-        (grown_stays old middle new (members blocks) (members rest) path n size size place [] grows (resizes (suc n) size) only)
-        (grown_taken old middle new (members blocks) (members rest) path n size size place [] grows (resizes (suc n) size) only)
+        (grown_live kept old middle new (members blocks) (members rest) path n size size place [] grows (resizes (suc n) size) only)
+        (grown_stays kept old middle new (members blocks) (members rest) path n size size place [] grows (resizes (suc n) size) only)
+        (grown_taken kept old middle new (members blocks) (members rest) path n size size place [] grows (resizes (suc n) size) only)
 
 -- ---- by the number of the inode
 
@@ -106,31 +124,26 @@ no_file : (image : Image) → kind_of image 0 ≡ 1 → ⊥
 no_file image one = omega (arith, one)
 
 -- a file that got longer
-pub record Grew (old middle new : Memory) (blocks rest : Set) (path : WordPath) (i size place : ℕ) : Type 0 where
-  pub can : CanPrepare old (members blocks) i path size size
+pub record Grew (kept : ℕ → Bool) (old middle new : Memory) (blocks rest : Set) (path : WordPath) (i size place : ℕ) : Type 0 where
+  pub can : CanPrepare kept old (members blocks) i path size size
   pub stands : ContentStandsAt (current_words old) 0 (8 * i + 2) place
-  pub prepared : PreparesWith old middle (members blocks) (members rest) i size size []
+  pub prepared : PreparesWith kept old middle (members blocks) (members rest) i size size []
   pub room : length rest ≡ length blocks
   pub stored : Adds middle new (commit place size)
 
-module _ (old : Memory) (blocks inodes : Set) where
-  pub refused : (i size : ℕ) → CanGrowFile old blocks inodes i size → (needed free : ℕ) → needed ≡ need_for (current_words old) i size size → free ≡ length (members blocks) → free < needed →
-      LacksSpace (current_words old) none_kept (resizes i size) (record { need = needed; free = free })
-  refused zero size can = absurd (no_file (current_words old) can.file)
-  refused (suc n) size can = no_space old blocks inodes n size can
-
-  pub prepares : (i size : ℕ) → CanGrowFile old blocks inodes i size → (path : WordPath) → path ≡ inode_path (height_of (root_of (current_words old) 0)) i 1 → need_for (current_words old) i size size ≤ length (members blocks) →
-      CanPrepare old (members blocks) i path size size
+module _ {kept : ℕ → Bool} (old : Memory) (blocks inodes : Set) where
+  pub prepares : (i size : ℕ) → CanGrowFile kept old blocks inodes i size → (path : WordPath) → path ≡ inode_path (height_of (root_of (current_words old) 0)) i 1 → need (current_words old) (resizes i size) ≤ length (members blocks) →
+      CanPrepare kept old (members blocks) i path size size
   prepares zero size can = absurd (no_file (current_words old) can.file)
   prepares (suc n) size can = can_prepare old blocks inodes n size can
 
-  pub room_behind : (middle : Memory) (free_new bytes : List ℕ) (i size : ℕ) → CanGrowFile old blocks inodes i size → PreparesWith old middle (members blocks) free_new i size size bytes → (3 ≤ room_in middle) × (length middle.base ≡ length old.base)
+  pub room_behind : (middle : Memory) (free_new bytes : List ℕ) (i size : ℕ) → CanGrowFile kept old blocks inodes i size → PreparesWith kept old middle (members blocks) free_new i size size bytes → (3 ≤ room_in middle) × (length middle.base ≡ length old.base)
   room_behind middle free_new bytes zero size can = absurd (no_file (current_words old) can.file)
   room_behind middle free_new bytes (suc n) size can = room_left old blocks inodes n size can middle free_new bytes
 
-  pub grew : (middle new : Memory) (rest : Set) (path : WordPath) (i size place : ℕ) → CanGrowFile old blocks inodes i size → Grew old middle new blocks rest path i size place →
-      Performs none_kept old new (resizes i size) (ResizesFile i size) × AreExact (current_words new) none_kept rest inodes
+  pub grew : (middle new : Memory) (rest : Set) (path : WordPath) (i size place : ℕ) → CanGrowFile kept old blocks inodes i size → Grew kept old middle new blocks rest path i size place →
+      PerformsThawed kept old new (resizes i size) (ResizesFile i size) × AreExact (current_words new) kept rest inodes
   grew middle new rest path zero size place can = absurd (no_file (current_words old) can.file)
   grew middle new rest path (suc n) size place can = λ done.
-      let grows : GrowsTree old middle new (members blocks) (members rest) path n size size place [] = record { can = done.can; is_file = can.file; stands = done.stands; prepared = done.prepared; stored = done.stored } in
+      let grows : GrowsTree kept old middle new (members blocks) (members rest) path n size size place [] = record { can = done.can; is_file = can.file; stands = done.stands; prepared = done.prepared; stored = done.stored } in
       (performs old blocks inodes n size can middle new rest path place grows done.room, exact old blocks inodes n size can middle new rest path place grows done.room)

@@ -1,5 +1,5 @@
 -- A name is entered: what it needs, and that there is what it needs, also where the inode file grows first.
-use Rattle.std.proofs.Common.{◌≡◌, ◌≢◌, ℕ, ◌+◌, ◌<◌, ◌≤◌, [], length, Option, None, Some, refl, sym, ◌∙◌, ap, subst, arith}
+use Rattle.std.proofs.Common.{◌≡◌, ◌≢◌, ◌⊎◌, ℕ, Bool, false, inl, inr, ◌+◌, ◌<◌, ◌≤◌, [], length, Option, None, Some, refl, sym, ◌∙◌, ap, subst, arith}
 use Rattle.std.specs.Prelude.{Result, Ok, Err, OnErr, OnOk}
 use Rattle.bp_append.specs.Prepared.{need_for}
 use Rattle.bp_free.specs.Set.{Set, IsLeast, members}
@@ -10,32 +10,38 @@ use Rattle.bp_layout.specs.Need.{Change, need}
 use Rattle.bp_layout.specs.Need.Change.{enters}
 use Rattle.bp_layout.specs.Need.Entrant.{grown, taken}
 use Rattle.bp_layout.specs.Nodes.{nodes_for}
-use Rattle.bp_layout.specs.Reached.{IsReached}
+use Rattle.bp_layout.specs.Reached.{IsFreeBlock, IsReached}
 use Rattle.bp_layout.specs.WellFormed.{IsWellFormed}
 use Rattle.bp_layout.specs.Words.{Image}
 use Rattle.bp_layout.specs.declared.fields.Kind.{Kind}
 use Rattle.bp_layout.proofs.Reached.{reached-in_file}
 use Rattle.bp_shapes.specs.Sets.{AreExact}
-use Rattle.bp_commit.specs.Performs.{HasRoomFor, Performs, PerformsWithin, most_stores_thawed, room_for}
+use Rattle.bp_commit.specs.Performs.{Performs, PerformsThawed, PerformsWithin, most_stores_thawed, room_for}
 use Rattle.pm_region.specs.Memory.{Memory, current_words, room_in}
 use Rattle.bp_calls.specs.Created.{EntersName}
 use Rattle.bp_calls.specs.Entrant.{entrant_of}
 use Rattle.bp_calls.specs.Growth.{CanGrowInodes, GrowsInodes, growth_need, growth_stores, stores_behind_growth}
-use Rattle.bp_calls.specs.Space.{HasRoomWhereFree, LacksSpace}
+use Rattle.bp_calls.specs.ThawedFor.{IsThawedFor}
 use Rattle.bp_calls.specs.Steps.{CanEnter, CanEnterBehind, CanName, LacksName, entering_room, name_need}
 use Rattle.bp_calls.proofs.AfterLaws.{empty_slot_over, slot_named_over}
-use Rattle.bp_calls.proofs.FreeCounts.{free_members}
 use Rattle.bp_calls.proofs.GrowthLaws.{longer_reached, longer_well_formed, shorter_reached}
 use Rattle.bp_calls.proofs.GrowthMemory.{room_behind_growth}
 use Rattle.bp_calls.proofs.GrowthNeed.{need_growing}
 use Rattle.bp_calls.proofs.GrowthPerforms.{grown_need, performs_grown}
 use Rattle.bp_commit.proofs.PerformsLaws.{within_more}
 use Rattle.bp_calls.proofs.NeedLaws.{need_behind}
-use Rattle.bp_calls.proofs.Refusals.{has_members, not_none, not_some, tells}
+use Rattle.bp_calls.proofs.Refusals.{has_members, is_least, not_none, not_some, tells}
 use Rattle.bp_calls.proofs.EnteredOver.{entered_over}
-use Rattle.bp_layout.specs.Thaw.{none_kept}
-use Rattle.bp_layout.proofs.ThawLaws.{full_need-none}
-use Rattle.bp_calls.proofs.Unthawed.{lacks_thawed, room_asked, room_needed, unthawed}
+use Rattle.bp_calls.proofs.EnteredLaws.{directory_inode}
+use Rattle.bp_calls.proofs.EnterTargets.{IsEntrant, entry_loose, file_loose, inode_loose}
+use Rattle.bp_calls.proofs.GrowthLoose.{loose_entry_on, new_inode_loose}
+use Rattle.bp_changes.specs.Thawed.{SameShape}
+use Rattle.bp_changes.proofs.ReachedOn.{reached_on}
+use Rattle.bp_changes.proofs.SameMeaning.{well_formed-same}
+use Rattle.bp_layout.specs.Free.IsLeastFree.{some as a_least}
+use Rattle.bp_layout.specs.Members.{Has}
+use Rattle.bp_layout.proofs.MemberLaws.{each-has}
+use Rattle.std.proofs.lemmas.Bool.{cases_lt}
 
 -- ---- what a name needs
 
@@ -50,11 +56,11 @@ entry_needs image wf i root size reached kind one two none = entry_need_is image
 
 -- ---- an inode is free
 
-module _ (memory : Memory) (blocks inodes : Set) (i j : ℕ) (name : Name) (can : CanEnter memory blocks inodes i name) (least : IsLeast inodes j) where
+module _ {kept : ℕ → Bool} (memory : Memory) (blocks inodes : Set) (i j : ℕ) (name : Name) (can : CanEnter kept memory blocks inodes i name) (least : IsLeast inodes j) where
   pub can_name : CanName (current_words memory) i j name
   can_name = record { lacks = can.lacks; free = can.exact.free_inodes.free j least.is_in }
 
-  pub can_enter_behind : empty_slot (current_words memory) i ≡ None → CanEnterBehind memory blocks i j name
+  pub can_enter_behind : empty_slot (current_words memory) i ≡ None → CanEnterBehind kept memory blocks i j name
   can_enter_behind none = record {
     can = record {
       lacks = can.lacks;
@@ -62,15 +68,17 @@ module _ (memory : Memory) (blocks inodes : Set) (i j : ℕ) (name : Name) (can 
       inodes = inodes;
       exact = can.exact;
       enough = rw (need_behind (current_words memory) i can.lacks.well_formed can.lacks.reached can.lacks.directory none) at can.enough;
+      loose = can.loose.behind none;
       room = rw (need_behind (current_words memory) i can.lacks.well_formed can.lacks.reached can.lacks.directory none) at can.room;
     };
     free = can_name.free;
+    loose = can.loose_inode j least;
   }
 
 -- ---- none is free, and the inode file has grown
 
-module _ (old mid : Memory) (blocks inodes after filled : Set) (i : ℕ) (name : Name) (lacks : LacksName (current_words old) i name) (room : HasRoomFor old none_kept (enters i grown)) (grows : GrowsInodes old mid)
-    (exact : AreExact (current_words mid) none_kept after filled) (left : length (members blocks) ≡ growth_need (current_words old) + length (members after)) where
+module _ {kept : ℕ → Bool} (old mid : Memory) (blocks inodes after filled : Set) (i : ℕ) (name : Name) (lacks : LacksName (current_words old) i name) (before : AreExact (current_words old) kept blocks inodes) (nobody : members inodes ≡ [])
+    (ready : IsThawedFor kept old blocks (enters i grown)) (grows : GrowsInodes kept old mid) (exact : AreExact (current_words mid) kept after filled) (left : length (members blocks) ≡ growth_need (current_words old) + length (members after)) where
   abbrev image : Image
   image = current_words old
 
@@ -88,11 +96,27 @@ module _ (old mid : Memory) (blocks inodes after filled : Set) (i : ℕ) (name :
     free = λ there. let low = reached-in_file image lacks.well_formed (inode_count image) (shorter_reached image longer grows.taken lacks.well_formed grows.grown (inode_count image) there) in omega (arith, low);
   }
 
+  -- and none before it is
+  behind_old : (j : ℕ) → IsFreeInode longer j → inode_count image ≤ j
+  behind_old j free = go (cases_lt j (inode_count image))
+    where
+      go : (j < inode_count image) ⊎ (inode_count image ≤ j) → inode_count image ≤ j
+      go (inl low) =
+          absurd (has_members inodes j (before.free_inodes.all j (record {
+            low = free.low;
+            high = low;
+            free = λ there. free.free (longer_reached image longer grows.taken lacks.well_formed grows.grown j there);
+          })) nobody)
+      go (inr high) = high
+
+  taken_loose : (b : ℕ) → Has grows.taken b → kept b ≡ false
+  taken_loose b took = (each-has (IsFreeBlock image kept) grows.taken b grows.adds.takes.free took).loose
+
   pub grown_slot : empty_slot longer i ≡ empty_slot image i
   grown_slot = empty_slot_over image longer lacks.well_formed grows.grown.meaning i lacks.reached lacks.directory
 
-  pub grown_enters : need image (enters i grown) ≤ length (members blocks) → CanEnter mid after filled i name
-  grown_enters enough = record {
+  pub grown_enters : CanEnter kept mid after filled i name
+  grown_enters = record {
     lacks = record {
       well_formed = wf;
       reached = longer_reached image longer grows.taken lacks.well_formed grows.grown i lacks.reached;
@@ -102,37 +126,54 @@ module _ (old mid : Memory) (blocks inodes after filled : Set) (i : ℕ) (name :
     };
     exact = exact;
     some = has_members filled (inode_count image) (exact.free_inodes.all (inode_count image) first_free);
-    enough = let needs = grown_need old mid grows lacks.well_formed i lacks.reached lacks.directory in omega (arith, enough, needs, left);
+    enough = let needs = grown_need old mid grows lacks.well_formed i lacks.reached lacks.directory in omega (arith, ready.enough, needs, left);
+    loose = loose_entry_on image longer grows.taken lacks.well_formed grows.grown kept taken_loose i lacks.reached lacks.directory (directory_inode image i lacks.directory)
+        (entry_loose image lacks.well_formed i lacks.reached lacks.directory kept grown ready.clear);
+    loose_inode = λ j least.
+        let free : IsFreeInode longer j = exact.free_inodes.free j least.is_in in
+        new_inode_loose image longer grows.taken lacks.well_formed grows.grown kept taken_loose j (behind_old j free) free.high;
     room = enough_room (length grows.taken) (growth_need image) (name_need longer i) (need image (enters i grown)) (room_in old) (room_in mid) grows.number
-        (grown_need old mid grows lacks.well_formed i lacks.reached lacks.directory) (room_behind_growth old mid grows) (room_needed old (enters i grown) room);
+        (grown_need old mid grows lacks.well_formed i lacks.reached lacks.directory) (room_behind_growth old mid grows) ready.room;
   }
     where
-      enough_room : (took wanted more all before behind : ℕ) → took ≡ wanted → all ≡ wanted + more → before ≤ behind + (3 + growth_stores took) → room_for all ≤ before → entering_room more ≤ behind
+      enough_room : (took wanted more all before behind : ℕ) → took ≡ wanted → all ≡ wanted + more → before ≤ behind + (3 + growth_stores took) → room_for all ≤ before + 2 → entering_room more ≤ behind
       enough_room took wanted more all before behind a b c d = omega (arith, a, b, c, d)
 
   -- whichever inode is the least that is free then
   pub grown_performs : (new : Memory) (kind : Kind) →
-      ((free : Option ℕ) → IsLeastFree longer free → PerformsWithin none_kept (name_need longer i) 5 (stores_behind_growth (name_need longer i)) mid new (enters i (entrant_of free)) (EntersName i name kind)) →
-      Performs none_kept old new (enters i grown) (EntersName i name kind)
+      ((free : Option ℕ) → IsLeastFree longer free → PerformsWithin kept (name_need longer i) 5 (stores_behind_growth (name_need longer i)) mid new (enters i (entrant_of free)) (EntersName i name kind)) →
+      PerformsThawed kept old new (enters i grown) (EntersName i name kind)
   grown_performs new kind done = go told.0 told.1
     where
       told : (free : Option ℕ) × IsLeastFree longer free
       told = tells longer after filled exact
 
-      go : (free : Option ℕ) → IsLeastFree longer free → Performs none_kept old new (enters i grown) (EntersName i name kind)
+      go : (free : Option ℕ) → IsLeastFree longer free → PerformsThawed kept old new (enters i grown) (EntersName i name kind)
       go None least = absurd (not_none longer after filled exact (has_members filled (inode_count image) (exact.free_inodes.all (inode_count image) first_free)) least)
       go (Some j) least =
           performs_grown old mid grows lacks.well_formed new i j (EntersName i name kind) (EntersName i name kind) lacks.reached lacks.directory (done (Some j) least)
           (entered_over image longer (current_words new) lacks.well_formed grows.grown.meaning i name kind lacks.directory)
 
--- ---- the whole call
+-- as many are free as the growth needs
+pub can_grow : {kept : ℕ → Bool} (old : Memory) (blocks inodes : Set) (i : ℕ) (name : Name) → LacksName (current_words old) i name → AreExact (current_words old) kept blocks inodes → IsThawedFor kept old blocks (enters i grown) →
+    CanGrowInodes kept old blocks inodes
+can_grow {kept = kept} old blocks inodes i name lacks exact ready =
+    let needs = need_growing (current_words old) lacks.well_formed i lacks.reached lacks.directory in
+    record {
+      well_formed = lacks.well_formed;
+      exact = exact;
+      enough = omega (arith, needs, ready.enough);
+      loose = file_loose (current_words old) lacks.well_formed i lacks.reached lacks.directory kept grown ready.clear refl;
+      room = omega (arith, needs, ready.room);
+    }
+
+-- ---- behind a thaw
 
 -- whichever inode is there
-pub within_call : (old new : Memory) (change : Change) (i : ℕ) (Effect : Image → Image → Type 0) → need (current_words old) change ≡ name_need (current_words old) i →
-    PerformsWithin none_kept (name_need (current_words old) i) 5 (stores_behind_growth (name_need (current_words old) i)) old new change Effect → Performs none_kept old new change Effect
-within_call old new change i Effect same done =
-    unthawed old new change Effect
-    (within_more none_kept needed 5 (stores_behind_growth needed) old new change Effect (subst (λ n. PerformsWithin none_kept n 5 (stores_behind_growth n) old new change Effect) (sym same) done) 8 (most_stores_thawed needed) (omega arith) few)
+pub within_call : {kept : ℕ → Bool} (old new : Memory) (change : Change) (i : ℕ) (Effect : Image → Image → Type 0) → need (current_words old) change ≡ name_need (current_words old) i →
+    PerformsWithin kept (name_need (current_words old) i) 5 (stores_behind_growth (name_need (current_words old) i)) old new change Effect → PerformsThawed kept old new change Effect
+within_call {kept = kept} old new change i Effect same done =
+    within_more kept needed 5 (stores_behind_growth needed) old new change Effect (subst (λ n. PerformsWithin kept n 5 (stores_behind_growth n) old new change Effect) (sym same) done) 8 (most_stores_thawed needed) (omega arith) few
   where
     needed : ℕ
     needed = need (current_words old) change
@@ -140,7 +181,12 @@ within_call old new change i Effect same done =
     few : stores_behind_growth needed ≤ most_stores_thawed needed
     few = omega arith
 
-module _ (old : Memory) (blocks inodes : Set) (i : ℕ) (exact : AreExact (current_words old) none_kept blocks inodes) where
+-- the room that it has then
+pub room_entering : (needed has : ℕ) → room_for needed ≤ has + 2 → entering_room needed ≤ has
+room_entering needed has a = omega (arith, a)
+
+module _ {kept : ℕ → Bool} (old : Memory) (blocks inodes : Set) (i : ℕ) (name : Name) (lacks : LacksName (current_words old) i name) (exact : AreExact (current_words old) kept blocks inodes)
+    (ready : (free : Option ℕ) → IsLeastFree (current_words old) free → IsThawedFor kept old blocks (enters i (entrant_of free))) where
   abbrev words : Image
   words = current_words old
 
@@ -154,68 +200,79 @@ module _ (old : Memory) (blocks inodes : Set) (i : ℕ) (exact : AreExact (curre
   none_free none P at None least = at
   none_free none P at (Some j) least = absurd (not_some words blocks inodes exact none j least)
 
-  -- the room that is asked, where an inode is free and where none is
-  module _ (room : (free : Option ℕ) → IsLeastFree words free → HasRoomWhereFree old none_kept blocks (enters i (entrant_of free))) where
-    pub some_room : members inodes ≢ [] → name_need words i ≤ length (members blocks) → entering_room (name_need words i) ≤ room_in old
-    some_room some enough = go told.0 told.1
-      where
-        told : (free : Option ℕ) × IsLeastFree words free
-        told = tells words blocks inodes exact
+  told : (free : Option ℕ) × IsLeastFree words free
+  told = tells words blocks inodes exact
 
-        enters_room : (needed has : ℕ) → room_for needed ≤ has → entering_room needed ≤ has
-        enters_room needed has a = omega (arith, a)
+  pub none_ready : members inodes ≡ [] → IsThawedFor kept old blocks (enters i grown)
+  none_ready none = go told.0 told.1
+    where
+      go : (free : Option ℕ) → IsLeastFree words free → IsThawedFor kept old blocks (enters i grown)
+      go None least = ready None least
+      go (Some j) least = absurd (not_some words blocks inodes exact none j least)
 
-        go : (free : Option ℕ) → IsLeastFree words free → entering_room (name_need words i) ≤ room_in old
-        go None least = absurd (not_none words blocks inodes exact some least)
-        go (Some j) least = enters_room (name_need words i) (room_in old) (room_asked old blocks (enters i (taken j)) (room (Some j) least) enough)
-
-    pub none_room : members inodes ≡ [] → need words (enters i grown) ≤ length (members blocks) → HasRoomFor old none_kept (enters i grown)
-    none_room none enough = go told.0 told.1
-      where
-        told : (free : Option ℕ) × IsLeastFree words free
-        told = tells words blocks inodes exact
-
-        go : (free : Option ℕ) → IsLeastFree words free → HasRoomFor old none_kept (enters i grown)
-        go None least = room None least (subst (λ n. n ≤ length (members blocks)) (sym (full_need-none words (enters i grown))) enough)
-        go (Some j) least = absurd (not_some words blocks inodes exact none j least)
+  pub some_enters : members inodes ≢ [] → CanEnter kept old blocks inodes i name
+  some_enters some = go told.0 told.1
+    where
+      go : (free : Option ℕ) → IsLeastFree words free → CanEnter kept old blocks inodes i name
+      go None least = absurd (not_none words blocks inodes exact some least)
+      go (Some j) least =
+          let here : IsThawedFor kept old blocks (enters i (taken j)) = ready (Some j) least in
+          record {
+            lacks = lacks;
+            exact = exact;
+            some = some;
+            enough = here.enough;
+            loose = entry_loose words lacks.well_formed i lacks.reached lacks.directory kept (taken j) here.clear;
+            loose_inode = λ k first.
+                inode_loose words lacks.well_formed i lacks.reached lacks.directory kept (taken j) here.clear k (ap entrant_of (is_least words blocks inodes exact k first (Some j) least)) (exact.free_inodes.free k first.is_in).high;
+            room = room_entering (name_need words i) (room_in old) here.room;
+          }
 
   -- whatever is told of free inodes
   pub some_performs : (new : Memory) (Effect : Image → Image → Type 0) → members inodes ≢ [] →
-      ((free : Option ℕ) → IsLeastFree words free → PerformsWithin none_kept (name_need words i) 5 (stores_behind_growth (name_need words i)) old new (enters i (entrant_of free)) Effect) →
-      (free : Option ℕ) → IsLeastFree words free → Performs none_kept old new (enters i (entrant_of free)) Effect
-  some_performs new Effect some done = some_free some (λ free. Performs none_kept old new (enters i (entrant_of free)) Effect) (λ j least. within_call old new (enters i (taken j)) i Effect refl (done (Some j) least))
+      ((free : Option ℕ) → IsLeastFree words free → PerformsWithin kept (name_need words i) 5 (stores_behind_growth (name_need words i)) old new (enters i (entrant_of free)) Effect) →
+      (free : Option ℕ) → IsLeastFree words free → PerformsThawed kept old new (enters i (entrant_of free)) Effect
+  some_performs new Effect some done = some_free some (λ free. PerformsThawed kept old new (enters i (entrant_of free)) Effect) (λ j least. within_call old new (enters i (taken j)) i Effect refl (done (Some j) least))
 
-  pub none_performs : (new : Memory) (Effect : Image → Image → Type 0) → members inodes ≡ [] → Performs none_kept old new (enters i grown) Effect → (free : Option ℕ) → IsLeastFree words free →
-      Performs none_kept old new (enters i (entrant_of free)) Effect
-  none_performs new Effect none done = none_free none (λ free. Performs none_kept old new (enters i (entrant_of free)) Effect) done
+  pub none_performs : (new : Memory) (Effect : Image → Image → Type 0) → members inodes ≡ [] → PerformsThawed kept old new (enters i grown) Effect → (free : Option ℕ) → IsLeastFree words free →
+      PerformsThawed kept old new (enters i (entrant_of free)) Effect
+  none_performs new Effect none done = none_free none (λ free. PerformsThawed kept old new (enters i (entrant_of free)) Effect) done
 
-  lacks_space : (change : Change) (needed free : ℕ) → need words change ≡ needed → free ≡ length (members blocks) → free < needed → LacksSpace words none_kept change (record { need = needed; free = free })
-  lacks_space change needed free needs is fewer =
-      lacks_thawed words change needed free needs (rw is (free_members words none_kept blocks exact.free_blocks exact.block_room)) fewer
+-- ---- the whole call
 
-  pub some_lacks : members inodes ≢ [] → (needed free : ℕ) → name_need words i ≡ needed → free ≡ length (members blocks) → free < needed → (inode : Option ℕ) → IsLeastFree words inode →
-      LacksSpace words none_kept (enters i (entrant_of inode)) (record { need = needed; free = free })
-  some_lacks some needed free needs is fewer =
-      some_free some (λ inode. LacksSpace words none_kept (enters i (entrant_of inode)) (record { need = needed; free = free })) (λ j least. lacks_space (enters i (taken j)) needed free needs is fewer)
+-- the need of a new name, by whether an inode is free
+module _ {kept : ℕ → Bool} (image : Image) (wf : IsWellFormed image) (blocks inodes : Set) (exact : AreExact image kept blocks inodes) (i : ℕ) (reached : IsReached image i) (kind : kind_of image i ≡ 2) where
+  pub some_needs : members inodes ≢ [] → (needed : ℕ) → needed ≡ name_need image i → (free : Option ℕ) → IsLeastFree image free → need image (enters i (entrant_of free)) ≡ needed
+  some_needs some needed is None least = absurd (not_none image blocks inodes exact some least)
+  some_needs some needed is (Some j) least = sym is
 
-  pub none_lacks : members inodes ≡ [] → (needed free : ℕ) → need words (enters i grown) ≡ needed → free ≡ length (members blocks) → free < needed → (inode : Option ℕ) → IsLeastFree words inode →
-      LacksSpace words none_kept (enters i (entrant_of inode)) (record { need = needed; free = free })
-  none_lacks none needed free needs is fewer =
-      none_free none (λ inode. LacksSpace words none_kept (enters i (entrant_of inode)) (record { need = needed; free = free })) (lacks_space (enters i grown) needed free needs is fewer)
+  pub none_needs : members inodes ≡ [] → (entry growth : ℕ) → entry ≡ name_need image i → growth ≡ growth_need image → (free : Option ℕ) → IsLeastFree image free → need image (enters i (entrant_of free)) ≡ entry + growth
+  none_needs none entry growth is also None least = let needs = need_growing image wf i reached kind in omega (arith, needs, is, also)
+  none_needs none entry growth is also (Some j) least = absurd (not_some image blocks inodes exact none j least)
 
-  -- as many are free as the growth needs
-  pub can_grow : IsWellFormed words → (reached : IsReached words i) → kind_of words i ≡ 2 → need words (enters i grown) ≤ length (members blocks) → HasRoomFor old none_kept (enters i grown) →
-      CanGrowInodes old blocks inodes
-  can_grow wf reached kind enough room = record {
-    well_formed = wf;
-    exact = exact;
-    enough = let needs = need_growing words wf i reached kind in omega (arith, needs, enough);
-    room = let needs = need_growing words wf i reached kind in let has = room_needed old (enters i grown) room in omega (arith, needs, has);
-  }
+  -- the inode that is taken is one of the file's
+  pub entrant_inside : (free : Option ℕ) → IsLeastFree image free → IsEntrant image (entrant_of free)
+  entrant_inside None least = tt
+  entrant_inside (Some j) (a_least free first) = free.high
+
+  pub is_told : (free : Option ℕ) × IsLeastFree image free
+  is_told = tells image blocks inodes exact
+
+-- a name that is lacking is lacking behind a thaw
+pub lacks_on : (old new : Image) → SameShape old new → (i : ℕ) (name : Name) → LacksName old i name → LacksName new i name
+lacks_on old new shape i name lacks =
+    let wf : IsWellFormed new = well_formed-same old new lacks.well_formed shape.meaning in
+    record {
+      well_formed = wf;
+      reached = reached_on old new shape.meaning i lacks.reached;
+      directory = shape.meaning.kind i lacks.reached ∙ lacks.directory;
+      form = lacks.form;
+      missing = slot_named_over old new lacks.well_formed shape.meaning i name lacks.reached lacks.directory ∙ lacks.missing;
+    }
 
 -- whether the name comes in or not, a file system is left
-pub left_well_formed : {T E : Type 0} (result : Result T E) (old new : Memory) (blocks inodes : Set) (i : ℕ) (Effect : Image → Image → Type 0) (Kept : Type 0) → AreExact (current_words old) none_kept blocks inodes →
-    OnOk result ((free : Option ℕ) → IsLeastFree (current_words old) free → Performs none_kept old new (enters i (entrant_of free)) Effect) → OnErr result Kept → (Kept → IsWellFormed (current_words new)) →
+pub left_well_formed : {T E : Type 0} {kept : ℕ → Bool} (result : Result T E) (old new : Memory) (blocks inodes : Set) (i : ℕ) (Effect : Image → Image → Type 0) (Kept : Type 0) → AreExact (current_words old) kept blocks inodes →
+    OnOk result ((free : Option ℕ) → IsLeastFree (current_words old) free → Performs kept old new (enters i (entrant_of free)) Effect) → OnErr result Kept → (Kept → IsWellFormed (current_words new)) →
     IsWellFormed (current_words new)
 left_well_formed (Ok value) old new blocks inodes i Effect Kept exact performs same kept =
     let told = tells (current_words old) blocks inodes exact in (performs told.0 told.1).well_formed

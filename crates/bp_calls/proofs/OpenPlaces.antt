@@ -1,5 +1,5 @@
 -- Where the words of live trees stand, after one of them was stored to too: in live blocks, at the places that their paths name.
-use Rattle.std.proofs.Common.{◌≡◌, ℕ, suc, ◌+◌, ◌*◌, ◌/◌, ◌%◌, ◌<◌, List, None, set, refl, sym, ◌∙◌, ap, arith, inl, inr, get_or-set_other}
+use Rattle.std.proofs.Common.{◌≡◌, ℕ, Bool, false, suc, ◌+◌, ◌*◌, ◌/◌, ◌%◌, ◌<◌, List, None, set, refl, sym, ◌∙◌, ap, arith, inl, inr, get_or-set_other}
 use Rattle.bp_layout.specs.Inode.{ContentStandsAt, kind_of, root_of, size_of, inode_count}
 use Rattle.bp_layout.specs.Reached.{IsReached, IsLiveBlock}
 use Rattle.bp_layout.specs.Reached.IsReached.{inode_file}
@@ -20,7 +20,6 @@ use Rattle.bp_layout.specs.Need.Change.{enters}
 use Rattle.bp_layout.specs.Need.Entrant.{linked}
 use Rattle.bp_calls.proofs.NeedLaws.{cover_behind}
 use Rattle.bp_calls.proofs.Trees.{live_leaf}
-use Rattle.bp_layout.specs.Thaw.{none_kept}
 
 -- a content word of a live leaf stands in a live block
 pub content_live : (image : Image) (t k place : ℕ) → IsReached image t → 4096 * (k / 512) < size_of image t → ContentStandsAt image t k place → IsLiveBlock image (place / 512)
@@ -32,8 +31,9 @@ content_live image t k place reached below stands =
       has = record { depth = height_of (root_of image t); index = k / 512; pointer = live_leaf _ _ _ below; named = named; not_null = λ null. stands.present (named ∙ null) };
     }
 
-pub content_open : (image : Image) (taken : List ℕ) (t k place : ℕ) → IsReached image t → 4096 * (k / 512) < size_of image t → ContentStandsAt image t k place → IsOpen image none_kept taken place
-content_open image taken t k place reached below stands = in_live (content_live image t k place reached below stands) refl
+-- where that is not kept a call may store there
+pub content_open : {kept : ℕ → Bool} (image : Image) (taken : List ℕ) (t k place : ℕ) → IsReached image t → 4096 * (k / 512) < size_of image t → ContentStandsAt image t k place → kept (place / 512) ≡ false → IsOpen image kept taken place
+content_open image taken t k place reached below stands loose = in_live (content_live image t k place reached below stands) loose
 
 -- fewer values may stand
 pub each_weaker : (Inside Wider : ℕ → Type 0) (old new : List ℕ) → ((p : ℕ) → Inside p → Wider p) → EachMay (AnyAt Inside) old new → EachMay (AnyAt Wider) old new

@@ -1,38 +1,128 @@
 -- A commit of patches: what it asks, and that the change of their stretches is performed.
-use Rattle.std.proofs.Common.{◌≡◌, ℕ, ◌+◌, ◌*◌, ◌<◌, ◌≤◌, List, [], length, Bool, sym, ◌∙◌, subst, arith}
+use Rattle.std.proofs.Common.{◌≡◌, ℕ, ◌+◌, ◌<◌, ◌≤◌, List, [], length, Bool, sym, ◌∙◌, ap, subst, arith, true, false, ◌||◌, ◌++◌, ◌∷◌, refl, inl, inr, ◌-◌}
 use Rattle.bp_free.specs.Set.{Set, has, members}
-use Rattle.bp_layout.specs.Free.{HasFree}
+use Rattle.bp_layout.specs.Free.{AreFreeBlocks, HasFree}
 use Rattle.bp_layout.specs.Inode.{size_of}
-use Rattle.bp_layout.specs.Members.{Has}
-use Rattle.bp_layout.specs.Need.{Change, cover, need}
+use Rattle.bp_layout.specs.Members.{Each, Has}
+use Rattle.bp_layout.specs.Thaw.{cover_now, is_there_now, targets}
+use Rattle.bp_layout.proofs.ThawLaws.{loose-on}
+use Rattle.bp_layout.specs.WordPaths.{WordPath}
+use Rattle.bp_layout.specs.Need.{Change, Stretch, common_all, cover, existing_from, is_there_after, need, touched as all_touched}
 use Rattle.bp_layout.specs.Need.Change.{overwrites}
-use Rattle.bp_layout.specs.Thaw.{none_kept}
 use Rattle.bp_layout.specs.WellFormed.{IsWellFormed}
 use Rattle.bp_layout.specs.Words.{Image}
 use Rattle.bp_changes.specs.Overwrites.{OverwritesFiles, Patch}
 use Rattle.bp_changes.proofs.KeepsDirectories.{well_formed-same}
+use Rattle.bp_changes.specs.Thawed.{AfterThaw, SameShape}
 use Rattle.bp_changes.proofs.Overwrites.{keeps}
-use Rattle.bp_shapes.specs.Sets.{AreExact}
-use Rattle.bp_commit.specs.Performs.{IsOpen, Performs, room_for}
+use Rattle.bp_changes.proofs.ReachedOn.{reached_on}
+use Rattle.bp_changes.proofs.SameMeaning.{well_formed-same as meant_well_formed}
+use Rattle.bp_changes.proofs.ShapeLaws.{IsOfReached, need-shape}
+use Rattle.bp_shapes.specs.Sets.{AreExact, kept_of}
+use Rattle.bp_free.specs.declared.parts.NoSpace.{NoSpace}
+use Rattle.bp_free.specs.declared.parts.Parts.{Parts}
+use Rattle.bp_commit.specs.Performs.{IsOpen, Performs, PerformsThawed, room_for}
 use Rattle.pm_region.specs.Memory.{Memory, current_words, room_in}
 use Rattle.bp_cow.specs.declared.touched.Run.{Run}
 use Rattle.bp_cow.specs.declared.touched.Touched.{Touched}
 use Rattle.bp_cow.specs.CanCommit.{CanCommit}
-use Rattle.bp_cow.specs.Commit.{CommitsTouched, HasRoom, cover_word}
-use Rattle.bp_cow.specs.Cover.{commit_cover, copied_count}
+use Rattle.bp_cow.specs.Commit.{HasLooseCover, CommitsTouched, HasRoom, cover_word}
+use Rattle.bp_cow.specs.Cover.{LeadsInside, commit_cover, copied_count}
 use Rattle.bp_cow.specs.Job.{IsTurned}
-use Rattle.bp_cow.specs.Touched.{IsTouched, job_of, leaves_of}
+use Rattle.bp_cow.specs.Touched.{IsTouched, NoneBegins, all_paths, job_of, leaves_of}
+use Rattle.bp_cow.proofs.CopiesNeed.{none-begins}
+use Rattle.bp_cow.proofs.FewCopies.{runs_copies}
+use Rattle.bp_cow.proofs.JobLaws.{first-range}
+use Rattle.bp_thaw.specs.Fronts.{IsWay}
 use Rattle.bp_cow.proofs.CommitTaking.{commit_performs, stores_few}
-use Rattle.bp_calls.specs.Overwritten.{AreRuns, CanOverwrite, stretches_of}
-use Rattle.bp_calls.specs.Space.{LacksSpace}
-use Rattle.bp_calls.proofs.FreeCounts.{free_members}
-use Rattle.bp_calls.proofs.PatchPaths.{patches_cover, patches_need}
-use Rattle.bp_calls.proofs.PatchRuns.{IsInFile, leaves_few, no_words, patches_can, patches_shape, run_at, some_run}
+use Rattle.bp_calls.specs.Overwritten.{AreRuns, CanOverwrite, CanOverwriteThawed, IsPatchIn, stretches_of}
+use Rattle.bp_calls.specs.Mounted.{IsMounted}
+use Rattle.bp_calls.specs.Space.{HasRoomWhereFree, LacksBlocks}
+use Rattle.bp_calls.specs.ThawsFor.{ThawsFor}
+use Rattle.bp_calls.proofs.NothingKept.{clear_at_once, room_at_once}
+use Rattle.bp_calls.proofs.ThawedParts.{performed_thawed, thawed_clear}
+use Rattle.bp_calls.proofs.FreeCounts.{free_members, lacks_nothing}
+use Rattle.bp_calls.proofs.PatchPaths.{patches_cover, patches_need, patches_way}
+use Rattle.bp_calls.proofs.PatchRuns.{IsInFile, leaves_few, no_words, runs_few, patches_can, patches_shape, run_at, some_run}
 use Rattle.bp_calls.proofs.PatchWords.{patches_overwrite, sizes_stay}
-use Rattle.bp_calls.proofs.RunCommits.{commit_exact, run_open}
-use Rattle.bp_calls.proofs.Unthawed.{lacks_thawed, room_asked, unthawed}
+use Rattle.bp_calls.proofs.RunCommits.{commit_exact, run_loose, run_open}
 
-module _ (old : Memory) (blocks inodes : Set) (patches : List Patch) (touched : Touched) (asks : CanOverwrite old blocks inodes patches) (are : AreRuns (current_words old) patches touched.runs.now) (none : touched.words.now ≡ []) where
+pub exists_as : (p q : WordPath → Bool) → ((path : WordPath) → p path ≡ q path) → (here path : WordPath) → existing_from p here path ≡ existing_from q here path
+exists_as p q alike here [] = refl
+exists_as p q alike here (slot ∷ path) = rw (alike here, exists_as p q alike (here ++ slot ∷ []) path) refl
+
+pub or_false : (b : Bool) → b ≡ ((b || false) || false)
+or_false true = refl
+or_false false = refl
+
+-- such a change prepares nothing, so it covers what it covers now
+overwrites_now : (image : Image) (stretches : List Stretch) → cover_now image (overwrites stretches) ≡ cover image (overwrites stretches)
+overwrites_now image stretches =
+    exists_as (is_there_now image) (is_there_after image (overwrites stretches)) (λ path. or_false (is_there_now image path)) [] (common_all (all_touched image (overwrites stretches)))
+
+-- ---- what they touch, whether it is thawed or not
+
+module _ (image : Image) (wf : IsWellFormed image) (patches : List Patch) (touched : Touched) (asks : CanOverwrite image patches) (are : AreRuns image patches touched.runs.now) (none : touched.words.now ≡ []) (bare : touched.trees.now ≡ []) where
+  pub overwrite_shape : IsTouched touched
+  overwrite_shape = patches_shape image wf patches touched are none bare asks.few asks.each asks.some asks.short
+
+  at_run : (run : Run) → Has touched.runs.now run → IsInFile image run
+  at_run = run_at image wf patches touched are none bare asks.few asks.each asks.some asks.short
+
+  -- one of the runs, of which there is one at least
+  first_run : (run : Run) × Has touched.runs.now run
+  first_run = some_run image patches touched.runs.now are asks.some
+
+  pub overwrite_need : copied_count image touched ≡ need image (overwrites (stretches_of patches))
+  overwrite_need = patches_need image wf patches touched overwrite_shape are none asks.each first_run.0 first_run.1 (at_run first_run.0 first_run.1)
+
+  pub overwrite_cover : commit_cover image touched ≡ cover image (overwrites (stretches_of patches))
+  overwrite_cover = patches_cover image wf patches touched overwrite_shape are none asks.each first_run.0 first_run.1 (at_run first_run.0 first_run.1)
+
+  -- their cover is all that has to be thawed
+  pub overwrite_targets : commit_cover image touched ∷ [] ≡ targets image (overwrites (stretches_of patches))
+  overwrite_targets = ap (λ (path : WordPath). path ∷ []) (overwrite_cover ∙ sym (overwrites_now image (stretches_of patches)))
+
+  pub overwrite_ways : (path : WordPath) → Has (targets image (overwrites (stretches_of patches))) path → IsWay image path
+  overwrite_ways path (inl e) = subst (IsWay image) e (patches_way image wf patches touched overwrite_shape are none asks.each first_run.0 first_run.1 (at_run first_run.0 first_run.1))
+  overwrite_ways path (inr never) = absurd never
+
+  module _ {kept : ℕ → Bool} (free : ℕ → Bool) (unheld : AreFreeBlocks image kept free) where
+    pub touched_can : CanCommit image (size_of image) kept touched free
+    touched_can = patches_can image wf patches touched are none bare asks.few asks.each asks.some asks.short free unheld
+
+    pub touched_leads : LeadsInside image touched
+    touched_leads d alike = first-range image (size_of image) touched free wf touched_can d alike
+
+    pub touched_apart : NoneBegins (all_paths touched)
+    touched_apart = none-begins image (size_of image) touched free wf touched_can
+
+    pub touched_few : copied_count image touched ≤ 400
+    touched_few =
+        let copies = runs_copies image touched overwrite_shape touched_apart in
+        let none_there : length touched.words.now ≡ 0 = no_words image wf patches touched are none bare asks.few asks.each asks.some asks.short in
+        omega (arith, copies, none_there, leaves_few image patches touched.runs.now are, runs_few image patches touched.runs.now are, asks.short, asks.few)
+
+-- the trees that they change are reached
+pub overwrites_reached : (image : Image) (patches : List Patch) → Each (IsPatchIn image) patches → IsOfReached image (overwrites (stretches_of patches))
+overwrites_reached image [] each = tt
+overwrites_reached image (patch ∷ patches) each = (each.0.reached, overwrites_reached image patches each.1)
+
+-- and they lie in files behind a thaw too
+pub patches_on : (image after : Image) → SameShape image after → (patches : List Patch) → Each (IsPatchIn image) patches → Each (IsPatchIn after) patches
+patches_on image after shape [] each = tt
+patches_on image after shape (patch ∷ patches) each = (one, patches_on image after shape patches each.1)
+  where
+    one : IsPatchIn after patch
+    one = record {
+      reached = reached_on image after shape.meaning patch.inode each.0.reached;
+      is_file = shape.meaning.kind patch.inode each.0.reached ∙ each.0.is_file;
+      within = subst (λ size. patch.off + length patch.bytes ≤ size) (sym (shape.sizes patch.inode each.0.reached)) each.0.within;
+    }
+
+-- ---- where nothing is left to thaw
+
+module _ {kept : ℕ → Bool} (old : Memory) (blocks inodes : Set) (patches : List Patch) (touched : Touched) (asks : CanOverwriteThawed kept old blocks inodes patches) (are : AreRuns (current_words old) patches touched.runs.now) (none : touched.words.now ≡ []) (bare : touched.trees.now ≡ []) where
   abbrev image : Image
   image = current_words old
 
@@ -42,40 +132,50 @@ module _ (old : Memory) (blocks inodes : Set) (patches : List Patch) (touched : 
   wf : IsWellFormed image
   wf = asks.well_formed
 
+  asked : CanOverwrite image patches
+  asked = record { few = asks.few; each = asks.each; some = asks.some; short = asks.short }
+
   no_word : length touched.words.now ≡ 0
-  no_word = no_words image wf patches touched are none asks.few asks.each asks.some asks.short
+  no_word = no_words image wf patches touched are none bare asks.few asks.each asks.some asks.short
 
   shape : IsTouched touched
-  shape = patches_shape image wf patches touched are none asks.few asks.each asks.some asks.short
+  shape = overwrite_shape image wf patches touched asked are none bare
 
   at : (run : Run) → Has touched.runs.now run → IsInFile image run
-  at = run_at image wf patches touched are none asks.few asks.each asks.some asks.short
+  at = at_run image wf patches touched asked are none bare
 
-  pub overwrite_can : CanCommit (current_words old) (size_of (current_words old)) touched (has blocks)
-  overwrite_can = patches_can image wf patches touched are none asks.few asks.each asks.some asks.short (has blocks) asks.exact.free_blocks
+  pub overwrite_can : CanCommit (current_words old) (size_of (current_words old)) kept touched (has blocks)
+  overwrite_can = touched_can image wf patches touched asked are none bare (has blocks) asks.exact.free_blocks
 
-  -- one of the runs, of which there is one at least
   first : (run : Run) × Has touched.runs.now run
-  first = some_run image patches touched.runs.now are asks.some
+  first = first_run image wf patches touched asked are none bare
 
   need_is : copied_count image touched ≡ need image change
-  need_is = patches_need image wf patches touched shape are none asks.each first.0 first.1 (at first.0 first.1)
+  need_is = overwrite_need image wf patches touched asked are none bare
 
   cover_is : commit_cover image touched ≡ cover image change
-  cover_is = patches_cover image wf patches touched shape are none asks.each first.0 first.1 (at first.0 first.1)
+  cover_is = overwrite_cover image wf patches touched asked are none bare
 
   pub overwrite_room : copied_count (current_words old) touched ≤ length (members blocks) → HasRoom old touched
   overwrite_room enough =
-      let room : room_for (need image change) ≤ room_in old = room_asked old blocks change asks.room (omega (arith, need_is, enough)) in
+      let room : room_for (need image change) ≤ room_in old + 2 = asks.room (omega (arith, need_is, enough)) in
       omega (arith, room, need_is, no_word)
 
-  pub overwrite_lacks : (copies free : ℕ) → copies ≡ copied_count (current_words old) touched → free ≡ length (members blocks) → free < copies →
-      LacksSpace (current_words old) none_kept (overwrites (stretches_of patches)) (record { need = copies; free = free })
-  overwrite_lacks copies free counted number fewer =
-      lacks_thawed image change copies free (sym (counted ∙ need_is))
-      (subst (HasFree image none_kept) (sym number) (free_members image none_kept blocks asks.exact.free_blocks asks.exact.block_room)) fewer
+  pub overwrite_loose : HasLooseCover image kept touched
+  overwrite_loose =
+      let file = at first.0 first.1 in
+      let among : Has (targets image change) (commit_cover image touched) = inl (overwrites_now image (stretches_of patches) ∙ sym cover_is) in
+      run_loose image wf file.inode file.reached first.0 file.of kept touched shape first.1 (loose-on image kept (targets image change) asks.clear (commit_cover image touched) among (length (commit_cover image touched) - 1))
 
-  module _ (new : Memory) (after : Set) (done : CommitsTouched (size_of (current_words old)) touched old new blocks after) where
+  pub overwrite_lacks : (copies free : ℕ) → copies ≡ copied_count (current_words old) touched → free ≡ length (members blocks) → free < copies →
+      LacksBlocks (current_words old) kept (need (current_words old) (overwrites (stretches_of patches))) (record { need = copies; free = free })
+  overwrite_lacks copies free counted number fewer = record {
+    needed = sym (counted ∙ need_is);
+    free = subst (HasFree image kept) (sym number) (free_members image kept blocks asks.exact.free_blocks asks.exact.block_room);
+    fewer = fewer;
+  }
+
+  module _ (new : Memory) (after : Set) (done : CommitsTouched (size_of (current_words old)) kept touched old new blocks after) where
     pub overwrites_files : OverwritesFiles patches (current_words old) (current_words new)
     overwrites_files =
         patches_overwrite image (current_words new) wf touched (has blocks) overwrite_can no_word at (IsTurned (job_of touched) (length (commit_cover image touched))) done.words patches are asks.each
@@ -84,18 +184,63 @@ module _ (old : Memory) (blocks inodes : Set) (patches : List Patch) (touched : 
     leaves : leaves_of touched.runs.now ≤ 47
     leaves = omega (arith, leaves_few image patches touched.runs.now are, asks.short, asks.few)
 
-    open_cover : IsOpen image none_kept done.taken (cover_word image touched)
-    open_cover = let file = at first.0 first.1 in run_open image wf file.inode file.reached first.0 file.of touched shape first.1 done.taken
+    open_cover : IsOpen image kept done.taken (cover_word image touched)
+    open_cover = let file = at first.0 first.1 in run_open image wf file.inode file.reached first.0 file.of kept touched shape first.1 overwrite_loose done.taken
 
-    pub overwrite_performs : Performs none_kept old new (overwrites (stretches_of patches)) (OverwritesFiles patches)
+    pub overwrite_performs : PerformsThawed kept old new (overwrites (stretches_of patches)) (OverwritesFiles patches)
     overwrite_performs =
-        unthawed old new change (OverwritesFiles patches)
-        (commit_performs old new change (OverwritesFiles patches) (size_of image) touched blocks after done cover_is need_is
+        commit_performs old new change (OverwritesFiles patches) (size_of image) touched blocks after done cover_is need_is
         (let few = stores_few image (size_of image) touched (has blocks) wf overwrite_can in omega (arith, few, leaves, no_word, need_is))
-        open_cover (well_formed-same image (current_words new) wf (keeps image (current_words new) patches overwrites_files)) overwrites_files)
+        open_cover (well_formed-same image (current_words new) wf (keeps image (current_words new) patches overwrites_files)) overwrites_files
 
-    pub overwrite_exact : length after ≡ length blocks → AreExact (current_words new) none_kept after inodes
+    pub overwrite_exact : length after ≡ length blocks → AreExact (current_words new) kept after inodes
     overwrite_exact room =
         commit_exact image (current_words new) wf (keeps image (current_words new) patches overwrites_files) (size_of image)
         (sizes_stay image (current_words new) wf touched (has blocks) overwrite_can no_word at (IsTurned (job_of touched) (length (commit_cover image touched))) done.words)
         blocks after inodes asks.exact room done.exact
+
+-- ---- at once, and behind a thaw
+
+module _ {R : Type 0} (memory : R → Memory) (patches : List Patch) (old : Parts R) (mounted : IsMounted (current_words (memory old.region)) old) (can : CanOverwrite (current_words (memory old.region)) patches) where
+  pub overwrites_at_once : length (members old.frozen) ≡ 0 → HasRoomWhereFree (memory old.region) (kept_of old) old.blocks (overwrites (stretches_of patches)) →
+      CanOverwriteThawed (kept_of old) (memory old.region) old.blocks old.inodes patches
+  overwrites_at_once none room = record {
+    well_formed = mounted.well_formed;
+    exact = mounted.exact.sets;
+    few = can.few;
+    each = can.each;
+    some = can.some;
+    short = can.short;
+    clear = clear_at_once memory (overwrites (stretches_of patches)) old mounted none;
+    room = room_at_once memory (overwrites (stretches_of patches)) old mounted (clear_at_once memory (overwrites (stretches_of patches)) old mounted none) room;
+  }
+
+  module _ (middle : Parts R) (done : ThawsFor memory (targets (current_words (memory old.region)) (overwrites (stretches_of patches))) old middle) where
+    overwrites_of : IsOfReached (current_words (memory old.region)) (overwrites (stretches_of patches))
+    overwrites_of = overwrites_reached (current_words (memory old.region)) patches can.each
+
+    needs_alike : need (current_words (memory middle.region)) (overwrites (stretches_of patches)) ≡ need (current_words (memory old.region)) (overwrites (stretches_of patches))
+    needs_alike = need-shape (current_words (memory old.region)) (current_words (memory middle.region)) mounted.well_formed done.thaws.shape (overwrites (stretches_of patches)) overwrites_of
+
+    pub overwrites_thawed : room_for (need (current_words (memory old.region)) (overwrites (stretches_of patches))) ≤ room_in (memory middle.region) + 2 →
+        CanOverwriteThawed (kept_of middle) (memory middle.region) middle.blocks middle.inodes patches
+    overwrites_thawed room = record {
+      well_formed = meant_well_formed (current_words (memory old.region)) (current_words (memory middle.region)) mounted.well_formed done.thaws.shape.meaning;
+      exact = done.exact.sets;
+      few = can.few;
+      each = patches_on (current_words (memory old.region)) (current_words (memory middle.region)) done.thaws.shape patches can.each;
+      some = can.some;
+      short = can.short;
+      clear = thawed_clear memory (overwrites (stretches_of patches)) old middle mounted overwrites_of done;
+      room = λ enough. omega (arith, room, needs_alike);
+    }
+
+    pub overwrites_performed : (new : Parts R) → PerformsThawed (kept_of middle) (memory middle.region) (memory new.region) (overwrites (stretches_of patches)) (OverwritesFiles patches) →
+        Performs (kept_of old) (memory old.region) (memory new.region) (overwrites (stretches_of patches)) (AfterThaw (OverwritesFiles patches))
+    overwrites_performed new rest = performed_thawed memory (overwrites (stretches_of patches)) old middle mounted overwrites_of done new (OverwritesFiles patches) rest
+
+    pub overwrites_lack_nothing : need (current_words (memory old.region)) (overwrites (stretches_of patches)) ≤ length (members middle.blocks) → (lacks : NoSpace) →
+        LacksBlocks (current_words (memory middle.region)) (kept_of middle) (need (current_words (memory middle.region)) (overwrites (stretches_of patches))) lacks → ⊥
+    overwrites_lack_nothing enough lacks has =
+        lacks_nothing (current_words (memory middle.region)) (kept_of middle) middle.blocks done.exact.sets.free_blocks done.exact.sets.block_room
+        (need (current_words (memory middle.region)) (overwrites (stretches_of patches))) (omega (arith, enough, needs_alike)) lacks has

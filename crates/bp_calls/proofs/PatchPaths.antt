@@ -1,14 +1,14 @@
 -- The words of patches are those that the change of their stretches touches; so a commit of them has its cover and its copies.
-use Rattle.std.proofs.Common.{◌≡◌, ◌≢◌, ℕ, zero, suc, ◌+◌, ◌-◌, ◌*◌, ◌/◌, ◌<◌, ◌≤◌, List, [], ◌∷◌, ◌++◌, length, map, take, true, refl, sym, ◌∙◌, ap, ap₂, subst, arith}
+use Rattle.std.proofs.Common.{◌≡◌, ℕ, zero, suc, ◌+◌, ◌-◌, ◌/◌, ◌<◌, ◌≤◌, List, [], ◌++◌, length, map, take, true, refl, sym, ◌∙◌, ap, ap₂, subst, arith}
 use Rattle.std.specs.Prelude.{flat_map}
 use Rattle.std.specs.List.{range_with_len}
 use Rattle.std.proofs.lemmas.Bool.{eq-eqb, ne_eqb}
 use Rattle.std.proofs.lemmas.List.{append-nil, take-take}
-use Rattle.bp_layout.specs.Inode.{kind_of, root_of, size_of}
+use Rattle.bp_layout.specs.Inode.{kind_of, root_of}
 use Rattle.bp_layout.specs.Members.{Each, Has}
-use Rattle.bp_layout.specs.Need.{Change, common_all, content_path_at, copied, cover, is_there_after, need, stretch_paths, touched}
+use Rattle.bp_layout.specs.Need.{Change, common_all, content_path_at, copied, cover, cover_of, is_there_after, need, stretch_paths, touched}
 use Rattle.bp_layout.specs.Need.Change.{overwrites}
-use Rattle.bp_layout.specs.Reached.{IsReached}
+use Rattle.bp_layout.specs.Thaw.{cover_now, is_there_now}
 use Rattle.bp_layout.specs.WellFormed.{IsWellFormed}
 use Rattle.bp_layout.specs.WordPaths.{WordPath, digits, inode_path, is_pointed}
 use Rattle.bp_layout.specs.Words.{Image, height_of}
@@ -26,6 +26,8 @@ use Rattle.bp_calls.specs.Overwritten.{AreRuns, IsPatchIn, stretch_of, stretches
 use Rattle.bp_calls.specs.Overwritten.AreRuns.{none, empty, more}
 use Rattle.bp_calls.specs.TouchedBelow.{IsRunFor}
 use Rattle.bp_calls.proofs.PatchRuns.{IsInFile}
+use Rattle.bp_calls.proofs.TargetPaths.{content_way, cover_way}
+use Rattle.bp_thaw.specs.Fronts.{IsWay}
 
 module _ (image : Image) where
   -- the heights that the trees have
@@ -103,6 +105,14 @@ module _ (image : Image) (wf : IsWellFormed image) (patches : List Patch) (commi
 
   same_paths : all_paths commits ≡ touched image change
   same_paths = patches_touched image patches commits are no_word each
+
+  -- the cover is a way
+  pub patches_way : IsWay image (cover_now image change)
+  patches_way =
+      let word_way : IsWay image word_path = content_way image wf (suc at.inode) (run.off / 8) at.reached (omega (arith, at.of.below, at.of.some)) in
+      subst (λ (paths : List WordPath). IsWay image (cover_of (is_there_now image) paths)) same_paths
+      (cover_way image wf (all_paths commits) (run_path run (run.off / 8)) (has-of-run commits shape run (run.off / 8) has (omega arith) (omega (arith, at.of.some)))
+      (subst (IsWay image) (sym path_is) word_way))
 
   pub patches_cover : commit_cover image commits ≡ cover image change
   patches_cover = change_cover image change commits same_paths agree

@@ -1,19 +1,18 @@
 -- The runs of patches: they lie in files, and what a commit of them asks.
-use Rattle.std.proofs.Common.{◌≡◌, ◌⊎◌, ℕ, zero, suc, ◌+◌, ◌-◌, ◌*◌, ◌/◌, ◌<◌, ◌≤◌, List, [], ◌∷◌, ◌++◌, get_or, length, take, Bool, refl, sym, ◌∙◌, ap, subst, inl, inr, arith}
+use Rattle.std.proofs.Common.{◌≡◌, ℕ, zero, suc, ◌+◌, ◌*◌, ◌<◌, ◌≤◌, List, [], ◌∷◌, ◌++◌, get_or, length, take, Bool, refl, sym, ◌∙◌, ap, subst, inl, inr, arith}
 use Rattle.std.proofs.lemmas.List.{map-append, take_more}
-use Rattle.bp_limits.specs.Limits.{max_batch, max_pieces}
+use Rattle.bp_limits.specs.Limits.{max_batch, max_height, max_pieces}
 use Rattle.bp_layout.specs.Free.{AreFreeBlocks}
 use Rattle.bp_layout.specs.Inode.{kind_of, root_of, size_of}
 use Rattle.bp_layout.specs.Members.{Each, Has}
 use Rattle.bp_layout.specs.Reached.{IsReached}
-use Rattle.bp_layout.specs.Thaw.{none_kept}
 use Rattle.bp_layout.specs.WellFormed.{IsWellFormed}
 use Rattle.bp_layout.specs.WordPaths.{inode_path}
 use Rattle.bp_layout.specs.Words.{Image, height_of}
 use Rattle.bp_changes.specs.Overwrites.{Patch}
 use Rattle.bp_cow.specs.declared.touched.Run.{Run}
 use Rattle.bp_cow.specs.declared.touched.Touched.{Touched}
-use Rattle.bp_cow.specs.CanCommit.{CanCommit}
+use Rattle.bp_cow.specs.CanCommit.{CanCommit, IsTreeIn}
 use Rattle.bp_cow.specs.Touched.{IsTouched, leaves_of}
 use Rattle.bp_cow.proofs.CallerLaws.{runs_can}
 use Rattle.bp_calls.specs.Overwritten.{AreRuns, IsPatchIn, byte_count, patch_seen, patches_seen}
@@ -21,6 +20,7 @@ use Rattle.bp_calls.specs.Overwritten.AreRuns.{none, empty, more}
 use Rattle.bp_calls.specs.TouchedBelow.{IsRunFor}
 use Rattle.bp_calls.specs.declared.batching.Patch.{Patch as GivenPatch}
 use Rattle.bp_calls.proofs.RunCommits.{IsRunOf, run_in, run_is}
+use Rattle.bp_cow.proofs.CallerLaws.{no_trees}
 
 -- a run in the tree of a file, below its size
 pub record IsInFile (image : Image) (run : Run) : Type 0 where
@@ -65,7 +65,7 @@ module _ (image : Image) where
   some_run _ _ (empty {patch} {patches} {runs} no_byte rest) some = some_run patches runs rest (omega (arith, some, no_byte))
   some_run _ _ (more {patch} {patches} {run = first} {runs} here for_it rest) some = (first, inl refl)
 
-  runs_few : (patches : List Patch) (runs : List Run) → AreRuns image patches runs → length runs ≤ length patches
+  pub runs_few : (patches : List Patch) (runs : List Run) → AreRuns image patches runs → length runs ≤ length patches
   runs_few _ _ none = omega arith
   runs_few _ _ (empty {patch} {patches} {runs} no_byte rest) = omega (arith, runs_few patches runs rest)
   runs_few _ _ (more {patch} {patches} {run = first} {runs} here for_it rest) = omega (arith, runs_few patches runs rest)
@@ -84,7 +84,7 @@ module _ (image : Image) where
 
 -- ---- what a commit asks
 
-module _ (image : Image) (wf : IsWellFormed image) (patches : List Patch) (touched : Touched) (are : AreRuns image patches touched.runs.now) (none : touched.words.now ≡ []) (few : length patches ≤ max_pieces) (each : Each (IsPatchIn image) patches)
+module _ (image : Image) (wf : IsWellFormed image) (patches : List Patch) (touched : Touched) (are : AreRuns image patches touched.runs.now) (none : touched.words.now ≡ []) (bare : touched.trees.now ≡ []) (few : length patches ≤ max_pieces) (each : Each (IsPatchIn image) patches)
     (some : 1 ≤ byte_count patches) (short : byte_count patches ≤ max_batch) where
   pub run_at : (run : Run) → Has touched.runs.now run → IsInFile image run
   run_at = runs_in image patches touched.runs.now are each short
@@ -98,6 +98,7 @@ module _ (image : Image) (wf : IsWellFormed image) (patches : List Patch) (touch
       record {
         runs = λ run has. let at = run_at run has in run_is image wf at.inode at.reached run at.of;
         few_runs = omega (arith, few, runs_few image patches touched.runs.now are);
+        trees = no_trees (λ tree. tree.height ≤ max_height) bare;
         few = omega (arith, no_words);
         words = λ i here. absurd (omega (arith, here, no_words));
         short = λ i here. absurd (omega (arith, here, no_words));
@@ -105,9 +106,9 @@ module _ (image : Image) (wf : IsWellFormed image) (patches : List Patch) (touch
         some = omega (arith, leaves_some image touched.runs.now one.0 one.1);
       }
 
-  pub patches_can : (free : ℕ → Bool) → AreFreeBlocks image none_kept free → CanCommit image (size_of image) touched free
+  pub patches_can : {kept : ℕ → Bool} (free : ℕ → Bool) → AreFreeBlocks image kept free → CanCommit image (size_of image) kept touched free
   patches_can free exact =
-      runs_can image wf touched patches_shape free exact no_words (λ run has. let at = run_at run has in run_in image wf at.inode at.reached run at.of)
+      runs_can image wf touched patches_shape free exact (no_trees (IsTreeIn image (size_of image)) bare) no_words (λ run has. let at = run_at run has in run_in image wf at.inode at.reached run at.of)
 
 -- ---- one patch after the other
 

@@ -1,5 +1,5 @@
 -- Behind the preparation of a tree the sizes that count are those that the trees have, and for this one the end for which it is prepared: under them the trees are apart, and the sets are exact.
-use Rattle.std.proofs.Common.{◌≡◌, ◌≢◌, ◌⊎◌, ℕ, ◌<◌, ◌≤◌, List, length, true, sym, ◌∙◌, subst, inl, inr, arith, lt_of_lt_of_le}
+use Rattle.std.proofs.Common.{◌≡◌, ◌≢◌, ◌⊎◌, ℕ, Bool, ◌<◌, ◌≤◌, List, length, true, sym, ◌∙◌, subst, inl, inr, arith, lt_of_lt_of_le}
 use Rattle.bp_layout.specs.Formatted.{version_of}
 use Rattle.bp_limits.specs.Limits.{greatest_height}
 use Rattle.std.proofs.lemmas.Bool.{cases_eq}
@@ -24,7 +24,6 @@ use Rattle.bp_shapes.proofs.FreeSets.{wf_forest}
 use Rattle.pm_region.specs.Memory.{Memory, current_words}
 use Rattle.bp_calls.proofs.SetLaws.{free_inodes_stay}
 use Rattle.bp_calls.proofs.TakenBlocks.{has_either, in_members, members_apart, of_members}
-use Rattle.bp_layout.specs.Thaw.{none_kept}
 
 -- a tree has its blocks under a greater size too
 pub wider : (image : Image) (root size more b : ℕ) → size ≤ more → HasBlock image root size b → HasBlock image root more b
@@ -36,8 +35,8 @@ wider image root size more b low has = record {
   not_null = has.not_null;
 }
 
-module _ (old middle : Memory) (blocks inodes after : Set) (x from to : ℕ) (bytes : List ℕ) (wf : IsWellFormed (current_words old)) (exact : AreExact (current_words old) none_kept blocks inodes)
-    (reached : IsReached (current_words old) x) (some : x ≢ 0) (past : size_of (current_words old) x ≤ to) (prepared : PreparesWith old middle (members blocks) (members after) x from to bytes)
+module _ {kept : ℕ → Bool} (old middle : Memory) (blocks inodes after : Set) (x from to : ℕ) (bytes : List ℕ) (wf : IsWellFormed (current_words old)) (exact : AreExact (current_words old) kept blocks inodes)
+    (reached : IsReached (current_words old) x) (some : x ≢ 0) (past : size_of (current_words old) x ≤ to) (prepared : PreparesWith kept old middle (members blocks) (members after) x from to bytes)
     (bound : ℕ → ℕ) (bound_here : bound x ≡ to) (bound_other : (t : ℕ) → (t ≡ x → ⊥) → bound t ≡ size_of (current_words middle) t) where
   abbrev image : Image
   image = current_words old
@@ -134,14 +133,14 @@ module _ (old middle : Memory) (blocks inodes after : Set) (x from to : ℕ) (by
       }
 
   -- the blocks that are left in the set were free, and the preparation did not take them
-  pub still_free : (b : ℕ) → has after b ≡ true → IsFreeBlock (current_words old) none_kept b × (Has prepared.taken b → ⊥)
+  pub still_free : (b : ℕ) → has after b ≡ true → IsFreeBlock (current_words old) kept b × (Has prepared.taken b → ⊥)
   still_free b is =
       let there : Has (members blocks) b = subst (λ bs. Has bs b) (sym prepared.takes) (has-behind prepared.taken (members after) b (in_members after b is)) in (
         exact.free_blocks.free b (of_members blocks b there),
         λ took. apart_parts prepared.taken (members after) b (subst AreApart prepared.takes (members_apart blocks)) took (in_members after b is),
       )
 
-  pub prepared_exact : AreUnheld (current_words middle) (IsReached (current_words middle)) bound none_kept (has after)
+  pub prepared_exact : AreUnheld (current_words middle) (IsReached (current_words middle)) bound kept (has after)
   prepared_exact = record {
     free = λ b is.
         let free = still_free b is in
@@ -161,7 +160,7 @@ module _ (old middle : Memory) (blocks inodes after : Set) (x from to : ℕ) (by
   }
 
   -- so the sets are exact under these sizes
-  pub prepared_sets : length after ≡ length blocks → AreExactFor (current_words middle) (IsReached (current_words middle)) bound none_kept after inodes
+  pub prepared_sets : length after ≡ length blocks → AreExactFor (current_words middle) (IsReached (current_words middle)) bound kept after inodes
   prepared_sets room = record {
     block_room = rw prepared.ready.meaning.trees.whole (room ∙ exact.block_room);
     inode_room = rw prepared.ready.meaning.trees.whole exact.inode_room;

@@ -1,5 +1,5 @@
 -- An entry is put behind the last one of a directory: what that asks of a preparation, and that it reads back.
-use Rattle.std.proofs.Common.{◌≡◌, ℕ, zero, suc, ◌+◌, ◌*◌, ◌/◌, ◌%◌, ◌^◌, ◌<◌, ◌≤◌, List, length, refl, sym, ◌∙◌, arith, le_trans}
+use Rattle.std.proofs.Common.{◌≡◌, ℕ, Bool, zero, suc, ◌+◌, ◌*◌, ◌/◌, ◌%◌, ◌^◌, ◌<◌, ◌≤◌, List, length, refl, sym, ◌∙◌, arith, le_trans}
 use Rattle.bp_limits.specs.declared.version.Version.TheVariants.{One}
 use Rattle.bp_limits.proofs.Versions.{size_least}
 use Rattle.bp_layout.specs.Formatted.{version_of}
@@ -25,7 +25,7 @@ use Rattle.bp_calls.specs.Entries.{AreEntryBytes, PutsBehind}
 use Rattle.bp_calls.specs.Steps.{CanPutBehind, entering_room}
 use Rattle.bp_calls.proofs.EnteredLaws.{directory_inode}
 use Rattle.bp_calls.proofs.EntryBytes.{inumber_there, length_there, inumber_read, name_read_back}
-use Rattle.bp_calls.proofs.TakenBlocks.{unused_members, usable_members}
+use Rattle.bp_calls.proofs.TakenBlocks.{members_free, usable_members}
 use Rattle.bp_append.proofs.StoresLaws.{room_behind_one}
 
 -- a directory is small, since it has no nulls
@@ -47,68 +47,70 @@ module _ (old : Memory) (blocks : Set) (j : ℕ) (name : Name) where
   abbrev image : Image
   image = current_words old
 
-  prepares : (n : ℕ) → CanPutBehind old blocks (suc n) name → (path : WordPath) → path ≡ inode_path (height_of (root_of image 0)) (suc n) 1 →
-      CanPrepare old (members blocks) (suc n) path (size_of image (suc n)) (size_of image (suc n) + 256)
-  prepares n can path is = record {
-    well = can.lacks.well_formed;
-    reached = can.lacks.reached;
-    leads = is ∙ sym (append-nil (inode_path (height_of (root_of image 0)) (suc n) 1));
-    behind = omega arith;
-    order = omega arith;
-    fits = le_trans (small_directory image can.lacks.well_formed (suc n) can.lacks.reached can.lacks.directory) (size_least (version_of image));
-    by_words = λ by. refl;
-    usable = usable_members image blocks can.inodes can.exact _ (omega (arith, length-current_words old));
-    unused = unused_members image blocks can.inodes can.exact;
-    enough = can.enough;
-    room = go _ _ _ (room_behind_one (size_of image (suc n)) (size_of image (suc n) + 256) max_height (one_entry (size_of image (suc n)) (can.lacks.well_formed.directory_sizes (suc n) can.lacks.reached can.lacks.directory))) can.room;
-  }
-    where
-      go : (needed asked room : ℕ) → asked ≤ 1024 + max_height → entering_room needed ≤ room → 512 * needed + asked + 4 ≤ room
-      go needed asked room a b = omega (arith, a, b)
+  module _ {kept : ℕ → Bool} where
+    prepares : (n : ℕ) → CanPutBehind kept old blocks (suc n) name → (path : WordPath) → path ≡ inode_path (height_of (root_of image 0)) (suc n) 1 →
+        CanPrepare kept old (members blocks) (suc n) path (size_of image (suc n)) (size_of image (suc n) + 256)
+    prepares n can path is = record {
+      well = can.lacks.well_formed;
+      reached = can.lacks.reached;
+      leads = is ∙ sym (append-nil (inode_path (height_of (root_of image 0)) (suc n) 1));
+      behind = omega arith;
+      order = omega arith;
+      fits = le_trans (small_directory image can.lacks.well_formed (suc n) can.lacks.reached can.lacks.directory) (size_least (version_of image));
+      by_words = λ by. refl;
+      usable = usable_members image blocks can.inodes can.exact _ (omega (arith, length-current_words old));
+      are_free = members_free image blocks can.inodes can.exact;
+      loose = can.loose;
+      enough = can.enough;
+      room = go _ _ _ (room_behind_one (size_of image (suc n)) (size_of image (suc n) + 256) max_height (one_entry (size_of image (suc n)) (can.lacks.well_formed.directory_sizes (suc n) can.lacks.reached can.lacks.directory))) can.room;
+    }
+      where
+        go : (needed asked room : ℕ) → asked ≤ 1024 + max_height → entering_room needed ≤ room → 512 * needed + asked + 4 ≤ room
+        go needed asked room a b = omega (arith, a, b)
 
-  -- given the size that was read
-  pub put_prepares : (i : ℕ) → CanPutBehind old blocks i name → (path : WordPath) → path ≡ inode_path (height_of (root_of image 0)) i 1 → (size : ℕ) → size ≡ size_of image i →
-      CanPrepare old (members blocks) i path size (size + 256)
-  put_prepares zero can path is size e = absurd (directory_inode image 0 can.lacks.directory refl)
-  put_prepares (suc n) can path is size e = rw e (prepares n can path is)
+    -- given the size that was read
+    pub put_prepares : (i : ℕ) → CanPutBehind kept old blocks i name → (path : WordPath) → path ≡ inode_path (height_of (root_of image 0)) i 1 → (size : ℕ) → size ≡ size_of image i →
+        CanPrepare kept old (members blocks) i path size (size + 256)
+    put_prepares zero can path is size e = absurd (directory_inode image 0 can.lacks.directory refl)
+    put_prepares (suc n) can path is size e = rw e (prepares n can path is)
 
-  module _ (new : Memory) (rest : List ℕ) (i size : ℕ) (bytes : List ℕ) (can : CanPutBehind old blocks i name) (e : size ≡ size_of image i) (entry : AreEntryBytes j name bytes)
-      (prepared : PreparesWith old new (members blocks) rest i size (size + 256) bytes) where
-    pub put_well_formed : IsWellFormed (current_words new)
-    put_well_formed = well_formed-same image (current_words new) can.lacks.well_formed prepared.ready.meaning
+    module _ (new : Memory) (rest : List ℕ) (i size : ℕ) (bytes : List ℕ) (can : CanPutBehind kept old blocks i name) (e : size ≡ size_of image i) (entry : AreEntryBytes j name bytes)
+        (prepared : PreparesWith kept old new (members blocks) rest i size (size + 256) bytes) where
+      pub put_well_formed : IsWellFormed (current_words new)
+      put_well_formed = well_formed-same image (current_words new) can.lacks.well_formed prepared.ready.meaning
 
-    pub put_reached : IsReached (current_words new) i
-    put_reached = reached_on image (current_words new) prepared.ready.meaning i can.lacks.reached
+      pub put_reached : IsReached (current_words new) i
+      put_reached = reached_on image (current_words new) prepared.ready.meaning i can.lacks.reached
 
-    pub put_sound : (root : ℕ) → root ≡ root_of (current_words new) i → IsSound (current_words new) root (size + 256)
-    put_sound root is = rw is prepared.ready.sound
+      pub put_sound : (root : ℕ) → root ≡ root_of (current_words new) i → IsSound (current_words new) root (size + 256)
+      put_sound root is = rw is prepared.ready.sound
 
-    laid : (o : ℕ) → size ≤ o → o < size + 256 → byte (current_words new) (root_of (current_words new) i) o ≡ given size bytes o
-    laid o low high = prepared.ready.bytes_are o (omega (arith, low, e)) high
+      laid : (o : ℕ) → size ≤ o → o < size + 256 → byte (current_words new) (root_of (current_words new) i) o ≡ given size bytes o
+      laid o low high = prepared.ready.bytes_are o (omega (arith, low, e)) high
 
-    entries : size % 256 ≡ 0
-    entries = rw e (can.lacks.well_formed.directory_sizes i can.lacks.reached can.lacks.directory)
+      entries : size % 256 ≡ 0
+      entries = rw e (can.lacks.well_formed.directory_sizes i can.lacks.reached can.lacks.directory)
 
-    module _ (root number count : ℕ) (is : root ≡ root_of (current_words new) i) (first : number ≡ content_word (current_words new) root (size / 8)) (second : count ≡ content_word (current_words new) root (size / 8 + 1))
-        (small : number < 2 ^ 64) (also : count < 2 ^ 64) (low : j < 2 ^ 64) where
-      first_is : content_word (current_words new) (root_of (current_words new) i) (size / 8) ≡ j
-      first_is = inumber_there (current_words new) (root_of (current_words new) i) size j name bytes entries entry laid low (rw (first, is) at small)
+      module _ (root number count : ℕ) (is : root ≡ root_of (current_words new) i) (first : number ≡ content_word (current_words new) root (size / 8)) (second : count ≡ content_word (current_words new) root (size / 8 + 1))
+          (small : number < 2 ^ 64) (also : count < 2 ^ 64) (low : j < 2 ^ 64) where
+        first_is : content_word (current_words new) (root_of (current_words new) i) (size / 8) ≡ j
+        first_is = inumber_there (current_words new) (root_of (current_words new) i) size j name bytes entries entry laid low (rw (first, is) at small)
 
-      second_is : content_word (current_words new) (root_of (current_words new) i) (size / 8 + 1) ≡ length name
-      second_is = length_there (current_words new) (root_of (current_words new) i) size j name bytes entries entry laid
-          (let short = can.lacks.form.short in omega (arith, short)) (rw (second, is) at also)
+        second_is : content_word (current_words new) (root_of (current_words new) i) (size / 8 + 1) ≡ length name
+        second_is = length_there (current_words new) (root_of (current_words new) i) size j name bytes entries entry laid
+            (let short = can.lacks.form.short in omega (arith, short)) (rw (second, is) at also)
 
-      pub put_number : number ≡ j
-      put_number = first ∙ rw is first_is
+        pub put_number : number ≡ j
+        put_number = first ∙ rw is first_is
 
-      pub put_count : count ≡ length name
-      put_count = second ∙ rw is second_is
+        pub put_count : count ≡ length name
+        put_count = second ∙ rw is second_is
 
-      pub put_done : PutsBehind old new (members blocks) rest i j name
-      put_done = record {
-        bytes = bytes;
-        prepared = rw e at prepared;
-        inumber = rw e at (inumber_read (current_words new) (root_of (current_words new) i) size j name bytes entries entry laid first_is);
-        spelled = rw e at
-            (name_read_back (current_words new) (root_of (current_words new) i) size j name bytes entries entry laid can.lacks.form.short second_is);
-      }
+        pub put_done : PutsBehind kept old new (members blocks) rest i j name
+        put_done = record {
+          bytes = bytes;
+          prepared = rw e at prepared;
+          inumber = rw e at (inumber_read (current_words new) (root_of (current_words new) i) size j name bytes entries entry laid first_is);
+          spelled = rw e at
+              (name_read_back (current_words new) (root_of (current_words new) i) size j name bytes entries entry laid can.lacks.form.short second_is);
+        }

@@ -11,7 +11,6 @@ use Rattle.bp_layout.specs.Free.IsLeastFree.{some as a_least, none as no_least}
 use Rattle.bp_layout.specs.Words.{Image}
 use Rattle.bp_layout.proofs.Finding.{Finds, find-passes}
 use Rattle.bp_calls.proofs.SetLaws.{in_room}
-use Rattle.bp_layout.specs.Thaw.{none_kept}
 
 -- a list that is not empty has a first
 first_of : (xs : List ℕ) → xs ≢ [] → (x : ℕ) × Contains xs x
@@ -53,7 +52,7 @@ first_in set (suc n) = go (first_in set n) (cases_Bool (set n))
         at k (inl less) low = none k less
         at k (inr high) low = let here : k ≡ n = omega (arith, high, low) in subst (λ x. set x ≡ false) (sym here) not
 
-module _ (image : Image) (blocks inodes : Set) (exact : AreExact image none_kept blocks inodes) where
+module _ {kept : ℕ → Bool} (image : Image) (blocks inodes : Set) (exact : AreExact image kept blocks inodes) where
   -- where the set has a number an inode is free
   pub not_none : members inodes ≢ [] → IsLeastFree image None → ⊥
   not_none some (no_least nobody) = let one = some_number inodes some in nobody one.0 (exact.free_inodes.free one.0 one.1)
@@ -61,6 +60,10 @@ module _ (image : Image) (blocks inodes : Set) (exact : AreExact image none_kept
   -- and none is where it has none
   pub not_some : members inodes ≡ [] → (i : ℕ) → IsLeastFree image (Some i) → ⊥
   not_some none i (a_least free least) = has_members inodes i (exact.free_inodes.all i free) none
+
+  pub is_none : members inodes ≡ [] → (free : Option ℕ) → IsLeastFree image free → free ≡ None
+  is_none none None told = refl
+  is_none none (Some i) told = absurd (not_some none i told)
 
   least_of : (i : ℕ) → (has inodes i ≡ true) × ((k : ℕ) → k < i → has inodes k ≡ false) → IsLeastFree image (Some i)
   least_of i (is, first) = a_least (exact.free_inodes.free i is) (λ j free. go j free (cases_lt j i))

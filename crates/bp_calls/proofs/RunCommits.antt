@@ -1,5 +1,5 @@
 -- A commit with a run of a file's bytes, alone or with words beside it: what it asks, and what it makes of the file and of the sets.
-use Rattle.std.proofs.Common.{◌≡◌, ◌⊎◌, ℕ, suc, ◌+◌, ◌-◌, ◌*◌, ◌/◌, ◌^◌, ◌<◌, ◌≤◌, max, take, List, length, slice_index, Some, refl, sym, ◌∙◌, ap, subst, inl, inr, arith, lt-ltb, le-ltb, le-leb}
+use Rattle.std.proofs.Common.{◌≡◌, ◌⊎◌, ℕ, Bool, suc, ◌+◌, ◌-◌, ◌*◌, ◌/◌, ◌^◌, ◌<◌, ◌≤◌, max, take, List, length, slice_index, refl, sym, ◌∙◌, ap, subst, inl, inr, arith, lt-ltb, le-ltb, le-leb}
 use Rattle.std.proofs.lemmas.Bool.{cases_lt, lt-leb}
 use Rattle.std.proofs.lemmas.List.{get_or-take, length-take}
 use Rattle.std.proofs.lemmas.List.Elements.{All-get_or}
@@ -29,7 +29,7 @@ use Rattle.bp_commit.specs.Performs.{IsOpen}
 use Rattle.bp_cow.specs.declared.touched.Run.{Run}
 use Rattle.bp_cow.specs.declared.touched.Touched.{Touched}
 use Rattle.bp_cow.specs.CanCommit.{IsRunIn}
-use Rattle.bp_cow.specs.Commit.{cover_word}
+use Rattle.bp_cow.specs.Commit.{HasLooseCover, cover_word}
 use Rattle.bp_cow.specs.Touched.{IsRun, IsTouched, run_byte, run_end, run_leaves, run_path, run_way}
 use Rattle.bp_cow.proofs.CommitTaking.{cover_open}
 use Rattle.bp_cow.proofs.CopiesNeed.{has-of-run}
@@ -40,7 +40,9 @@ use Rattle.bp_cow.proofs.RunWrites.{root_path_trail}
 use Rattle.bp_calls.specs.WritesFile.{WritesFile, written_byte}
 use Rattle.bp_calls.proofs.SetLaws.{free_inodes_stay}
 use Rattle.bp_calls.proofs.WriteBehind.{written_before, written_inside, written_past}
-use Rattle.bp_layout.specs.Thaw.{none_kept}
+use Rattle.bp_layout.specs.Thaw.{IsLoose}
+use Rattle.bp_cow.specs.Cover.{commit_cover}
+use Rattle.bp_cow.proofs.LooseCover.{loose_cover}
 
 -- ---- what it asks
 
@@ -84,9 +86,14 @@ module _ (image : Image) (wf : IsWellFormed image) (n : ℕ) (reached : IsReache
       (leaf-fronts image (size_of image) (wf_forest image wf) run run_is run_in 0 d (omega arith) short)
 
   -- so the word of the cover, whatever else is touched, is one where a call may store
-  pub run_open : (touched : Touched) → IsTouched touched → Has touched.runs.now run → (taken : List ℕ) → IsOpen image none_kept taken (cover_word image touched)
-  run_open touched shape has taken =
-      cover_open image wf touched shape (run_path run (run.off / 8)) (has-of-run touched shape run (run.off / 8) has (omega arith) (omega (arith, is.some))) run_live taken
+  pub run_open : (kept : ℕ → Bool) (touched : Touched) → IsTouched touched → Has touched.runs.now run → HasLooseCover image kept touched → (taken : List ℕ) → IsOpen image kept taken (cover_word image touched)
+  run_open kept touched shape has loose taken =
+      cover_open kept image wf touched shape (run_path run (run.off / 8)) (has-of-run touched shape run (run.off / 8) has (omega arith) (omega (arith, is.some))) run_live loose taken
+
+  -- and it is not kept, where nothing is kept on the way to it
+  pub run_loose : (kept : ℕ → Bool) (touched : Touched) → IsTouched touched → Has touched.runs.now run → IsLoose image kept (length (commit_cover image touched) - 1) (commit_cover image touched) → HasLooseCover image kept touched
+  run_loose kept touched shape has loose =
+      loose_cover kept image wf touched shape (run_path run (run.off / 8)) (has-of-run touched shape run (run.off / 8) has (omega arith) (omega (arith, is.some))) run_live loose
 
 -- the bytes of one write have few leaves
 pub few_leaves : (run : Run) → length run.bytes.now ≤ max_write → run_leaves run ≤ 257
@@ -149,7 +156,7 @@ module _ (image new : Image) (wf : IsWellFormed image) (keeps : KeepsDirectories
     has = subst (λ s. HasBlock new (root_of new one.tree) s b) (sym (sizes one.tree one.reached)) one.has;
   }
 
-  pub commit_exact : (blocks after inodes : Set) → AreExactFor image (IsReached image) bound none_kept blocks inodes → length after ≡ length blocks → AreUnheld new (IsReached image) bound none_kept (has after) → AreExact new none_kept after inodes
+  pub commit_exact : {kept : ℕ → Bool} (blocks after inodes : Set) → AreExactFor image (IsReached image) bound kept blocks inodes → length after ≡ length blocks → AreUnheld new (IsReached image) bound kept (has after) → AreExact new kept after inodes
   commit_exact blocks after inodes exact room unheld = record {
     block_room = rw keeps.trees.whole (room ∙ exact.block_room);
     inode_room = rw keeps.trees.whole exact.inode_room;

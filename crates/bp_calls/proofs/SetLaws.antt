@@ -1,14 +1,14 @@
 -- The sets of free numbers stay exact: over a preparation, and where the new inode is taken out.
-use Rattle.std.proofs.Common.{◌≡◌, ◌≢◌, ◌⊎◌, ℕ, ◌+◌, ◌*◌, ◌<◌, ◌≤◌, Bool, true, false, length, set, None, sym, ◌∙◌, ap, subst, inl, inr, true≢false}
+use Rattle.std.proofs.Common.{◌≡◌, ◌≢◌, ◌⊎◌, ℕ, zero, suc, [], ◌∷◌, ◌+◌, ◌*◌, ◌<◌, ◌≤◌, Bool, true, false, length, set, None, sym, ◌∙◌, ap, subst, inl, inr, true≢false}
 use Rattle.std.proofs.lemmas.Bool.{cases_eq, cases_lt}
 use Rattle.std.proofs.lemmas.List.{length-set}
-use Rattle.bp_free.specs.Set.{Set, has, without}
+use Rattle.bp_free.specs.Set.{Set, has, with, without}
 use Rattle.bp_free.proofs.Members.{has_without_same, has_without_other, has_past}
 use Rattle.bp_layout.specs.Words.{Image}
 use Rattle.bp_layout.specs.Tree.{HasBlock}
 use Rattle.bp_layout.specs.Inode.{kind_of, root_of, size_of, ContentStandsAt}
 use Rattle.bp_layout.specs.Directory.{Name, IsName, slot_named}
-use Rattle.bp_layout.specs.Reached.{IsReached, IsLiveBlock, IsFreeBlock}
+use Rattle.bp_layout.specs.Reached.{IsReached, IsLiveBlock}
 use Rattle.bp_layout.specs.WellFormed.{IsWellFormed}
 use Rattle.bp_layout.specs.Free.{AreFreeBlocks, AreFreeInodes, IsFreeInode}
 use Rattle.bp_layout.proofs.SmallTrees.{empty_has_none}
@@ -19,12 +19,17 @@ use Rattle.bp_calls.specs.Entered.{IsNewInode, IsReadyEntry}
 use Rattle.bp_shapes.specs.Sets.{AreExact}
 use Rattle.bp_calls.proofs.EnteredLaws.{entered, entered_blocks, entered_file, linked}
 use Rattle.bp_calls.proofs.AfterLaws.{IsPrepared, reached_before, reached_after}
-use Rattle.bp_layout.specs.Thaw.{none_kept}
 
 -- ---- one number less
 
 pub length_without : (numbers : Set) (i : ℕ) → length (without numbers i) ≡ length numbers
 length_without numbers i = length-set numbers i false
+
+-- a number that is taken out and put back
+pub put_back : (numbers : Set) (i : ℕ) → has numbers i ≡ true → with (without numbers i) i ≡ numbers
+put_back [] i is = absurd (true≢false (sym is))
+put_back (x ∷ xs) zero is = ap (λ b. b ∷ xs) (sym is)
+put_back (x ∷ xs) (suc i) is = ap (λ ys. x ∷ ys) (put_back xs i is)
 
 -- what is in lies below the room
 pub in_room : (numbers : Set) (i : ℕ) → has numbers i ≡ true → i < length numbers
@@ -44,10 +49,10 @@ still_in numbers i k there is = go (cases_eq k i)
 
 -- ---- free numbers
 
-pub free_blocks_stay : (old new : Image) (numbers : ℕ → Bool) → length new ≡ length old → ((b : ℕ) → IsLiveBlock new b → IsLiveBlock old b) → ((b : ℕ) → IsLiveBlock old b → IsLiveBlock new b) →
-    AreFreeBlocks old none_kept numbers → AreFreeBlocks new none_kept numbers
+pub free_blocks_stay : {kept : ℕ → Bool} (old new : Image) (numbers : ℕ → Bool) → length new ≡ length old → ((b : ℕ) → IsLiveBlock new b → IsLiveBlock old b) → ((b : ℕ) → IsLiveBlock old b → IsLiveBlock new b) →
+    AreFreeBlocks old kept numbers → AreFreeBlocks new kept numbers
 free_blocks_stay old new numbers whole back stay are = record {
-  free = λ b is. let free : IsFreeBlock old none_kept b = are.free b is in record { low = free.low; high = rw whole free.high; free = λ live. free.free (back b live); loose = free.loose };
+  free = λ b is. let free = are.free b is in record { low = free.low; high = rw whole free.high; free = λ live. free.free (back b live); loose = free.loose };
   all = λ b free. are.all b (record { low = free.low; high = rw whole at free.high; free = λ live. free.free (stay b live); loose = free.loose });
 }
 
@@ -76,8 +81,8 @@ free_inodes_taken old new numbers taken bytes there here cases stay are = record
 -- ---- over a preparation
 
 -- where what is reached is what it was, and each tree has the blocks that it had
-pub exact_kept : (old new : Image) → length new ≡ length old → size_of new 0 ≡ size_of old 0 → ((t : ℕ) → IsReached new t → IsReached old t) → ((t : ℕ) → IsReached old t → IsReached new t) → KeepsBlocks old new →
-    (blocks inodes : Set) → AreExact old none_kept blocks inodes → AreExact new none_kept blocks inodes
+pub exact_kept : {kept : ℕ → Bool} (old new : Image) → length new ≡ length old → size_of new 0 ≡ size_of old 0 → ((t : ℕ) → IsReached new t → IsReached old t) → ((t : ℕ) → IsReached old t → IsReached new t) → KeepsBlocks old new →
+    (blocks inodes : Set) → AreExact old kept blocks inodes → AreExact new kept blocks inodes
 exact_kept old new whole same_file back stay keeps blocks inodes exact = record {
   block_room = rw whole exact.block_room;
   inode_room = rw whole exact.inode_room;
@@ -87,12 +92,12 @@ exact_kept old new whole same_file back stay keeps blocks inodes exact = record 
   free_inodes = free_inodes_stay old new (has inodes) same_file back stay exact.free_inodes;
 }
 
-pub exact_prepared : (old new : Image) → IsWellFormed old → IsPrepared old new → (blocks inodes : Set) → AreExact old none_kept blocks inodes → AreExact new none_kept blocks inodes
+pub exact_prepared : {kept : ℕ → Bool} (old new : Image) → IsWellFormed old → IsPrepared old new → (blocks inodes : Set) → AreExact old kept blocks inodes → AreExact new kept blocks inodes
 exact_prepared old new wf prepared = exact_kept old new prepared.meaning.trees.whole prepared.inode_bytes (reached_before old new wf prepared) (reached_after old new wf prepared) prepared.blocks
 
 -- ---- over one more name
 
-module _ (old new : Image) (wf : IsWellFormed old) (i s j : ℕ) (adds : AddsNames old new i s j) (blocks inodes : Set) (exact : AreExact old none_kept blocks inodes) (free : IsFreeInode old j) (same_file : size_of new 0 ≡ size_of old 0) where
+module _ {kept : ℕ → Bool} (old new : Image) (wf : IsWellFormed old) (i s j : ℕ) (adds : AddsNames old new i s j) (blocks inodes : Set) (exact : AreExact old kept blocks inodes) (free : IsFreeInode old j) (same_file : size_of new 0 ≡ size_of old 0) where
   no_new_block : (t b : ℕ) → t ≡ j → HasBlock new (root_of new t) (size_of new t) b → ⊥
   no_new_block t b e has = empty_has_none new (root_of new t) b (rw (ap (size_of new) e ∙ adds.new_size) at has)
 
@@ -112,7 +117,7 @@ module _ (old new : Image) (wf : IsWellFormed old) (i s j : ℕ) (adds : AddsNam
       free_inodes_taken old new inodes j same_file (exact.free_inodes.all j free) (IsReached.named s (reached_stays old new wf i s j adds i adds.reached) adds.entry)
       (reached_cases old new wf i s j adds) (reached_stays old new wf i s j adds) exact.free_inodes
 
-  pub exact_added : KeepsBlocks old new → AreExact new none_kept blocks (without inodes j)
+  pub exact_added : KeepsBlocks old new → AreExact new kept blocks (without inodes j)
   exact_added keeps = record {
     block_room = rw adds.trees.whole exact.block_room;
     inode_room = rw adds.trees.whole (length_without inodes j ∙ exact.inode_room);
@@ -123,14 +128,14 @@ module _ (old new : Image) (wf : IsWellFormed old) (i s j : ℕ) (adds : AddsNam
   }
 
 -- an inumber came into a ready entry: of an inode that was free, or of a file that has a name
-module _ (old : Image) (wf : IsWellFormed old) (i s j place : ℕ) (name : Name) (ready : IsReadyEntry old i s name) (form : IsName name) (missing : slot_named old i name ≡ None)
-    (stands : ContentStandsAt old i (32 * s + 0) place) (blocks inodes : Set) (exact : AreExact old none_kept blocks inodes) where
-  pub exact_entered : (kind : ℕ) → IsNewInode old j kind → AreExact (set old place j) none_kept blocks (without inodes j)
+module _ {kept : ℕ → Bool} (old : Image) (wf : IsWellFormed old) (i s j place : ℕ) (name : Name) (ready : IsReadyEntry old i s name) (form : IsName name) (missing : slot_named old i name ≡ None)
+    (stands : ContentStandsAt old i (32 * s + 0) place) (blocks inodes : Set) (exact : AreExact old kept blocks inodes) where
+  pub exact_entered : (kind : ℕ) → IsNewInode old j kind → AreExact (set old place j) kept blocks (without inodes j)
   exact_entered kind fresh =
       exact_added old (set old place j) wf i s j (entered old wf i s j place name ready form missing stands kind fresh).adds blocks inodes exact fresh.free
       (entered_file old wf i s j place name ready form missing stands) (entered_blocks old wf i s j place name ready form missing stands)
 
-  pub exact_linked : IsReached old j → kind_of old j ≡ 1 → AreExact (set old place j) none_kept blocks inodes
+  pub exact_linked : IsReached old j → kind_of old j ≡ 1 → AreExact (set old place j) kept blocks inodes
   exact_linked there file =
       exact_kept old (set old place j) links.trees.whole links.inode_bytes (linking.reached_back old (set old place j) wf i s j links) (linking.reached_stays old (set old place j) wf i s j links)
       (entered_blocks old wf i s j place name ready form missing stands) blocks inodes exact

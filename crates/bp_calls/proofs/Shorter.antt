@@ -1,12 +1,12 @@
 -- A file gets smaller by a store of its size, and the blocks behind it come back.
-use Rattle.std.proofs.Common.{◌≡◌, ◌⊎◌, ℕ, zero, suc, ◌+◌, ◌*◌, ◌<◌, ◌≤◌, [], length, set, true, false, sym, ◌∙◌, ap, suc-ne-zero, arith, inl, inr, lt_of_lt_of_le, refl, flat_map, fold, ◌==◌, ◌++◌, get_or, List, if◌then◌else◌}
+use Rattle.std.proofs.Common.{◌≡◌, ◌⊎◌, ℕ, zero, suc, ◌+◌, ◌*◌, ◌<◌, ◌≤◌, [], length, set, ◌/◌, Bool, true, false, sym, ◌∙◌, ap, suc-ne-zero, arith, inl, inr, lt_of_lt_of_le, refl, flat_map, fold, ◌==◌, ◌++◌, get_or, List, if◌then◌else◌}
 use Rattle.std.proofs.lemmas.Bool.{cases_Bool, le-ltb}
 use Rattle.std.proofs.lemmas.List.{length-set}
 use Rattle.std.proofs.lemmas.List.FromFn.{get_or-map-range_with_len}
 use Rattle.bp_calls.specs.GivenBack.{GivesBack}
 use Rattle.bp_calls.specs.Resized.{ResizesFile}
 use Rattle.bp_calls.proofs.GivenUpLaws.{gives_as, has_larger}
-use Rattle.bp_calls.proofs.OpenPlaces.{content_open, inode_address, root_word_stays, stands_stored}
+use Rattle.bp_calls.proofs.OpenPlaces.{content_live, inode_address, root_word_stays, stands_stored}
 use Rattle.bp_calls.proofs.SetLaws.{free_inodes_stay}
 use Rattle.bp_changes.specs.Effects.{ChangesFile}
 use Rattle.bp_changes.proofs.ChangesFile as changed
@@ -30,7 +30,7 @@ use Rattle.bp_layout.proofs.TreeLaws.{KeepsPointers, node-kept, sound-kept, has_
 use Rattle.bp_shapes.specs.Sets.{AreExact}
 use Rattle.bp_shapes.specs.Freed.{IsGivenUp}
 use Rattle.bp_shapes.proofs.Freed.{freed_blocks, resize_frees}
-use Rattle.bp_commit.specs.Performs.{Performs}
+use Rattle.bp_commit.specs.Performs.{PerformsThawed}
 use Rattle.bp_tree.proofs.ExistingPaths.{AllThere, inode_path-there, cover-one, copied-one}
 use Rattle.bp_commit.proofs.PerformsLaws.{performs_committed, takes_none}
 use Rattle.pm_epochs.specs.Crash.{commit}
@@ -38,8 +38,7 @@ use Rattle.pm_epochs.proofs.CrashLaws.{quiet_none}
 use Rattle.pm_epochs.proofs.PieceLaws.{IsPiece-commit}
 use Rattle.pm_region.specs.Memory.{Memory, Adds, current_words}
 use Rattle.pm_region.proofs.MemoryLaws.{current_words-adds}
-use Rattle.bp_layout.specs.Thaw.{none_kept}
-use Rattle.bp_calls.proofs.Unthawed.{unthawed}
+use Rattle.bp_commit.specs.Performs.IsOpen.{in_live}
 
 -- a tree is sound under a smaller size too
 pub sound_smaller : (image : Image) (root size less : ℕ) → less ≤ size → IsSound image root size → IsSound image root less
@@ -88,15 +87,15 @@ none_shrinking image wf (suc n) size reached file smaller = needed_smaller image
 -- ---- the store
 
 -- a file whose size word is stored to
-pub record Shrinks (image : Image) (blocks inodes : Set) (i size place : ℕ) : Type 0 where
+pub record Shrinks (image : Image) (kept : ℕ → Bool) (blocks inodes : Set) (i size place : ℕ) : Type 0 where
   pub well_formed : IsWellFormed image
-  pub exact : AreExact image none_kept blocks inodes
+  pub exact : AreExact image kept blocks inodes
   pub reached : IsReached image i
   pub is_file : kind_of image i ≡ 1
   pub smaller : size < size_of image i
   pub stands : ContentStandsAt image 0 (8 * i + 2) place
 
-module _ (image : Image) (blocks inodes : Set) (n size place : ℕ) (shrinks : Shrinks image blocks inodes (suc n) size place) where
+module _ {kept : ℕ → Bool} (image : Image) (blocks inodes : Set) (n size place : ℕ) (shrinks : Shrinks image kept blocks inodes (suc n) size place) where
   abbrev file : ℕ
   file = suc n
 
@@ -185,18 +184,18 @@ module _ (image : Image) (blocks inodes : Set) (n size place : ℕ) (shrinks : S
     past = gone.past;
   }
 
-  exact_last : (after : Set) → GivesBack (IsGivenUp last (root_of image file) (size_of image file) size) blocks after → AreExact last none_kept after inodes
+  exact_last : (after : Set) → GivesBack kept (IsGivenUp last (root_of image file) (size_of image file) size) blocks after → AreExact last kept after inodes
   exact_last after gives = record {
     block_room = rw (length-set image place size) (gives.room ∙ shrinks.exact.block_room);
     inode_room = rw (length-set image place size) shrinks.exact.inode_room;
     free_blocks = freed_blocks image last wf (length-set image place size) (IsGivenUp image (root_of image file) (size_of image file) size)
-        (resize_frees image wf n size place can (omega (arith, shrinks.smaller))) none_kept (has blocks) (has after) shrinks.exact.free_blocks
-        (λ b is. elim (told.only b is) [ inl was ↦ inl was | inr gone ↦ inr (gone, refl) ]) told.still (λ b gone loose. told.given b gone);
+        (resize_frees image wf n size place can (omega (arith, shrinks.smaller))) kept (has blocks) (has after) shrinks.exact.free_blocks
+        told.only told.still told.given;
     free_inodes = free_inodes_stay image last (has inodes) (changes.size 0 inode_file (λ e. suc-ne-zero n (sym e)))
         (changed.reached-back image last file wf changes) (changed.reached-on image last file wf changes) shrinks.exact.free_inodes;
   }
     where
-      told : GivesBack (IsGivenUp image (root_of image file) (size_of image file) size) blocks after
+      told : GivesBack kept (IsGivenUp image (root_of image file) (size_of image file) size) blocks after
       told = gives_as (IsGivenUp last (root_of image file) (size_of image file) size) (IsGivenUp image (root_of image file) (size_of image file) size) blocks after given_up_back given_up_on gives
 
   -- the store is at the cover
@@ -206,27 +205,26 @@ module _ (image : Image) (blocks inodes : Set) (n size place : ℕ) (shrinks : S
       ap (address last) (covered_smaller image wf n size shrinks.reached (omega (arith, shrinks.smaller)) ∙ ap (λ r. inode_path (height_of r) file 2) (sym stays))
       ∙ inode_address last file 2 place (stands_stored image wf 0 (8 * file + 2) place size inode_file low shrinks.stands stays)
 
-module _ (old new : Memory) (blocks inodes : Set) (n size place : ℕ) (shrinks : Shrinks (current_words old) blocks inodes (suc n) size place) (adds : Adds old new (commit place size)) where
+module _ {kept : ℕ → Bool} (old new : Memory) (blocks inodes : Set) (n size place : ℕ) (shrinks : Shrinks (current_words old) kept blocks inodes (suc n) size place) (adds : Adds old new (commit place size)) where
   stored : current_words new ≡ set (current_words old) place size
   stored = current_words-adds old new (commit place size) adds
 
-  pub shorter_performs : Performs none_kept old new (resizes (suc n) size) (ResizesFile (suc n) size)
-  shorter_performs =
-      unthawed old new (resizes (suc n) size) (ResizesFile (suc n) size)
-      (performs_committed none_kept old new (resizes (suc n) size) (ResizesFile (suc n) size) place size 2 1 []
+  pub shorter_performs : kept (place / 512) ≡ false → PerformsThawed kept old new (resizes (suc n) size) (ResizesFile (suc n) size)
+  shorter_performs loose =
+      performs_committed kept old new (resizes (suc n) size) (ResizesFile (suc n) size) place size 2 1 []
       (record {
         prepared = [];
         adds = adds;
         quiet = quiet_none Same (current_words old) (same_self (current_words old) shrinks.well_formed);
         piece = IsPiece-commit place size;
       })
-      (takes_none (current_words old) none_kept)
+      (takes_none (current_words old) kept)
       (rw stored (sym (at_cover (current_words old) blocks inodes n size place shrinks)))
       (omega arith) (omega arith)
       (sym (needed_smaller (current_words old) shrinks.well_formed n size shrinks.reached (omega (arith, shrinks.smaller))))
-      (content_open (current_words old) [] 0 (8 * suc n + 2) place inode_file (let small = low (current_words old) blocks inodes n size place shrinks in omega (arith, small)) shrinks.stands)
+      (in_live (content_live (current_words old) 0 (8 * suc n + 2) place inode_file (let small = low (current_words old) blocks inodes n size place shrinks in omega (arith, small)) shrinks.stands) loose)
       (rw stored (changed.well_formed-same (current_words old) (set (current_words old) place size) (suc n) shrinks.well_formed (changes (current_words old) blocks inodes n size place shrinks)))
-      (rw stored (resizes_last (current_words old) blocks inodes n size place shrinks)))
+      (rw stored (resizes_last (current_words old) blocks inodes n size place shrinks))
 
 -- ---- told of any number
 
@@ -239,7 +237,7 @@ pub record CanGiveBack (image : Image) (root size : ℕ) (blocks : Set) : Type 0
   pub room : length blocks ≡ block_count image
   pub taken : (b : ℕ) → HasBlock image root size b → has blocks b ≡ false
 
-pub can_give_back : (old new : Memory) (blocks inodes : Set) (i size place root was : ℕ) → root ≡ root_of (current_words old) i → was ≡ size_of (current_words old) i → Shrinks (current_words old) blocks inodes i size place → Adds old new (commit place size) →
+pub can_give_back : {kept : ℕ → Bool} (old new : Memory) (blocks inodes : Set) (i size place root was : ℕ) → root ≡ root_of (current_words old) i → was ≡ size_of (current_words old) i → Shrinks (current_words old) kept blocks inodes i size place → Adds old new (commit place size) →
     CanGiveBack (current_words new) root was blocks
 can_give_back old new blocks inodes zero size place root was at here shrinks adds = absurd (no_file (current_words old) shrinks.is_file)
 can_give_back old new blocks inodes (suc n) size place root was at here shrinks adds = rw (at, here, stored old new blocks inodes n size place shrinks adds) (record {
@@ -248,11 +246,11 @@ can_give_back old new blocks inodes (suc n) size place root was at here shrinks 
   taken = still_taken (current_words old) blocks inodes n size place shrinks;
 })
 
-pub shrunk : (old new : Memory) (blocks after inodes : Set) (i size place root was : ℕ) → root ≡ root_of (current_words old) i → was ≡ size_of (current_words old) i → Shrinks (current_words old) blocks inodes i size place → Adds old new (commit place size) →
-    GivesBack (IsGivenUp (current_words new) root was size) blocks after → Performs none_kept old new (resizes i size) (ResizesFile i size) × AreExact (current_words new) none_kept after inodes
-shrunk old new blocks after inodes zero size place root was at here shrinks adds gives = absurd (no_file (current_words old) shrinks.is_file)
-shrunk old new blocks after inodes (suc n) size place root was at here shrinks adds gives = (
-  shorter_performs old new blocks inodes n size place shrinks adds,
+pub shrunk : {kept : ℕ → Bool} (old new : Memory) (blocks after inodes : Set) (i size place root was : ℕ) → root ≡ root_of (current_words old) i → was ≡ size_of (current_words old) i → Shrinks (current_words old) kept blocks inodes i size place → Adds old new (commit place size) →
+    kept (place / 512) ≡ false → GivesBack kept (IsGivenUp (current_words new) root was size) blocks after → PerformsThawed kept old new (resizes i size) (ResizesFile i size) × AreExact (current_words new) kept after inodes
+shrunk old new blocks after inodes zero size place root was at here shrinks adds loose gives = absurd (no_file (current_words old) shrinks.is_file)
+shrunk old new blocks after inodes (suc n) size place root was at here shrinks adds loose gives = (
+  shorter_performs old new blocks inodes n size place shrinks adds loose,
   rw (stored old new blocks inodes n size place shrinks adds)
       (exact_last (current_words old) blocks inodes n size place shrinks after (rw (at, here, stored old new blocks inodes n size place shrinks adds) at gives)),
 )

@@ -1,5 +1,5 @@
 -- A name in an empty entry, and then the inumber: what stands once the name is there, whichever inode the entry will name.
-use Rattle.std.proofs.Common.{◌≡◌, ◌≢◌, ℕ, ◌+◌, ◌-◌, ◌*◌, ◌<◌, ◌≤◌, [], suc, None, Some, unwrap_or, ap₂, set, refl, sym, ◌∙◌, ap, subst, arith}
+use Rattle.std.proofs.Common.{◌≡◌, ◌≢◌, ℕ, Bool, false, ◌+◌, ◌-◌, ◌*◌, ◌/◌, ◌<◌, ◌≤◌, [], suc, None, Some, unwrap_or, ap₂, set, refl, sym, ◌∙◌, ap, subst, arith}
 use Rattle.bp_calls.specs.Entered.{IsReadyEntry}
 use Rattle.bp_layout.specs.Need.{cover, need, Change}
 use Rattle.bp_layout.specs.Need.Change.{enters as gains}
@@ -33,26 +33,26 @@ use Rattle.bp_calls.proofs.Refusals.{found_empty}
 use Rattle.bp_calls.proofs.ReadBack.{name_read}
 use Rattle.bp_calls.proofs.Spares.{no_inode_file, row_stands, spare_entry}
 use Rattle.bp_calls.proofs.Trees.{SameTrees, spare_trees, word_kept, stands_kept}
-use Rattle.bp_layout.specs.Thaw.{none_kept}
 
--- nobody reads the word, and it is in a live block
-abbrev pub IsHidden : Image → ℕ → Type 0
-IsHidden image p = IsSpare image p × IsOpen image none_kept [] p
+-- nobody reads the word, and it is in a live block that is not kept
+abbrev pub IsHidden : (ℕ → Bool) → Image → ℕ → Type 0
+IsHidden kept image p = IsSpare image p × IsOpen image kept [] p
 
 -- stores to the words of an empty entry that spell its name
-pub name_hidden : (image : Image) → IsWellFormed image → (i s entry : ℕ) → IsReached image i → kind_of image i ≡ 2 → empty_slot image i ≡ Some s → ContentStandsAt image i (32 * s + 0) entry →
-    (p v : ℕ) → AnyAt (IsWithin (entry + 1) 31) p v → AnyAt (IsHidden image) p v
-name_hidden image wf i s entry reached directory found entry_at p v inside =
+pub name_hidden : {kept : ℕ → Bool} (image : Image) → IsWellFormed image → (i s entry : ℕ) → IsReached image i → kind_of image i ≡ 2 → empty_slot image i ≡ Some s → ContentStandsAt image i (32 * s + 0) entry →
+    kept (entry / 512) ≡ false → (p v : ℕ) → AnyAt (IsWithin (entry + 1) 31) p v → AnyAt (IsHidden kept image) p v
+name_hidden {kept = kept} image wf i s entry reached directory found entry_at loose p v inside =
     let low : entry + 1 ≤ p = inside.low in
     let high : p < entry + 1 + 31 = inside.high in
     let f : ℕ = p - entry in
     let there : s < entry_count image i = (found_empty image i s found).0 in
     let stands : ContentStandsAt image i (32 * s + f) p = row_stands image i (32 * s + 0) f (32 * s + f) entry p (omega arith) (omega arith) (omega arith) entry_at in
-    (spare_entry image wf i s f p reached directory there (found_empty image i s found).1 (omega arith) (omega arith) stands, content_open image [] i (32 * s + f) p reached (omega (arith, there)) stands)
+    let block : entry / 512 ≡ p / 512 = omega (arith, low, high, entry_at.at) in
+    (spare_entry image wf i s f p reached directory there (found_empty image i s found).1 (omega arith) (omega arith) stands, content_open image [] i (32 * s + f) p reached (omega (arith, there)) stands (subst (λ b. kept b ≡ false) block loose))
 
-module _ (first third last : Memory) (i s j entry more : ℕ) (name : Name) (lacks : LacksName (current_words first) i name)
-    (found : empty_slot (current_words first) i ≡ Some s) (entry_at : ContentStandsAt (current_words first) i (32 * s + 0) entry)
-    (stored : AddsMay (AnyAt (IsHidden (current_words first))) 0 more first third) (named : HasNameAt (current_words third) entry name)
+module _ {kept : ℕ → Bool} (first third last : Memory) (i s j entry more : ℕ) (name : Name) (lacks : LacksName (current_words first) i name)
+    (found : empty_slot (current_words first) i ≡ Some s) (entry_at : ContentStandsAt (current_words first) i (32 * s + 0) entry) (loose : kept (entry / 512) ≡ false)
+    (stored : AddsMay (AnyAt (IsHidden kept (current_words first))) 0 more first third) (named : HasNameAt (current_words third) entry name)
     (commits : Adds third last (commit entry j)) where
   abbrev image : Image
   image = current_words first
@@ -78,11 +78,11 @@ module _ (first third last : Memory) (i s j entry more : ℕ) (name : Name) (lac
   word_stands : (f : ℕ) → f < 32 → ContentStandsAt image i (32 * s + f) (entry + f)
   word_stands f few = row_stands image i (32 * s + 0) f (32 * s + f) entry (entry + f) (omega arith) refl (omega (arith, few)) entry_at
 
-  trees_of : (other : Image) → EachMay (AnyAt (IsHidden image)) image other → SameTrees image other
-  trees_of other all = spare_trees image other wf (each_weaker (IsHidden image) (IsSpare image) image other (λ p both. both.0) all)
+  trees_of : (other : Image) → EachMay (AnyAt (IsHidden kept image)) image other → SameTrees image other
+  trees_of other all = spare_trees image other wf (each_weaker (IsHidden kept image) (IsSpare image) image other (λ p both. both.0) all)
 
   pub slot_trees : SameTrees image mid
-  slot_trees = trees_of mid (each_after (AnyAt (IsHidden image)) 0 more first third stored)
+  slot_trees = trees_of mid (each_after (AnyAt (IsHidden kept image)) 0 more first third stored)
 
   pub slot_mid : IsWellFormed mid
   slot_mid = prepared_well_formed image mid wf slot_trees.prepared
@@ -144,16 +144,16 @@ module _ (first third last : Memory) (i s j entry more : ℕ) (name : Name) (lac
         (stands_stored mid slot_mid i (32 * s + 0) entry j mid_reached mid_below slot_entry
         (root_stays mid slot_mid i (32 * s + 0) entry j mid_reached not_file mid_below slot_entry i mid_in_file))
 
-    in_two : Effect image (current_words last) → PerformsWithin none_kept (name_need image i) 2 (more + 1) first last change Effect
+    in_two : Effect image (current_words last) → PerformsWithin kept (name_need image i) 2 (more + 1) first last change Effect
     in_two effect =
-        subst (λ n. PerformsWithin none_kept n 2 (more + 1) first last change Effect) needs
-        (within_stores none_kept first last change Effect (AnyAt (IsHidden image)) more third entry j [] (λ other all. prepared_same image other wf (trees_of other all).prepared) stored commits tt tt tt
+        subst (λ n. PerformsWithin kept n 2 (more + 1) first last change Effect) needs
+        (within_stores kept first last change Effect (AnyAt (IsHidden kept image)) more third entry j [] (λ other all. prepared_same image other wf (trees_of other all).prepared) stored commits tt tt tt
         (λ p v both. both.1) (sym (subst (λ w. address w (cover image change) ≡ entry) (sym slot_committed) covered_after)) (sym (needs ∙ need_in_slot image i wf reached lacks.directory s found))
-        (content_open image [] i (32 * s + 0) entry reached (omega (arith, in_size)) entry_at) (subst IsWellFormed (sym slot_committed) well_formed) effect)
+        (content_open image [] i (32 * s + 0) entry reached (omega (arith, in_size)) entry_at loose) (subst IsWellFormed (sym slot_committed) well_formed) effect)
 
-    pub slot_within : Effect image (current_words last) → PerformsWithin none_kept (name_need image i) 5 (stores_behind_growth (name_need image i)) first last change Effect
+    pub slot_within : Effect image (current_words last) → PerformsWithin kept (name_need image i) 5 (stores_behind_growth (name_need image i)) first last change Effect
     slot_within effect =
-        within_more none_kept (name_need image i) 2 (more + 1) first last change Effect (in_two effect) 5 (stores_behind_growth (name_need image i)) (omega arith) (enough (name_need image i))
+        within_more kept (name_need image i) 2 (more + 1) first last change Effect (in_two effect) 5 (stores_behind_growth (name_need image i)) (omega arith) (enough (name_need image i))
       where
         enough : (needed : ℕ) → more + 1 ≤ stores_behind_growth needed
         enough needed = omega (arith, few)

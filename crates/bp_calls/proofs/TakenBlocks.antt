@@ -1,5 +1,5 @@
 -- The sets of free numbers stay exact over a call that takes some of the blocks.
-use Rattle.std.proofs.Common.{◌≡◌, ◌⊎◌, ℕ, ◌<◌, ◌≤◌, List, [], ◌∷◌, ◌++◌, length, true, sym, ◌∙◌, inl, inr, subst, arith}
+use Rattle.std.proofs.Common.{◌≡◌, ◌⊎◌, ℕ, Bool, ◌<◌, ◌≤◌, List, [], ◌∷◌, ◌++◌, length, true, sym, ◌∙◌, inl, inr, subst, arith}
 use Rattle.std.specs.List.{range_with_len}
 use Rattle.bp_layout.proofs.MemberLaws.{apart-filter, apart-range, each-of, filter-has, has-behind, has-filter, has-range}
 use Rattle.bp_free.specs.Set.{Set, has, members}
@@ -15,7 +15,6 @@ use Rattle.bp_append.specs.Filled.{IsUsable}
 use Rattle.bp_append.proofs.FillLaws.{apart_parts}
 use Rattle.bp_shapes.specs.Sets.{AreExact}
 use Rattle.bp_calls.proofs.SetLaws.{free_inodes_stay, in_room}
-use Rattle.bp_layout.specs.Thaw.{none_kept}
 
 -- ---- members
 
@@ -38,8 +37,8 @@ has_either (x ∷ xs) ys b (inr later) = elim (has_either xs ys b later) [ inl e
 
 -- ---- free blocks may be taken
 
-module _ (image : Image) (blocks inodes : Set) (exact : AreExact image none_kept blocks inodes) where
-  free_of : (b : ℕ) → Has (members blocks) b → IsFreeBlock image none_kept b
+module _ {kept : ℕ → Bool} (image : Image) (blocks inodes : Set) (exact : AreExact image kept blocks inodes) where
+  free_of : (b : ℕ) → Has (members blocks) b → IsFreeBlock image kept b
   free_of b there = exact.free_blocks.free b (of_members blocks b there)
 
   pub usable_members : (count : ℕ) → block_count image ≡ count → IsUsable count (members blocks)
@@ -49,20 +48,20 @@ module _ (image : Image) (blocks inodes : Set) (exact : AreExact image none_kept
     apart = members_apart blocks;
   }
 
-  pub unused_members : Each (λ b. IsLiveBlock image b → ⊥) (members blocks)
-  unused_members = each-of (λ b. IsLiveBlock image b → ⊥) (members blocks) (λ b there. (free_of b there).free)
+  pub members_free : Each (IsFreeBlock image kept) (members blocks)
+  members_free = each-of (IsFreeBlock image kept) (members blocks) free_of
 
 -- ---- a call takes some of them
 
-module _ (old new : Image) (whole : length new ≡ length old) (taken : List ℕ) (blocks after inodes : Set) (exact : AreExact old none_kept blocks inodes) (takes : members blocks ≡ taken ++ members after)
+module _ {kept : ℕ → Bool} (old new : Image) (whole : length new ≡ length old) (taken : List ℕ) (blocks after inodes : Set) (exact : AreExact old kept blocks inodes) (takes : members blocks ≡ taken ++ members after)
     (back : (b : ℕ) → IsLiveBlock new b → IsLiveBlock old b ⊎ Has taken b) (stays : (b : ℕ) → IsLiveBlock old b → IsLiveBlock new b) (took : (b : ℕ) → Has taken b → IsLiveBlock new b) where
   apart : AreApart (taken ++ members after)
   apart = subst AreApart takes (members_apart blocks)
 
-  free_now : (b : ℕ) → has after b ≡ true → IsFreeBlock new none_kept b
+  free_now : (b : ℕ) → has after b ≡ true → IsFreeBlock new kept b
   free_now b is =
       let there : Has (members blocks) b = subst (λ bs. Has bs b) (sym takes) (has-behind taken (members after) b (in_members after b is)) in
-      let free : IsFreeBlock old none_kept b = free_of old blocks inodes exact b there in
+      let free : IsFreeBlock old kept b = free_of old blocks inodes exact b there in
       record {
         low = free.low;
         high = rw whole free.high;
@@ -70,17 +69,17 @@ module _ (old new : Image) (whole : length new ≡ length old) (taken : List ℕ
         loose = free.loose;
       }
 
-  all_now : (b : ℕ) → IsFreeBlock new none_kept b → has after b ≡ true
+  all_now : (b : ℕ) → IsFreeBlock new kept b → has after b ≡ true
   all_now b free =
       let was : has blocks b ≡ true = exact.free_blocks.all b (record { low = free.low; high = rw whole at free.high; free = λ live. free.free (stays b live); loose = free.loose }) in
       elim (has_either taken (members after) b (subst (λ bs. Has bs b) takes (in_members blocks b was))) [ inl early ↦ absurd (free.free (took b early)) | inr late ↦ of_members after b late ]
 
-  pub free_taken : AreFreeBlocks new none_kept (has after)
+  pub free_taken : AreFreeBlocks new kept (has after)
   free_taken = record { free = free_now; all = all_now }
 
 -- so where a file takes them
-pub exact_taken : (old new : Image) (x : ℕ) → IsWellFormed old → ChangesFile old new x → (taken : List ℕ) (blocks after inodes : Set) → AreExact old none_kept blocks inodes → members blocks ≡ taken ++ members after →
-    length after ≡ length blocks → ((b : ℕ) → IsLiveBlock new b → IsLiveBlock old b ⊎ Has taken b) → ((b : ℕ) → IsLiveBlock old b → IsLiveBlock new b) → ((b : ℕ) → Has taken b → IsLiveBlock new b) → AreExact new none_kept after inodes
+pub exact_taken : {kept : ℕ → Bool} (old new : Image) (x : ℕ) → IsWellFormed old → ChangesFile old new x → (taken : List ℕ) (blocks after inodes : Set) → AreExact old kept blocks inodes → members blocks ≡ taken ++ members after →
+    length after ≡ length blocks → ((b : ℕ) → IsLiveBlock new b → IsLiveBlock old b ⊎ Has taken b) → ((b : ℕ) → IsLiveBlock old b → IsLiveBlock new b) → ((b : ℕ) → Has taken b → IsLiveBlock new b) → AreExact new kept after inodes
 exact_taken old new x wf changes taken blocks after inodes exact takes room back stays took = record {
   block_room = rw changes.trees.whole (room ∙ exact.block_room);
   inode_room = rw changes.trees.whole exact.inode_room;

@@ -31,6 +31,10 @@ lacks_thawed image change needed free needs has fewer = record { needed = full_n
 pub prepared_room_of : (needed made asked room : ℕ) → needed ≡ made → asked ≤ 512 * suc max_height → room_for needed ≤ room → 512 * made + asked + 4 ≤ room
 prepared_room_of needed made asked room a b c = omega (arith, a, b, c)
 
+-- the same behind a thaw
+pub prepared_room_thawed : (needed made asked room : ℕ) → needed ≡ made → asked ≤ 512 * suc max_height → room_for needed ≤ room + 2 → 512 * made + asked + 4 ≤ room
+prepared_room_thawed needed made asked room a b c = omega (arith, a, b, c)
+
 -- where blocks are copied behind it
-pub across_room : (needed made copies asked room : ℕ) → needed ≡ made + copies → asked ≤ 512 * suc max_height → room_for needed ≤ room → 512 * made + asked + 4 ≤ room
+pub across_room : (needed made copies asked room : ℕ) → needed ≡ made + copies → asked ≤ 512 * suc max_height → room_for needed ≤ room + 2 → 512 * made + asked + 4 ≤ room
 across_room needed made copies asked room a b c = omega (arith, a, b, c)

@@ -1,12 +1,13 @@
 -- A write behind the size of a file: what it asks of a preparation, and that it is performed.
-use Rattle.std.proofs.Common.{◌≡◌, ◌⊎◌, ℕ, zero, suc, ◌+◌, ◌-◌, ◌*◌, ◌<◌, ◌≤◌, max, List, length, slice_index, refl, sym, ◌∙◌, ap, subst, inl, inr, arith, lt-ltb, le-ltb, le-leb}
+use Rattle.std.proofs.Common.{◌≡◌, ◌⊎◌, ℕ, zero, suc, ◌+◌, ◌-◌, ◌*◌, ◌<◌, ◌≤◌, max, List, length, slice_index, refl, sym, ◌∙◌, ap, ap₂, subst, inl, inr, arith, lt-ltb, le-ltb, le-leb, Bool, ◌∷◌, []}
 use Rattle.bp_limits.specs.Limits.{max_height}
 use Rattle.std.proofs.lemmas.Bool.{cases_lt, lt-leb}
 use Rattle.std.proofs.lemmas.List.{append-nil, length-append}
 use Rattle.bp_free.specs.Set.{Set, members}
-use Rattle.bp_layout.specs.Free.{HasFree}
 use Rattle.bp_layout.specs.Same.{Same}
-use Rattle.bp_layout.specs.Inode.{root_of, size_of, ContentStandsAt}
+use Rattle.bp_layout.specs.Inode.{kind_of, root_of, size_of, ContentStandsAt}
+use Rattle.bp_layout.specs.Reached.{IsReached}
+use Rattle.bp_layout.specs.WellFormed.{IsWellFormed}
 use Rattle.bp_layout.specs.Need.{need}
 use Rattle.bp_layout.specs.Need.Change.{writes}
 use Rattle.bp_layout.specs.Nodes.{nodes_for}
@@ -17,21 +18,22 @@ use Rattle.pm_epochs.specs.Crash.{commit}
 use Rattle.pm_region.specs.Memory.{Memory, current_words, room_in, Adds}
 use Rattle.pm_region.proofs.MemoryLaws.{base-adds, length-current_words}
 use Rattle.pm_region.proofs.SafeLaws.{room_after_quiet}
-use Rattle.bp_commit.specs.Performs.{Performs, room_for}
+use Rattle.bp_commit.specs.Performs.{PerformsThawed, room_for}
 use Rattle.bp_append.specs.Given.{given}
 use Rattle.bp_append.specs.Stores.{prep_stores}
 use Rattle.bp_append.proofs.StoresLaws.{behind_whole, room_behind_whole}
-use Rattle.bp_append.specs.Prepared.{CanPrepare, PreparesWith, need_for}
+use Rattle.bp_append.specs.Prepared.{HasLooseEnd, CanPrepare, PreparesWith, need_for}
 use Rattle.bp_append.proofs.GrowsTree.{OnlyGrows, GrowsTree, only_need, grown_size, grown_performs}
 use Rattle.bp_append.proofs.GrownEffect.{grown_changes, grown_bytes, grown_live, grown_stays, grown_taken}
-use Rattle.bp_calls.specs.CanWrite.{CanWrite}
+use Rattle.bp_calls.specs.CanWrite.{CanWriteThawed}
 use Rattle.bp_shapes.specs.Sets.{AreExact}
-use Rattle.bp_calls.specs.Space.{LacksSpace}
 use Rattle.bp_calls.specs.WritesFile.{WritesFile, written_byte}
-use Rattle.bp_calls.proofs.FreeCounts.{free_members}
-use Rattle.bp_calls.proofs.TakenBlocks.{exact_taken, unused_members, usable_members}
-use Rattle.bp_layout.specs.Thaw.{none_kept}
-use Rattle.bp_calls.proofs.Unthawed.{lacks_thawed, room_asked, unthawed, prepared_room_of}
+use Rattle.bp_append.proofs.EndWays.{loose_end}
+use Rattle.bp_calls.proofs.TakenBlocks.{exact_taken, members_free, usable_members}
+use Rattle.bp_layout.specs.Thaw.{cover_now, end_path_now, root_path_now, targets}
+use Rattle.bp_layout.specs.Members.{Has}
+use Rattle.bp_layout.proofs.ThawLaws.{loose-on}
+use Rattle.bp_calls.proofs.Unthawed.{prepared_room_thawed}
 
 -- ---- one byte
 
@@ -66,9 +68,16 @@ only_grows image i off len behind some = record {
   touches = rw (le-ltb off (size_of image i) behind, lt-ltb (size_of image i) (off + len) (omega (arith, behind, some))) refl;
 }
 
+-- so many blocks it takes, told by the root word and the size of its tree
+pub behind_needs : (image : Image) → IsWellFormed image → (i off len root size : ℕ) → IsReached image i → kind_of image i ≡ 1 → size_of image i ≤ off → 1 ≤ len → root ≡ root_of image i → size ≡ size_of image i →
+    need image (writes i off len) ≡ length (nodes_for image root size off (off + len))
+behind_needs image wf zero off len root size reached file behind some one two = absurd (omega (arith, file))
+behind_needs image wf (suc n) off len root size reached file behind some one two =
+    only_need image (writes (suc n) off len) n off (off + len) wf reached (only_grows image (suc n) off len behind some) ∙ sym (ap₂ (λ r s. length (nodes_for image r s off (off + len))) one two)
+
 -- ---- the call
 
-module _ (old : Memory) (blocks inodes : Set) (n off : ℕ) (bytes : List ℕ) (can : CanWrite old blocks inodes (suc n) off bytes) (behind : size_of (current_words old) (suc n) ≤ off) where
+module _ {kept : ℕ → Bool} (old : Memory) (blocks inodes : Set) (n off : ℕ) (bytes : List ℕ) (can : CanWriteThawed kept old blocks inodes (suc n) off bytes) (behind : size_of (current_words old) (suc n) ≤ off) where
   abbrev image : Image
   image = current_words old
 
@@ -81,7 +90,16 @@ module _ (old : Memory) (blocks inodes : Set) (n off : ℕ) (bytes : List ℕ) (
   pub behind_need : need image (writes (suc n) off (length bytes)) ≡ need_here
   behind_need = only_need image (writes (suc n) off (length bytes)) n off end can.well_formed can.reached (only_grows image (suc n) off (length bytes) behind can.some)
 
-  pub behind_prepares : need_here ≤ length (members blocks) → (path : WordPath) → path ≡ inode_path (height_of (root_of image 0)) (suc n) 1 → CanPrepare old (members blocks) (suc n) path off end
+  -- the ways to the end of the file are loose
+  ends : targets image (writes (suc n) off (length bytes)) ≡ cover_now image (writes (suc n) off (length bytes)) ∷ root_path_now image (suc n) ∷ end_path_now image (suc n) ∷ []
+  ends = rw (lt-ltb (size_of image (suc n)) end (let some = can.some in omega (arith, behind, some))) refl
+
+  end_loose : HasLooseEnd image kept (suc n)
+  end_loose =
+      loose_end image can.well_formed kept (suc n) can.reached
+      (loose-on image kept (targets image (writes (suc n) off (length bytes))) can.clear (end_path_now image (suc n)) (subst (λ ps. Has ps (end_path_now image (suc n))) (sym ends) (inr (inr (inl refl)))) (length (root_path_now image (suc n)) - 1))
+
+  pub behind_prepares : need_here ≤ length (members blocks) → (path : WordPath) → path ≡ inode_path (height_of (root_of image 0)) (suc n) 1 → CanPrepare kept old (members blocks) (suc n) path off end
   behind_prepares enough path is = record {
     well = can.well_formed;
     reached = can.reached;
@@ -91,26 +109,27 @@ module _ (old : Memory) (blocks inodes : Set) (n off : ℕ) (bytes : List ℕ) (
     fits = can.fits;
     by_words = λ by. elim by [ inl e ↦ omega (arith, e) | inr two ↦ omega (arith, two, can.file) ];
     usable = usable_members image blocks inodes can.exact _ (omega (arith, length-current_words old));
-    unused = unused_members image blocks inodes can.exact;
+    are_free = members_free image blocks inodes can.exact;
+    loose = end_loose;
     enough = enough;
-    room = let room = room_asked old blocks (writes (suc n) off (length bytes)) can.room (omega (arith, behind_need, enough)) in
-        prepared_room_of _ _ _ _ behind_need (room_behind_whole (size_of image (suc n)) off end max_height) room;
+    room = let room = can.room (omega (arith, behind_need, enough)) in
+        prepared_room_thawed _ _ _ _ behind_need (room_behind_whole (size_of image (suc n)) off end max_height) room;
   }
 
-  module _ (middle new : Memory) (after : Set) (path : WordPath) (place : ℕ) (prepares : CanPrepare old (members blocks) (suc n) path off end) (stands : ContentStandsAt image 0 (8 * suc n + 2) place)
-      (prepared : PreparesWith old middle (members blocks) (members after) (suc n) off end bytes) (stored : Adds middle new (commit place end)) where
+  module _ (middle new : Memory) (after : Set) (path : WordPath) (place : ℕ) (prepares : CanPrepare kept old (members blocks) (suc n) path off end) (stands : ContentStandsAt image 0 (8 * suc n + 2) place)
+      (prepared : PreparesWith kept old middle (members blocks) (members after) (suc n) off end bytes) (stored : Adds middle new (commit place end)) where
     only : OnlyGrows image (writes (suc n) off (length bytes)) (suc n) off end
     only = only_grows image (suc n) off (length bytes) behind can.some
 
-    grows : GrowsTree old middle new (members blocks) (members after) path n off end place bytes
+    grows : GrowsTree kept old middle new (members blocks) (members after) path n off end place bytes
     grows = record { can = prepares; is_file = can.file; stands = stands; prepared = prepared; stored = stored }
 
     size_is : size_of (current_words new) (suc n) ≡ end
-    size_is = grown_size old middle new (members blocks) (members after) path n off end place bytes grows (writes (suc n) off (length bytes)) only
+    size_is = grown_size kept old middle new (members blocks) (members after) path n off end place bytes grows (writes (suc n) off (length bytes)) only
 
     byte_is : (o : ℕ) → o < end → byte (current_words new) (root_of (current_words new) (suc n)) o ≡ written_byte off bytes (size_of image (suc n)) (byte image (root_of image (suc n))) o
     byte_is o low =
-        grown_bytes old middle new (members blocks) (members after) path n off end place bytes grows (writes (suc n) off (length bytes)) only o low
+        grown_bytes kept old middle new (members blocks) (members after) path n off end place bytes grows (writes (suc n) off (length bytes)) only o low
         ∙ go (cases_lt o (size_of image (suc n))) (cases_lt o off)
       where
         go : (o < size_of image (suc n)) ⊎ (size_of image (suc n) ≤ o) → (o < off) ⊎ (off ≤ o) →
@@ -124,73 +143,59 @@ module _ (old : Memory) (blocks inodes : Set) (n off : ℕ) (bytes : List ℕ) (
 
     pub behind_writes : WritesFile (suc n) off bytes image (current_words new)
     behind_writes = record {
-      changes = grown_changes old middle new (members blocks) (members after) path n off end place bytes grows (writes (suc n) off (length bytes)) only;
+      changes = grown_changes kept old middle new (members blocks) (members after) path n off end place bytes grows (writes (suc n) off (length bytes)) only;
       size = omega (arith, size_is, behind);
       bytes_are = λ o low. byte_is o (omega (arith, low, size_is));
     }
 
-    pub behind_performs : Performs none_kept old new (writes (suc n) off (length bytes)) (WritesFile (suc n) off bytes)
+    pub behind_performs : PerformsThawed kept old new (writes (suc n) off (length bytes)) (WritesFile (suc n) off bytes)
     behind_performs =
-        unthawed old new (writes (suc n) off (length bytes)) (WritesFile (suc n) off bytes)
-        (grown_performs old middle new (members blocks) (members after) path n off end place bytes grows (writes (suc n) off (length bytes)) only (WritesFile (suc n) off bytes) behind_writes)
+        grown_performs kept old middle new (members blocks) (members after) path n off end place bytes grows (writes (suc n) off (length bytes)) only (WritesFile (suc n) off bytes) behind_writes
 
-    pub behind_exact : length after ≡ length blocks → AreExact (current_words new) none_kept after inodes
+    pub behind_exact : length after ≡ length blocks → AreExact (current_words new) kept after inodes
     unfolding grows
     behind_exact room =
         exact_taken image (current_words new) (suc n) can.well_formed behind_writes.changes prepared.taken blocks after inodes can.exact prepared.takes room
-        (grown_live old middle new (members blocks) (members after) path n off end place bytes grows (writes (suc n) off (length bytes)) only)
-        (grown_stays old middle new (members blocks) (members after) path n off end place bytes grows (writes (suc n) off (length bytes)) only)
-        (grown_taken old middle new (members blocks) (members after) path n off end place bytes grows (writes (suc n) off (length bytes)) only)
+        (grown_live kept old middle new (members blocks) (members after) path n off end place bytes grows (writes (suc n) off (length bytes)) only)
+        (grown_stays kept old middle new (members blocks) (members after) path n off end place bytes grows (writes (suc n) off (length bytes)) only)
+        (grown_taken kept old middle new (members blocks) (members after) path n off end place bytes grows (writes (suc n) off (length bytes)) only)
 
 -- ---- by the number of the inode
 
 module _ (old : Memory) (blocks inodes : Set) (off : ℕ) (bytes : List ℕ) where
-  abbrev nodes_here : ℕ → ℕ → ℕ
-  nodes_here root size = length (nodes_for (current_words old) root size off (off + length bytes))
-
-  not_inodes : (P : Type 0) → CanWrite old blocks inodes 0 off bytes → P
+  not_inodes : {kept : ℕ → Bool} (P : Type 0) → CanWriteThawed kept old blocks inodes 0 off bytes → P
   not_inodes P can = absurd (omega (arith, can.file))
 
-  pub behind_lacks : (i root size needed free : ℕ) → CanWrite old blocks inodes i off bytes → size_of (current_words old) i ≤ off → root ≡ root_of (current_words old) i → size ≡ size_of (current_words old) i →
-      needed ≡ nodes_here root size → free ≡ length (members blocks) → free < needed → LacksSpace (current_words old) none_kept (writes i off (length bytes)) (record { need = needed; free = free })
-  behind_lacks zero root size needed free can = λ behind one two counted is fewer. not_inodes _ can
-  behind_lacks (suc n) root size needed free can = λ behind one two counted is fewer.
-      lacks_thawed (current_words old) (writes (suc n) off (length bytes)) needed free
-      (behind_need old blocks inodes n off bytes can behind ∙ sym (counted ∙ ap (λ r. nodes_here r size) one ∙ ap (nodes_here (root_of (current_words old) (suc n))) two))
-      (subst (HasFree (current_words old) none_kept) (sym is) (free_members (current_words old) none_kept blocks can.exact.free_blocks can.exact.block_room)) fewer
-
-  pub behind_can : (i root size needed : ℕ) (path : WordPath) → CanWrite old blocks inodes i off bytes → size_of (current_words old) i ≤ off → root ≡ root_of (current_words old) i → size ≡ size_of (current_words old) i →
-      needed ≡ nodes_here root size → needed ≤ length (members blocks) → path ≡ inode_path (height_of (root_of (current_words old) 0)) i 1 → CanPrepare old (members blocks) i path off (off + length bytes)
-  behind_can zero root size needed path can = λ behind one two counted enough is. not_inodes _ can
-  behind_can (suc n) root size needed path can = λ behind one two counted enough is.
-      behind_prepares old blocks inodes n off bytes can behind
-      (subst (λ k. k ≤ length (members blocks)) (counted ∙ ap (λ r. nodes_here r size) one ∙ ap (nodes_here (root_of (current_words old) (suc n))) two) enough) path is
+  pub behind_can : {kept : ℕ → Bool} (i : ℕ) (path : WordPath) → CanWriteThawed kept old blocks inodes i off bytes → size_of (current_words old) i ≤ off → need (current_words old) (writes i off (length bytes)) ≤ length (members blocks) →
+      path ≡ inode_path (height_of (root_of (current_words old) 0)) i 1 → CanPrepare kept old (members blocks) i path off (off + length bytes)
+  behind_can zero path can = λ behind enough is. not_inodes _ can
+  behind_can (suc n) path can = λ behind enough is. behind_prepares old blocks inodes n off bytes can behind (omega (arith, enough, behind_need old blocks inodes n off bytes can behind)) path is
 
   module _ (middle : Memory) (after : Set) where
-    pub prepared_base : (i : ℕ) → PreparesWith old middle (members blocks) (members after) i off (off + length bytes) bytes → length middle.base ≡ length old.base
+    pub prepared_base : {kept : ℕ → Bool} (i : ℕ) → PreparesWith kept old middle (members blocks) (members after) i off (off + length bytes) bytes → length middle.base ≡ length old.base
     prepared_base i prepared = ap length (base-adds old middle _ prepared.adds.part.adds)
 
-    pub prepared_room : (i : ℕ) → CanWrite old blocks inodes i off bytes → size_of (current_words old) i ≤ off → PreparesWith old middle (members blocks) (members after) i off (off + length bytes) bytes → 3 ≤ room_in middle
+    pub prepared_room : {kept : ℕ → Bool} (i : ℕ) → CanWriteThawed kept old blocks inodes i off bytes → size_of (current_words old) i ≤ off → PreparesWith kept old middle (members blocks) (members after) i off (off + length bytes) bytes → 3 ≤ room_in middle
     prepared_room zero can = λ behind prepared. not_inodes _ can
     prepared_room (suc n) can = λ behind prepared.
         let left = room_after_quiet Same 2 (prep_stores (size_of (current_words old) (suc n)) off (off + length bytes) (need_for (current_words old) (suc n) off (off + length bytes))) old middle prepared.adds.part in
         let needs = behind_need old blocks inodes n off bytes can behind in
         let all : length (members blocks) ≡ length prepared.taken + length (members after) = ap (λ (xs : List ℕ). length xs) prepared.takes ∙ length-append prepared.taken (members after) in
-        let has : room_for (need (current_words old) (writes (suc n) off (length bytes))) ≤ room_in old = room_asked old blocks (writes (suc n) off (length bytes)) can.room (omega (arith, needs, prepared.counted, all)) in
+        let has : room_for (need (current_words old) (writes (suc n) off (length bytes))) ≤ room_in old + 2 = can.room (omega (arith, needs, prepared.counted, all)) in
         enough _ _ _ _ left (behind_whole (size_of (current_words old) (suc n)) off (off + length bytes) max_height) (rw needs at has)
       where
-        enough : (needed behind room left : ℕ) → room ≤ left + (2 + (512 * needed + behind + 2)) → behind ≤ 512 * suc max_height → room_for needed ≤ room → 3 ≤ left
+        enough : (needed behind room left : ℕ) → room ≤ left + (2 + (512 * needed + behind + 2)) → behind ≤ 512 * suc max_height → room_for needed ≤ room + 2 → 3 ≤ left
         enough needed behind room left a b c = omega (arith, a, b, c)
 
     module _ (new : Memory) (path : WordPath) (place : ℕ) where
-      pub behind_performs_at : (i : ℕ) → CanWrite old blocks inodes i off bytes → size_of (current_words old) i ≤ off → CanPrepare old (members blocks) i path off (off + length bytes) →
-          ContentStandsAt (current_words old) 0 (8 * i + 2) place → PreparesWith old middle (members blocks) (members after) i off (off + length bytes) bytes → Adds middle new (commit place (off + length bytes)) →
-          Performs none_kept old new (writes i off (length bytes)) (WritesFile i off bytes)
+      pub behind_performs_at : {kept : ℕ → Bool} (i : ℕ) → CanWriteThawed kept old blocks inodes i off bytes → size_of (current_words old) i ≤ off → CanPrepare kept old (members blocks) i path off (off + length bytes) →
+          ContentStandsAt (current_words old) 0 (8 * i + 2) place → PreparesWith kept old middle (members blocks) (members after) i off (off + length bytes) bytes → Adds middle new (commit place (off + length bytes)) →
+          PerformsThawed kept old new (writes i off (length bytes)) (WritesFile i off bytes)
       behind_performs_at zero can = λ behind prepares stands prepared stored. not_inodes _ can
       behind_performs_at (suc n) can = λ behind prepares stands prepared stored. behind_performs old blocks inodes n off bytes can behind middle new after path place prepares stands prepared stored
 
-      pub behind_exact_at : (i : ℕ) → CanWrite old blocks inodes i off bytes → size_of (current_words old) i ≤ off → CanPrepare old (members blocks) i path off (off + length bytes) →
-          ContentStandsAt (current_words old) 0 (8 * i + 2) place → PreparesWith old middle (members blocks) (members after) i off (off + length bytes) bytes → Adds middle new (commit place (off + length bytes)) →
-          length after ≡ length blocks → AreExact (current_words new) none_kept after inodes
+      pub behind_exact_at : {kept : ℕ → Bool} (i : ℕ) → CanWriteThawed kept old blocks inodes i off bytes → size_of (current_words old) i ≤ off → CanPrepare kept old (members blocks) i path off (off + length bytes) →
+          ContentStandsAt (current_words old) 0 (8 * i + 2) place → PreparesWith kept old middle (members blocks) (members after) i off (off + length bytes) bytes → Adds middle new (commit place (off + length bytes)) →
+          length after ≡ length blocks → AreExact (current_words new) kept after inodes
       behind_exact_at zero can = λ behind prepares stands prepared stored room. not_inodes _ can
       behind_exact_at (suc n) can = λ behind prepares stands prepared stored room. behind_exact old blocks inodes n off bytes can behind middle new after path place prepares stands prepared stored room

@@ -1,55 +1,86 @@
 -- A write below the size of a file: what it asks of a commit, and that it is performed.
-use Rattle.std.proofs.Common.{◌≡◌, ◌⊎◌, ℕ, zero, suc, ◌+◌, ◌-◌, ◌<◌, ◌≤◌, List, [], ◌∷◌, length, slice_index, refl, sym, ◌∙◌, ap, subst, inl, inr, arith, le_trans}
-use Rattle.std.proofs.lemmas.Bool.{cases_eq}
+use Rattle.std.proofs.Common.{◌≡◌, ◌⊎◌, ℕ, zero, suc, ◌+◌, ◌-◌, ◌<◌, ◌≤◌, List, [], ◌∷◌, length, slice_index, refl, sym, ◌∙◌, ap, subst, inl, inr, arith, Bool, ◌||◌, ◌==◌, ◌++◌, fold, flat_map, if◌then◌else◌}
+use Rattle.std.proofs.lemmas.Bool.{cases_eq, le-ltb}
 use Rattle.std.proofs.lemmas.List.{take_all}
 use Rattle.bp_free.specs.Set.{Set, has, members}
-use Rattle.bp_layout.specs.Free.{HasFree}
-use Rattle.bp_layout.specs.Inode.{size_of}
+use Rattle.bp_layout.specs.Inode.{root_of, size_of}
 use Rattle.bp_layout.specs.Members.{Has}
 use Rattle.bp_layout.specs.Need.{need}
 use Rattle.bp_layout.specs.Need.Change.{writes}
 use Rattle.bp_layout.specs.Reached.{IsReached}
 use Rattle.bp_layout.specs.WellFormed.{IsWellFormed}
-use Rattle.bp_layout.specs.Words.{Image}
+use Rattle.bp_layout.specs.Words.{Image, height_of}
 use Rattle.bp_changes.specs.Effects.{ChangesFile}
 use Rattle.bp_changes.proofs.ChangesFile.{keeps, well_formed-same}
 use Rattle.bp_shapes.specs.Sets.{AreExact}
-use Rattle.bp_commit.specs.Performs.{Performs, room_for}
+use Rattle.bp_commit.specs.Performs.{PerformsThawed, room_for}
 use Rattle.pm_region.specs.Memory.{Memory, current_words, room_in}
 use Rattle.bp_cow.specs.declared.touched.Run.{Run}
 use Rattle.bp_cow.specs.declared.touched.Touched.{Touched}
-use Rattle.bp_cow.specs.CanCommit.{CanCommit, IsRunIn}
-use Rattle.bp_cow.specs.Commit.{CommitsTouched, HasRoom}
-use Rattle.bp_cow.specs.Cover.{commit_cover, copied_count}
+use Rattle.bp_cow.specs.CanCommit.{CanCommit, IsRunIn, IsTreeIn}
+use Rattle.bp_cow.specs.Commit.{HasLooseCover, CommitsTouched, HasRoom}
+use Rattle.bp_cow.specs.Cover.{LeadsInside, commit_cover, copied_count}
+use Rattle.bp_cow.proofs.CopiesNeed.{none-begins}
+use Rattle.bp_cow.proofs.JobLaws.{first-range}
 use Rattle.bp_cow.specs.Job.{IsTurned}
-use Rattle.bp_cow.specs.Touched.{IsRun, IsTouched, job_of, leaves_of, run_leaves}
-use Rattle.bp_cow.proofs.CallerLaws.{runs_can}
+use Rattle.bp_cow.specs.Touched.{IsRun, IsTouched, NoneBegins, all_paths, job_of, leaves_of, run_leaves}
+use Rattle.bp_cow.proofs.CallerLaws.{no_trees, runs_can}
+use Rattle.bp_limits.specs.Limits.{max_height}
 use Rattle.bp_cow.proofs.CommitTaking.{commit_performs, stores_few}
 use Rattle.bp_cow.proofs.FewCopies.{few_copies}
 use Rattle.bp_cow.proofs.RunThere.{run_cover, run_need}
 use Rattle.bp_cow.proofs.RunWrites.{run_bytes, run_changes, run_size}
-use Rattle.bp_calls.specs.CanWrite.{CanWrite}
-use Rattle.bp_calls.specs.Space.{LacksSpace}
+use Rattle.bp_calls.specs.CanWrite.{CanWriteInto}
+use Rattle.bp_calls.specs.Space.{HasRoomThawed, LacksBlocks}
+use Rattle.bp_calls.proofs.FreeCounts.{free_members}
+use Rattle.bp_layout.specs.Free.{HasFree}
 use Rattle.bp_calls.specs.TouchedBelow.{WritesBelow}
 use Rattle.bp_calls.specs.WritesFile.{WritesFile}
-use Rattle.bp_calls.proofs.FreeCounts.{free_members}
-use Rattle.bp_calls.proofs.RunCommits.{IsRunOf, commit_exact, commit_writes_file, few_leaves, run_in, run_is, run_open}
-use Rattle.bp_layout.specs.Thaw.{none_kept}
-use Rattle.bp_calls.proofs.Unthawed.{lacks_thawed, room_asked, unthawed}
+use Rattle.bp_calls.proofs.RunCommits.{IsRunOf, run_loose, commit_exact, commit_writes_file, few_leaves, run_in, run_is, run_open}
+use Rattle.bp_layout.specs.Thaw.{cover_now, is_there_now, targets, thawed}
+use Rattle.std.specs.List.{list_any}
+use Rattle.bp_layout.proofs.ThawLaws.{loose-on}
+use Rattle.bp_layout.specs.Need.{Beyond, beyond, cover, cover_of, pointed, prepared_for, same_node, touched_at}
+use Rattle.bp_layout.specs.Nodes.{TreeNode, height_with, is_present}
+use Rattle.bp_layout.specs.WordPaths.{WordPath}
+use Rattle.bp_calls.proofs.PatchCommits.{exists_as, or_false}
+
+-- a write below the size prepares nothing, so it covers what it covers now
+writes_now : (image : Image) (i off len : ℕ) → off + len ≤ size_of image i → cover_now image (writes i off len) ≡ cover image (writes i off len)
+writes_now image i off len below = now ∙ sym (ap by none)
+  where
+    none : beyond image (writes i off len) ≡ []
+    none = rw (le-ltb (size_of image i) (off + len) below) refl
+
+    heights : List Beyond → ℕ → ℕ
+    heights bs t = fold (λ h (b : Beyond). if b.tree == t then height_with (root_of image t) (size_of image t) b.to else h) (height_of (root_of image t)) (bs ++ [])
+
+    there : List Beyond → ℕ × TreeNode → Bool
+    there bs n = is_present image (root_of image n.0) (size_of image n.0) n.1 || list_any (same_node n) (flat_map (prepared_for image) bs) || list_any (same_node n) []
+
+    by : List Beyond → WordPath
+    by bs = cover_of (λ path. there bs (pointed (heights bs) path)) (touched_at (heights bs) image (writes i off len))
+
+    now : cover_now image (writes i off len) ≡ by []
+    now = exists_as (is_there_now image) (λ path. there [] (pointed (heights []) path)) (λ path. or_false (is_there_now image path)) [] _
 
 -- The run is all that is touched.
 record IsRunAlone (image : Image) (i : ℕ) (touched : Touched) (run : Run) : Type 0 where
   pub one : touched.runs.now ≡ run ∷ []
   pub no_words : touched.words.now ≡ []
+  pub no_trees : touched.trees.now ≡ []
   pub of : IsRunOf image i run
 
--- what a commit of the run asks
-record CanCommitRun (memory : Memory) (blocks : Set) (i : ℕ) (touched : Touched) (run : Run) : Type 0 where
-  pub can : CanCommit (current_words memory) (size_of (current_words memory)) touched (has blocks)
+-- What a commit of the run asks. Where nothing is left to thaw its one store in place goes to no kept block.
+record CanCommitRun (kept : ℕ → Bool) (memory : Memory) (blocks : Set) (i : ℕ) (touched : Touched) (run : Run) : Type 0 where
+  pub can : CanCommit (current_words memory) (size_of (current_words memory)) kept touched (has blocks)
   pub need_is : copied_count (current_words memory) touched ≡ need (current_words memory) (writes i run.off (length run.bytes.now))
-  pub room : copied_count (current_words memory) touched ≤ length (members blocks) → HasRoom memory touched
+  pub few : copied_count (current_words memory) touched ≤ 320
+  pub cover_is : commit_cover (current_words memory) touched ≡ cover_now (current_words memory) (writes i run.off (length run.bytes.now))
+  pub room : HasRoomThawed memory blocks (writes i run.off (length run.bytes.now)) → copied_count (current_words memory) touched ≤ length (members blocks) → HasRoom memory touched
+  pub loose : thawed (current_words memory) kept (writes i run.off (length run.bytes.now)) ≡ [] → HasLooseCover (current_words memory) kept touched
 
-module _ (old : Memory) (blocks inodes : Set) (n : ℕ) (touched : Touched) (run : Run) (is : IsRunAlone (current_words old) (suc n) touched run) (asks : CanWrite old blocks inodes (suc n) run.off run.bytes.now) where
+module _ {kept : ℕ → Bool} (old : Memory) (blocks inodes : Set) (n : ℕ) (touched : Touched) (run : Run) (is : IsRunAlone (current_words old) (suc n) touched run) (asks : CanWriteInto kept (current_words old) blocks inodes (suc n) run.off run.bytes.now) where
   abbrev image : Image
   image = current_words old
 
@@ -73,6 +104,7 @@ module _ (old : Memory) (blocks inodes : Set) (n : ℕ) (touched : Touched) (run
   shape = record {
     runs = λ r has. subst IsRun (only r has) (run_is image wf n asks.reached run is.of);
     few_runs = omega (arith, ap (λ (rs : List Run). length rs) is.one);
+    trees = no_trees (λ tree. tree.height ≤ max_height) is.no_trees;
     few = omega (arith, none);
     words = λ i here. absurd (omega (arith, here, none));
     short = λ i here. absurd (omega (arith, here, none));
@@ -80,23 +112,36 @@ module _ (old : Memory) (blocks inodes : Set) (n : ℕ) (touched : Touched) (run
     some = omega (arith, leaves);
   }
 
-  can : CanCommit image (size_of image) touched (has blocks)
-  can = runs_can image wf touched shape (has blocks) asks.exact.free_blocks none (λ r has. subst (IsRunIn image (size_of image)) (only r has) (run_in image wf n asks.reached run is.of))
+  can : CanCommit image (size_of image) kept touched (has blocks)
+  can = runs_can image wf touched shape (has blocks) asks.exact.free_blocks (no_trees (IsTreeIn image (size_of image)) is.no_trees) none (λ r has. subst (IsRunIn image (size_of image)) (only r has) (run_in image wf n asks.reached run is.of))
 
   copies_need : copied_count image touched ≡ need image (writes (suc n) run.off (length run.bytes.now))
   copies_need = run_need image wf (size_of image) touched (has blocks) can run n is.one is.no_words asks.reached is.of.root is.of.height is.of.some is.of.below
 
-  below_can : CanCommitRun old blocks (suc n) touched run
+  cover_is : commit_cover image touched ≡ cover image (writes (suc n) run.off (length run.bytes.now))
+  cover_is = run_cover image wf (size_of image) touched (has blocks) can run n is.one is.no_words asks.reached is.of.root is.of.height is.of.some is.of.below
+
+  below_loose : thawed image kept (writes (suc n) run.off (length run.bytes.now)) ≡ [] → HasLooseCover image kept touched
+  below_loose clear =
+      let among : Has (targets image (writes (suc n) run.off (length run.bytes.now))) (commit_cover image touched) =
+      inl (writes_now image (suc n) run.off (length run.bytes.now) is.of.below ∙ sym cover_is) in
+      run_loose image wf n asks.reached run is.of kept touched shape here
+      (loose-on image kept (targets image (writes (suc n) run.off (length run.bytes.now))) clear (commit_cover image touched) among (length (commit_cover image touched) - 1))
+
+  below_can : CanCommitRun kept old blocks (suc n) touched run
   below_can = record {
     can = can;
     need_is = copies_need;
-    room = λ enough.
+    few = let most = few_copies image (size_of image) touched (has blocks) wf can run is.one in omega (arith, most, few_leaves run asks.short, none);
+    cover_is = cover_is ∙ sym (writes_now image (suc n) run.off (length run.bytes.now) is.of.below);
+    loose = below_loose;
+    room = λ asked enough.
         let few = few_copies image (size_of image) touched (has blocks) wf can run is.one in
-        let room : room_for (need image (writes (suc n) run.off (length run.bytes.now))) ≤ room_in old = room_asked old blocks (writes (suc n) run.off (length run.bytes.now)) asks.room (omega (arith, copies_need, enough)) in
+        let room : room_for (need image (writes (suc n) run.off (length run.bytes.now))) ≤ room_in old + 2 = asked (omega (arith, copies_need, enough)) in
         omega (arith, few, few_leaves run asks.short, none, copies_need, room);
   }
 
-  module _ (new : Memory) (after : Set) (small : (i : ℕ) → slice_index run.bytes.now i < 256) (done : CommitsTouched (size_of (current_words old)) touched old new blocks after) where
+  module _ (new : Memory) (after : Set) (small : (i : ℕ) → slice_index run.bytes.now i < 256) (done : CommitsTouched (size_of (current_words old)) kept touched old new blocks after) where
     abbrev turned : ℕ
     turned = length (commit_cover image touched)
 
@@ -120,40 +165,39 @@ module _ (old : Memory) (blocks inodes : Set) (n : ℕ) (touched : Touched) (run
         (run_bytes image (current_words new) wf touched (has blocks) can run n is.one none asks.reached asks.file is.of.root is.of.height is.of.some is.of.below small (IsTurned (job_of touched) turned) done.words)
         (λ o past low. absurd (omega (arith, past, low, size_is)))
 
-    below_performs : Performs none_kept old new (writes (suc n) run.off (length run.bytes.now)) (WritesFile (suc n) run.off run.bytes.now)
+    below_performs : PerformsThawed kept old new (writes (suc n) run.off (length run.bytes.now)) (WritesFile (suc n) run.off run.bytes.now)
     below_performs =
-        unthawed old new (writes (suc n) run.off (length run.bytes.now)) (WritesFile (suc n) run.off run.bytes.now)
-        (commit_performs old new (writes (suc n) run.off (length run.bytes.now)) (WritesFile (suc n) run.off run.bytes.now) (size_of image) touched blocks after done
+        commit_performs old new (writes (suc n) run.off (length run.bytes.now)) (WritesFile (suc n) run.off run.bytes.now) (size_of image) touched blocks after done
         (run_cover image wf (size_of image) touched (has blocks) can run n is.one is.no_words asks.reached is.of.root is.of.height is.of.some is.of.below) copies_need
         (let few = stores_few image (size_of image) touched (has blocks) wf can in omega (arith, few, leaves, few_leaves run asks.short, none, copies_need))
-        (run_open image wf n asks.reached run is.of touched shape here done.taken)
-        (well_formed-same image (current_words new) (suc n) wf changes) below_writes)
+        (run_open image wf n asks.reached run is.of kept touched shape here done.loose done.taken)
+        (well_formed-same image (current_words new) (suc n) wf changes) below_writes
 
-    below_exact : length after ≡ length blocks → AreExact (current_words new) none_kept after inodes
+    below_exact : length after ≡ length blocks → AreExact (current_words new) kept after inodes
     below_exact room = commit_exact image (current_words new) wf (keeps image (current_words new) (suc n) wf changes) (size_of image) sizes blocks after inodes asks.exact room done.exact
 
 -- ---- by the number of the inode
 
-module _ (old : Memory) (blocks inodes : Set) (touched : Touched) (run : Run) where
-  not_inodes : (P : Type 0) → CanWrite old blocks inodes 0 run.off run.bytes.now → P
+module _ {kept : ℕ → Bool} (old : Memory) (blocks inodes : Set) (touched : Touched) (run : Run) where
+  not_inodes : (P : Type 0) → CanWriteInto kept (current_words old) blocks inodes 0 run.off run.bytes.now → P
   not_inodes P asks = absurd (omega (arith, asks.file))
 
-  can_at : (i : ℕ) → IsRunAlone (current_words old) i touched run → CanWrite old blocks inodes i run.off run.bytes.now → CanCommitRun old blocks i touched run
+  can_at : (i : ℕ) → IsRunAlone (current_words old) i touched run → CanWriteInto kept (current_words old) blocks inodes i run.off run.bytes.now → CanCommitRun kept old blocks i touched run
   can_at zero is asks = not_inodes _ asks
   can_at (suc n) is asks = below_can old blocks inodes n touched run is asks
 
-  module _ (new : Memory) (after : Set) (small : (i : ℕ) → slice_index run.bytes.now i < 256) (done : CommitsTouched (size_of (current_words old)) touched old new blocks after) where
-    performs_at : (i : ℕ) → IsRunAlone (current_words old) i touched run → CanWrite old blocks inodes i run.off run.bytes.now → Performs none_kept old new (writes i run.off (length run.bytes.now)) (WritesFile i run.off run.bytes.now)
+  module _ (new : Memory) (after : Set) (small : (i : ℕ) → slice_index run.bytes.now i < 256) (done : CommitsTouched (size_of (current_words old)) kept touched old new blocks after) where
+    performs_at : (i : ℕ) → IsRunAlone (current_words old) i touched run → CanWriteInto kept (current_words old) blocks inodes i run.off run.bytes.now → PerformsThawed kept old new (writes i run.off (length run.bytes.now)) (WritesFile i run.off run.bytes.now)
     performs_at zero is asks = not_inodes _ asks
     performs_at (suc n) is asks = below_performs old blocks inodes n touched run is asks new after small done
 
-    exact_at : (i : ℕ) → IsRunAlone (current_words old) i touched run → CanWrite old blocks inodes i run.off run.bytes.now → length after ≡ length blocks → AreExact (current_words new) none_kept after inodes
+    exact_at : (i : ℕ) → IsRunAlone (current_words old) i touched run → CanWriteInto kept (current_words old) blocks inodes i run.off run.bytes.now → length after ≡ length blocks → AreExact (current_words new) kept after inodes
     exact_at zero is asks = λ room. not_inodes _ asks
     exact_at (suc n) is asks = λ room. below_exact old blocks inodes n touched run is asks new after small done room
 
 -- ---- by what is touched
 
-module _ (old : Memory) (blocks inodes : Set) (i off : ℕ) (bytes : List ℕ) (touched : Touched) (write : WritesBelow old blocks inodes i off bytes touched) where
+module _ {kept : ℕ → Bool} (old : Memory) (blocks inodes : Set) (i off : ℕ) (bytes : List ℕ) (touched : Touched) (write : WritesBelow kept old blocks inodes i off bytes touched) where
   abbrev run : Run
   run = write.touches.run
 
@@ -164,13 +208,14 @@ module _ (old : Memory) (blocks inodes : Set) (i off : ℕ) (bytes : List ℕ) (
   from_run : (P : ℕ → List ℕ → Type 0) → P run.off run.bytes.now → P off bytes
   from_run P there = subst (λ o. P o bytes) write.touches.is.from (subst (λ (bs : List ℕ). P run.off bs) write.touches.is.bytes_are there)
 
-  asks : CanWrite old blocks inodes i run.off run.bytes.now
-  asks = of_run (CanWrite old blocks inodes i) write.can
+  asks : CanWriteInto kept (current_words old) blocks inodes i run.off run.bytes.now
+  asks = of_run (CanWriteInto kept (current_words old) blocks inodes i) write.can
 
   alone : IsRunAlone (current_words old) i touched run
   alone = record {
     one = write.touches.one;
     no_words = write.touches.no_words;
+    no_trees = write.touches.no_trees;
     of = record {
       root = write.touches.is.root;
       height = write.touches.is.height;
@@ -181,27 +226,48 @@ module _ (old : Memory) (blocks inodes : Set) (i off : ℕ) (bytes : List ℕ) (
     };
   }
 
-  ready : CanCommitRun old blocks i touched run
+  ready : CanCommitRun kept old blocks i touched run
   ready = can_at old blocks inodes touched run i alone asks
 
-  pub write_can : CanCommit (current_words old) (size_of (current_words old)) touched (has blocks)
+  pub write_can : CanCommit (current_words old) (size_of (current_words old)) kept touched (has blocks)
   write_can = ready.can
 
-  pub write_room : copied_count (current_words old) touched ≤ length (members blocks) → HasRoom old touched
-  write_room = ready.room
+  pub write_inside : LeadsInside (current_words old) touched
+  write_inside d alike = first-range (current_words old) (size_of (current_words old)) touched (has blocks) write.can.well_formed write_can d alike
 
-  pub write_lacks : (copies free : ℕ) → copies ≡ copied_count (current_words old) touched → free ≡ length (members blocks) → free < copies → LacksSpace (current_words old) none_kept (writes i off (length bytes)) (record { need = copies; free = free })
-  write_lacks copies free counted number fewer =
-      lacks_thawed (current_words old) (writes i off (length bytes)) copies free
-      (sym (counted ∙ from_run (λ o bs. copied_count (current_words old) touched ≡ need (current_words old) (writes i o (length bs))) ready.need_is))
-      (subst (HasFree (current_words old) none_kept) (sym number) (free_members (current_words old) none_kept blocks asks.exact.free_blocks asks.exact.block_room)) fewer
+  pub write_apart : NoneBegins (all_paths touched)
+  write_apart = none-begins (current_words old) (size_of (current_words old)) touched (has blocks) write.can.well_formed write_can
 
-  module _ (new : Memory) (after : Set) (small : (k : ℕ) → slice_index bytes k < 256) (done : CommitsTouched (size_of (current_words old)) touched old new blocks after) where
+  -- so many blocks it takes, and near its cover it stores
+  pub write_needs : copied_count (current_words old) touched ≡ need (current_words old) (writes i off (length bytes))
+  write_needs = from_run (λ o bs. copied_count (current_words old) touched ≡ need (current_words old) (writes i o (length bs))) ready.need_is
+
+  pub write_few : copied_count (current_words old) touched ≤ 320
+  write_few = ready.few
+
+  pub write_cover : commit_cover (current_words old) touched ≡ cover_now (current_words old) (writes i off (length bytes))
+  write_cover = from_run (λ o bs. commit_cover (current_words old) touched ≡ cover_now (current_words old) (writes i o (length bs))) ready.cover_is
+
+  pub write_room : HasRoomThawed old blocks (writes i off (length bytes)) → copied_count (current_words old) touched ≤ length (members blocks) → HasRoom old touched
+  write_room asked = ready.room (of_run (λ o bs. HasRoomThawed old blocks (writes i o (length bs))) asked)
+
+  pub write_loose : thawed (current_words old) kept (writes i off (length bytes)) ≡ [] → HasLooseCover (current_words old) kept touched
+  write_loose clear = ready.loose (of_run (λ o bs. thawed (current_words old) kept (writes i o (length bs)) ≡ []) clear)
+
+  pub write_lacks : (copies free : ℕ) → copies ≡ copied_count (current_words old) touched → free ≡ length (members blocks) → free < copies →
+      LacksBlocks (current_words old) kept (need (current_words old) (writes i off (length bytes))) (record { need = copies; free = free })
+  write_lacks copies free counted number fewer = record {
+    needed = sym (counted ∙ write_needs);
+    free = subst (HasFree (current_words old) kept) (sym number) (free_members (current_words old) kept blocks write.can.exact.free_blocks write.can.exact.block_room);
+    fewer = fewer;
+  }
+
+  module _ (new : Memory) (after : Set) (small : (k : ℕ) → slice_index bytes k < 256) (done : CommitsTouched (size_of (current_words old)) kept touched old new blocks after) where
     run_small : (k : ℕ) → slice_index run.bytes.now k < 256
     run_small = of_run (λ o bs. (k : ℕ) → slice_index bs k < 256) small
 
-    pub write_performs : Performs none_kept old new (writes i off (length bytes)) (WritesFile i off bytes)
-    write_performs = from_run (λ o bs. Performs none_kept old new (writes i o (length bs)) (WritesFile i o bs)) (performs_at old blocks inodes touched run new after run_small done i alone asks)
+    pub write_performs : PerformsThawed kept old new (writes i off (length bytes)) (WritesFile i off bytes)
+    write_performs = from_run (λ o bs. PerformsThawed kept old new (writes i o (length bs)) (WritesFile i o bs)) (performs_at old blocks inodes touched run new after run_small done i alone asks)
 
-    pub write_exact : length after ≡ length blocks → AreExact (current_words new) none_kept after inodes
+    pub write_exact : length after ≡ length blocks → AreExact (current_words new) kept after inodes
     write_exact = exact_at old blocks inodes touched run new after run_small done i alone asks

@@ -1,5 +1,5 @@
 -- What a file asks that gets longer without bytes of its own.
-use Rattle.std.specs.Prelude.{ℕ, ◌<◌, ◌≤◌}
+use Rattle.std.specs.Prelude.{◌≡◌, ℕ, ◌<◌, ◌≤◌, [], Bool}
 use Rattle.bp_free.specs.Set.{Set}
 use Rattle.bp_layout.specs.Inode.{IsFile, size_of}
 use Rattle.bp_layout.specs.Need.Change.{resizes}
@@ -8,17 +8,18 @@ use Rattle.bp_layout.specs.WellFormed.{IsWellFormed}
 use Rattle.bp_layout.specs.Formatted.{version_of}
 use Rattle.bp_limits.specs.Limits.{greatest_size}
 use Rattle.bp_shapes.specs.Sets.{AreExact}
-use Rattle.bp_calls.specs.Space.{HasRoomWhereFree}
+use Rattle.bp_calls.specs.Space.{HasRoomThawed}
 use Rattle.pm_region.specs.Memory.{Memory, current_words}
-use Rattle.bp_layout.specs.Thaw.{none_kept}
+use Rattle.bp_layout.specs.Thaw.{thawed}
 
 -- The image is well formed, the sets are exact, and inode i is a file, shorter than this size, which one of the image's
--- version may have. The log has room for the change, where enough blocks are free.
-pub record CanGrowFile (memory : Memory) (blocks inodes : Set) (i size : ℕ) : Type 0 where
+-- version may have. Nothing is left to thaw. The log has room for the change, where enough blocks are free.
+pub record CanGrowFile (kept : ℕ → Bool) (memory : Memory) (blocks inodes : Set) (i size : ℕ) : Type 0 where
   pub well_formed : IsWellFormed (current_words memory)
-  pub exact : AreExact (current_words memory) none_kept blocks inodes
+  pub exact : AreExact (current_words memory) kept blocks inodes
   pub reached : IsReached (current_words memory) i
   pub file : IsFile (current_words memory) i
   pub longer : size_of (current_words memory) i < size
   pub fits : size ≤ greatest_size (version_of (current_words memory))
-  pub room : HasRoomWhereFree memory none_kept blocks (resizes i size)
+  pub clear : thawed (current_words memory) kept (resizes i size) ≡ []
+  pub room : HasRoomThawed memory blocks (resizes i size)

@@ -1,5 +1,5 @@
 -- What a write into a file asks.
-use Rattle.std.specs.Prelude.{ℕ, ◌+◌, ◌≤◌, List, length}
+use Rattle.std.specs.Prelude.{◌≡◌, ℕ, ◌+◌, ◌≤◌, List, [], length, Bool}
 use Rattle.bp_shapes.specs.Sets.{AreExact}
 use Rattle.bp_free.specs.Set.{Set}
 use Rattle.bp_layout.specs.Inode.{IsFile}
@@ -7,20 +7,41 @@ use Rattle.bp_layout.specs.Need.Change.{writes}
 use Rattle.bp_layout.specs.Reached.{IsReached}
 use Rattle.bp_layout.specs.WellFormed.{IsWellFormed}
 use Rattle.bp_layout.specs.Formatted.{version_of}
+use Rattle.bp_layout.specs.Words.{Image}
 use Rattle.bp_limits.specs.Limits.{greatest_size, max_write}
-use Rattle.bp_calls.specs.Space.{HasRoomWhereFree}
+use Rattle.bp_calls.specs.Space.{HasRoomThawed}
 use Rattle.pm_region.specs.Memory.{Memory, current_words}
-use Rattle.bp_layout.specs.Thaw.{none_kept}
+use Rattle.bp_layout.specs.Thaw.{thawed}
 
--- The image is well formed, the sets are exact, and inode i is a file. There are bytes, no more than one call writes,
--- and they end where a file of the image's version may end. The log has room for the change, where enough blocks are
--- free.
-pub record CanWrite (memory : Memory) (blocks inodes : Set) (i off : ℕ) (bytes : List ℕ) : Type 0 where
+-- Inode i is a file. There are bytes, no more than one call writes, and they end where a file of the image's version may
+-- end.
+pub record CanWrite (image : Image) (i off : ℕ) (bytes : List ℕ) : Type 0 where
+  pub reached : IsReached image i
+  pub file : IsFile image i
+  pub some : 1 ≤ length bytes
+  pub short : length bytes ≤ max_write
+  pub fits : off + length bytes ≤ greatest_size (version_of image)
+
+-- The same, where the image is well formed and the sets are exact.
+pub record CanWriteInto (kept : ℕ → Bool) (image : Image) (blocks inodes : Set) (i off : ℕ) (bytes : List ℕ)
+    : Type 0 where
+  pub well_formed : IsWellFormed image
+  pub exact : AreExact image kept blocks inodes
+  pub reached : IsReached image i
+  pub file : IsFile image i
+  pub some : 1 ≤ length bytes
+  pub short : length bytes ≤ max_write
+  pub fits : off + length bytes ≤ greatest_size (version_of image)
+
+-- The same, where the image is well formed, the sets are exact, and nothing is left to thaw. The log has room for the
+-- change, where enough blocks are free.
+pub record CanWriteThawed (kept : ℕ → Bool) (memory : Memory) (blocks inodes : Set) (i off : ℕ) (bytes : List ℕ) : Type 0 where
   pub well_formed : IsWellFormed (current_words memory)
-  pub exact : AreExact (current_words memory) none_kept blocks inodes
+  pub exact : AreExact (current_words memory) kept blocks inodes
   pub reached : IsReached (current_words memory) i
   pub file : IsFile (current_words memory) i
   pub some : 1 ≤ length bytes
   pub short : length bytes ≤ max_write
   pub fits : off + length bytes ≤ greatest_size (version_of (current_words memory))
-  pub room : HasRoomWhereFree memory none_kept blocks (writes i off (length bytes))
+  pub clear : thawed (current_words memory) kept (writes i off (length bytes)) ≡ []
+  pub room : HasRoomThawed memory blocks (writes i off (length bytes))

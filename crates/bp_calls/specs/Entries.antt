@@ -1,5 +1,5 @@
 -- An entry behind the last one of a directory: its bytes, and what stands of it before the size takes it in.
-use Rattle.std.specs.Prelude.{◌≡◌, ℕ, ◌+◌, ◌-◌, ◌<◌, List, length, nat_lt, slice_index, if◌then◌else◌}
+use Rattle.std.specs.Prelude.{◌≡◌, ℕ, ◌+◌, ◌-◌, ◌<◌, List, length, nat_lt, slice_index, Bool, if◌then◌else◌}
 use Rattle.bp_append.specs.Prepared.{PreparesWith}
 use Rattle.bp_layout.specs.Directory.{Name, entry_count, inumber_in, name_in}
 use Rattle.bp_layout.specs.Inode.{root_of, size_of}
@@ -20,9 +20,9 @@ abbrev pub AreEntryBytes : ℕ → Name → List ℕ → Type 0
 AreEntryBytes inumber name bytes = (at : ℕ) → at < entry_size → slice_index bytes at ≡ entry_byte inumber name at
 
 -- Directory i is prepared for one entry more, which names inode j. Nobody sees it.
-pub record PutsBehind (old new : Memory) (free_old free_new : List ℕ) (i j : ℕ) (name : Name) : Type 0 where
+pub record PutsBehind (kept : ℕ → Bool) (old new : Memory) (free_old free_new : List ℕ) (i j : ℕ) (name : Name) : Type 0 where
   pub bytes : List ℕ
-  pub prepared : PreparesWith old new free_old free_new i (size_of (current_words old) i)
+  pub prepared : PreparesWith kept old new free_old free_new i (size_of (current_words old) i)
       (size_of (current_words old) i + entry_size) bytes
   pub inumber : inumber_in (current_words new) (root_of (current_words new) i) (entry_count (current_words old) i) ≡ j
   pub spelled : name_in (current_words new) (root_of (current_words new) i) (entry_count (current_words old) i) ≡ name

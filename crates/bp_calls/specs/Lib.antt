@@ -13,6 +13,8 @@ pub mod InPlace
 pub mod GivenBack
 pub mod GivenUp
 pub mod Space
+pub mod ThawsFor
+pub mod ThawedFor
 pub mod CanWrite
 pub mod WritesFile
 pub mod Growth

@@ -1,12 +1,12 @@
 -- What bytes for several files ask, and what they touch.
-use Rattle.std.specs.Prelude.{◌≡◌, ℕ, ◌+◌, ◌≤◌, List, [], ◌∷◌, length, map}
+use Rattle.std.specs.Prelude.{◌≡◌, ℕ, ◌+◌, ◌≤◌, List, [], ◌∷◌, length, map, Bool}
 use Rattle.bp_limits.specs.Limits.{max_batch, max_pieces}
-use Rattle.bp_layout.specs.Inode.{IsFile, root_of, size_of}
+use Rattle.bp_layout.specs.Inode.{IsFile, size_of}
 use Rattle.bp_layout.specs.Members.{Each}
 use Rattle.bp_layout.specs.Need.{Stretch}
 use Rattle.bp_layout.specs.Need.Change.{overwrites}
 use Rattle.bp_layout.specs.Reached.{IsReached}
-use Rattle.bp_layout.specs.Thaw.{none_kept}
+use Rattle.bp_layout.specs.Thaw.{thawed}
 use Rattle.bp_layout.specs.WellFormed.{IsWellFormed}
 use Rattle.bp_layout.specs.Words.{Image}
 use Rattle.bp_changes.specs.Overwrites.{Patch}
@@ -14,7 +14,7 @@ use Rattle.bp_shapes.specs.Sets.{AreExact}
 use Rattle.bp_free.specs.Set.{Set}
 use Rattle.bp_cow.specs.declared.touched.Run.{Run}
 use Rattle.bp_calls.specs.declared.batching.Patch.{Patch as GivenPatch}
-use Rattle.bp_calls.specs.Space.{HasRoomWhereFree}
+use Rattle.bp_calls.specs.Space.{HasRoomThawed}
 use Rattle.bp_calls.specs.TouchedBelow.{IsRunFor}
 use Rattle.pm_region.specs.Memory.{Memory, current_words}
 
@@ -42,16 +42,24 @@ pub record IsPatchIn (image : Image) (patch : Patch) : Type 0 where
   pub is_file : IsFile image patch.inode
   pub within : patch.off + length patch.bytes ≤ size_of image patch.inode
 
--- The image is well formed, the sets are exact, and the patches lie in files, so many at most. Some of them has a byte,
--- and all have no more than one call writes. The log has room for the change, where enough blocks are free.
-pub record CanOverwrite (memory : Memory) (blocks inodes : Set) (patches : List Patch) : Type 0 where
+-- The patches lie in files, so many at most. Some of them has a byte, and all have no more than one call writes.
+pub record CanOverwrite (image : Image) (patches : List Patch) : Type 0 where
+  pub few : length patches ≤ max_pieces
+  pub each : Each (IsPatchIn image) patches
+  pub some : 1 ≤ byte_count patches
+  pub short : byte_count patches ≤ max_batch
+
+-- The same, where the image is well formed, the sets are exact, and nothing is left to thaw. The log has room for the
+-- change, where enough blocks are free.
+pub record CanOverwriteThawed (kept : ℕ → Bool) (memory : Memory) (blocks inodes : Set) (patches : List Patch) : Type 0 where
   pub well_formed : IsWellFormed (current_words memory)
-  pub exact : AreExact (current_words memory) none_kept blocks inodes
+  pub exact : AreExact (current_words memory) kept blocks inodes
   pub few : length patches ≤ max_pieces
   pub each : Each (IsPatchIn (current_words memory)) patches
   pub some : 1 ≤ byte_count patches
   pub short : byte_count patches ≤ max_batch
-  pub room : HasRoomWhereFree memory none_kept blocks (overwrites (stretches_of patches))
+  pub clear : thawed (current_words memory) kept (overwrites (stretches_of patches)) ≡ []
+  pub room : HasRoomThawed memory blocks (overwrites (stretches_of patches))
 
 -- the runs of the patches that have bytes, in their order
 pub data AreRuns (image : Image) : List Patch → List Run → Type 0 where

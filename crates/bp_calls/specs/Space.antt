@@ -1,22 +1,30 @@
 -- Why a call has no space, and the room that it asks of the log where it has.
-use Rattle.std.specs.Prelude.{◌≡◌, ◌<◌, ◌≤◌, ℕ, Bool, length}
+use Rattle.std.specs.Prelude.{◌≡◌, ◌+◌, ◌<◌, ◌≤◌, ℕ, Bool, length}
 use Rattle.bp_free.specs.Set.{Set, members}
 use Rattle.bp_free.specs.declared.parts.NoSpace.{NoSpace}
 use Rattle.bp_layout.specs.Free.{HasFree}
-use Rattle.bp_layout.specs.Need.{Change}
+use Rattle.bp_layout.specs.Need.{Change, need}
 use Rattle.bp_layout.specs.Thaw.{full_need}
 use Rattle.bp_layout.specs.Words.{Image}
-use Rattle.bp_commit.specs.Performs.{HasRoomFor}
-use Rattle.pm_region.specs.Memory.{Memory, current_words}
+use Rattle.bp_commit.specs.Performs.{HasRoomFor, room_for}
+use Rattle.pm_region.specs.Memory.{Memory, current_words, room_in}
 
--- it tells the blocks that the change needs, those that are thawed among them, and those that are free, which are
--- fewer
-pub record LacksSpace (image : Image) (kept : ℕ → Bool) (change : Change) (lacks : NoSpace) : Type 0 where
-  pub needed : full_need image kept change ≡ lacks.need
+-- it tells the blocks that are needed, and those that are free, which are fewer
+pub record LacksBlocks (image : Image) (kept : ℕ → Bool) (wanted : ℕ) (lacks : NoSpace) : Type 0 where
+  pub needed : wanted ≡ lacks.need
   pub free : HasFree image kept lacks.free
   pub fewer : lacks.free < lacks.need
+
+-- those that the change needs, with those that are thawed among them
+abbrev pub LacksSpace : Image → (ℕ → Bool) → Change → NoSpace → Type 0
+LacksSpace image kept change lacks = LacksBlocks image kept (full_need image kept change) lacks
 
 -- Where as many blocks are free as the change needs, the log has room for it. A call that lacks space asks for no room.
 abbrev pub HasRoomWhereFree : Memory → (ℕ → Bool) → Set → Change → Type 0
 HasRoomWhereFree memory kept blocks change =
     full_need (current_words memory) kept change ≤ length (members blocks) → HasRoomFor memory kept change
+
+-- the same behind a thaw, whose two barriers are then spent
+abbrev pub HasRoomThawed : Memory → Set → Change → Type 0
+HasRoomThawed memory blocks change = need (current_words memory) change ≤ length (members blocks)
+    → room_for (need (current_words memory) change) ≤ room_in memory + 2

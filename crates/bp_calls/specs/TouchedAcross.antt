@@ -1,5 +1,5 @@
 -- What a write across the size of a file touches.
-use Rattle.std.specs.Prelude.{◌≡◌, ℕ, ◌+◌, ◌-◌, ◌<◌, List, [], ◌∷◌, length, take, map}
+use Rattle.std.specs.Prelude.{◌≡◌, ℕ, ◌+◌, ◌-◌, ◌<◌, List, [], ◌∷◌, length, take, map, Bool}
 use Rattle.arrayvec.specs.ArrayVec.{ArrayVec}
 use Rattle.bp_cow.specs.Touched.{word_paths, word_values}
 use Rattle.bp_cow.specs.declared.touched.Run.{Run}
@@ -9,7 +9,7 @@ use Rattle.bp_layout.specs.Inode.{root_of, size_of}
 use Rattle.bp_layout.specs.Nodes.{height_with}
 use Rattle.bp_layout.specs.WordPaths.{inode_path}
 use Rattle.bp_layout.specs.Words.{Image, height_of}
-use Rattle.bp_calls.specs.CanWrite.{CanWrite}
+use Rattle.bp_calls.specs.CanWrite.{CanWriteInto}
 use Rattle.pm_region.specs.Memory.{Memory, current_words}
 
 -- the word of the size of inode i alone, with the value that it is given
@@ -32,12 +32,13 @@ pub record TouchesAcross (image : Image) (i off end : ℕ) (bytes : List ℕ) (t
   pub is : IsRunAcross image i off end bytes run
   pub sized : word_paths touched ≡ inode_path (height_of (root_of image 0)) i 2 ∷ []
   pub value : word_values touched ≡ end ∷ []
+  pub no_trees : touched.trees.now ≡ []
 
 -- Bytes that begin below the size of a file and end past it, and what is touched for them: those below the size, and
 -- the size.
-pub record WritesAcross (memory : Memory) (blocks inodes : Set) (i off : ℕ) (bytes : List ℕ)
+pub record WritesAcross (kept : ℕ → Bool) (memory : Memory) (blocks inodes : Set) (i off : ℕ) (bytes : List ℕ)
     (touched : Touched) : Type 0 where
-  pub can : CanWrite memory blocks inodes i off bytes
+  pub can : CanWriteInto kept (current_words memory) blocks inodes i off bytes
   pub below : off < size_of (current_words memory) i
   pub past : size_of (current_words memory) i < off + length bytes
   pub touches : TouchesAcross (current_words memory) i off (off + length bytes)

@@ -1,12 +1,12 @@
 -- What a write below the size of a file touches.
-use Rattle.std.specs.Prelude.{◌≡◌, ℕ, ◌+◌, ◌<◌, ◌≤◌, List, [], ◌∷◌, length, slice_index}
+use Rattle.std.specs.Prelude.{◌≡◌, ℕ, ◌+◌, ◌<◌, ◌≤◌, List, [], ◌∷◌, length, slice_index, Bool}
 use Rattle.bp_cow.specs.declared.touched.Run.{Run}
 use Rattle.bp_cow.specs.declared.touched.Touched.{Touched}
 use Rattle.bp_free.specs.Set.{Set}
 use Rattle.bp_layout.specs.Inode.{root_of, size_of}
 use Rattle.bp_layout.specs.WordPaths.{inode_path}
 use Rattle.bp_layout.specs.Words.{Image, height_of}
-use Rattle.bp_calls.specs.CanWrite.{CanWrite}
+use Rattle.bp_calls.specs.CanWrite.{CanWriteInto}
 use Rattle.pm_region.specs.Memory.{Memory, current_words}
 
 -- the run of these bytes from an offset on, in the tree of inode i
@@ -24,11 +24,12 @@ pub record TouchesBelow (image : Image) (i off : ℕ) (bytes : List ℕ) (touche
   pub run : Run
   pub one : touched.runs.now ≡ run ∷ []
   pub no_words : touched.words.now ≡ []
+  pub no_trees : touched.trees.now ≡ []
   pub is : IsRunFor image i off bytes run
 
 -- bytes that end below the size of a file or with it, and what is touched for them
-pub record WritesBelow (memory : Memory) (blocks inodes : Set) (i off : ℕ) (bytes : List ℕ)
-    (touched : Touched) : Type 0 where
-  pub can : CanWrite memory blocks inodes i off bytes
+pub record WritesBelow (kept : ℕ → Bool) (memory : Memory) (blocks inodes : Set) (i off : ℕ)
+    (bytes : List ℕ) (touched : Touched) : Type 0 where
+  pub can : CanWriteInto kept (current_words memory) blocks inodes i off bytes
   pub below : off + length bytes ≤ size_of (current_words memory) i
   pub touches : TouchesBelow (current_words memory) i off bytes touched

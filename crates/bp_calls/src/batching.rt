@@ -1,28 +1,40 @@
 //! Bytes into several files at once.
 
-ghost use Rattle.std.specs.Prelude.{◌≡◌, ◌≤◌, length, IfErr, OnErr, OnOk};
+ghost use Rattle.std.specs.Prelude.{◌≡◌, ◌+◌, ◌≤◌, [], ◌∷◌, length, IfErr, OnErr, OnOk};
+ghost use Rattle.bp_calls.specs.Mounted.{IsMounted};
 ghost use Rattle.bp_calls.specs.Overwritten.{
   AreRuns,
   CanOverwrite,
+  CanOverwriteThawed,
   IsPatchIn,
   patch_seen,
   patches_seen,
   stretches_of,
 };
-ghost use Rattle.bp_calls.specs.Space.{LacksSpace};
+ghost use Rattle.bp_calls.specs.Space.{HasRoomWhereFree, LacksBlocks, LacksSpace};
+ghost use Rattle.bp_calls.specs.ThawsFor.{ThawsFor};
 ghost use Rattle.bp_calls.specs.TouchedBelow.{IsRunFor};
 ghost use Rattle.bp_changes.specs.Overwrites.{OverwritesFiles};
-ghost use Rattle.bp_commit.specs.Performs.{Performs};
+ghost use Rattle.bp_changes.specs.Thawed.{AfterThaw};
+ghost use Rattle.bp_commit.specs.Performs.{Performs, PerformsThawed, room_for};
+ghost use Rattle.bp_cow.specs.Cover.{LeadsInside, commit_cover};
+ghost use Rattle.bp_cow.specs.Touched.{IsTouched};
+ghost use Rattle.bp_free.specs.Set.{members};
 ghost use Rattle.bp_layout.specs.Members.{Each};
+ghost use Rattle.bp_layout.specs.Need.{need};
 ghost use Rattle.bp_layout.specs.Need.Change.{overwrites};
+ghost use Rattle.bp_layout.specs.Thaw.{targets};
 ghost use Rattle.bp_layout.specs.WellFormed.{IsWellFormed};
-ghost use Rattle.bp_limits.specs.Limits.{max_pieces};
+ghost use Rattle.bp_limits.specs.Limits.{block_words, max_pieces};
 ghost use Rattle.bp_shapes.specs.Sets.{IsExact, kept_of};
-ghost use Rattle.pm_region.specs.Memory.{current_words};
+ghost use Rattle.bp_thaw.specs.Thaws.{paths_in};
+ghost use Rattle.pm_region.specs.Memory.{current_words, room_in};
 
 use crate::committing::{commit_below, run_for, touched_by};
+use crate::targets::Targets;
+use crate::thawing::thaw_before;
 use arrayvec::ArrayVec;
-use bp_cow::Run;
+use bp_cow::{Run, Touched, cover, need_cover};
 use bp_free::{NoSpace, Parts};
 use bp_inodes::tree_of;
 use pm_region::Region;
@@ -64,24 +76,95 @@ fn runs_of<'a, R: Region>(region: &R, patches: &[Patch<'a>]) -> ArrayVec<Run<'a>
     runs
 }
 
-/// Writes bytes into files, below their sizes, all of them by one store alone in its epoch. Where two patches give the
-/// same byte, that of the later one stands.
+/// Where bytes below the sizes of files change: the word that covers them all.
+fn covering<R: Region>(region: &R, touched: &Touched<'_>) -> Targets
+    requires touched { IsTouched touched.now }
+    requires some { block_words ≤ length (current_words (R.memory region.now)) }
+    requires in_range { LeadsInside (current_words (R.memory region.now)) touched.now }
+    ensures { paths_in result ≡ commit_cover (current_words (R.memory region.now)) touched.now ∷ [] }
+{
+    let mut targets = Targets::new();
+    targets.push(cover(region, touched));
+    targets
+}
+
+/// What [`batch`] does once nothing is left to thaw.
 ///
 /// # Errors
 ///
-/// `NoSpace` exactly where fewer blocks are free than are copied: each block on the ways to the bytes, from the word
-/// that covers all of them down, once. Nothing has changed then.
-pub fn batch<R: Region>(parts: &mut Parts<R>, patches: &[Patch<'_>]) -> Result<(), NoSpace>
-    requires can { CanOverwrite (R.memory parts.old.region) parts.old.blocks parts.old.inodes (patches_seen patches.now) }
+/// Where fewer blocks are free than are copied. Nothing has changed then.
+fn overlay<R: Region>(parts: &mut Parts<R>, patches: &[Patch<'_>]) -> Result<(), NoSpace>
+    requires can { CanOverwriteThawed (kept_of parts.old) (R.memory parts.old.region) parts.old.blocks parts.old.inodes
+        (patches_seen patches.now) }
     requires exact { IsExact (current_words (R.memory parts.old.region)) parts.old }
-    ensures performs { OnOk result (Performs (kept_of parts.old) (R.memory parts.old.region) (R.memory parts.new.region)
-        (overwrites (stretches_of (patches_seen patches.now))) (OverwritesFiles (patches_seen patches.now))) }
+    ensures performs { OnOk result (PerformsThawed (kept_of parts.old) (R.memory parts.old.region)
+        (R.memory parts.new.region) (overwrites (stretches_of (patches_seen patches.now)))
+        (OverwritesFiles (patches_seen patches.now))) }
+    ensures frozen { parts.new.frozen ≡ parts.old.frozen }
     ensures exact { IsExact (current_words (R.memory parts.new.region)) parts.new }
+    ensures refused { IfErr result (LacksBlocks (current_words (R.memory parts.old.region)) (kept_of parts.old)
+        (need (current_words (R.memory parts.old.region)) (overwrites (stretches_of (patches_seen patches.now))))) }
+    ensures same { OnErr result (parts.new ≡ parts.old) }
+{
+    let runs = runs_of(&parts.region, patches);
+    let touched = touched_by(runs.as_slice());
+    commit_below(parts, &touched)
+}
+
+/// Thaws what is kept on the way to the word that covers all the bytes, where enough blocks are free for the copies too.
+///
+/// # Errors
+///
+/// `NoSpace` exactly where fewer blocks are free than the call needs. Nothing has changed then.
+fn thaw_batch<R: Region>(parts: &mut Parts<R>, patches: &[Patch<'_>]) -> Result<(), NoSpace>
+    requires mounted { IsMounted (current_words (R.memory parts.old.region)) parts.old }
+    requires can { CanOverwrite (current_words (R.memory parts.old.region)) (patches_seen patches.now) }
+    requires room { HasRoomWhereFree (R.memory parts.old.region) (kept_of parts.old) parts.old.blocks
+        (overwrites (stretches_of (patches_seen patches.now))) }
+    ensures thaws { OnOk result (ThawsFor R.memory (targets (current_words (R.memory parts.old.region))
+        (overwrites (stretches_of (patches_seen patches.now)))) parts.old parts.new) }
+    ensures room { OnOk result (room_for (need (current_words (R.memory parts.old.region))
+        (overwrites (stretches_of (patches_seen patches.now)))) ≤ room_in (R.memory parts.new.region) + 2) }
+    ensures enough { OnOk result (need (current_words (R.memory parts.old.region))
+        (overwrites (stretches_of (patches_seen patches.now))) ≤ length (members parts.new.blocks)) }
     ensures refused { IfErr result (LacksSpace (current_words (R.memory parts.old.region)) (kept_of parts.old)
         (overwrites (stretches_of (patches_seen patches.now)))) }
     ensures same { OnErr result (parts.new ≡ parts.old) }
 {
     let runs = runs_of(&parts.region, patches);
     let touched = touched_by(runs.as_slice());
-    commit_below(parts, &touched)
+    let targets = covering(&parts.region, &touched);
+    let copies = need_cover(&parts.region, &touched);
+    thaw_before(parts, &targets, copies)
+}
+
+/// Writes bytes into files, below their sizes, all of them by one store alone in its epoch. Where two patches give the
+/// same byte, that of the later one stands.
+///
+/// # Errors
+///
+/// `NoSpace` exactly where fewer blocks are free than are copied: each block on the ways to the bytes, from the word
+/// that covers all of them down, once, and those that are thawed. Nothing has changed then.
+pub fn batch<R: Region>(parts: &mut Parts<R>, patches: &[Patch<'_>]) -> Result<(), NoSpace>
+    requires mounted { IsMounted (current_words (R.memory parts.old.region)) parts.old }
+    requires can { CanOverwrite (current_words (R.memory parts.old.region)) (patches_seen patches.now) }
+    requires room { HasRoomWhereFree (R.memory parts.old.region) (kept_of parts.old) parts.old.blocks
+        (overwrites (stretches_of (patches_seen patches.now))) }
+    ensures performs { OnOk result (Performs (kept_of parts.old) (R.memory parts.old.region) (R.memory parts.new.region)
+        (overwrites (stretches_of (patches_seen patches.now)))
+        (AfterThaw (OverwritesFiles (patches_seen patches.now)))) }
+    ensures frozen { parts.new.frozen ≡ parts.old.frozen }
+    ensures exact { IsExact (current_words (R.memory parts.new.region)) parts.new }
+    ensures refused { IfErr result (LacksSpace (current_words (R.memory parts.old.region)) (kept_of parts.old)
+        (overwrites (stretches_of (patches_seen patches.now)))) }
+    ensures same { OnErr result (parts.new ≡ parts.old) }
+{
+    if parts.frozen.count() == 0 {
+        return overlay(parts, patches);
+    }
+    match thaw_batch(parts, patches) {
+        // Behind a thaw enough blocks are free for the copies, so this succeeds.
+        Ok(()) => overlay(parts, patches),
+        Err(lacks) => Err(lacks),
+    }
 }

@@ -3,15 +3,17 @@
 ghost use Rattle.std.specs.Prelude.{◌≡◌, ◌<◌, ◌≤◌, [], length, IfErr, OnErr, OnOk};
 ghost use Rattle.bp_calls.specs.TouchedBelow.{IsRunFor};
 ghost use Rattle.bp_cow.specs.CanCommit.{CanCommit};
-ghost use Rattle.bp_cow.specs.Commit.{CommitsTouched, HasRoom};
+ghost use Rattle.bp_cow.specs.Commit.{CommitsTouched, HasLooseCover, HasRoom};
 ghost use Rattle.bp_cow.specs.Cover.{copied_count};
+ghost use Rattle.bp_cow.specs.Found.{IsCoverIn};
 ghost use Rattle.bp_free.specs.Set.{has, members};
 ghost use Rattle.bp_layout.specs.Inode.{root_of, size_of};
 ghost use Rattle.bp_layout.specs.WellFormed.{IsWellFormed};
 ghost use Rattle.bp_layout.specs.Words.{block_count};
+ghost use Rattle.bp_shapes.specs.Sets.{kept_of};
 ghost use Rattle.pm_region.specs.Memory.{current_words};
 
-use bp_cow::{Run, Touched, commit_at, copies_below, find_cover};
+use bp_cow::{FoundCover, Run, Touched, commit_at, copies_below, find_cover};
 use bp_free::{NoSpace, Parts};
 use bp_inodes::root_path;
 use bp_tree::Tree;
@@ -43,8 +45,53 @@ pub(crate) fn run_for<'a, R: Region>(
 pub fn touched_by<'a>(runs: &'a [Run<'a>]) -> Touched<'a>
     ensures runs { result.runs.now ≡ runs.now }
     ensures words { result.words.now ≡ [] }
+    ensures trees { result.trees.now ≡ [] }
 {
-    Touched { words: &[], runs }
+    Touched {
+        words: &[],
+        runs,
+        trees: &[],
+    }
+}
+
+/// Commits what is touched below the sizes of files, given its cover, where enough blocks are free.
+///
+/// # Errors
+///
+/// Where fewer blocks are free than are copied.
+pub(crate) fn commit_found<R: Region>(
+    parts: &mut Parts<R>,
+    touched: &Touched<'_>,
+    cover: FoundCover,
+) -> Result<(), NoSpace>
+    requires well_formed { IsWellFormed (current_words (R.memory parts.old.region)) }
+    requires can { CanCommit (current_words (R.memory parts.old.region))
+        (size_of (current_words (R.memory parts.old.region))) (kept_of parts.old) touched.now (has parts.old.blocks) }
+    requires loose { HasLooseCover (current_words (R.memory parts.old.region)) (kept_of parts.old) touched.now }
+    requires known { block_count (current_words (R.memory parts.old.region)) ≤ length parts.old.frozen }
+    requires fits { block_count (current_words (R.memory parts.old.region)) ≤ length parts.old.blocks }
+    requires room { copied_count (current_words (R.memory parts.old.region)) touched.now ≤ length (members parts.old.blocks)
+        → HasRoom (R.memory parts.old.region) touched.now }
+    requires cover { IsCoverIn (current_words (R.memory parts.old.region)) touched.now cover }
+    ensures commits { OnOk result (CommitsTouched (size_of (current_words (R.memory parts.old.region)))
+        (kept_of parts.old) touched.now (R.memory parts.old.region) (R.memory parts.new.region) parts.old.blocks parts.new.blocks) }
+    ensures size { length parts.new.blocks ≡ length parts.old.blocks }
+    ensures inodes { parts.new.inodes ≡ parts.old.inodes }
+    ensures counts { parts.new.counts ≡ parts.old.counts }
+    ensures frozen { parts.new.frozen ≡ parts.old.frozen }
+    ensures need { IfErr result
+        (λ lacks. lacks.need ≡ copied_count (current_words (R.memory parts.old.region)) touched.now) }
+    ensures free { IfErr result (λ lacks. lacks.free ≡ length (members parts.old.blocks)) }
+    ensures fewer { IfErr result (λ lacks. lacks.free < lacks.need) }
+    ensures same { OnErr result (parts.new ≡ parts.old) }
+{
+    let copies = copies_below(touched, cover);
+    let free = parts.blocks.count();
+    if free < copies {
+        return Err(NoSpace { need: copies, free });
+    }
+    commit_at(parts, touched, cover);
+    Ok(())
 }
 
 /// Commits what is touched below the sizes of files, where enough blocks are free.
@@ -58,12 +105,14 @@ pub(crate) fn commit_below<R: Region>(
 ) -> Result<(), NoSpace>
     requires well_formed { IsWellFormed (current_words (R.memory parts.old.region)) }
     requires can { CanCommit (current_words (R.memory parts.old.region))
-        (size_of (current_words (R.memory parts.old.region))) touched.now (has parts.old.blocks) }
+        (size_of (current_words (R.memory parts.old.region))) (kept_of parts.old) touched.now (has parts.old.blocks) }
+    requires loose { HasLooseCover (current_words (R.memory parts.old.region)) (kept_of parts.old) touched.now }
+    requires known { block_count (current_words (R.memory parts.old.region)) ≤ length parts.old.frozen }
     requires fits { block_count (current_words (R.memory parts.old.region)) ≤ length parts.old.blocks }
     requires room { copied_count (current_words (R.memory parts.old.region)) touched.now ≤ length (members parts.old.blocks)
         → HasRoom (R.memory parts.old.region) touched.now }
-    ensures commits { OnOk result (CommitsTouched (size_of (current_words (R.memory parts.old.region))) touched.now
-        (R.memory parts.old.region) (R.memory parts.new.region) parts.old.blocks parts.new.blocks) }
+    ensures commits { OnOk result (CommitsTouched (size_of (current_words (R.memory parts.old.region)))
+        (kept_of parts.old) touched.now (R.memory parts.old.region) (R.memory parts.new.region) parts.old.blocks parts.new.blocks) }
     ensures size { length parts.new.blocks ≡ length parts.old.blocks }
     ensures inodes { parts.new.inodes ≡ parts.old.inodes }
     ensures counts { parts.new.counts ≡ parts.old.counts }
@@ -75,11 +124,5 @@ pub(crate) fn commit_below<R: Region>(
     ensures same { OnErr result (parts.new ≡ parts.old) }
 {
     let cover = find_cover(&parts.region, touched);
-    let copies = copies_below(touched, cover);
-    let free = parts.blocks.count();
-    if free < copies {
-        return Err(NoSpace { need: copies, free });
-    }
-    commit_at(parts, touched, cover);
-    Ok(())
+    commit_found(parts, touched, cover)
 }

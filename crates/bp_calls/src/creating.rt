@@ -1,12 +1,15 @@
 //! New names.
 
-ghost use Rattle.std.specs.Prelude.{◌≡◌, ◌≢◌, ℕ, ◌+◌, ◌*◌, ◌≤◌, [], Option, None, IfErr, OnErr, OnOk, length};
+ghost use Rattle.std.specs.Prelude.{◌≡◌, ◌≢◌, ℕ, ◌+◌, ◌*◌, ◌<◌, ◌≤◌, ◌^◌, [], Option, None, IfErr, MatchOption, OnErr, OnOk, length};
 ghost use Rattle.bp_calls.specs.Created.{EntersName};
 ghost use Rattle.bp_calls.specs.Entrant.{entrant_of};
 ghost use Rattle.bp_calls.specs.Growth.{stores_behind_growth};
 ghost use Rattle.bp_calls.specs.Mounted.{IsMounted};
 ghost use Rattle.bp_calls.specs.Space.{HasRoomWhereFree, LacksSpace};
 ghost use Rattle.bp_calls.specs.Steps.{CanEnter, LacksName, name_need};
+ghost use Rattle.bp_calls.specs.ThawedFor.{IsThawedFor};
+ghost use Rattle.bp_calls.specs.ThawsFor.{ThawsFor};
+ghost use Rattle.bp_changes.specs.Thawed.{AfterThaw};
 ghost use Rattle.bp_free.specs.Set.{IsLeast, members, without};
 ghost use Rattle.bp_layout.specs.Directory.{IsName, empty_slot, slot_named};
 ghost use Rattle.bp_layout.specs.Free.{IsLeastFree};
@@ -15,21 +18,25 @@ ghost use Rattle.bp_layout.specs.Need.{need};
 ghost use Rattle.bp_layout.specs.Need.Change.{enters};
 ghost use Rattle.bp_layout.specs.Need.Entrant.{grown};
 ghost use Rattle.bp_layout.specs.Reached.{IsReached};
+ghost use Rattle.bp_layout.specs.Thaw.{targets};
 ghost use Rattle.bp_layout.specs.WellFormed.{IsWellFormed};
 ghost use Rattle.bp_limits.specs.Limits.{max_height};
 ghost use Rattle.bp_shapes.specs.Sets.{IsExact, kept_of};
-ghost use Rattle.bp_commit.specs.Performs.{HasRoomFor, Performs, PerformsWithin};
+ghost use Rattle.bp_thaw.specs.Thaws.{paths_in};
+ghost use Rattle.bp_commit.specs.Performs.{Performs, PerformsThawed, PerformsWithin};
 ghost use Rattle.pm_region.specs.Memory.{current_words};
 
-use crate::entering::{enter_behind, enter_slot};
+use crate::entering::{enter_behind, enter_slot, entering};
 use crate::growing::{grow, grow_need};
+use crate::targets::{Targets, push_end};
+use crate::thawing::thaw_before;
 use bp_append::need_prep;
 use bp_dirs::free_slot;
-use bp_free::{NoSpace, Numbers, Parts};
-use bp_inodes::tree_of;
+use bp_free::{Inodes, NoSpace, Parts};
+use bp_inodes::{inode_file, tree_of};
 use bp_layout::Kind;
-use bp_limits::ENTRY_SIZE;
-use bp_tree::Tree;
+use bp_limits::{ENTRY_SIZE, INODE_SIZE};
+use bp_tree::{Slots, Tree, word_path};
 use pm_region::Region;
 
 /// How many blocks a name takes where its inode is there, given its directory's tree and least empty slot: those that
@@ -50,9 +57,94 @@ pub(crate) fn entry_need<R: Region>(region: &R, dir: u32, tree: Tree, slot: Opti
     }
 }
 
+/// How many blocks a new name takes in a directory, given its least empty slot: with those of the inode file, where no
+/// inode is free.
+fn new_need<R: Region>(parts: &Parts<R>, dir: u32, slot: Option<u64>) -> u32
+    requires mounted { IsMounted (current_words (R.memory parts.now.region)) parts.now }
+    requires reached { IsReached (current_words (R.memory parts.now.region)) dir }
+    requires directory { IsDirectory (current_words (R.memory parts.now.region)) dir }
+    requires slot { slot ≡ empty_slot (current_words (R.memory parts.now.region)) dir }
+    ensures need { (free : Option ℕ) → IsLeastFree (current_words (R.memory parts.now.region)) free
+        → need (current_words (R.memory parts.now.region)) (enters dir (entrant_of free)) ≡ result }
+    ensures few { result < 2 ^ 31 }
+{
+    let tree = tree_of(&parts.region, dir);
+    let entry = entry_need(&parts.region, dir, tree, slot);
+    if parts.inodes.count() > 0 {
+        return entry;
+    }
+    entry + grow_need(&parts.region)
+}
+
+/// The least free inode, None where none is free. It is taken out and put back.
+fn least(inodes: &mut Inodes) -> Option<u32>
+    ensures least { MatchOption result (members inodes.old ≡ []) (IsLeast inodes.old) }
+    ensures same { inodes.new ≡ inodes.old }
+{
+    let least = inodes.take()?;
+    inodes.give(least);
+    Some(least)
+}
+
+/// Where a new name comes into a directory, given its least empty slot: the words of the entry, and the inode that it
+/// takes, or else those by which the inode file grows.
+fn entering_new<R: Region>(parts: &mut Parts<R>, dir: u32, slot: Option<u64>) -> Targets
+    requires mounted { IsMounted (current_words (R.memory parts.old.region)) parts.old }
+    requires reached { IsReached (current_words (R.memory parts.old.region)) dir }
+    requires directory { IsDirectory (current_words (R.memory parts.old.region)) dir }
+    requires slot { slot ≡ empty_slot (current_words (R.memory parts.old.region)) dir }
+    ensures paths { (free : Option ℕ) → IsLeastFree (current_words (R.memory parts.old.region)) free
+        → paths_in result ≡ targets (current_words (R.memory parts.old.region)) (enters dir (entrant_of free)) }
+    ensures same { parts.new ≡ parts.old }
+{
+    let mut targets = entering(&parts.region, dir, slot);
+    let inodes = inode_file(&parts.region);
+    match least(&mut parts.inodes) {
+        Some(inode) => targets.push(word_path(inodes, INODE_SIZE * u64::from(inode))),
+        None => push_end(&mut targets, &Slots::new(), inodes),
+    }
+    targets
+}
+
+/// Thaws what is kept near the words where a new name comes into a directory, given its least empty slot.
+///
+/// # Errors
+///
+/// `NoSpace` exactly where fewer blocks are free than that takes, with those of the name. Nothing has changed then.
+fn thaw_new<R: Region>(parts: &mut Parts<R>, dir: u32, slot: Option<u64>) -> Result<(), NoSpace>
+    requires mounted { IsMounted (current_words (R.memory parts.old.region)) parts.old }
+    requires reached { IsReached (current_words (R.memory parts.old.region)) dir }
+    requires directory { IsDirectory (current_words (R.memory parts.old.region)) dir }
+    requires slot { slot ≡ empty_slot (current_words (R.memory parts.old.region)) dir }
+    requires room { (free : Option ℕ) → IsLeastFree (current_words (R.memory parts.old.region)) free
+        → HasRoomWhereFree (R.memory parts.old.region) (kept_of parts.old) parts.old.blocks
+        (enters dir (entrant_of free)) }
+    ensures thaws { OnOk result ((free : Option ℕ) → IsLeastFree (current_words (R.memory parts.old.region)) free
+        → ThawsFor R.memory (targets (current_words (R.memory parts.old.region)) (enters dir (entrant_of free)))
+        parts.old parts.new) }
+    ensures thawed { OnOk result ((free : Option ℕ) → IsLeastFree (current_words (R.memory parts.old.region)) free
+        → IsThawedFor (kept_of parts.new) (R.memory parts.new.region) parts.new.blocks (enters dir (entrant_of free))) }
+    ensures refused { IfErr result (λ lacks. (free : Option ℕ)
+        → IsLeastFree (current_words (R.memory parts.old.region)) free
+        → LacksSpace (current_words (R.memory parts.old.region)) (kept_of parts.old)
+        (enters dir (entrant_of free)) lacks) }
+    ensures same { OnErr result (parts.new ≡ parts.old) }
+{
+    let need = new_need(parts, dir, slot);
+    if parts.frozen.count() == 0 {
+        let free = parts.blocks.count();
+        if free < need {
+            return Err(NoSpace { need, free });
+        }
+        return Ok(());
+    }
+    let targets = entering_new(parts, dir, slot);
+    thaw_before(parts, &targets, need)
+}
+
 /// Names the least free inode in a directory, in its least empty slot or behind its last entry.
 fn enter<R: Region>(parts: &mut Parts<R>, dir: u32, slot: Option<u64>, name: &[u8], kind: Kind)
-    requires can { CanEnter (R.memory parts.old.region) parts.old.blocks parts.old.inodes dir name.now }
+    requires can { CanEnter (kept_of parts.old) (R.memory parts.old.region) parts.old.blocks parts.old.inodes dir name.now }
     requires exact { IsExact (current_words (R.memory parts.old.region)) parts.old }
     requires slot { slot ≡ empty_slot (current_words (R.memory parts.old.region)) dir }
     ensures performs { (free : Option ℕ) → IsLeastFree (current_words (R.memory parts.old.region)) free
@@ -61,6 +153,7 @@ fn enter<R: Region>(parts: &mut Parts<R>, dir: u32, slot: Option<u64>, name: &[u
         (R.memory parts.old.region) (R.memory parts.new.region) (enters dir (entrant_of free))
         (EntersName dir name.now kind) }
     ensures exact { IsExact (current_words (R.memory parts.new.region)) parts.new }
+    ensures frozen { parts.new.frozen ≡ parts.old.frozen }
 {
     let inode = parts.inodes.take_least();
     parts.counts.set(inode, 1);
@@ -70,7 +163,7 @@ fn enter<R: Region>(parts: &mut Parts<R>, dir: u32, slot: Option<u64>, name: &[u
     }
 }
 
-/// The same where no inode is free: the inode file grows by a leaf first.
+/// The same where no inode is free and nothing is left to thaw: the inode file grows by a leaf first.
 fn grow_and_enter<R: Region>(
     parts: &mut Parts<R>,
     dir: u32,
@@ -81,14 +174,34 @@ fn grow_and_enter<R: Region>(
     requires lacks { LacksName (current_words (R.memory parts.old.region)) dir name.now }
     requires exact { IsExact (current_words (R.memory parts.old.region)) parts.old }
     requires slot { slot ≡ empty_slot (current_words (R.memory parts.old.region)) dir }
-    requires enough { need (current_words (R.memory parts.old.region)) (enters dir grown)
-        ≤ length (members parts.old.blocks) }
-    requires room { HasRoomFor (R.memory parts.old.region) (kept_of parts.old) (enters dir grown) }
-    ensures performs { Performs (kept_of parts.old) (R.memory parts.old.region) (R.memory parts.new.region)
+    requires none { members parts.old.inodes ≡ [] }
+    requires thawed { IsThawedFor (kept_of parts.old) (R.memory parts.old.region) parts.old.blocks (enters dir grown) }
+    ensures performs { PerformsThawed (kept_of parts.old) (R.memory parts.old.region) (R.memory parts.new.region)
         (enters dir grown) (EntersName dir name.now kind) }
     ensures exact { IsExact (current_words (R.memory parts.new.region)) parts.new }
+    ensures frozen { parts.new.frozen ≡ parts.old.frozen }
 {
     grow(parts);
+    enter(parts, dir, slot, name, kind);
+}
+
+/// What [`create_in`] does once nothing is left to thaw.
+fn enter_new<R: Region>(parts: &mut Parts<R>, dir: u32, slot: Option<u64>, name: &[u8], kind: Kind)
+    requires lacks { LacksName (current_words (R.memory parts.old.region)) dir name.now }
+    requires exact { IsExact (current_words (R.memory parts.old.region)) parts.old }
+    requires slot { slot ≡ empty_slot (current_words (R.memory parts.old.region)) dir }
+    requires thawed { (free : Option ℕ) → IsLeastFree (current_words (R.memory parts.old.region)) free
+        → IsThawedFor (kept_of parts.old) (R.memory parts.old.region) parts.old.blocks (enters dir (entrant_of free)) }
+    ensures performs { (free : Option ℕ) → IsLeastFree (current_words (R.memory parts.old.region)) free
+        → PerformsThawed (kept_of parts.old) (R.memory parts.old.region) (R.memory parts.new.region)
+        (enters dir (entrant_of free)) (EntersName dir name.now kind) }
+    ensures exact { IsExact (current_words (R.memory parts.new.region)) parts.new }
+    ensures frozen { parts.new.frozen ≡ parts.old.frozen }
+{
+    if parts.inodes.count() == 0 {
+        grow_and_enter(parts, dir, slot, name, kind);
+        return;
+    }
     enter(parts, dir, slot, name, kind);
 }
 
@@ -116,7 +229,8 @@ pub fn create_in<R: Region>(
         (enters dir (entrant_of free)) }
     ensures performs { OnOk result ((free : Option ℕ) → IsLeastFree (current_words (R.memory parts.old.region)) free
         → Performs (kept_of parts.old) (R.memory parts.old.region) (R.memory parts.new.region)
-        (enters dir (entrant_of free)) (EntersName dir name.now kind)) }
+        (enters dir (entrant_of free)) (AfterThaw (EntersName dir name.now kind))) }
+    ensures frozen { parts.new.frozen ≡ parts.old.frozen }
     ensures exact { IsExact (current_words (R.memory parts.new.region)) parts.new }
     ensures refused { IfErr result (λ lacks. (free : Option ℕ)
         → IsLeastFree (current_words (R.memory parts.old.region)) free
@@ -124,22 +238,13 @@ pub fn create_in<R: Region>(
         (enters dir (entrant_of free)) lacks) }
     ensures same { OnErr result (parts.new ≡ parts.old) }
 {
-    let tree = tree_of(&parts.region, dir);
-    let entry = entry_need(&parts.region, dir, tree, slot);
-    let free = parts.blocks.count();
-    if parts.inodes.count() == 0 {
-        let need = entry + grow_need(&parts.region);
-        if free < need {
-            return Err(NoSpace { need, free });
+    match thaw_new(parts, dir, slot) {
+        Ok(()) => {
+            enter_new(parts, dir, slot, name, kind);
+            Ok(())
         }
-        grow_and_enter(parts, dir, slot, name, kind);
-        return Ok(());
+        Err(lacks) => Err(lacks),
     }
-    if free < entry {
-        return Err(NoSpace { need: entry, free });
-    }
-    enter(parts, dir, slot, name, kind);
-    Ok(())
 }
 
 /// Creates a file or a directory without bytes, under a name that directory `dir` doesn't have, by one store alone in
@@ -148,7 +253,8 @@ pub fn create_in<R: Region>(
 /// # Errors
 ///
 /// `NoSpace` exactly where fewer blocks are free than it needs: those that the directory lacks for one entry more,
-/// where no entry is empty, and those that the inode file lacks for one leaf more, where no inode is free.
+/// where no entry is empty, those that the inode file lacks for one leaf more, where no inode is free, and those that
+/// it thaws.
 pub fn create<R: Region>(
     parts: &mut Parts<R>,
     dir: u32,
@@ -165,7 +271,8 @@ pub fn create<R: Region>(
         (enters dir (entrant_of free)) }
     ensures performs { OnOk result ((free : Option ℕ) → IsLeastFree (current_words (R.memory parts.old.region)) free
         → Performs (kept_of parts.old) (R.memory parts.old.region) (R.memory parts.new.region)
-        (enters dir (entrant_of free)) (EntersName dir name.now kind)) }
+        (enters dir (entrant_of free)) (AfterThaw (EntersName dir name.now kind))) }
+    ensures frozen { parts.new.frozen ≡ parts.old.frozen }
     ensures exact { IsExact (current_words (R.memory parts.new.region)) parts.new }
     ensures refused { IfErr result (λ lacks. (free : Option ℕ)
         → IsLeastFree (current_words (R.memory parts.old.region)) free

@@ -1,33 +1,57 @@
 //! A name and its inode in a directory: in an empty entry, or in one behind the last.
 
-ghost use Rattle.std.specs.Prelude.{Some, ◌≡◌, ◌+◌, ◌≤◌, length};
-ghost use Rattle.bp_shapes.specs.Sets.{AreExact};
+ghost use Rattle.std.specs.Prelude.{Some, ◌≡◌, ℕ, ◌+◌, ◌*◌, ◌≤◌, Bool, length};
+ghost use Rattle.bp_shapes.specs.Sets.{AreExact, kept_of};
 ghost use Rattle.bp_calls.specs.Created.{CountsName, EntersName};
 ghost use Rattle.bp_calls.specs.Entries.{AreEntryBytes, PutsBehind, entry_byte};
 ghost use Rattle.bp_calls.specs.Growth.{stores_behind_growth};
-ghost use Rattle.bp_calls.specs.Steps.{CanEnterBehind, CanName, CanPutBehind, entering_room, name_need};
+ghost use Rattle.bp_calls.specs.Steps.{CanEnterBehind, CanName, CanPutBehind, HasLooseWord, entering_room, name_need};
 ghost use Rattle.bp_free.specs.Set.{Set, members, without};
 ghost use Rattle.bp_layout.specs.Directory.{empty_slot};
-ghost use Rattle.bp_layout.specs.Inode.{root_of, size_of};
+ghost use Rattle.bp_layout.specs.Inode.{IsDirectory, root_of, size_of};
 ghost use Rattle.bp_layout.specs.Need.Change.{enters};
-ghost use Rattle.bp_layout.specs.Need.Entrant.{taken};
+ghost use Rattle.bp_layout.specs.Need.Entrant.{linked, taken};
 ghost use Rattle.bp_layout.specs.Reached.{IsReached};
-ghost use Rattle.bp_layout.specs.Thaw.{none_kept};
+ghost use Rattle.bp_layout.specs.Thaw.{targets};
 ghost use Rattle.bp_layout.specs.WellFormed.{IsWellFormed};
 ghost use Rattle.bp_commit.specs.Performs.{PerformsWithin};
+ghost use Rattle.bp_limits.specs.Limits.{entry_words, inode_words};
+ghost use Rattle.bp_thaw.specs.Thaws.{paths_in};
 ghost use Rattle.pm_region.specs.Memory.{current_words, room_in};
 
+use crate::targets::{Targets, entry_path, push_end};
 use bp_append::prep;
 use bp_dirs::{entry_place, put_name};
 use bp_free::Parts;
-use bp_inodes::{fill, place, root_path, tree_of};
+use bp_inodes::{fill, place, root_path, size_path, tree_of};
 use bp_inplace::commit_word;
 use bp_layout::Kind;
 use bp_limits::{ENTRY_SIZE, SIZE_FIELD};
 use bp_tree::{Tree, content_word};
 use pm_region::Region;
 
-/// Names a new inode in an empty entry of a directory.
+/// Where a name comes into a directory, given its least empty slot: at the inumber of the entry there, or else at the
+/// size, which takes in an entry behind the last one.
+pub(crate) fn entering<R: Region>(region: &R, dir: u32, slot: Option<u64>) -> Targets
+    requires well_formed { IsWellFormed (current_words (R.memory region.now)) }
+    requires reached { IsReached (current_words (R.memory region.now)) dir }
+    requires directory { IsDirectory (current_words (R.memory region.now)) dir }
+    requires slot { slot ≡ empty_slot (current_words (R.memory region.now)) dir }
+    ensures paths { paths_in result ≡ targets (current_words (R.memory region.now)) (enters dir linked) }
+    ensures few { length result.items ≤ 3 }
+{
+    let mut targets = Targets::new();
+    match slot {
+        Some(slot) => targets.push(entry_path(region, dir, slot)),
+        None => {
+            targets.push(size_path(region, dir));
+            push_end(&mut targets, &root_path(region, dir), tree_of(region, dir));
+        }
+    }
+    targets
+}
+
+/// Names a new inode in an empty entry of a directory, once no block of these is kept.
 pub(crate) fn enter_slot<R: Region>(
     region: &mut R,
     dir: u32,
@@ -40,11 +64,15 @@ pub(crate) fn enter_slot<R: Region>(
     requires found { empty_slot (current_words (R.memory region.old)) dir ≡ Some slot }
     requires room { entering_room (name_need (current_words (R.memory region.old)) dir)
         ≤ room_in (R.memory region.old) }
-    ensures performs { PerformsWithin none_kept (name_need (current_words (R.memory region.old)) dir) 5
+    ensures performs { (kept : ℕ → Bool)
+        → HasLooseWord (current_words (R.memory region.old)) kept dir (entry_words * slot + 0)
+        → HasLooseWord (current_words (R.memory region.old)) kept 0 (inode_words * inode + 0)
+        → PerformsWithin kept (name_need (current_words (R.memory region.old)) dir) 5
         (stores_behind_growth (name_need (current_words (R.memory region.old)) dir))
         (R.memory region.old) (R.memory region.new) (enters dir (taken inode)) (EntersName dir name.now kind) }
-    ensures exact { (blocks inodes : Set) → AreExact (current_words (R.memory region.old)) none_kept blocks inodes
-        → AreExact (current_words (R.memory region.new)) none_kept blocks (without inodes inode) }
+    ensures exact { (kept : ℕ → Bool) (blocks inodes : Set)
+        → AreExact (current_words (R.memory region.old)) kept blocks inodes
+        → AreExact (current_words (R.memory region.new)) kept blocks (without inodes inode) }
     ensures counts { CountsName (current_words (R.memory region.old)) (current_words (R.memory region.new)) inode }
 {
     let tree = tree_of(region, dir);
@@ -84,10 +112,10 @@ fn entry_bytes(inode: u32, name: &[u8]) -> [u8; ENTRY_SIZE as usize]
 /// Writes an entry behind the last one of a directory, where nobody sees it: the directory's tree is prepared for one
 /// entry more.
 pub fn put_behind<R: Region>(parts: &mut Parts<R>, dir: u32, tree: Tree, inode: u32, name: &[u8])
-    requires can { CanPutBehind (R.memory parts.old.region) parts.old.blocks dir name.now }
+    requires can { CanPutBehind (kept_of parts.old) (R.memory parts.old.region) parts.old.blocks dir name.now }
     requires root { tree.root ≡ root_of (current_words (R.memory parts.old.region)) dir }
     requires size { tree.size ≡ size_of (current_words (R.memory parts.old.region)) dir }
-    ensures puts { PutsBehind (R.memory parts.old.region) (R.memory parts.new.region) (members parts.old.blocks)
+    ensures puts { PutsBehind (kept_of parts.old) (R.memory parts.old.region) (R.memory parts.new.region) (members parts.old.blocks)
         (members parts.new.blocks) dir inode name.now }
     ensures blocks { length parts.new.blocks ≡ length parts.old.blocks }
     ensures inodes { parts.new.inodes ≡ parts.old.inodes }
@@ -116,14 +144,14 @@ pub(crate) fn enter_behind<R: Region>(
     name: &[u8],
     kind: Kind,
 )
-    requires can { CanEnterBehind (R.memory parts.old.region) parts.old.blocks dir inode name.now }
-    ensures performs { PerformsWithin none_kept (name_need (current_words (R.memory parts.old.region)) dir) 5
+    requires can { CanEnterBehind (kept_of parts.old) (R.memory parts.old.region) parts.old.blocks dir inode name.now }
+    ensures performs { PerformsWithin (kept_of parts.old) (name_need (current_words (R.memory parts.old.region)) dir) 5
         (stores_behind_growth (name_need (current_words (R.memory parts.old.region)) dir))
         (R.memory parts.old.region) (R.memory parts.new.region) (enters dir (taken inode))
         (EntersName dir name.now kind) }
     ensures exact { (inodes : Set)
-        → AreExact (current_words (R.memory parts.old.region)) none_kept parts.old.blocks inodes
-        → AreExact (current_words (R.memory parts.new.region)) none_kept parts.new.blocks (without inodes inode) }
+        → AreExact (current_words (R.memory parts.old.region)) (kept_of parts.old) parts.old.blocks inodes
+        → AreExact (current_words (R.memory parts.new.region)) (kept_of parts.old) parts.new.blocks (without inodes inode) }
     ensures counts { CountsName (current_words (R.memory parts.old.region))
         (current_words (R.memory parts.new.region)) inode }
     ensures inodes { parts.new.inodes ≡ parts.old.inodes }

@@ -14,26 +14,35 @@ use bp_tree::{Tree, child};
 use pm_region::Region;
 use pm_words::span;
 
-/// Gives the topmost block of a tree back, where nothing is left of the tree.
-fn give_top(blocks: &mut Blocks, top: u32, shorter: u64)
+/// Gives the topmost block of a tree back, where nothing is left of the tree and the block is not kept.
+fn give_top(blocks: &mut Blocks, frozen: &Blocks, top: u32, shorter: u64)
     requires in_range { top < length blocks.old }
+    requires known { top < length frozen.now }
     requires taken { has blocks.old top ≡ false }
-    ensures { GivesBack (IsTopGivenUp top shorter) blocks.old blocks.new }
+    ensures { GivesBack (has frozen.now) (IsTopGivenUp top shorter) blocks.old blocks.new }
 {
-    if shorter == 0 {
+    if shorter == 0 && !frozen.is_free(top) {
         blocks.give(top);
     }
 }
 
-/// Gives back the blocks of a tree that hold no byte below `shorter`, a size in bytes: all of them where that is 0. The
-/// size of `tree` is the one that it had before, and the words of its blocks are still as they were then.
-pub fn give_back<R: Region>(region: &R, tree: Tree, shorter: u64, blocks: &mut Blocks)
+/// Gives back the blocks of a tree that hold no byte below `shorter`, a size in bytes: all of them where that is 0. Those
+/// that are kept stay where they are. The size of `tree` is the one that it had before, and the words of its blocks are
+/// still as they were then.
+pub fn give_back<R: Region>(
+    region: &R,
+    tree: Tree,
+    shorter: u64,
+    blocks: &mut Blocks,
+    frozen: &Blocks,
+)
     requires sound { IsSound (current_words (R.memory region.now)) tree.root tree.size }
     requires room { length blocks.old ≡ block_count (current_words (R.memory region.now)) }
+    requires known { length frozen.now ≡ block_count (current_words (R.memory region.now)) }
     requires taken { (b : ℕ) → HasBlock (current_words (R.memory region.now)) tree.root tree.size b →
         has blocks.old b ≡ false }
-    ensures { GivesBack (IsGivenUp (current_words (R.memory region.now)) tree.root tree.size shorter)
-        blocks.old blocks.new }
+    ensures { GivesBack (has frozen.now)
+        (IsGivenUp (current_words (R.memory region.now)) tree.root tree.size shorter) blocks.old blocks.new }
 {
     let _words = region.words();
     if tree.size <= shorter {
@@ -43,7 +52,7 @@ pub fn give_back<R: Region>(region: &R, tree: Tree, shorter: u64, blocks: &mut B
     if top == 0 {
         return;
     }
-    give_top(blocks, top, shorter);
+    give_top(blocks, frozen, top, shorter);
     let height = tree.height();
     if height == 0 {
         return;
@@ -51,6 +60,7 @@ pub fn give_back<R: Region>(region: &R, tree: Tree, shorter: u64, blocks: &mut B
     let step = span(height - 1);
     for slot in shorter / step..(tree.size - 1) / step + 1 {
         let below = child(region, tree, slot);
-        give_back(region, below, shorter.saturating_sub(slot * step), blocks);
+        let left = shorter.saturating_sub(slot * step);
+        give_back(region, below, left, blocks, frozen);
     }
 }

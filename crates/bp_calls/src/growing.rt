@@ -5,7 +5,7 @@ ghost use Rattle.bp_calls.specs.Growth.{CanGrowInodes, GrowsInodes, growth_need}
 ghost use Rattle.bp_free.specs.Set.{members};
 ghost use Rattle.bp_layout.specs.WellFormed.{IsWellFormed};
 ghost use Rattle.bp_limits.specs.Limits.{max_height};
-ghost use Rattle.bp_shapes.specs.Sets.{IsExact};
+ghost use Rattle.bp_shapes.specs.Sets.{IsExact, kept_of};
 ghost use Rattle.pm_region.specs.Memory.{current_words};
 
 use bp_append::{need_prep, prep};
@@ -30,10 +30,11 @@ pub(crate) fn grow_need<R: Region>(region: &R) -> u32
 /// Nobody sees it at any moment of a crash: the size is stored once the leaf is linked, and a longer inode file reaches
 /// no inode more.
 pub(crate) fn grow<R: Region>(parts: &mut Parts<R>)
-    requires can { CanGrowInodes (R.memory parts.old.region) parts.old.blocks parts.old.inodes }
+    requires can { CanGrowInodes (kept_of parts.old) (R.memory parts.old.region) parts.old.blocks parts.old.inodes }
     requires exact { IsExact (current_words (R.memory parts.old.region)) parts.old }
-    ensures grows { GrowsInodes (R.memory parts.old.region) (R.memory parts.new.region) }
+    ensures grows { GrowsInodes (kept_of parts.old) (R.memory parts.old.region) (R.memory parts.new.region) }
     ensures exact { IsExact (current_words (R.memory parts.new.region)) parts.new }
+    ensures frozen { parts.new.frozen ≡ parts.old.frozen }
     ensures left { length (members parts.old.blocks) ≡
         growth_need (current_words (R.memory parts.old.region)) + length (members parts.new.blocks) }
 {

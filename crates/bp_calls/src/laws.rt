@@ -12,6 +12,7 @@ ghost use Rattle.bp_calls.specs.WritesFile.{WritesFile};
 ghost use Rattle.bp_layout.specs.declared.fields.Kind.{Kind};
 ghost use Rattle.bp_changes.specs.Effects.{CanUnlink, RemovesEntry};
 ghost use Rattle.bp_changes.specs.Overwrites.{OverwritesFiles, Patch};
+ghost use Rattle.bp_changes.specs.Thawed.{AfterThaw};
 ghost use Rattle.bp_dirs.specs.Names.{name_count};
 ghost use Rattle.bp_free.specs.Set.{has, members};
 ghost use Rattle.bp_layout.specs.Directory.{Name, inumber_at, name_at};
@@ -64,14 +65,14 @@ pub fn changes_in_place_need_no_block(image: &[u64])
 /// A directory into which a name came gains it in the plain tree, at each path that finds the directory.
 pub fn entered_names_are_gained(old: &[u64], new: &[u64])
     requires { IsWellFormed old.now }
-    ensures { (i : ℕ) (name : Name) (kind : Kind) → EntersName i name kind old.now new.now
+    ensures { (i : ℕ) (name : Name) (kind : Kind) → AfterThaw (EntersName i name kind) old.now new.now
         → GainsName i name kind old.now new.now }
 {}
 
 /// A file that was named in a directory is there too in the plain tree, at each path that finds the directory.
 pub fn linked_names_are_shared(old: &[u64], new: &[u64])
     requires { IsWellFormed old.now }
-    ensures { (i : ℕ) (name : Name) (j : ℕ) → LinksEntry i name j old.now new.now
+    ensures { (i : ℕ) (name : Name) (j : ℕ) → AfterThaw (LinksEntry i name j) old.now new.now
         → SharesName i name j old.now new.now }
 {}
 
@@ -79,7 +80,7 @@ pub fn linked_names_are_shared(old: &[u64], new: &[u64])
 /// directory, where the entry named a file or an empty directory.
 pub fn removed_names_are_lost(old: &[u64], new: &[u64])
     requires { IsWellFormed old.now }
-    ensures { (i s j : ℕ) → CanUnlink old.now i s j → RemovesEntry old.now new.now i s
+    ensures { (i s j : ℕ) → CanUnlink old.now i s j → AfterThaw (λ image after. RemovesEntry image after i s) old.now new.now
         → LosesName i s old.now new.now }
 {}
 
@@ -102,14 +103,14 @@ pub fn files_and_empty_directories_may_leave(image: &[u64])
 /// finds it.
 pub fn resized_files_get_their_size(old: &[u64], new: &[u64])
     requires { IsWellFormed old.now }
-    ensures { (i size : ℕ) → ResizesFile i size old.now new.now → GetsSize i size old.now new.now }
+    ensures { (i size : ℕ) → AfterThaw (ResizesFile i size) old.now new.now → GetsSize i size old.now new.now }
 {}
 
 /// A file into which bytes were written has them in the plain tree, at each path that finds it: in place of those that
 /// it had there, and behind zeros where they begin past its end.
 pub fn written_files_get_their_bytes(old: &[u64], new: &[u64])
     requires { IsWellFormed old.now }
-    ensures { (i off : ℕ) (bytes : List ℕ) → WritesFile i off bytes old.now new.now →
+    ensures { (i off : ℕ) (bytes : List ℕ) → AfterThaw (WritesFile i off bytes) old.now new.now →
         GetsBytes i off bytes old.now new.now }
 {}
 
@@ -118,5 +119,5 @@ pub fn written_files_get_their_bytes(old: &[u64], new: &[u64])
 pub fn overwritten_files_get_their_bytes(old: &[u64], new: &[u64])
     requires { IsWellFormed old.now }
     ensures { (pieces : List Piece) (patches : List Patch) → ArePatches old.now pieces patches →
-        OverwritesFiles patches old.now new.now → GetsPieces pieces old.now new.now }
+        AfterThaw (OverwritesFiles patches) old.now new.now → GetsPieces pieces old.now new.now }
 {}

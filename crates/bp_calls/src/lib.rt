@@ -13,6 +13,8 @@ mod listing;
 mod reading;
 mod removing;
 mod resizing;
+mod targets;
+mod thawing;
 mod writing;
 
 pub use batching::{Patch, batch};
@@ -25,4 +27,6 @@ pub use listing::list;
 pub use reading::{links, read, stat};
 pub use removing::remove;
 pub use resizing::truncate;
+pub use targets::{Targets, entry_path, push_end};
+pub use thawing::thaw_before;
 pub use writing::write;

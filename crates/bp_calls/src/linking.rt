@@ -1,24 +1,29 @@
 //! Names more for files.
 
-ghost use Rattle.std.specs.Prelude.{Some, ◌≡◌, ◌≤◌, Option, None, IfErr, OnErr, OnOk};
+ghost use Rattle.std.specs.Prelude.{Some, ◌≡◌, ℕ, ◌+◌, ◌*◌, ◌≤◌, Bool, Option, None, IfErr, OnErr, OnOk};
 ghost use Rattle.bp_calls.specs.Created.{CountsMore, LinksEntry};
 ghost use Rattle.bp_calls.specs.Growth.{stores_behind_growth};
 ghost use Rattle.bp_calls.specs.Mounted.{IsMounted};
 ghost use Rattle.bp_calls.specs.Space.{HasRoomWhereFree, LacksSpace};
-ghost use Rattle.bp_calls.specs.Steps.{CanLink, CanLinkBehind, CanShare, entering_room, name_need};
+ghost use Rattle.bp_calls.specs.Steps.{CanLink, CanLinkBehind, CanShare, HasLooseWord, entering_room, name_need};
+ghost use Rattle.bp_calls.specs.ThawedFor.{IsThawedFor};
+ghost use Rattle.bp_calls.specs.ThawsFor.{ThawsFor};
+ghost use Rattle.bp_changes.specs.Thawed.{AfterThaw};
 ghost use Rattle.bp_free.specs.Set.{Set};
 ghost use Rattle.bp_layout.specs.Directory.{IsName, empty_slot, slot_named};
 ghost use Rattle.bp_layout.specs.Inode.{IsDirectory, IsFile};
 ghost use Rattle.bp_layout.specs.Need.Change.{enters};
 ghost use Rattle.bp_layout.specs.Need.Entrant.{linked};
 ghost use Rattle.bp_layout.specs.Reached.{IsReached};
-ghost use Rattle.bp_layout.specs.Thaw.{none_kept};
+ghost use Rattle.bp_layout.specs.Thaw.{targets};
 ghost use Rattle.bp_shapes.specs.Sets.{AreExact, IsExact, kept_of};
-ghost use Rattle.bp_commit.specs.Performs.{Performs, PerformsWithin};
+ghost use Rattle.bp_commit.specs.Performs.{Performs, PerformsThawed, PerformsWithin};
+ghost use Rattle.bp_limits.specs.Limits.{entry_words};
 ghost use Rattle.pm_region.specs.Memory.{current_words, room_in};
 
 use crate::creating::entry_need;
-use crate::entering::put_behind;
+use crate::entering::{entering, put_behind};
+use crate::thawing::thaw_before;
 use bp_dirs::{entry_place, put_name};
 use bp_free::{NoSpace, Parts};
 use bp_inodes::{place, tree_of};
@@ -26,17 +31,20 @@ use bp_inplace::commit_word;
 use bp_limits::{ENTRY_SIZE, SIZE_FIELD};
 use pm_region::Region;
 
-/// Names a file in an empty entry of a directory.
+/// Names a file in an empty entry of a directory, once its block is not kept.
 fn link_slot<R: Region>(region: &mut R, dir: u32, slot: u64, i: u32, name: &[u8])
     requires can { CanLink (current_words (R.memory region.old)) dir i name.now }
     requires found { empty_slot (current_words (R.memory region.old)) dir ≡ Some slot }
     requires room { entering_room (name_need (current_words (R.memory region.old)) dir)
         ≤ room_in (R.memory region.old) }
-    ensures performs { PerformsWithin none_kept (name_need (current_words (R.memory region.old)) dir) 5
+    ensures performs { (kept : ℕ → Bool)
+        → HasLooseWord (current_words (R.memory region.old)) kept dir (entry_words * slot + 0)
+        → PerformsWithin kept (name_need (current_words (R.memory region.old)) dir) 5
         (stores_behind_growth (name_need (current_words (R.memory region.old)) dir))
         (R.memory region.old) (R.memory region.new) (enters dir linked) (LinksEntry dir name.now i) }
-    ensures exact { (blocks inodes : Set) → AreExact (current_words (R.memory region.old)) none_kept blocks inodes
-        → AreExact (current_words (R.memory region.new)) none_kept blocks inodes }
+    ensures exact { (kept : ℕ → Bool) (blocks inodes : Set)
+        → AreExact (current_words (R.memory region.old)) kept blocks inodes
+        → AreExact (current_words (R.memory region.new)) kept blocks inodes }
     ensures counts { CountsMore (current_words (R.memory region.old)) (current_words (R.memory region.new)) i }
 {
     let tree = tree_of(region, dir);
@@ -47,13 +55,13 @@ fn link_slot<R: Region>(region: &mut R, dir: u32, slot: u64, i: u32, name: &[u8]
 
 /// Names a file in an entry behind the last one of a directory, whose size then takes it in.
 fn link_behind<R: Region>(parts: &mut Parts<R>, dir: u32, i: u32, name: &[u8])
-    requires can { CanLinkBehind (R.memory parts.old.region) parts.old.blocks dir i name.now }
-    ensures performs { PerformsWithin none_kept (name_need (current_words (R.memory parts.old.region)) dir) 5
+    requires can { CanLinkBehind (kept_of parts.old) (R.memory parts.old.region) parts.old.blocks dir i name.now }
+    ensures performs { PerformsWithin (kept_of parts.old) (name_need (current_words (R.memory parts.old.region)) dir) 5
         (stores_behind_growth (name_need (current_words (R.memory parts.old.region)) dir))
         (R.memory parts.old.region) (R.memory parts.new.region) (enters dir linked) (LinksEntry dir name.now i) }
     ensures exact { (inodes : Set)
-        → AreExact (current_words (R.memory parts.old.region)) none_kept parts.old.blocks inodes
-        → AreExact (current_words (R.memory parts.new.region)) none_kept parts.new.blocks inodes }
+        → AreExact (current_words (R.memory parts.old.region)) (kept_of parts.old) parts.old.blocks inodes
+        → AreExact (current_words (R.memory parts.new.region)) (kept_of parts.old) parts.new.blocks inodes }
     ensures counts { CountsMore (current_words (R.memory parts.old.region))
         (current_words (R.memory parts.new.region)) i }
     ensures inodes { parts.new.inodes ≡ parts.old.inodes }
@@ -66,15 +74,47 @@ fn link_behind<R: Region>(parts: &mut Parts<R>, dir: u32, i: u32, name: &[u8])
     commit_word(&mut parts.region, size_place, tree.size + ENTRY_SIZE);
 }
 
-/// Gives a file one more name, in a directory's least empty slot or behind its last entry.
+/// Thaws what is kept near the words where a file's name comes into a directory, given its least empty slot.
+///
+/// # Errors
+///
+/// `NoSpace` exactly where fewer blocks are free than that takes, with those of the name. Nothing has changed then.
+fn thaw_linked<R: Region>(parts: &mut Parts<R>, dir: u32, slot: Option<u64>) -> Result<(), NoSpace>
+    requires mounted { IsMounted (current_words (R.memory parts.old.region)) parts.old }
+    requires reached { IsReached (current_words (R.memory parts.old.region)) dir }
+    requires directory { IsDirectory (current_words (R.memory parts.old.region)) dir }
+    requires slot { slot ≡ empty_slot (current_words (R.memory parts.old.region)) dir }
+    requires room { HasRoomWhereFree (R.memory parts.old.region) (kept_of parts.old) parts.old.blocks (enters dir linked) }
+    ensures thaws { OnOk result (ThawsFor R.memory (targets (current_words (R.memory parts.old.region)) (enters dir linked))
+        parts.old parts.new) }
+    ensures thawed { OnOk result (IsThawedFor (kept_of parts.new) (R.memory parts.new.region) parts.new.blocks
+        (enters dir linked)) }
+    ensures refused { IfErr result (λ lacks. LacksSpace (current_words (R.memory parts.old.region)) (kept_of parts.old)
+        (enters dir linked) lacks) }
+    ensures same { OnErr result (parts.new ≡ parts.old) }
+{
+    let tree = tree_of(&parts.region, dir);
+    let need = entry_need(&parts.region, dir, tree, slot);
+    if parts.frozen.count() == 0 {
+        let free = parts.blocks.count();
+        if free < need {
+            return Err(NoSpace { need, free });
+        }
+        return Ok(());
+    }
+    let targets = entering(&parts.region, dir, slot);
+    thaw_before(parts, &targets, need)
+}
+
+/// Gives a file one more name, in a directory's least empty slot or behind its last entry, once nothing is left to thaw.
 fn share<R: Region>(parts: &mut Parts<R>, dir: u32, slot: Option<u64>, name: &[u8], i: u32)
-    requires can { CanShare (R.memory parts.old.region) parts.old.blocks parts.old.inodes dir i name.now }
+    requires can { CanShare (kept_of parts.old) (R.memory parts.old.region) parts.old.blocks parts.old.inodes dir i name.now }
     requires exact { IsExact (current_words (R.memory parts.old.region)) parts.old }
     requires slot { slot ≡ empty_slot (current_words (R.memory parts.old.region)) dir }
-    ensures performs { PerformsWithin (kept_of parts.old) (name_need (current_words (R.memory parts.old.region)) dir) 5
-        (stores_behind_growth (name_need (current_words (R.memory parts.old.region)) dir))
-        (R.memory parts.old.region) (R.memory parts.new.region) (enters dir linked) (LinksEntry dir name.now i) }
+    ensures performs { PerformsThawed (kept_of parts.old) (R.memory parts.old.region) (R.memory parts.new.region)
+        (enters dir linked) (LinksEntry dir name.now i) }
     ensures exact { IsExact (current_words (R.memory parts.new.region)) parts.new }
+    ensures frozen { parts.new.frozen ≡ parts.old.frozen }
 {
     let names = parts.counts.names(i);
     parts.counts.set(i, names + 1);
@@ -89,7 +129,8 @@ fn share<R: Region>(parts: &mut Parts<R>, dir: u32, slot: Option<u64>, name: &[u
 ///
 /// # Errors
 ///
-/// `NoSpace` exactly where fewer blocks are free than the directory lacks for one entry more, where no entry is empty.
+/// `NoSpace` exactly where fewer blocks are free than it needs: those that the directory lacks for one entry more,
+/// where no entry is empty, and those that it thaws.
 pub fn link_in<R: Region>(
     parts: &mut Parts<R>,
     dir: u32,
@@ -107,18 +148,18 @@ pub fn link_in<R: Region>(
     requires file { IsFile (current_words (R.memory parts.old.region)) i }
     requires room { HasRoomWhereFree (R.memory parts.old.region) (kept_of parts.old) parts.old.blocks (enters dir linked) }
     ensures performs { OnOk result (Performs (kept_of parts.old) (R.memory parts.old.region) (R.memory parts.new.region)
-        (enters dir linked) (LinksEntry dir name.now i)) }
+        (enters dir linked) (AfterThaw (LinksEntry dir name.now i))) }
+    ensures frozen { parts.new.frozen ≡ parts.old.frozen }
     ensures exact { IsExact (current_words (R.memory parts.new.region)) parts.new }
     ensures refused { IfErr result (λ lacks. LacksSpace (current_words (R.memory parts.old.region)) (kept_of parts.old)
         (enters dir linked) lacks) }
     ensures same { OnErr result (parts.new ≡ parts.old) }
 {
-    let tree = tree_of(&parts.region, dir);
-    let need = entry_need(&parts.region, dir, tree, slot);
-    let free = parts.blocks.count();
-    if free < need {
-        return Err(NoSpace { need, free });
+    match thaw_linked(parts, dir, slot) {
+        Ok(()) => {
+            share(parts, dir, slot, name, i);
+            Ok(())
+        }
+        Err(lacks) => Err(lacks),
     }
-    share(parts, dir, slot, name, i);
-    Ok(())
 }

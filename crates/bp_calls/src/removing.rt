@@ -1,31 +1,61 @@
 //! A name leaves its directory.
 
-ghost use Rattle.std.specs.Prelude.{◌≤◌};
+ghost use Rattle.std.specs.Prelude.{◌≡◌, ◌≤◌, [], IfErr, OnErr, OnOk};
 ghost use Rattle.bp_calls.specs.Mounted.{IsMounted};
+ghost use Rattle.bp_calls.specs.Space.{HasRoomWhereFree, LacksSpace};
+ghost use Rattle.bp_calls.specs.ThawsFor.{ThawsFor};
 ghost use Rattle.bp_changes.specs.Effects.{CanUnlink, RemovesEntry};
+ghost use Rattle.bp_changes.specs.Thawed.{AfterThaw};
 ghost use Rattle.bp_layout.specs.Directory.{inumber_at};
 ghost use Rattle.bp_layout.specs.Need.Change.{leaves};
+ghost use Rattle.bp_layout.specs.Thaw.{targets, thawed};
 ghost use Rattle.bp_shapes.specs.Sets.{IsExact, kept_of};
-ghost use Rattle.bp_commit.specs.Performs.{Performs};
+ghost use Rattle.bp_commit.specs.Performs.{Performs, PerformsThawed};
 ghost use Rattle.pm_region.specs.Memory.{current_words, room_in};
 
 use crate::giving::give_back;
+use crate::targets::leaving;
+use crate::thawing::thaw_before;
 use bp_dirs::{entry_place, inumber};
-use bp_free::Parts;
+use bp_free::{NoSpace, Parts};
 use bp_inodes::tree_of;
 use bp_inplace::commit_word;
 use pm_region::Region;
 
-/// Takes a name out of a directory, where it names a file or an empty directory, by one store alone in its epoch: of 0
-/// to the inumber of the entry in `slot`. It needs no block, and room for three events. Where the inode has no other
-/// name nobody reaches it then: its words stay as they were, and its blocks and its number come back.
-pub fn remove<R: Region>(parts: &mut Parts<R>, dir: u32, slot: u64)
+/// Thaws what is kept on the way to the inumber of an entry.
+///
+/// # Errors
+///
+/// `NoSpace` exactly where fewer blocks are free than that takes. Nothing has changed then.
+fn thaw_entry<R: Region>(parts: &mut Parts<R>, dir: u32, slot: u64) -> Result<(), NoSpace>
     requires mounted { IsMounted (current_words (R.memory parts.old.region)) parts.old }
     requires can { CanUnlink (current_words (R.memory parts.old.region)) dir slot
         (inumber_at (current_words (R.memory parts.old.region)) dir slot) }
+    requires room { HasRoomWhereFree (R.memory parts.old.region) (kept_of parts.old) parts.old.blocks (leaves dir slot) }
+    ensures thaws { OnOk result (ThawsFor R.memory (targets (current_words (R.memory parts.old.region)) (leaves dir slot))
+        parts.old parts.new) }
+    ensures room { OnOk result (3 ≤ room_in (R.memory parts.new.region)) }
+    ensures refused { IfErr result (LacksSpace (current_words (R.memory parts.old.region)) (kept_of parts.old)
+        (leaves dir slot)) }
+    ensures same { OnErr result (parts.new ≡ parts.old) }
+{
+    if parts.frozen.count() == 0 {
+        return Ok(());
+    }
+    let targets = leaving(&parts.region, dir, slot);
+    thaw_before(parts, &targets, 0)
+}
+
+/// What [`remove`] does once nothing is left to thaw.
+fn take_out<R: Region>(parts: &mut Parts<R>, dir: u32, slot: u64)
+    requires mounted { IsMounted (current_words (R.memory parts.old.region)) parts.old }
+    requires can { CanUnlink (current_words (R.memory parts.old.region)) dir slot
+        (inumber_at (current_words (R.memory parts.old.region)) dir slot) }
+    requires clear { thawed (current_words (R.memory parts.old.region)) (kept_of parts.old) (leaves dir slot) ≡ [] }
     requires room { 3 ≤ room_in (R.memory parts.old.region) }
-    ensures performs { Performs (kept_of parts.old) (R.memory parts.old.region) (R.memory parts.new.region)
+    ensures performs { PerformsThawed (kept_of parts.old) (R.memory parts.old.region) (R.memory parts.new.region)
         (leaves dir slot) (λ image after. RemovesEntry image after dir slot) }
+    ensures frozen { parts.new.frozen ≡ parts.old.frozen }
     ensures exact { IsExact (current_words (R.memory parts.new.region)) parts.new }
 {
     let directory = tree_of(&parts.region, dir);
@@ -38,6 +68,38 @@ pub fn remove<R: Region>(parts: &mut Parts<R>, dir: u32, slot: u64)
     if names > 0 {
         return;
     }
-    give_back(&parts.region, tree, 0, &mut parts.blocks);
+    let shorter = 0;
+    let frozen = &parts.frozen;
+    give_back(&parts.region, tree, shorter, &mut parts.blocks, frozen);
     parts.inodes.give(inode);
+}
+
+/// Takes a name out of a directory, where it names a file or an empty directory, by one store alone in its epoch: of 0
+/// to the inumber of the entry in `slot`. It needs no block but for what it thaws. Where the inode has no other name
+/// nobody reaches it then: its words stay as they were, and its number and those of its blocks that are not kept come
+/// back.
+///
+/// # Errors
+///
+/// `NoSpace` exactly where fewer blocks are free than it needs. Nothing has changed then.
+pub fn remove<R: Region>(parts: &mut Parts<R>, dir: u32, slot: u64) -> Result<(), NoSpace>
+    requires mounted { IsMounted (current_words (R.memory parts.old.region)) parts.old }
+    requires can { CanUnlink (current_words (R.memory parts.old.region)) dir slot
+        (inumber_at (current_words (R.memory parts.old.region)) dir slot) }
+    requires room { HasRoomWhereFree (R.memory parts.old.region) (kept_of parts.old) parts.old.blocks (leaves dir slot) }
+    ensures performs { OnOk result (Performs (kept_of parts.old) (R.memory parts.old.region) (R.memory parts.new.region)
+        (leaves dir slot) (AfterThaw (λ image after. RemovesEntry image after dir slot))) }
+    ensures frozen { parts.new.frozen ≡ parts.old.frozen }
+    ensures exact { IsExact (current_words (R.memory parts.new.region)) parts.new }
+    ensures refused { IfErr result (LacksSpace (current_words (R.memory parts.old.region)) (kept_of parts.old)
+        (leaves dir slot)) }
+    ensures same { OnErr result (parts.new ≡ parts.old) }
+{
+    match thaw_entry(parts, dir, slot) {
+        Ok(()) => {
+            take_out(parts, dir, slot);
+            Ok(())
+        }
+        Err(lacks) => Err(lacks),
+    }
 }

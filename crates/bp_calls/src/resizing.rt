@@ -1,74 +1,183 @@
 //! A file gets another size.
 
-ghost use Rattle.std.specs.Prelude.{◌≡◌, ◌≢◌, ◌<◌, ◌≤◌, IfErr, OnErr, OnOk};
+ghost use Rattle.std.specs.Prelude.{◌≡◌, ◌≢◌, ◌<◌, ◌≤◌, [], IfErr, OnErr, OnOk, length};
 ghost use Rattle.bp_calls.specs.Mounted.{IsMounted};
-ghost use Rattle.bp_calls.specs.Space.{HasRoomWhereFree, LacksSpace};
+ghost use Rattle.bp_calls.specs.Space.{HasRoomThawed, HasRoomWhereFree, LacksSpace};
+ghost use Rattle.bp_calls.specs.ThawsFor.{ThawsFor};
+ghost use Rattle.bp_changes.specs.Thawed.{AfterThaw};
+ghost use Rattle.bp_layout.specs.Thaw.{targets, thawed};
 ghost use Rattle.bp_calls.specs.CanGrow.{CanGrowFile};
 ghost use Rattle.bp_calls.specs.Resized.{ResizesFile};
+ghost use Rattle.bp_free.specs.Set.{members};
 ghost use Rattle.bp_layout.specs.Inode.{IsFile, root_of, size_of};
+ghost use Rattle.bp_layout.specs.Need.{need};
 ghost use Rattle.bp_layout.specs.Need.Change.{resizes};
 ghost use Rattle.bp_layout.specs.Reached.{IsReached};
 ghost use Rattle.bp_layout.specs.Formatted.{version_of};
 ghost use Rattle.bp_limits.specs.Limits.{greatest_size};
 ghost use Rattle.bp_shapes.specs.Sets.{IsExact, kept_of};
-ghost use Rattle.bp_commit.specs.Performs.{Performs};
+ghost use Rattle.bp_commit.specs.Performs.{Performs, PerformsThawed};
 ghost use Rattle.pm_region.specs.Memory.{current_words, room_in};
 
 use crate::giving::give_back;
+use crate::targets::{lengthening, shrinking};
+use crate::thawing::{enough_free, thaw_before};
 use bp_append::{need_prep, prep};
 use bp_free::{NoSpace, Parts};
 use bp_inodes::{place, root_path, tree_of};
 use bp_inplace::commit_word;
 use bp_limits::SIZE_FIELD;
-use bp_tree::Tree;
 use pm_region::Region;
 
-/// Gives a file a size above its own, with zeros behind its bytes: a preparation makes its tree high enough and clears
-/// the rest of its last leaf, and then the size is stored.
+/// Gives a file a size above its own, with zeros behind its bytes, once nothing is left to thaw and enough blocks are
+/// free: a preparation makes its tree high enough and clears the rest of its last leaf, and then the size is stored.
+fn lengthen<R: Region>(parts: &mut Parts<R>, i: u32, size: u64)
+    requires can { CanGrowFile (kept_of parts.old) (R.memory parts.old.region) parts.old.blocks parts.old.inodes i size }
+    requires exact { IsExact (current_words (R.memory parts.old.region)) parts.old }
+    requires enough { need (current_words (R.memory parts.old.region)) (resizes i size) ≤ length (members parts.old.blocks) }
+    ensures performs { PerformsThawed (kept_of parts.old) (R.memory parts.old.region) (R.memory parts.new.region)
+        (resizes i size) (ResizesFile i size) }
+    ensures frozen { parts.new.frozen ≡ parts.old.frozen }
+    ensures exact { IsExact (current_words (R.memory parts.new.region)) parts.new }
+{
+    let size_place = place(&parts.region, i, SIZE_FIELD);
+    let at = root_path(&parts.region, i);
+    prep(parts, &at, size, &[], size);
+    commit_word(&mut parts.region, size_place, size);
+}
+
+/// Thaws what is kept on the way to the size of a file that is to get smaller.
+///
+/// # Errors
+///
+/// `NoSpace` exactly where fewer blocks are free than that takes. Nothing has changed then.
+fn thaw_size<R: Region>(parts: &mut Parts<R>, i: u32, size: u64) -> Result<(), NoSpace>
+    requires mounted { IsMounted (current_words (R.memory parts.old.region)) parts.old }
+    requires reached { IsReached (current_words (R.memory parts.old.region)) i }
+    requires file { IsFile (current_words (R.memory parts.old.region)) i }
+    requires smaller { size < size_of (current_words (R.memory parts.old.region)) i }
+    requires room { HasRoomWhereFree (R.memory parts.old.region) (kept_of parts.old) parts.old.blocks (resizes i size) }
+    ensures thaws { OnOk result (ThawsFor R.memory (targets (current_words (R.memory parts.old.region)) (resizes i size))
+        parts.old parts.new) }
+    ensures room { OnOk result (3 ≤ room_in (R.memory parts.new.region)) }
+    ensures refused { IfErr result (LacksSpace (current_words (R.memory parts.old.region)) (kept_of parts.old)
+        (resizes i size)) }
+    ensures same { OnErr result (parts.new ≡ parts.old) }
+{
+    if parts.frozen.count() == 0 {
+        return Ok(());
+    }
+    let targets = shrinking(&parts.region, i);
+    thaw_before(parts, &targets, 0)
+}
+
+/// What [`shrink_file`] does once nothing is left to thaw: the size is stored, and then the blocks come back that hold
+/// no byte below it and are not kept.
+fn cut<R: Region>(parts: &mut Parts<R>, i: u32, size: u64)
+    requires mounted { IsMounted (current_words (R.memory parts.old.region)) parts.old }
+    requires reached { IsReached (current_words (R.memory parts.old.region)) i }
+    requires file { IsFile (current_words (R.memory parts.old.region)) i }
+    requires smaller { size < size_of (current_words (R.memory parts.old.region)) i }
+    requires clear { thawed (current_words (R.memory parts.old.region)) (kept_of parts.old) (resizes i size) ≡ [] }
+    requires room { 3 ≤ room_in (R.memory parts.old.region) }
+    ensures performs { PerformsThawed (kept_of parts.old) (R.memory parts.old.region) (R.memory parts.new.region)
+        (resizes i size) (ResizesFile i size) }
+    ensures frozen { parts.new.frozen ≡ parts.old.frozen }
+    ensures exact { IsExact (current_words (R.memory parts.new.region)) parts.new }
+{
+    let tree = tree_of(&parts.region, i);
+    let size_place = place(&parts.region, i, SIZE_FIELD);
+    commit_word(&mut parts.region, size_place, size);
+    let frozen = &parts.frozen;
+    give_back(&parts.region, tree, size, &mut parts.blocks, frozen);
+}
+
+/// Gives a file a size below its own. It needs no block but for what it thaws.
 ///
 /// # Errors
 ///
 /// `NoSpace` exactly where fewer blocks are free than it needs. Nothing has changed then.
-fn grow_file<R: Region>(parts: &mut Parts<R>, i: u32, tree: Tree, size: u64) -> Result<(), NoSpace>
-    requires can { CanGrowFile (R.memory parts.old.region) parts.old.blocks parts.old.inodes i size }
-    requires exact { IsExact (current_words (R.memory parts.old.region)) parts.old }
-    requires root { tree.root ≡ root_of (current_words (R.memory parts.old.region)) i }
-    requires size { tree.size ≡ size_of (current_words (R.memory parts.old.region)) i }
+fn shrink_file<R: Region>(parts: &mut Parts<R>, i: u32, size: u64) -> Result<(), NoSpace>
+    requires mounted { IsMounted (current_words (R.memory parts.old.region)) parts.old }
+    requires reached { IsReached (current_words (R.memory parts.old.region)) i }
+    requires file { IsFile (current_words (R.memory parts.old.region)) i }
+    requires smaller { size < size_of (current_words (R.memory parts.old.region)) i }
+    requires room { HasRoomWhereFree (R.memory parts.old.region) (kept_of parts.old) parts.old.blocks (resizes i size) }
     ensures performs { OnOk result (Performs (kept_of parts.old) (R.memory parts.old.region) (R.memory parts.new.region)
-        (resizes i size) (ResizesFile i size)) }
+        (resizes i size) (AfterThaw (ResizesFile i size))) }
+    ensures frozen { parts.new.frozen ≡ parts.old.frozen }
     ensures exact { IsExact (current_words (R.memory parts.new.region)) parts.new }
     ensures refused { IfErr result (LacksSpace (current_words (R.memory parts.old.region)) (kept_of parts.old)
         (resizes i size)) }
     ensures same { OnErr result (parts.new ≡ parts.old) }
 {
-    let need = need_prep(&parts.region, tree, size, size);
-    let free = parts.blocks.count();
-    if free < need {
-        return Err(NoSpace { need, free });
+    match thaw_size(parts, i, size) {
+        Ok(()) => {
+            cut(parts, i, size);
+            Ok(())
+        }
+        Err(lacks) => Err(lacks),
     }
-    let size_place = place(&parts.region, i, SIZE_FIELD);
-    let at = root_path(&parts.region, i);
-    prep(parts, &at, size, &[], size);
-    commit_word(&mut parts.region, size_place, size);
-    Ok(())
 }
 
-/// Gives a file a size below its own: the size is stored, and then the blocks come back that hold no byte below it.
-fn shrink_file<R: Region>(parts: &mut Parts<R>, i: u32, tree: Tree, size: u64)
+/// Thaws what is kept on the ways to the size of a file that is to get longer, and to the end of its tree.
+///
+/// # Errors
+///
+/// `NoSpace` exactly where fewer blocks are free than that takes, with those that make the tree high enough. Nothing has
+/// changed then.
+fn thaw_end<R: Region>(parts: &mut Parts<R>, i: u32, size: u64) -> Result<(), NoSpace>
     requires mounted { IsMounted (current_words (R.memory parts.old.region)) parts.old }
     requires reached { IsReached (current_words (R.memory parts.old.region)) i }
     requires file { IsFile (current_words (R.memory parts.old.region)) i }
-    requires root { tree.root ≡ root_of (current_words (R.memory parts.old.region)) i }
-    requires size { tree.size ≡ size_of (current_words (R.memory parts.old.region)) i }
-    requires smaller { size < tree.size }
-    requires room { 3 ≤ room_in (R.memory parts.old.region) }
-    ensures performs { Performs (kept_of parts.old) (R.memory parts.old.region) (R.memory parts.new.region)
-        (resizes i size) (ResizesFile i size) }
-    ensures exact { IsExact (current_words (R.memory parts.new.region)) parts.new }
+    requires longer { size_of (current_words (R.memory parts.old.region)) i < size }
+    requires fits { size ≤ greatest_size (version_of (current_words (R.memory parts.old.region))) }
+    requires room { HasRoomWhereFree (R.memory parts.old.region) (kept_of parts.old) parts.old.blocks (resizes i size) }
+    ensures thaws { OnOk result (ThawsFor R.memory (targets (current_words (R.memory parts.old.region)) (resizes i size))
+        parts.old parts.new) }
+    ensures room { OnOk result (HasRoomThawed (R.memory parts.new.region) parts.new.blocks (resizes i size)) }
+    ensures enough { OnOk result (need (current_words (R.memory parts.new.region)) (resizes i size)
+        ≤ length (members parts.new.blocks)) }
+    ensures refused { IfErr result (LacksSpace (current_words (R.memory parts.old.region)) (kept_of parts.old)
+        (resizes i size)) }
+    ensures same { OnErr result (parts.new ≡ parts.old) }
 {
-    let size_place = place(&parts.region, i, SIZE_FIELD);
-    commit_word(&mut parts.region, size_place, size);
-    give_back(&parts.region, tree, size, &mut parts.blocks);
+    let tree = tree_of(&parts.region, i);
+    let need = need_prep(&parts.region, tree, size, size);
+    if parts.frozen.count() == 0 {
+        return enough_free(parts, need);
+    }
+    let targets = lengthening(&parts.region, i);
+    thaw_before(parts, &targets, need)
+}
+
+/// Gives a file a size above its own. A tree that gets higher takes a block for each level.
+///
+/// # Errors
+///
+/// `NoSpace` exactly where fewer blocks are free than it needs. Nothing has changed then.
+fn grow_file<R: Region>(parts: &mut Parts<R>, i: u32, size: u64) -> Result<(), NoSpace>
+    requires mounted { IsMounted (current_words (R.memory parts.old.region)) parts.old }
+    requires reached { IsReached (current_words (R.memory parts.old.region)) i }
+    requires file { IsFile (current_words (R.memory parts.old.region)) i }
+    requires longer { size_of (current_words (R.memory parts.old.region)) i < size }
+    requires fits { size ≤ greatest_size (version_of (current_words (R.memory parts.old.region))) }
+    requires room { HasRoomWhereFree (R.memory parts.old.region) (kept_of parts.old) parts.old.blocks (resizes i size) }
+    ensures performs { OnOk result (Performs (kept_of parts.old) (R.memory parts.old.region) (R.memory parts.new.region)
+        (resizes i size) (AfterThaw (ResizesFile i size))) }
+    ensures frozen { parts.new.frozen ≡ parts.old.frozen }
+    ensures exact { IsExact (current_words (R.memory parts.new.region)) parts.new }
+    ensures refused { IfErr result (LacksSpace (current_words (R.memory parts.old.region)) (kept_of parts.old)
+        (resizes i size)) }
+    ensures same { OnErr result (parts.new ≡ parts.old) }
+{
+    match thaw_end(parts, i, size) {
+        Ok(()) => {
+            lengthen(parts, i, size);
+            Ok(())
+        }
+        Err(lacks) => Err(lacks),
+    }
 }
 
 /// Gives a file another size in bytes, by one store alone in its epoch: it ends there, or gets zeros behind its old
@@ -76,7 +185,8 @@ fn shrink_file<R: Region>(parts: &mut Parts<R>, i: u32, tree: Tree, size: u64)
 ///
 /// # Errors
 ///
-/// `NoSpace` exactly where fewer blocks are free than it needs: a tree that gets higher takes a block for each level.
+/// `NoSpace` exactly where fewer blocks are free than it needs: one for each block on the ways to what it stores to that is
+/// kept for the snapshot, and one for each level by which a tree gets higher. Nothing has changed then.
 pub fn truncate<R: Region>(parts: &mut Parts<R>, i: u32, size: u64) -> Result<(), NoSpace>
     requires mounted { IsMounted (current_words (R.memory parts.old.region)) parts.old }
     requires reached { IsReached (current_words (R.memory parts.old.region)) i }
@@ -85,7 +195,8 @@ pub fn truncate<R: Region>(parts: &mut Parts<R>, i: u32, size: u64) -> Result<()
     requires changed { size ≢ size_of (current_words (R.memory parts.old.region)) i }
     requires room { HasRoomWhereFree (R.memory parts.old.region) (kept_of parts.old) parts.old.blocks (resizes i size) }
     ensures performs { OnOk result (Performs (kept_of parts.old) (R.memory parts.old.region) (R.memory parts.new.region)
-        (resizes i size) (ResizesFile i size)) }
+        (resizes i size) (AfterThaw (ResizesFile i size))) }
+    ensures frozen { parts.new.frozen ≡ parts.old.frozen }
     ensures exact { IsExact (current_words (R.memory parts.new.region)) parts.new }
     ensures refused { IfErr result (LacksSpace (current_words (R.memory parts.old.region)) (kept_of parts.old)
         (resizes i size)) }
@@ -93,8 +204,7 @@ pub fn truncate<R: Region>(parts: &mut Parts<R>, i: u32, size: u64) -> Result<()
 {
     let tree = tree_of(&parts.region, i);
     if size < tree.size {
-        shrink_file(parts, i, tree, size);
-        return Ok(());
+        return shrink_file(parts, i, size);
     }
-    grow_file(parts, i, tree, size)
+    grow_file(parts, i, size)
 }

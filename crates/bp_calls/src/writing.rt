@@ -1,62 +1,163 @@
 //! Bytes into a file: three ways, by where they lie to its size.
 
-ghost use Rattle.std.specs.Prelude.{◌≡◌, ◌+◌, ◌≤◌, length, IfErr, OnErr, OnOk};
-ghost use Rattle.bp_calls.specs.CanWrite.{CanWrite};
+ghost use Rattle.std.specs.Prelude.{◌≡◌, ◌+◌, ◌<◌, ◌≤◌, [], length, true, IfErr, OnErr, OnOk};
+ghost use Rattle.bp_calls.specs.CanWrite.{CanWrite, CanWriteThawed};
+ghost use Rattle.bp_calls.specs.Mounted.{IsMounted};
+ghost use Rattle.bp_changes.specs.Thawed.{AfterThaw};
 ghost use Rattle.bp_shapes.specs.Sets.{IsExact, kept_of};
-ghost use Rattle.bp_calls.specs.Space.{LacksSpace};
+ghost use Rattle.bp_calls.specs.Space.{HasRoomThawed, HasRoomWhereFree, LacksBlocks, LacksSpace};
+ghost use Rattle.bp_calls.specs.ThawsFor.{ThawsFor};
+ghost use Rattle.bp_free.specs.Set.{members};
+ghost use Rattle.bp_layout.specs.Thaw.{cover_now, targets, thawed};
 ghost use Rattle.bp_calls.specs.WritesFile.{WritesFile};
-ghost use Rattle.bp_layout.specs.Inode.{size_of};
+ghost use Rattle.bp_layout.specs.Inode.{root_of, size_of};
+ghost use Rattle.bp_layout.specs.Need.{need};
 ghost use Rattle.bp_layout.specs.Need.Change.{writes};
-ghost use Rattle.bp_commit.specs.Performs.{Performs};
+ghost use Rattle.bp_commit.specs.Performs.{Performs, PerformsThawed};
 ghost use Rattle.pm_region.specs.Memory.{current_words};
 
 mod across;
 
-use crate::committing::{commit_below, run_for, touched_by};
-use crate::writing::across::write_across;
+use crate::committing::{commit_below, commit_found, run_for, touched_by};
+use crate::targets::{content_path, writing};
+use crate::thawing::{enough_free, thaw_before};
+use crate::writing::across::{need_across, write_across};
 use bp_append::{need_prep, prep};
+use bp_cow::{Run, find_cover, need_cover};
 use bp_free::{NoSpace, Parts};
 use bp_inodes::{place, root_path, tree_of};
 use bp_inplace::commit_word;
 use bp_limits::SIZE_FIELD;
+use bp_thaw::thaw_need;
+use bp_tree::Tree;
 use pm_region::Region;
 
-/// Writes bytes behind the size of a file. Its tree is prepared for them, and then its size takes them in.
+/// How many blocks bytes below the size of a file take: one for each block on the ways to them, from the word that covers
+/// them down, and none where they lie in one word.
+fn need_below<R: Region>(parts: &Parts<R>, i: u32, off: u64, bytes: &[u8]) -> u32
+    requires mounted { IsMounted (current_words (R.memory parts.now.region)) parts.now }
+    requires can { CanWrite (current_words (R.memory parts.now.region)) i off bytes.now }
+    requires below { off + length bytes.now ≤ size_of (current_words (R.memory parts.now.region)) i }
+    ensures need { result ≡ need (current_words (R.memory parts.now.region)) (writes i off (length bytes.now)) }
+    ensures few { result ≤ 320 }
+{
+    let tree = tree_of(&parts.region, i);
+    let runs = [run_for(&parts.region, i, tree, off, bytes)];
+    need_cover(&parts.region, &touched_by(&runs))
+}
+
+/// How many blocks bytes that are written into a file take, besides those that are thawed, given its tree.
+fn need_write<R: Region>(parts: &Parts<R>, i: u32, tree: Tree, off: u64, bytes: &[u8]) -> u32
+    requires root { tree.root ≡ root_of (current_words (R.memory parts.now.region)) i }
+    requires size { tree.size ≡ size_of (current_words (R.memory parts.now.region)) i }
+    requires mounted { IsMounted (current_words (R.memory parts.now.region)) parts.now }
+    requires can { CanWrite (current_words (R.memory parts.now.region)) i off bytes.now }
+    ensures need { result ≡ need (current_words (R.memory parts.now.region)) (writes i off (length bytes.now)) }
+    ensures few { result ≤ 320 }
+{
+    let end = off + bytes.len() as u64;
+    if tree.size <= off {
+        return need_prep(&parts.region, tree, off, end);
+    }
+    if end <= tree.size {
+        return need_below(parts, i, off, bytes);
+    }
+    need_across(parts, i, off, bytes)
+}
+
+/// Whether nothing that is kept has to be thawed before bytes come into a file.
+fn is_clear<R: Region>(parts: &Parts<R>, i: u32, off: u64, bytes: &[u8]) -> bool
+    requires mounted { IsMounted (current_words (R.memory parts.now.region)) parts.now }
+    requires can { CanWrite (current_words (R.memory parts.now.region)) i off bytes.now }
+    ensures { result ≡ true →
+        thawed (current_words (R.memory parts.now.region)) (kept_of parts.now) (writes i off (length bytes.now)) ≡ [] }
+{
+    if parts.frozen.count() == 0 {
+        return true;
+    }
+    let targets = writing(parts, i, off, bytes);
+    thaw_need(parts, &targets) == 0
+}
+
+/// The same for the run of bytes that end at the size of the file at most, given its tree and how many slots the path has
+/// that covers what they touch.
+fn is_clear_below<R: Region>(
+    parts: &Parts<R>,
+    i: u32,
+    tree: Tree,
+    run: &Run<'_>,
+    cover: usize,
+) -> bool
+    requires root { tree.root ≡ root_of (current_words (R.memory parts.now.region)) i }
+    requires mounted { IsMounted (current_words (R.memory parts.now.region)) parts.now }
+    requires can { CanWrite (current_words (R.memory parts.now.region)) i run.now.off run.now.bytes.now }
+    requires below { run.now.off + length run.now.bytes.now ≤ size_of (current_words (R.memory parts.now.region)) i }
+    requires cover { cover ≡ length (cover_now (current_words (R.memory parts.now.region))
+        (writes i run.now.off (length run.now.bytes.now))) }
+    ensures { result ≡ true → thawed (current_words (R.memory parts.now.region)) (kept_of parts.now)
+        (writes i run.now.off (length run.now.bytes.now)) ≡ [] }
+{
+    if parts.frozen.count() == 0 {
+        return true;
+    }
+    let mut path = content_path(&parts.region, i, tree, run.off);
+    path.truncate(cover);
+    bp_thaw::is_clear(parts, &path)
+}
+
+/// Thaws what is kept on the ways to the words near which bytes come into a file.
 ///
 /// # Errors
 ///
-/// Where fewer blocks are free than are needed.
-fn write_behind<R: Region>(
+/// `NoSpace` exactly where fewer blocks are free than that takes, with those that the bytes take. Nothing has changed
+/// then.
+fn thaw_write<R: Region>(
     parts: &mut Parts<R>,
     i: u32,
     off: u64,
     bytes: &[u8],
 ) -> Result<(), NoSpace>
-    requires can { CanWrite (R.memory parts.old.region) parts.old.blocks parts.old.inodes i off bytes.now }
-    requires exact { IsExact (current_words (R.memory parts.old.region)) parts.old }
-    requires behind { size_of (current_words (R.memory parts.old.region)) i ≤ off }
-    ensures performs { OnOk result (Performs (kept_of parts.old) (R.memory parts.old.region) (R.memory parts.new.region)
-        (writes i off (length bytes.now)) (WritesFile i off bytes.now)) }
-    ensures exact { IsExact (current_words (R.memory parts.new.region)) parts.new }
+    requires mounted { IsMounted (current_words (R.memory parts.old.region)) parts.old }
+    requires can { CanWrite (current_words (R.memory parts.old.region)) i off bytes.now }
+    requires room { HasRoomWhereFree (R.memory parts.old.region) (kept_of parts.old) parts.old.blocks
+        (writes i off (length bytes.now)) }
+    ensures thaws { OnOk result (ThawsFor R.memory (targets (current_words (R.memory parts.old.region))
+        (writes i off (length bytes.now))) parts.old parts.new) }
+    ensures room { OnOk result (HasRoomThawed (R.memory parts.new.region) parts.new.blocks
+        (writes i off (length bytes.now))) }
+    ensures enough { OnOk result (need (current_words (R.memory parts.new.region)) (writes i off (length bytes.now))
+        ≤ length (members parts.new.blocks)) }
     ensures refused { IfErr result (LacksSpace (current_words (R.memory parts.old.region)) (kept_of parts.old)
         (writes i off (length bytes.now))) }
     ensures same { OnErr result (parts.new ≡ parts.old) }
 {
     let tree = tree_of(&parts.region, i);
+    let need = need_write(parts, i, tree, off, bytes);
+    let targets = writing(parts, i, off, bytes);
+    thaw_before(parts, &targets, need)
+}
+
+/// Writes bytes behind the size of a file, once nothing is left to thaw and enough blocks are free. Its tree is prepared
+/// for them, and then its size takes them in.
+fn write_behind<R: Region>(parts: &mut Parts<R>, i: u32, off: u64, bytes: &[u8])
+    requires can { CanWriteThawed (kept_of parts.old) (R.memory parts.old.region) parts.old.blocks parts.old.inodes i off bytes.now }
+    requires exact { IsExact (current_words (R.memory parts.old.region)) parts.old }
+    requires enough { need (current_words (R.memory parts.old.region)) (writes i off (length bytes.now))
+        ≤ length (members parts.old.blocks) }
+    requires behind { size_of (current_words (R.memory parts.old.region)) i ≤ off }
+    ensures performs { PerformsThawed (kept_of parts.old) (R.memory parts.old.region) (R.memory parts.new.region)
+        (writes i off (length bytes.now)) (WritesFile i off bytes.now) }
+    ensures frozen { parts.new.frozen ≡ parts.old.frozen }
+    ensures exact { IsExact (current_words (R.memory parts.new.region)) parts.new }
+{
     let end = off + bytes.len() as u64;
-    let need = need_prep(&parts.region, tree, off, end);
-    let free = parts.blocks.count();
-    if free < need {
-        return Err(NoSpace { need, free });
-    }
     let root = root_path(&parts.region, i);
     let size_place = place(&parts.region, i, SIZE_FIELD);
     prep(parts, &root, off, bytes, end);
     commit_word(&mut parts.region, size_place, end);
-    Ok(())
 }
 
-/// Writes bytes below the size of a file, by one commit of them.
+/// Writes bytes below the size of a file, once nothing is left to thaw, by one commit of them.
 ///
 /// # Errors
 ///
@@ -68,14 +169,16 @@ fn write_below<R: Region>(
     off: u64,
     bytes: &[u8],
 ) -> Result<(), NoSpace>
-    requires can { CanWrite (R.memory parts.old.region) parts.old.blocks parts.old.inodes i off bytes.now }
+    requires can { CanWriteThawed (kept_of parts.old) (R.memory parts.old.region) parts.old.blocks parts.old.inodes i off bytes.now }
     requires exact { IsExact (current_words (R.memory parts.old.region)) parts.old }
     requires below { off + length bytes.now ≤ size_of (current_words (R.memory parts.old.region)) i }
-    ensures performs { OnOk result (Performs (kept_of parts.old) (R.memory parts.old.region) (R.memory parts.new.region)
+    ensures performs { OnOk result (PerformsThawed (kept_of parts.old) (R.memory parts.old.region) (R.memory parts.new.region)
         (writes i off (length bytes.now)) (WritesFile i off bytes.now)) }
+    ensures frozen { parts.new.frozen ≡ parts.old.frozen }
     ensures exact { IsExact (current_words (R.memory parts.new.region)) parts.new }
-    ensures refused { IfErr result (LacksSpace (current_words (R.memory parts.old.region)) (kept_of parts.old)
-        (writes i off (length bytes.now))) }
+    ensures refused { IfErr result (LacksBlocks (current_words (R.memory parts.old.region)) (kept_of parts.old)
+        (need (current_words (R.memory parts.old.region)) (writes i off (length bytes.now)))) }
+    ensures free { IfErr result (λ lacks. lacks.free ≡ length (members parts.old.blocks)) }
     ensures same { OnErr result (parts.new ≡ parts.old) }
 {
     let tree = tree_of(&parts.region, i);
@@ -84,29 +187,183 @@ fn write_below<R: Region>(
     commit_below(parts, &touched)
 }
 
-/// Writes bytes into a file from an offset in bytes on, by one store alone in its epoch. The file then reaches to their
-/// end at least, with zeros where it had no bytes.
+/// Writes bytes of which some lie past the size of a file, once nothing is left to thaw and enough blocks are free, given
+/// that size.
+fn write_past<R: Region>(parts: &mut Parts<R>, i: u32, size: u64, off: u64, bytes: &[u8])
+    requires can { CanWriteThawed (kept_of parts.old) (R.memory parts.old.region) parts.old.blocks parts.old.inodes i off bytes.now }
+    requires exact { IsExact (current_words (R.memory parts.old.region)) parts.old }
+    requires enough { need (current_words (R.memory parts.old.region)) (writes i off (length bytes.now))
+        ≤ length (members parts.old.blocks) }
+    requires size { size ≡ size_of (current_words (R.memory parts.old.region)) i }
+    requires past { size < off + length bytes.now }
+    ensures performs { PerformsThawed (kept_of parts.old) (R.memory parts.old.region) (R.memory parts.new.region)
+        (writes i off (length bytes.now)) (WritesFile i off bytes.now) }
+    ensures frozen { parts.new.frozen ≡ parts.old.frozen }
+    ensures exact { IsExact (current_words (R.memory parts.new.region)) parts.new }
+{
+    if size <= off {
+        return write_behind(parts, i, off, bytes);
+    }
+    write_across(parts, i, off, bytes);
+}
+
+/// What [`write`] does where some bytes lie past the size of the file, once nothing is left to thaw, given its tree.
 ///
 /// # Errors
 ///
-/// `NoSpace` exactly where fewer blocks are free than it needs: those for bytes past the size, and those that are
-/// copied for bytes below it. Nothing has changed then.
-pub fn write<R: Region>(parts: &mut Parts<R>, i: u32, off: u64, bytes: &[u8]) -> Result<(), NoSpace>
-    requires can { CanWrite (R.memory parts.old.region) parts.old.blocks parts.old.inodes i off bytes.now }
+/// Where fewer blocks are free than are needed. Nothing has changed then.
+fn write_longer<R: Region>(
+    parts: &mut Parts<R>,
+    i: u32,
+    tree: Tree,
+    off: u64,
+    bytes: &[u8],
+) -> Result<(), NoSpace>
+    requires root { tree.root ≡ root_of (current_words (R.memory parts.old.region)) i }
+    requires size { tree.size ≡ size_of (current_words (R.memory parts.old.region)) i }
+    requires can { CanWriteThawed (kept_of parts.old) (R.memory parts.old.region) parts.old.blocks parts.old.inodes i off bytes.now }
     requires exact { IsExact (current_words (R.memory parts.old.region)) parts.old }
-    ensures performs { OnOk result (Performs (kept_of parts.old) (R.memory parts.old.region) (R.memory parts.new.region)
+    requires past { size_of (current_words (R.memory parts.old.region)) i < off + length bytes.now }
+    ensures performs { OnOk result (PerformsThawed (kept_of parts.old) (R.memory parts.old.region) (R.memory parts.new.region)
         (writes i off (length bytes.now)) (WritesFile i off bytes.now)) }
+    ensures frozen { parts.new.frozen ≡ parts.old.frozen }
+    ensures exact { IsExact (current_words (R.memory parts.new.region)) parts.new }
+    ensures refused { IfErr result (LacksBlocks (current_words (R.memory parts.old.region)) (kept_of parts.old)
+        (need (current_words (R.memory parts.old.region)) (writes i off (length bytes.now)))) }
+    ensures free { IfErr result (λ lacks. lacks.free ≡ length (members parts.old.blocks)) }
+    ensures same { OnErr result (parts.new ≡ parts.old) }
+{
+    let need = need_write(parts, i, tree, off, bytes);
+    match enough_free(parts, need) {
+        Ok(()) => {
+            write_past(parts, i, tree.size, off, bytes);
+            Ok(())
+        }
+        Err(lacks) => Err(lacks),
+    }
+}
+
+/// What [`write`] does once nothing is left to thaw.
+///
+/// # Errors
+///
+/// Where fewer blocks are free than are needed. Nothing has changed then.
+fn write_thawed<R: Region>(
+    parts: &mut Parts<R>,
+    i: u32,
+    off: u64,
+    bytes: &[u8],
+) -> Result<(), NoSpace>
+    requires can { CanWriteThawed (kept_of parts.old) (R.memory parts.old.region) parts.old.blocks parts.old.inodes i off bytes.now }
+    requires exact { IsExact (current_words (R.memory parts.old.region)) parts.old }
+    ensures performs { OnOk result (PerformsThawed (kept_of parts.old) (R.memory parts.old.region) (R.memory parts.new.region)
+        (writes i off (length bytes.now)) (WritesFile i off bytes.now)) }
+    ensures frozen { parts.new.frozen ≡ parts.old.frozen }
+    ensures exact { IsExact (current_words (R.memory parts.new.region)) parts.new }
+    ensures refused { IfErr result (LacksBlocks (current_words (R.memory parts.old.region)) (kept_of parts.old)
+        (need (current_words (R.memory parts.old.region)) (writes i off (length bytes.now)))) }
+    ensures free { IfErr result (λ lacks. lacks.free ≡ length (members parts.old.blocks)) }
+    ensures same { OnErr result (parts.new ≡ parts.old) }
+{
+    let tree = tree_of(&parts.region, i);
+    if off + bytes.len() as u64 <= tree.size {
+        return write_below(parts, i, off, bytes);
+    }
+    write_longer(parts, i, tree, off, bytes)
+}
+
+/// What [`write`] does where something that is kept may have to be thawed.
+///
+/// # Errors
+///
+/// As [`write`].
+fn thaw_and_write<R: Region>(
+    parts: &mut Parts<R>,
+    i: u32,
+    off: u64,
+    bytes: &[u8],
+) -> Result<(), NoSpace>
+    requires mounted { IsMounted (current_words (R.memory parts.old.region)) parts.old }
+    requires can { CanWrite (current_words (R.memory parts.old.region)) i off bytes.now }
+    requires room { HasRoomWhereFree (R.memory parts.old.region) (kept_of parts.old) parts.old.blocks
+        (writes i off (length bytes.now)) }
+    ensures performs { OnOk result (Performs (kept_of parts.old) (R.memory parts.old.region) (R.memory parts.new.region)
+        (writes i off (length bytes.now)) (AfterThaw (WritesFile i off bytes.now))) }
+    ensures frozen { parts.new.frozen ≡ parts.old.frozen }
     ensures exact { IsExact (current_words (R.memory parts.new.region)) parts.new }
     ensures refused { IfErr result (LacksSpace (current_words (R.memory parts.old.region)) (kept_of parts.old)
         (writes i off (length bytes.now))) }
     ensures same { OnErr result (parts.new ≡ parts.old) }
 {
-    let size = tree_of(&parts.region, i).size;
-    if size <= off {
-        return write_behind(parts, i, off, bytes);
+    match thaw_write(parts, i, off, bytes) {
+        Ok(()) => write_thawed(parts, i, off, bytes),
+        Err(lacks) => Err(lacks),
     }
-    if off + bytes.len() as u64 <= size {
-        return write_below(parts, i, off, bytes);
+}
+
+/// What [`write`] does where the bytes end at the size of the file at most, given its tree. What covers them is found once.
+///
+/// # Errors
+///
+/// As [`write`].
+fn write_within<R: Region>(
+    parts: &mut Parts<R>,
+    i: u32,
+    tree: Tree,
+    off: u64,
+    bytes: &[u8],
+) -> Result<(), NoSpace>
+    requires root { tree.root ≡ root_of (current_words (R.memory parts.old.region)) i }
+    requires size { tree.size ≡ size_of (current_words (R.memory parts.old.region)) i }
+    requires below { off + length bytes.now ≤ size_of (current_words (R.memory parts.old.region)) i }
+    requires mounted { IsMounted (current_words (R.memory parts.old.region)) parts.old }
+    requires can { CanWrite (current_words (R.memory parts.old.region)) i off bytes.now }
+    requires room { HasRoomWhereFree (R.memory parts.old.region) (kept_of parts.old) parts.old.blocks
+        (writes i off (length bytes.now)) }
+    ensures performs { OnOk result (Performs (kept_of parts.old) (R.memory parts.old.region) (R.memory parts.new.region)
+        (writes i off (length bytes.now)) (AfterThaw (WritesFile i off bytes.now))) }
+    ensures frozen { parts.new.frozen ≡ parts.old.frozen }
+    ensures exact { IsExact (current_words (R.memory parts.new.region)) parts.new }
+    ensures refused { IfErr result (LacksSpace (current_words (R.memory parts.old.region)) (kept_of parts.old)
+        (writes i off (length bytes.now))) }
+    ensures same { OnErr result (parts.new ≡ parts.old) }
+{
+    let runs = [run_for(&parts.region, i, tree, off, bytes)];
+    let touched = touched_by(&runs);
+    let cover = find_cover(&parts.region, &touched);
+    if is_clear_below(parts, i, tree, &runs[0], cover.len) {
+        return commit_found(parts, &touched, cover);
     }
-    write_across(parts, i, off, bytes)
+    thaw_and_write(parts, i, off, bytes)
+}
+
+/// Writes bytes into a file from an offset in bytes on, by one store alone in its epoch. The file then reaches to their
+/// end at least, with zeros where it had no bytes.
+///
+/// # Errors
+///
+/// `NoSpace` exactly where fewer blocks are free than it needs: one for each block on the ways to what it stores to that is
+/// kept for the snapshot, those for bytes past the size, and those that are copied for bytes below it. Nothing has
+/// changed then.
+pub fn write<R: Region>(parts: &mut Parts<R>, i: u32, off: u64, bytes: &[u8]) -> Result<(), NoSpace>
+    requires mounted { IsMounted (current_words (R.memory parts.old.region)) parts.old }
+    requires can { CanWrite (current_words (R.memory parts.old.region)) i off bytes.now }
+    requires room { HasRoomWhereFree (R.memory parts.old.region) (kept_of parts.old) parts.old.blocks
+        (writes i off (length bytes.now)) }
+    ensures performs { OnOk result (Performs (kept_of parts.old) (R.memory parts.old.region) (R.memory parts.new.region)
+        (writes i off (length bytes.now)) (AfterThaw (WritesFile i off bytes.now))) }
+    ensures frozen { parts.new.frozen ≡ parts.old.frozen }
+    ensures exact { IsExact (current_words (R.memory parts.new.region)) parts.new }
+    ensures refused { IfErr result (LacksSpace (current_words (R.memory parts.old.region)) (kept_of parts.old)
+        (writes i off (length bytes.now))) }
+    ensures same { OnErr result (parts.new ≡ parts.old) }
+{
+    let tree = tree_of(&parts.region, i);
+    if off + bytes.len() as u64 <= tree.size {
+        return write_within(parts, i, tree, off, bytes);
+    }
+    if is_clear(parts, i, off, bytes) {
+        return write_longer(parts, i, tree, off, bytes);
+    }
+    thaw_and_write(parts, i, off, bytes)
 }

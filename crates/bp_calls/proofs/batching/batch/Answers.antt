@@ -1,57 +1,52 @@
-use Rattle.std.proofs.Common.{◌≡◌, sym, subst}
-use Rattle.std.proofs.lemmas.Result.{on_err_weaker, on_ok_weaker}
-use Rattle.pm_region.specs.Memory.{Memory, current_words}
-use Rattle.bp_shapes.specs.Sets.{IsExact}
-use Rattle.bp_free.specs.declared.parts.Parts.{Parts}
-use Rattle.bp_changes.proofs.Overwrites.{keeps}
-use Rattle.bp_calls.specs.Overwritten.{AreRuns, patches_seen}
-use Rattle.bp_calls.proofs.CommitResults.{by_three, on_either}
-use Rattle.bp_calls.proofs.CountLaws.{exact_files}
-use Rattle.bp_calls.proofs.PatchCommits.{overwrite_can, overwrite_exact, overwrite_lacks, overwrite_performs, overwrite_room, overwrites_files}
+use Rattle.std.proofs.Common.{◌≡◌, length, sym, ◌∙◌}
+use Rattle.std.proofs.lemmas.Result.{on_ok_weaker}
+use Rattle.bp_free.specs.Set.{members}
+use Rattle.bp_layout.specs.Need.{Change}
+use Rattle.bp_layout.specs.Need.Change.{overwrites}
+use Rattle.bp_changes.specs.Overwrites.{OverwritesFiles}
+use Rattle.bp_calls.specs.Overwritten.{patches_seen, stretches_of}
+use Rattle.bp_calls.proofs.CommitResults.{by_one, err_never}
+use Rattle.bp_calls.proofs.NothingKept.{clear_at_once, lacks_at_once, performed_at_once}
+use Rattle.bp_calls.proofs.PatchCommits.{overwrites_at_once, overwrites_lack_nothing, overwrites_performed, overwrites_thawed}
 use Rattle.bp_calls.proofs.batching.batch.Goals as goal
 
-pub commit_below-requires-clause-can : goal.commit_below-requires-clause-can
-commit_below-requires-clause-can g c =
-    overwrite_can (g.R.Region.memory c.args.parts.now.region) c.args.parts.now.blocks c.args.parts.now.inodes (patches_seen c.args.patches.now) c.touched_by-touched.result c.requires.can
-    (rw (c.touched_by-touched.ensures.runs, c.as_slice.ensures.value) c.runs_of-runs.ensures) c.touched_by-touched.ensures.words
+-- ---- where no block is kept
 
-pub commit_below-requires-clause-room : goal.commit_below-requires-clause-room
-commit_below-requires-clause-room g c =
-    overwrite_room (g.R.Region.memory c.args.parts.now.region) c.args.parts.now.blocks c.args.parts.now.inodes (patches_seen c.args.patches.now) c.touched_by-touched.result c.requires.can
-    (rw (c.touched_by-touched.ensures.runs, c.as_slice.ensures.value) c.runs_of-runs.ensures) c.touched_by-touched.ensures.words
+pub overlay-requires-clause-can : goal.overlay-requires-clause-can
+overlay-requires-clause-can g c =
+    overwrites_at_once g.R.Region.memory (patches_seen c.args.patches.now) c.args.parts.now c.requires.mounted c.requires.can (sym c.count.ensures ∙ c.if-count-eq0.true) c.requires.room
 
-pub returns-clause-performs : goal.returns-clause-performs
-returns-clause-performs g c =
-    let are : AreRuns (current_words (g.R.Region.memory c.args.parts.now.region)) (patches_seen c.args.patches.now) c.touched_by-touched.result.runs.now =
-    rw (c.touched_by-touched.ensures.runs, c.as_slice.ensures.value) c.runs_of-runs.ensures in
-    on_ok_weaker c.commit_below.result
-    (overwrite_performs (g.R.Region.memory c.args.parts.now.region) c.args.parts.now.blocks c.args.parts.now.inodes (patches_seen c.args.patches.now) c.touched_by-touched.result c.requires.can
-    are c.touched_by-touched.ensures.words (g.R.Region.memory c.commit_below.new.parts.region) c.commit_below.new.parts.blocks)
-    c.commit_below.ensures.commits
-
-pub returns-clause-exact : goal.returns-clause-exact
-returns-clause-exact g c =
-    let old : Memory = g.R.Region.memory c.args.parts.now.region in
-    let new : Memory = g.R.Region.memory c.commit_below.new.parts.region in
-    let blocks = c.args.parts.now.blocks in
-    let inodes = c.args.parts.now.inodes in
+pub returns-then-count-eq0-clause-performs : goal.returns-then-count-eq0-clause-performs
+returns-then-count-eq0-clause-performs g c =
     let patches = patches_seen c.args.patches.now in
-    let touched = c.touched_by-touched.result in
-    let are : AreRuns (current_words old) patches touched.runs.now = rw (c.touched_by-touched.ensures.runs, c.as_slice.ensures.value) c.runs_of-runs.ensures in
-    on_either c.commit_below.result
-    (on_ok_weaker c.commit_below.result
-    (λ done. exact_files (current_words old) (current_words new) c.args.parts.now _ c.requires.exact
-    (rw c.commit_below.ensures.inodes (overwrite_exact old blocks inodes patches touched c.requires.can are c.touched_by-touched.ensures.words new c.commit_below.new.parts.blocks done c.commit_below.ensures.size))
-    c.commit_below.ensures.frozen c.commit_below.ensures.counts c.requires.can.well_formed
-    (keeps (current_words old) (current_words new) patches (overwrites_files old blocks inodes patches touched c.requires.can are c.touched_by-touched.ensures.words new c.commit_below.new.parts.blocks done)))
-    c.commit_below.ensures.commits)
-    (on_err_weaker c.commit_below.result
-    (λ same. subst (λ (parts : Parts g.row.R.Denot). IsExact (current_words (g.R.Region.memory parts.region)) parts) (sym same) c.requires.exact) c.commit_below.ensures.same)
+    let change : Change = overwrites (stretches_of patches) in
+    let none : length (members c.args.parts.now.frozen) ≡ 0 = sym c.count.ensures ∙ c.if-count-eq0.true in
+    on_ok_weaker c.overlay.result (performed_at_once g.R.Region.memory change c.args.parts.now c.requires.mounted (clear_at_once g.R.Region.memory change c.args.parts.now c.requires.mounted none) (g.R.Region.memory c.overlay.new.parts.region) (OverwritesFiles patches)) c.overlay.ensures.performs
 
-pub returns-clause-refused : goal.returns-clause-refused
-returns-clause-refused g c =
-    let are : AreRuns (current_words (g.R.Region.memory c.args.parts.now.region)) (patches_seen c.args.patches.now) c.touched_by-touched.result.runs.now =
-    rw (c.touched_by-touched.ensures.runs, c.as_slice.ensures.value) c.runs_of-runs.ensures in
-    by_three c.commit_below.result c.commit_below.ensures.need c.commit_below.ensures.free c.commit_below.ensures.fewer
-    (λ lacks need free fewer. overwrite_lacks (g.R.Region.memory c.args.parts.now.region) c.args.parts.now.blocks c.args.parts.now.inodes (patches_seen c.args.patches.now) c.touched_by-touched.result c.requires.can
-    are c.touched_by-touched.ensures.words lacks.need lacks.free need free fewer)
+pub returns-then-count-eq0-clause-refused : goal.returns-then-count-eq0-clause-refused
+returns-then-count-eq0-clause-refused g c =
+    let change : Change = overwrites (stretches_of (patches_seen c.args.patches.now)) in
+    let none : length (members c.args.parts.now.frozen) ≡ 0 = sym c.count.ensures ∙ c.if-count-eq0.true in
+    by_one c.overlay.result c.overlay.ensures.refused (lacks_at_once g.R.Region.memory change c.args.parts.now c.requires.mounted (clear_at_once g.R.Region.memory change c.args.parts.now c.requires.mounted none))
+
+-- ---- behind a thaw
+
+pub overlay-requires-in-Ok-clause-can : goal.overlay-requires-in-Ok-clause-can
+overlay-requires-in-Ok-clause-can g c =
+    overwrites_thawed g.R.Region.memory (patches_seen c.args.patches.now) c.args.parts.now c.requires.mounted c.requires.can c.thaw_batch.new.parts c.in-Ok.ensures.thaws c.in-Ok.ensures.room
+
+pub returns-in-Ok-clause-performs : goal.returns-in-Ok-clause-performs
+returns-in-Ok-clause-performs g c =
+    on_ok_weaker c.overlay-in-Ok.result
+    (overwrites_performed g.R.Region.memory (patches_seen c.args.patches.now) c.args.parts.now c.requires.mounted c.requires.can c.thaw_batch.new.parts c.in-Ok.ensures.thaws c.overlay-in-Ok.new.parts)
+    c.overlay-in-Ok.ensures.performs
+
+pub returns-in-Ok-clause-refused : goal.returns-in-Ok-clause-refused
+returns-in-Ok-clause-refused g c =
+    by_one c.overlay-in-Ok.result c.overlay-in-Ok.ensures.refused
+    (λ lacks has. absurd (overwrites_lack_nothing g.R.Region.memory (patches_seen c.args.patches.now) c.args.parts.now c.requires.mounted c.requires.can c.thaw_batch.new.parts c.in-Ok.ensures.thaws c.in-Ok.ensures.enough lacks has))
+
+pub returns-in-Ok-clause-same : goal.returns-in-Ok-clause-same
+returns-in-Ok-clause-same g c =
+    err_never _ c.overlay-in-Ok.result c.overlay-in-Ok.ensures.refused
+    (overwrites_lack_nothing g.R.Region.memory (patches_seen c.args.patches.now) c.args.parts.now c.requires.mounted c.requires.can c.thaw_batch.new.parts c.in-Ok.ensures.thaws c.in-Ok.ensures.enough)

@@ -1,17 +1,6 @@
-use Rattle.std.proofs.Common.{◌≡◌, ◌≤◌, ℕ, length, Bool, ◌∙◌, arith}
 use Rattle.pm_region.specs.Memory.{current_words}
-use Rattle.bp_free.specs.Set.{has, members}
+use Rattle.bp_free.specs.Set.{has}
 use Rattle.bp_layout.specs.Inode.{size_of}
-use Rattle.bp_layout.specs.WellFormed.{IsWellFormed}
-use Rattle.bp_layout.specs.Words.{Image}
-use Rattle.bp_cow.specs.CanCommit.{CanCommit}
-use Rattle.bp_cow.specs.Cover.{CoverHas, copied_count}
-use Rattle.bp_cow.specs.Job.{copies_at}
-use Rattle.bp_cow.specs.Touched.{job_of}
-use Rattle.bp_cow.specs.declared.covering.FoundCover.{FoundCover}
-use Rattle.bp_cow.specs.declared.touched.Touched.{Touched}
-use Rattle.bp_cow.proofs.CopiesNeed.{none-begins}
-use Rattle.bp_cow.proofs.CoverOf.{count_is}
 use Rattle.bp_cow.proofs.JobLaws.{first-range}
 use Rattle.bp_calls.proofs.committing.commit_below.Goals as goal
 
@@ -19,19 +8,3 @@ pub find_cover-cover-requires-clause-in_range : goal.find_cover-cover-requires-c
 find_cover-cover-requires-clause-in_range g c =
     let image = current_words (g.R.Region.memory c.args.parts.now.region) in
     λ d alike. first-range image (size_of image) c.args.touched.now (has c.args.parts.now.blocks) c.requires.well_formed c.requires.can d alike
-
--- so many blocks are copied
-counted : (image : Image) (free : ℕ → Bool) (touched : Touched) (cover : FoundCover) (copies : ℕ) → IsWellFormed image → CanCommit image (size_of image) touched free → CoverHas image touched cover.len →
-    copies ≡ copies_at (job_of touched) cover.len → copies ≡ copied_count image touched
-counted image free touched cover copies wf can has is = is ∙ count_is touched can.shape image (none-begins image (size_of image) touched free wf can) cover.len has
-
-pub returns-then-free-copies-clause-need : goal.returns-then-free-copies-clause-need
-returns-then-free-copies-clause-need g c =
-    counted _ (has c.args.parts.now.blocks) c.args.touched.now c.find_cover-cover.result c.copies_below-copies.result c.requires.well_formed c.requires.can c.find_cover-cover.ensures.has c.copies_below-copies.ensures
-
-pub commit_at-requires : goal.commit_at-requires
-commit_at-requires g c κs within =
-    let image = current_words (g.R.Region.memory c.args.parts.now.region) in
-    let count = counted image (has c.args.parts.now.blocks) c.args.touched.now c.find_cover-cover.result c.copies_below-copies.result c.requires.well_formed c.requires.can c.find_cover-cover.ensures.has c.copies_below-copies.ensures in
-    let some : copied_count image c.args.touched.now ≤ length (members c.args.parts.now.blocks) = omega (arith, count, c.count-free.ensures, c.if-free-copies.false) in
-    (within, (record { well_formed = c.requires.well_formed; can = c.requires.can; fits = c.requires.fits; some = some; room = c.requires.room some }, c.find_cover-cover.ensures))

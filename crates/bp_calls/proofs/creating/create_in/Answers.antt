@@ -1,69 +1,65 @@
-use Rattle.std.proofs.Common.{sym, ◌∙◌, arith}
+use Rattle.std.proofs.Common.{sym, ◌∙◌}
 use Rattle.pm_region.specs.Memory.{current_words}
-use Rattle.bp_free.specs.Set.{members}
+use Rattle.bp_changes.proofs.ShapeLaws.{empty-same}
+use Rattle.bp_layout.specs.Need.Change.{enters}
 use Rattle.bp_calls.specs.Created.{EntersName}
-use Rattle.bp_calls.proofs.EnteredLaws.{directory_inode}
-use Rattle.bp_calls.proofs.GrowthNeed.{need_growing}
-use Rattle.bp_calls.proofs.NewNames.{none_lacks, none_performs, none_room, some_lacks, some_performs, some_room}
-use Rattle.bp_calls.proofs.Refusals.{no_members, some_members}
+use Rattle.bp_calls.specs.Entrant.{entrant_of}
+use Rattle.bp_calls.proofs.EnterThawed.{least_back, least_on}
+use Rattle.bp_calls.proofs.NewNames.{is_told, lacks_on}
+use Rattle.bp_calls.proofs.ThawedParts.{performed_thawed}
 use Rattle.bp_calls.proofs.creating.create_in.Goals as goal
 
-pub tree_of-tree-requires-clause-some : goal.tree_of-tree-requires-clause-some
-tree_of-tree-requires-clause-some g c =
-    let some = directory_inode (current_words (g.R.Region.memory c.args.parts.now.region)) c.args.dir c.requires.directory in
-    omega (arith, some)
+pub thaw_new-requires-clause-slot : goal.thaw_new-requires-clause-slot
+thaw_new-requires-clause-slot g c = c.requires.slot
 
-pub entry_need-entry-requires-clause-slot : goal.entry_need-entry-requires-clause-slot
-entry_need-entry-requires-clause-slot g c = c.requires.slot
-
-pub returns-then-free-need-clause-refused : goal.returns-then-free-need-clause-refused
-returns-then-free-need-clause-refused g c =
-    let memory = g.R.Region.memory c.args.parts.now.region in
-    let grows = need_growing (current_words memory) c.requires.mounted.well_formed c.args.dir c.requires.reached c.requires.directory in
-    none_lacks memory c.args.parts.now.blocks c.args.parts.now.inodes c.args.dir c.requires.mounted.exact.sets (no_members (members c.args.parts.now.inodes) (sym c.count.ensures ∙ c.if-count-eq0.true))
-    _ _ (omega (arith, grows, c.entry_need-entry.ensures.need, c.grow_need.ensures.need)) c.count-free.ensures c.if-free-need.true
-
-pub grow_and_enter-requires-clause-slot : goal.grow_and_enter-requires-clause-slot
-grow_and_enter-requires-clause-slot g c = c.requires.slot
-
-pub grow_and_enter-requires-clause-enough : goal.grow_and_enter-requires-clause-enough
-grow_and_enter-requires-clause-enough g c =
-    let memory = g.R.Region.memory c.args.parts.now.region in
-    let grows = need_growing (current_words memory) c.requires.mounted.well_formed c.args.dir c.requires.reached c.requires.directory in
-    omega (arith, grows, c.entry_need-entry.ensures.need, c.grow_need.ensures.need, c.count-free.ensures, c.if-free-need.false)
-
-pub grow_and_enter-requires-clause-room : goal.grow_and_enter-requires-clause-room
-grow_and_enter-requires-clause-room g c =
-    none_room (g.R.Region.memory c.args.parts.now.region) c.args.parts.now.blocks c.args.parts.now.inodes c.args.dir c.requires.mounted.exact.sets c.requires.room
-    (no_members (members c.args.parts.now.inodes) (sym c.count.ensures ∙ c.if-count-eq0.true)) (grow_and_enter-requires-clause-enough g c)
-
-pub returns-then-count-eq0-clause-performs : goal.returns-then-count-eq0-clause-performs
-returns-then-count-eq0-clause-performs g c =
+pub enter_new-requires-clause-lacks : goal.enter_new-requires-clause-lacks
+enter_new-requires-clause-lacks g c =
     let memory = g.R.Region.memory in
-    none_performs (memory c.args.parts.now.region) c.args.parts.now.blocks c.args.parts.now.inodes c.args.dir c.requires.mounted.exact.sets (memory c.grow_and_enter.new.parts.region) (EntersName c.args.dir c.args.name.now c.args.kind)
-    (no_members (members c.args.parts.now.inodes) (sym c.count.ensures ∙ c.if-count-eq0.true)) c.grow_and_enter.ensures.performs
+    let parts = c.args.parts.now in
+    let image = current_words (memory parts.region) in
+    let told = is_told image c.requires.mounted.well_formed parts.blocks parts.inodes c.requires.mounted.exact.sets c.args.dir c.requires.reached c.requires.directory in
+    lacks_on image (current_words (memory c.thaw_new.new.parts.region)) (c.in-Ok.ensures.thaws told.0 told.1).thaws.shape c.args.dir c.args.name.now
+    (record { well_formed = c.requires.mounted.well_formed; reached = c.requires.reached; directory = c.requires.directory; form = c.requires.name; missing = c.requires.new })
 
-pub returns-then-free-entry-clause-refused : goal.returns-then-free-entry-clause-refused
-returns-then-free-entry-clause-refused g c =
-    let memory = g.R.Region.memory c.args.parts.now.region in
-    some_lacks memory c.args.parts.now.blocks c.args.parts.now.inodes c.args.dir c.requires.mounted.exact.sets (some_members (members c.args.parts.now.inodes) (λ e. c.if-count-eq0.false (c.count.ensures ∙ e)))
-    _ _ (sym c.entry_need-entry.ensures.need) c.count-free.ensures c.if-free-entry.true
-
-pub enter-requires-clause-can : goal.enter-requires-clause-can
-enter-requires-clause-can g c = record {
-  lacks = record { well_formed = c.requires.mounted.well_formed; reached = c.requires.reached; directory = c.requires.directory; form = c.requires.name; missing = c.requires.new };
-  exact = c.requires.mounted.exact.sets;
-  some = some_members (members c.args.parts.now.inodes) (λ e. c.if-count-eq0.false (c.count.ensures ∙ e));
-  enough = omega (arith, c.entry_need-entry.ensures.need, c.count-free.ensures, c.if-free-entry.false);
-  room = some_room (g.R.Region.memory c.args.parts.now.region) c.args.parts.now.blocks c.args.parts.now.inodes c.args.dir c.requires.mounted.exact.sets c.requires.room
-      (some_members (members c.args.parts.now.inodes) (λ e. c.if-count-eq0.false (c.count.ensures ∙ e))) (omega (arith, c.entry_need-entry.ensures.need, c.count-free.ensures, c.if-free-entry.false));
-}
-
-pub enter-requires-clause-slot : goal.enter-requires-clause-slot
-enter-requires-clause-slot g c = c.requires.slot
-
-pub returns-clause-performs : goal.returns-clause-performs
-returns-clause-performs g c =
+pub enter_new-requires-clause-exact : goal.enter_new-requires-clause-exact
+enter_new-requires-clause-exact g c =
     let memory = g.R.Region.memory in
-    some_performs (memory c.args.parts.now.region) c.args.parts.now.blocks c.args.parts.now.inodes c.args.dir c.requires.mounted.exact.sets (memory c.enter.new.parts.region) (EntersName c.args.dir c.args.name.now c.args.kind)
-    (some_members (members c.args.parts.now.inodes) (λ e. c.if-count-eq0.false (c.count.ensures ∙ e))) c.enter.ensures.performs
+    let parts = c.args.parts.now in
+    let image = current_words (memory parts.region) in
+    let told = is_told image c.requires.mounted.well_formed parts.blocks parts.inodes c.requires.mounted.exact.sets c.args.dir c.requires.reached c.requires.directory in
+    (c.in-Ok.ensures.thaws told.0 told.1).exact
+
+pub enter_new-requires-clause-slot : goal.enter_new-requires-clause-slot
+enter_new-requires-clause-slot g c =
+    let memory = g.R.Region.memory in
+    let parts = c.args.parts.now in
+    let image = current_words (memory parts.region) in
+    let told = is_told image c.requires.mounted.well_formed parts.blocks parts.inodes c.requires.mounted.exact.sets c.args.dir c.requires.reached c.requires.directory in
+    c.requires.slot ∙ sym (empty-same image (current_words (memory c.thaw_new.new.parts.region)) (c.in-Ok.ensures.thaws told.0 told.1).thaws.shape c.args.dir c.requires.reached c.requires.directory)
+
+pub enter_new-requires-clause-thawed : goal.enter_new-requires-clause-thawed
+enter_new-requires-clause-thawed g c =
+    let memory = g.R.Region.memory in
+    let parts = c.args.parts.now in
+    let image = current_words (memory parts.region) in
+    let told = is_told image c.requires.mounted.well_formed parts.blocks parts.inodes c.requires.mounted.exact.sets c.args.dir c.requires.reached c.requires.directory in
+    let shape = (c.in-Ok.ensures.thaws told.0 told.1).thaws.shape in
+    λ free least. c.in-Ok.ensures.thawed free (least_back image (current_words (memory c.thaw_new.new.parts.region)) c.requires.mounted.well_formed shape free least)
+
+pub returns-in-Ok-clause-performs : goal.returns-in-Ok-clause-performs
+returns-in-Ok-clause-performs g c =
+    let memory = g.R.Region.memory in
+    let image = current_words (memory c.args.parts.now.region) in
+    λ free least.
+    let done = c.in-Ok.ensures.thaws free least in
+    performed_thawed memory (enters c.args.dir (entrant_of free)) c.args.parts.now c.thaw_new.new.parts c.requires.mounted (c.requires.reached, c.requires.directory) done
+    c.enter_new.new.parts (EntersName c.args.dir c.args.name.now c.args.kind)
+    (c.enter_new.ensures.performs free (least_on image (current_words (memory c.thaw_new.new.parts.region)) c.requires.mounted.well_formed done.thaws.shape free least))
+
+pub returns-in-Ok-clause-frozen : goal.returns-in-Ok-clause-frozen
+returns-in-Ok-clause-frozen g c =
+    let memory = g.R.Region.memory in
+    let parts = c.args.parts.now in
+    let image = current_words (memory parts.region) in
+    let told = is_told image c.requires.mounted.well_formed parts.blocks parts.inodes c.requires.mounted.exact.sets c.args.dir c.requires.reached c.requires.directory in
+    c.enter_new.ensures.frozen ∙ (c.in-Ok.ensures.thaws told.0 told.1).frozen

@@ -1,8 +1,8 @@
 use Rattle.std.proofs.Common.{refl, sym, ◌∙◌, subst, arith}
 use Rattle.std.proofs.lemmas.List.{length-set}
 use Rattle.bp_layout.specs.Need.Change.{enters}
-use Rattle.bp_layout.specs.Thaw.{none_kept}
 use Rattle.bp_commit.specs.Performs.{PerformsWithin}
+use Rattle.bp_shapes.specs.Sets.{kept_of}
 use Rattle.pm_region.specs.Memory.{current_words}
 use Rattle.bp_calls.specs.Created.{EntersName}
 use Rattle.bp_calls.specs.Entrant.{entrant_of}
@@ -35,14 +35,17 @@ returns-in-Some g c =
     let old = g.R.Region.memory c.args.parts.now.region in
     let new = g.R.Region.memory c.enter_slot.new.region in
     let needed = name_need (current_words old) c.args.dir in
+    let kept = kept_of c.args.parts.now in
+    let done = c.enter_slot.ensures.performs kept (c.requires.can.loose.slot c.in-Some.slot (sym c.requires.slot ∙ c.in-Some.is)) (c.requires.can.loose_inode c.take_least-inode.result c.take_least-inode.ensures.least) in
     record {
       performs = λ free least.
-          subst (λ o. PerformsWithin none_kept needed 5 (stores_behind_growth needed) old new (enters c.args.dir (entrant_of o)) (EntersName c.args.dir c.args.name.now c.args.kind))
-          (sym (is_least (current_words old) c.args.parts.now.blocks c.args.parts.now.inodes c.requires.can.exact c.take_least-inode.result c.take_least-inode.ensures.least free least)) c.enter_slot.ensures.performs;
+          subst (λ o. PerformsWithin kept needed 5 (stores_behind_growth needed) old new (enters c.args.dir (entrant_of o)) (EntersName c.args.dir c.args.name.now c.args.kind))
+          (sym (is_least (current_words old) c.args.parts.now.blocks c.args.parts.now.inodes c.requires.can.exact c.take_least-inode.result c.take_least-inode.ensures.least free least)) done;
       exact = exact_with (current_words old) (current_words new) c.args.parts.now _ c.requires.exact
-          (rw c.take_least-inode.ensures.rest (c.enter_slot.ensures.exact c.args.parts.now.blocks c.args.parts.now.inodes c.requires.can.exact)) refl
-          c.enter_slot.ensures.performs.effect.adds.trees.whole (rw c.set.ensures (length-set c.args.parts.now.counts c.take_least-inode.result 1))
+          (rw c.take_least-inode.ensures.rest (c.enter_slot.ensures.exact kept c.args.parts.now.blocks c.args.parts.now.inodes c.requires.can.exact)) refl
+          done.effect.adds.trees.whole (rw c.set.ensures (length-set c.args.parts.now.counts c.take_least-inode.result 1))
           (rw c.set.ensures (c.enter_slot.ensures.counts c.args.parts.now.counts c.requires.exact.counts));
+      frozen = refl;
     }
 
 pub returns-in-None : goal.returns-in-None
@@ -50,12 +53,14 @@ returns-in-None g c =
     let old = g.R.Region.memory c.args.parts.now.region in
     let new = g.R.Region.memory c.enter_behind.new.parts.region in
     let needed = name_need (current_words old) c.args.dir in
+    let kept = kept_of c.args.parts.now in
     record {
       performs = λ free least.
-          subst (λ o. PerformsWithin none_kept needed 5 (stores_behind_growth needed) old new (enters c.args.dir (entrant_of o)) (EntersName c.args.dir c.args.name.now c.args.kind))
+          subst (λ o. PerformsWithin kept needed 5 (stores_behind_growth needed) old new (enters c.args.dir (entrant_of o)) (EntersName c.args.dir c.args.name.now c.args.kind))
           (sym (is_least (current_words old) c.args.parts.now.blocks c.args.parts.now.inodes c.requires.can.exact c.take_least-inode.result c.take_least-inode.ensures.least free least)) c.enter_behind.ensures.performs;
       exact = exact_with (current_words old) (current_words new) c.args.parts.now _ c.requires.exact
           (rw (c.enter_behind.ensures.inodes, c.take_least-inode.ensures.rest) (c.enter_behind.ensures.exact c.args.parts.now.inodes c.requires.can.exact)) c.enter_behind.ensures.frozen
           c.enter_behind.ensures.performs.effect.adds.trees.whole (rw (c.enter_behind.ensures.counted, c.set.ensures) (length-set c.args.parts.now.counts c.take_least-inode.result 1))
           (rw (c.enter_behind.ensures.counted, c.set.ensures) (c.enter_behind.ensures.counts c.args.parts.now.counts c.requires.exact.counts));
+      frozen = c.enter_behind.ensures.frozen;
     }

@@ -1,7 +1,8 @@
-use Rattle.std.proofs.Common.{◌+◌, ◌*◌, arith}
+use Rattle.std.proofs.Common.{◌+◌, ◌*◌, refl, arith}
 use Rattle.pm_epochs.specs.May.{AnyAt}
 use Rattle.pm_region.specs.Memory.{current_words}
 use Rattle.bp_tree.specs.Within.{IsWithin}
+use Rattle.bp_layout.specs.Thaw.{none_kept}
 use Rattle.bp_calls.proofs.InSlot.{slot_performs, slot_counts, slot_exact, entry_stands}
 use Rattle.bp_calls.proofs.Refusals.{found_empty}
 use Rattle.bp_calls.proofs.Rooms.{base_after, room_after, row_in_range}
@@ -45,23 +46,24 @@ commit_word-requires-clause-room g c =
 pub returns-clause-performs : goal.returns-clause-performs
 returns-clause-performs g c =
     let memory = g.R.Region.memory in
-    slot_performs (memory c.args.region.now) (memory c.fill.new.region) (memory c.put_name.new.region) (memory c.commit_word.new.region) c.args.dir c.args.slot c.args.inode c.entry_place-entry.result c.args.name.now c.args.kind
+    λ kept loose loose_inode.
+    slot_performs kept (memory c.args.region.now) (memory c.fill.new.region) (memory c.put_name.new.region) (memory c.commit_word.new.region) c.args.dir c.args.slot c.args.inode c.entry_place-entry.result c.args.name.now c.args.kind
     c.requires.can c.requires.found
     (entry_stands (current_words (memory c.args.region.now)) c.args.dir c.args.slot c.entry_place-entry.result c.tree_of-tree.result.root c.tree_of-tree.ensures.root c.entry_place-entry.ensures.place c.entry_place-entry.ensures.present)
-    c.fill.ensures c.put_name.ensures.stores c.put_name.ensures.name (rw c.from.ensures at c.commit_word.ensures)
+    loose loose_inode c.fill.ensures c.put_name.ensures.stores c.put_name.ensures.name (rw c.from.ensures at c.commit_word.ensures)
 
 pub returns-clause-exact : goal.returns-clause-exact
 returns-clause-exact g c =
     let memory = g.R.Region.memory in
-    slot_exact (memory c.args.region.now) (memory c.fill.new.region) (memory c.put_name.new.region) (memory c.commit_word.new.region) c.args.dir c.args.slot c.args.inode c.entry_place-entry.result c.args.name.now c.args.kind
+    slot_exact none_kept (memory c.args.region.now) (memory c.fill.new.region) (memory c.put_name.new.region) (memory c.commit_word.new.region) c.args.dir c.args.slot c.args.inode c.entry_place-entry.result c.args.name.now c.args.kind
     c.requires.can c.requires.found
     (entry_stands (current_words (memory c.args.region.now)) c.args.dir c.args.slot c.entry_place-entry.result c.tree_of-tree.result.root c.tree_of-tree.ensures.root c.entry_place-entry.ensures.place c.entry_place-entry.ensures.present)
-    c.fill.ensures c.put_name.ensures.stores c.put_name.ensures.name (rw c.from.ensures at c.commit_word.ensures)
+    (λ at stands. refl) (λ at stands. refl) c.fill.ensures c.put_name.ensures.stores c.put_name.ensures.name (rw c.from.ensures at c.commit_word.ensures)
 
 pub returns-clause-counts : goal.returns-clause-counts
 returns-clause-counts g c =
     let memory = g.R.Region.memory in
-    slot_counts (memory c.args.region.now) (memory c.fill.new.region) (memory c.put_name.new.region) (memory c.commit_word.new.region) c.args.dir c.args.slot c.args.inode c.entry_place-entry.result c.args.name.now c.args.kind
+    slot_counts none_kept (memory c.args.region.now) (memory c.fill.new.region) (memory c.put_name.new.region) (memory c.commit_word.new.region) c.args.dir c.args.slot c.args.inode c.entry_place-entry.result c.args.name.now c.args.kind
     c.requires.can c.requires.found
     (entry_stands (current_words (memory c.args.region.now)) c.args.dir c.args.slot c.entry_place-entry.result c.tree_of-tree.result.root c.tree_of-tree.ensures.root c.entry_place-entry.ensures.place c.entry_place-entry.ensures.present)
-    c.fill.ensures c.put_name.ensures.stores c.put_name.ensures.name (rw c.from.ensures at c.commit_word.ensures)
+    (λ at stands. refl) (λ at stands. refl) c.fill.ensures c.put_name.ensures.stores c.put_name.ensures.name (rw c.from.ensures at c.commit_word.ensures)

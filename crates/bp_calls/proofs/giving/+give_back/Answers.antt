@@ -1,5 +1,4 @@
 use Rattle.std.proofs.Common.{◌≡◌, ◌-◌, ◌*◌, ◌/◌, ◌+◌, ◌<◌, ◌≤◌, suc, le_antisymm, arith, ap, sym, ◌∙◌}
-use Rattle.bp_layout.specs.Pieces.{child, piece}
 use Rattle.bp_layout.specs.Tree.{span}
 use Rattle.bp_layout.specs.Words.{block_of, height_of}
 use Rattle.bp_layout.proofs.TreeLaws.{span-is}
@@ -25,6 +24,12 @@ give_top-requires-clause-in_range g t c =
     let image = current_words (g.R.Region.memory c.args.region.now) in
     let low = top_in_range image c.args.tree.root c.args.tree.size c.requires.sound (omega (arith, c.if-tree-shorter.false)) in
     omega (arith, low, c.block-top.ensures, c.requires.room)
+
+pub give_top-requires-clause-known : goal.give_top-requires-clause-known
+give_top-requires-clause-known g t c =
+    let image = current_words (g.R.Region.memory c.args.region.now) in
+    let low = top_in_range image c.args.tree.root c.args.tree.size c.requires.sound (omega (arith, c.if-tree-shorter.false)) in
+    omega (arith, low, c.block-top.ensures, c.requires.known)
 
 pub give_top-requires-clause-taken : goal.give_top-requires-clause-taken
 give_top-requires-clause-taken g t c =
@@ -67,7 +72,10 @@ give_back-requires g t c κs within =
           rw (c.child-below.ensures.root, c.child-below.ensures.size) (child_is_sound image c.args.tree.root c.args.tree.size (height_of c.args.tree.root - 1) c.args.shorter c.requires.sound c.if-tree-shorter.false (rw c.block-top.ensures at c.if-top-eq0.false) high c.loop-slot.slot live),
           (
             c.loop-slot.invariant.room ∙ c.requires.room,
-            rw (c.child-below.ensures.root, c.child-below.ensures.size) (not_yet image c.args.tree.root c.args.tree.size (height_of c.args.tree.root - 1) c.args.shorter c.requires.sound c.if-tree-shorter.false (rw c.block-top.ensures at c.if-top-eq0.false) high c.loop-slot.slot c.args.blocks.now c.loop-slot.blocks live c.requires.taken c.loop-slot.invariant),
+            (
+              c.requires.known,
+              rw (c.child-below.ensures.root, c.child-below.ensures.size) (not_yet image c.args.tree.root c.args.tree.size (height_of c.args.tree.root - 1) c.args.shorter c.requires.sound c.if-tree-shorter.false (rw c.block-top.ensures at c.if-top-eq0.false) high c.loop-slot.slot c.args.blocks.now c.loop-slot.blocks live c.requires.taken c.loop-slot.invariant),
+            ),
           ),
         ),
       ),
@@ -80,7 +88,7 @@ loop-slot-preserved g t c =
     let high : height_of c.args.tree.root ≡ suc (height_of c.args.tree.root - 1) = omega (arith, c.height-height.ensures, c.if-height-eq0.false) in
     let live : c.loop-slot.slot * span (height_of c.args.tree.root - 1) < c.args.tree.size =
     slot_live image c.args.tree.root c.args.tree.size (height_of c.args.tree.root - 1) c.args.shorter c.requires.sound c.if-tree-shorter.false (rw c.block-top.ensures at c.if-top-eq0.false) high c.loop-slot.slot (rw is at c.loop-slot-test.true) in
-    let shorter : c.saturating_sub.result ≡ c.args.shorter - c.loop-slot.slot * span (height_of c.args.tree.root - 1) = c.saturating_sub.ensures ∙ ap (λ s. c.args.shorter - c.loop-slot.slot * s) is in
+    let shorter : c.saturating_sub-left.result ≡ c.args.shorter - c.loop-slot.slot * span (height_of c.args.tree.root - 1) = c.saturating_sub-left.ensures ∙ ap (λ s. c.args.shorter - c.loop-slot.slot * s) is in
     slots_step image c.args.tree.root c.args.tree.size (height_of c.args.tree.root - 1) c.args.shorter c.requires.sound c.if-tree-shorter.false (rw c.block-top.ensures at c.if-top-eq0.false) high c.loop-slot.slot c.args.blocks.now c.loop-slot.blocks c.give_back.new.blocks live c.loop-slot.invariant
     (rw (c.child-below.ensures.root, c.child-below.ensures.size, shorter) at c.give_back.ensures)
 

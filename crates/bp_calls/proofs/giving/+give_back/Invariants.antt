@@ -3,6 +3,7 @@ use Rattle.bp_layout.specs.Words.{height_of}
 use Rattle.pm_region.specs.Memory.{current_words}
 use Rattle.bp_calls.specs.GivenUp.{IsGivenUpIn}
 use Rattle.bp_calls.specs.GivenBack.{GivesBack}
+use Rattle.bp_free.specs.Set.{has}
 use Rattle.bp_calls.proofs.giving.+give_back.Given as goal
 
 abbrev pub decreases-give_back : goal.decreases-give_back
@@ -10,4 +11,4 @@ decreases-give_back g l = height_of l.tree.root
 
 -- what is given up in the slots so far is back
 abbrev pub invariant-loop-slot : goal.invariant-loop-slot
-invariant-loop-slot g l = GivesBack (IsGivenUpIn (current_words (g.R.Region.memory l.region)) l.tree.root l.tree.size (height_of l.tree.root - 1) l.shorter l.slot) l.fn.blocks l.blocks
+invariant-loop-slot g l = GivesBack (has l.frozen) (IsGivenUpIn (current_words (g.R.Region.memory l.region)) l.tree.root l.tree.size (height_of l.tree.root - 1) l.shorter l.slot) l.fn.blocks l.blocks

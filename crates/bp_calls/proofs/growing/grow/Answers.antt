@@ -52,5 +52,6 @@ returns g c =
       exact = exact_meaning (current_words old) (current_words new) c.args.parts.now _ c.requires.exact
           (exact_behind old blocks inodes c.new.result.items size c.requires.can c.new.ensures is middle after prepares new stored c.fill.new.self c.prep.ensures.room (rw c.prep.ensures.inodes at c.fill.ensures))
           c.prep.ensures.frozen c.prep.ensures.counts c.requires.can.well_formed grows.grown.meaning;
+      frozen = c.prep.ensures.frozen;
       left = left_behind old blocks inodes c.new.result.items size c.requires.can c.new.ensures is middle after prepares;
     }

@@ -1,38 +1,47 @@
-use Rattle.std.proofs.Common.{sym, arith}
+use Rattle.std.proofs.Common.{sym, ◌∙◌}
 use Rattle.pm_region.specs.Memory.{current_words}
+use Rattle.bp_changes.proofs.ReachedOn.{reached_on}
+use Rattle.bp_changes.proofs.ShapeLaws.{empty-same}
+use Rattle.bp_layout.specs.Need.Change.{enters}
+use Rattle.bp_layout.specs.Need.Entrant.{linked}
 use Rattle.bp_calls.specs.Created.{LinksEntry}
-use Rattle.bp_calls.proofs.EnteredLaws.{directory_inode}
-use Rattle.bp_calls.proofs.ShareLaws.{link_lacks, link_room, within_link}
+use Rattle.bp_calls.proofs.NewNames.{lacks_on}
+use Rattle.bp_calls.proofs.ThawedParts.{performed_thawed}
 use Rattle.bp_calls.proofs.linking.link_in.Goals as goal
 
-pub tree_of-tree-requires-clause-some : goal.tree_of-tree-requires-clause-some
-tree_of-tree-requires-clause-some g c =
-    let some = directory_inode (current_words (g.R.Region.memory c.args.parts.now.region)) c.args.dir c.requires.directory in
-    omega (arith, some)
-
-pub entry_need-need-requires-clause-slot : goal.entry_need-need-requires-clause-slot
-entry_need-need-requires-clause-slot g c = c.requires.slot
-
-pub returns-then-free-need-clause-refused : goal.returns-then-free-need-clause-refused
-returns-then-free-need-clause-refused g c =
-    link_lacks (g.R.Region.memory c.args.parts.now.region) c.args.parts.now.blocks c.args.parts.now.inodes c.args.dir c.requires.mounted.exact.sets _ _ (sym c.entry_need-need.ensures.need) c.count-free.ensures c.if-free-need.true
+pub thaw_linked-requires-clause-slot : goal.thaw_linked-requires-clause-slot
+thaw_linked-requires-clause-slot g c = c.requires.slot
 
 pub share-requires-clause-can : goal.share-requires-clause-can
-share-requires-clause-can g c = record {
-  link = record {
-    lacks = record { well_formed = c.requires.mounted.well_formed; reached = c.requires.reached; directory = c.requires.directory; form = c.requires.name; missing = c.requires.new };
-    there = c.requires.there;
-    file = c.requires.file;
-  };
-  exact = c.requires.mounted.exact.sets;
-  enough = omega (arith, c.entry_need-need.ensures.need, c.count-free.ensures, c.if-free-need.false);
-  room = link_room (g.R.Region.memory c.args.parts.now.region) c.args.parts.now.blocks c.args.dir c.requires.room (omega (arith, c.entry_need-need.ensures.need, c.count-free.ensures, c.if-free-need.false));
-}
+share-requires-clause-can g c =
+    let memory = g.R.Region.memory in
+    let image = current_words (memory c.args.parts.now.region) in
+    let after = current_words (memory c.thaw_linked.new.parts.region) in
+    let shape = c.in-Ok.ensures.thaws.thaws.shape in
+    record {
+      link = record {
+        lacks = lacks_on image after shape c.args.dir c.args.name.now
+            (record { well_formed = c.requires.mounted.well_formed; reached = c.requires.reached; directory = c.requires.directory; form = c.requires.name; missing = c.requires.new });
+        there = reached_on image after shape.meaning c.args.i c.requires.there;
+        file = shape.meaning.kind c.args.i c.requires.there ∙ c.requires.file;
+      };
+      exact = c.in-Ok.ensures.thaws.exact.sets;
+      thawed = c.in-Ok.ensures.thawed;
+    }
+
+pub share-requires-clause-exact : goal.share-requires-clause-exact
+share-requires-clause-exact g c = c.in-Ok.ensures.thaws.exact
 
 pub share-requires-clause-slot : goal.share-requires-clause-slot
-share-requires-clause-slot g c = c.requires.slot
-
-pub returns-clause-performs : goal.returns-clause-performs
-returns-clause-performs g c =
+share-requires-clause-slot g c =
     let memory = g.R.Region.memory in
-    within_link (memory c.args.parts.now.region) (memory c.share.new.parts.region) c.args.dir (LinksEntry c.args.dir c.args.name.now c.args.i) c.share.ensures.performs
+    let image = current_words (memory c.args.parts.now.region) in
+    c.requires.slot ∙ sym (empty-same image (current_words (memory c.thaw_linked.new.parts.region)) c.in-Ok.ensures.thaws.thaws.shape c.args.dir c.requires.reached c.requires.directory)
+
+pub returns-in-Ok-clause-performs : goal.returns-in-Ok-clause-performs
+returns-in-Ok-clause-performs g c =
+    performed_thawed g.R.Region.memory (enters c.args.dir linked) c.args.parts.now c.thaw_linked.new.parts c.requires.mounted (c.requires.reached, c.requires.directory) c.in-Ok.ensures.thaws
+    c.share.new.parts (LinksEntry c.args.dir c.args.name.now c.args.i) c.share.ensures.performs
+
+pub returns-in-Ok-clause-frozen : goal.returns-in-Ok-clause-frozen
+returns-in-Ok-clause-frozen g c = c.share.ensures.frozen ∙ c.in-Ok.ensures.thaws.frozen

@@ -1,4 +1,5 @@
-use Rattle.std.proofs.Common.{◌+◌, ◌*◌, arith}
+use Rattle.std.proofs.Common.{◌+◌, ◌*◌, refl, arith}
+use Rattle.bp_layout.specs.Thaw.{none_kept}
 use Rattle.pm_region.specs.Memory.{current_words}
 use Rattle.bp_calls.proofs.InSlot.{entry_stands}
 use Rattle.bp_calls.proofs.LinkInSlot.{link_counts, link_exact, link_performs}
@@ -39,20 +40,21 @@ commit_word-requires-clause-room g c =
 pub returns-clause-performs : goal.returns-clause-performs
 returns-clause-performs g c =
     let memory = g.R.Region.memory in
-    link_performs (memory c.args.region.now) (memory c.put_name.new.region) (memory c.commit_word.new.region) c.args.dir c.args.slot c.args.i c.entry_place-entry.result c.args.name.now c.requires.can c.requires.found
+    λ kept loose.
+    link_performs kept (memory c.args.region.now) (memory c.put_name.new.region) (memory c.commit_word.new.region) c.args.dir c.args.slot c.args.i c.entry_place-entry.result c.args.name.now c.requires.can c.requires.found
     (entry_stands (current_words (memory c.args.region.now)) c.args.dir c.args.slot c.entry_place-entry.result c.tree_of-tree.result.root c.tree_of-tree.ensures.root c.entry_place-entry.ensures.place c.entry_place-entry.ensures.present)
-    c.put_name.ensures.stores c.put_name.ensures.name (rw c.from.ensures at c.commit_word.ensures)
+    loose c.put_name.ensures.stores c.put_name.ensures.name (rw c.from.ensures at c.commit_word.ensures)
 
 pub returns-clause-exact : goal.returns-clause-exact
 returns-clause-exact g c =
     let memory = g.R.Region.memory in
-    link_exact (memory c.args.region.now) (memory c.put_name.new.region) (memory c.commit_word.new.region) c.args.dir c.args.slot c.args.i c.entry_place-entry.result c.args.name.now c.requires.can c.requires.found
+    link_exact none_kept (memory c.args.region.now) (memory c.put_name.new.region) (memory c.commit_word.new.region) c.args.dir c.args.slot c.args.i c.entry_place-entry.result c.args.name.now c.requires.can c.requires.found
     (entry_stands (current_words (memory c.args.region.now)) c.args.dir c.args.slot c.entry_place-entry.result c.tree_of-tree.result.root c.tree_of-tree.ensures.root c.entry_place-entry.ensures.place c.entry_place-entry.ensures.present)
-    c.put_name.ensures.stores c.put_name.ensures.name (rw c.from.ensures at c.commit_word.ensures)
+    (λ at stands. refl) c.put_name.ensures.stores c.put_name.ensures.name (rw c.from.ensures at c.commit_word.ensures)
 
 pub returns-clause-counts : goal.returns-clause-counts
 returns-clause-counts g c =
     let memory = g.R.Region.memory in
-    link_counts (memory c.args.region.now) (memory c.put_name.new.region) (memory c.commit_word.new.region) c.args.dir c.args.slot c.args.i c.entry_place-entry.result c.args.name.now c.requires.can c.requires.found
+    link_counts none_kept (memory c.args.region.now) (memory c.put_name.new.region) (memory c.commit_word.new.region) c.args.dir c.args.slot c.args.i c.entry_place-entry.result c.args.name.now c.requires.can c.requires.found
     (entry_stands (current_words (memory c.args.region.now)) c.args.dir c.args.slot c.entry_place-entry.result c.tree_of-tree.result.root c.tree_of-tree.ensures.root c.entry_place-entry.ensures.place c.entry_place-entry.ensures.present)
-    c.put_name.ensures.stores c.put_name.ensures.name (rw c.from.ensures at c.commit_word.ensures)
+    (λ at stands. refl) c.put_name.ensures.stores c.put_name.ensures.name (rw c.from.ensures at c.commit_word.ensures)

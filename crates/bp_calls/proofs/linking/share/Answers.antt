@@ -3,7 +3,12 @@ use Rattle.std.proofs.lemmas.List.{length-set}
 use Rattle.pm_region.specs.Memory.{current_words}
 use Rattle.bp_calls.proofs.CountLaws.{exact_with, reached_counted}
 use Rattle.bp_calls.proofs.FewNames.{few_names}
-use Rattle.bp_calls.proofs.ShareLaws.{can_link_behind}
+use Rattle.bp_layout.specs.Need.Change.{enters}
+use Rattle.bp_layout.specs.Need.Entrant.{linked}
+use Rattle.bp_shapes.specs.Sets.{kept_of}
+use Rattle.bp_calls.specs.Created.{LinksEntry}
+use Rattle.bp_calls.proofs.NewNames.{within_call}
+use Rattle.bp_calls.proofs.ShareLaws.{can_link_behind, link_loose, link_room}
 use Rattle.bp_calls.proofs.linking.share.Goals as goal
 
 pub names-names-requires : goal.names-names-requires
@@ -24,6 +29,10 @@ set-requires g c =
 pub link_slot-requires-clause-found : goal.link_slot-requires-clause-found
 link_slot-requires-clause-found g c = sym c.requires.slot ∙ c.in-Some.is
 
+pub link_slot-requires-clause-room : goal.link_slot-requires-clause-room
+link_slot-requires-clause-room g c =
+    link_room (g.R.Region.memory c.args.parts.now.region) c.args.parts.now.blocks c.args.parts.now.inodes c.args.dir c.args.i c.args.name.now c.requires.can
+
 pub link_behind-requires : goal.link_behind-requires
 link_behind-requires g c =
     record {
@@ -35,10 +44,14 @@ returns-in-Some g c =
     let old = g.R.Region.memory c.args.parts.now.region in
     let new = g.R.Region.memory c.link_slot.new.region in
     let low = reached_counted (current_words old) c.args.parts.now c.requires.exact c.requires.can.link.lacks.well_formed c.args.i c.requires.can.link.there in
+    let kept = kept_of c.args.parts.now in
+    let loose = link_loose old c.args.parts.now.blocks c.args.parts.now.inodes c.args.dir c.args.i c.args.name.now c.requires.can in
+    let done = c.link_slot.ensures.performs kept (loose.slot c.in-Some.slot (sym c.requires.slot ∙ c.in-Some.is)) in
     record {
-      performs = c.link_slot.ensures.performs;
-      exact = exact_with (current_words old) (current_words new) c.args.parts.now _ c.requires.exact (c.link_slot.ensures.exact c.args.parts.now.blocks c.args.parts.now.inodes c.requires.can.exact) refl
-          c.link_slot.ensures.performs.effect.adds.trees.whole (rw c.set.ensures (length-set c.args.parts.now.counts c.args.i _))
+      performs = within_call old new (enters c.args.dir linked) c.args.dir (LinksEntry c.args.dir c.args.name.now c.args.i) refl done;
+      frozen = refl;
+      exact = exact_with (current_words old) (current_words new) c.args.parts.now _ c.requires.exact (c.link_slot.ensures.exact kept c.args.parts.now.blocks c.args.parts.now.inodes c.requires.can.exact) refl
+          done.effect.adds.trees.whole (rw c.set.ensures (length-set c.args.parts.now.counts c.args.i _))
           (rw (c.set.ensures, c.names-names.ensures) (c.link_slot.ensures.counts c.args.parts.now.counts low c.requires.exact.counts));
     }
 
@@ -48,7 +61,8 @@ returns-in-None g c =
     let new = g.R.Region.memory c.link_behind.new.parts.region in
     let low = reached_counted (current_words old) c.args.parts.now c.requires.exact c.requires.can.link.lacks.well_formed c.args.i c.requires.can.link.there in
     record {
-      performs = c.link_behind.ensures.performs;
+      performs = within_call old new (enters c.args.dir linked) c.args.dir (LinksEntry c.args.dir c.args.name.now c.args.i) refl c.link_behind.ensures.performs;
+      frozen = c.link_behind.ensures.frozen;
       exact = exact_with (current_words old) (current_words new) c.args.parts.now _ c.requires.exact (rw c.link_behind.ensures.inodes (c.link_behind.ensures.exact c.args.parts.now.inodes c.requires.can.exact)) c.link_behind.ensures.frozen
           c.link_behind.ensures.performs.effect.adds.trees.whole (rw (c.link_behind.ensures.counted, c.set.ensures) (length-set c.args.parts.now.counts c.args.i _))
           (rw (c.link_behind.ensures.counted, c.set.ensures, c.names-names.ensures) (c.link_behind.ensures.counts c.args.parts.now.counts low c.requires.exact.counts));

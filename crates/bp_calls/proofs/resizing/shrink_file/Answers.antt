@@ -1,47 +1,31 @@
-use Rattle.std.proofs.Common.{refl, arith}
-use Rattle.bp_layout.specs.Reached.IsReached.{inode_file}
-use Rattle.bp_layout.proofs.Reached.{reached-in_file}
+use Rattle.std.proofs.Common.{◌∙◌}
+use Rattle.bp_changes.proofs.ReachedOn.{reached_on}
+use Rattle.bp_calls.specs.Resized.{ResizesFile}
+use Rattle.bp_layout.specs.Need.Change.{resizes}
 use Rattle.pm_region.specs.Memory.{current_words}
-use Rattle.pm_region.proofs.MemoryLaws.{length-current_words}
-use Rattle.bp_calls.proofs.Shorter.{Shrinks, can_give_back, shrunk}
+use Rattle.bp_calls.proofs.ThawedParts.{mounted_thawed, performed_thawed, thawed_clear}
 use Rattle.bp_calls.proofs.resizing.shrink_file.Goals as goal
-use Rattle.bp_calls.proofs.CountLaws.{exact_file}
 
-pub place-size_place-requires-clause-sound : goal.place-size_place-requires-clause-sound
-place-size_place-requires-clause-sound g c = c.requires.mounted.well_formed.sound 0 inode_file
+pub cut-requires-clause-mounted : goal.cut-requires-clause-mounted
+cut-requires-clause-mounted g c =
+    mounted_thawed g.R.Region.memory (resizes c.args.i c.args.size) c.args.parts.now c.thaw_size.new.parts c.requires.mounted c.requires.reached c.in-Ok.ensures.thaws
 
-pub place-size_place-requires-clause-there : goal.place-size_place-requires-clause-there
-place-size_place-requires-clause-there g c = reached-in_file (current_words (g.R.Region.memory c.args.parts.now.region)) c.requires.mounted.well_formed c.args.i c.requires.reached
+pub cut-requires-clause-clear : goal.cut-requires-clause-clear
+cut-requires-clause-clear g c =
+    thawed_clear g.R.Region.memory (resizes c.args.i c.args.size) c.args.parts.now c.thaw_size.new.parts c.requires.mounted c.requires.reached c.in-Ok.ensures.thaws
 
-pub commit_word-requires-clause-in_range : goal.commit_word-requires-clause-in_range
-commit_word-requires-clause-in_range g c = omega (arith, c.place-size_place.ensures.in_range, length-current_words (g.R.Region.memory c.args.parts.now.region))
+pub returns-in-Ok-clause-performs : goal.returns-in-Ok-clause-performs
+returns-in-Ok-clause-performs g c =
+    performed_thawed g.R.Region.memory (resizes c.args.i c.args.size) c.args.parts.now c.thaw_size.new.parts c.requires.mounted c.requires.reached c.in-Ok.ensures.thaws
+    c.cut.new.parts (ResizesFile c.args.i c.args.size) c.cut.ensures.performs
 
-pub give_back-requires : goal.give_back-requires
-give_back-requires g c =
+pub cut-requires-clause-reached : goal.cut-requires-clause-reached
+cut-requires-clause-reached g c =
     let memory = g.R.Region.memory in
-    let shrinks : Shrinks (current_words (memory c.args.parts.now.region)) c.args.parts.now.blocks c.args.parts.now.inodes c.args.i c.args.size c.place-size_place.result = record {
-      well_formed = c.requires.mounted.well_formed;
-      exact = c.requires.mounted.exact.sets;
-      reached = c.requires.reached;
-      is_file = c.requires.file;
-      smaller = rw (← c.requires.size) c.requires.smaller;
-      stands = c.place-size_place.ensures.place;
-    } in
-    let can = can_give_back (memory c.args.parts.now.region) (memory c.commit_word.new.region) c.args.parts.now.blocks c.args.parts.now.inodes c.args.i c.args.size c.place-size_place.result c.args.tree.root c.args.tree.size
-    c.requires.root c.requires.size shrinks c.commit_word.ensures in
-    record { sound = can.sound; room = can.room; taken = can.taken }
+    reached_on (current_words (memory c.args.parts.now.region)) (current_words (memory c.thaw_size.new.parts.region)) c.in-Ok.ensures.thaws.thaws.shape.meaning c.args.i c.requires.reached
 
-pub returns : goal.returns
-returns g c =
-    let memory = g.R.Region.memory in
-    let shrinks : Shrinks (current_words (memory c.args.parts.now.region)) c.args.parts.now.blocks c.args.parts.now.inodes c.args.i c.args.size c.place-size_place.result = record {
-      well_formed = c.requires.mounted.well_formed;
-      exact = c.requires.mounted.exact.sets;
-      reached = c.requires.reached;
-      is_file = c.requires.file;
-      smaller = rw (← c.requires.size) c.requires.smaller;
-      stands = c.place-size_place.ensures.place;
-    } in
-    let done = shrunk (memory c.args.parts.now.region) (memory c.commit_word.new.region) c.args.parts.now.blocks c.give_back.new.blocks c.args.parts.now.inodes c.args.i c.args.size c.place-size_place.result c.args.tree.root c.args.tree.size
-    c.requires.root c.requires.size shrinks c.commit_word.ensures c.give_back.ensures in
-    record { performs = done.0; exact = exact_file _ _ c.args.parts.now _ c.requires.mounted.exact done.1 refl refl c.args.i c.requires.mounted.well_formed done.0.effect.changes }
+pub cut-requires-clause-file : goal.cut-requires-clause-file
+cut-requires-clause-file g c = c.in-Ok.ensures.thaws.thaws.shape.meaning.kind c.args.i c.requires.reached ∙ c.requires.file
+
+pub cut-requires-clause-smaller : goal.cut-requires-clause-smaller
+cut-requires-clause-smaller g c = rw (c.in-Ok.ensures.thaws.thaws.shape.sizes c.args.i c.requires.reached) c.requires.smaller

@@ -1,19 +1,14 @@
-use Rattle.std.proofs.Common.{◌≤◌, ◌+◌, length, arith}
+use Rattle.std.proofs.Common.{◌+◌, length, arith}
 use Rattle.pm_region.specs.Memory.{current_words}
 use Rattle.pm_region.proofs.MemoryLaws.{length-current_words}
 use Rattle.bp_free.specs.Set.{members}
 use Rattle.bp_layout.specs.Reached.IsReached.{inode_file}
 use Rattle.bp_layout.proofs.Reached.{reached-in_file}
+use Rattle.bp_shapes.specs.Sets.{kept_of}
 use Rattle.bp_append.specs.Prepared.{CanPrepare}
-use Rattle.bp_calls.proofs.WriteBehind.{behind_lacks, behind_can, prepared_base, prepared_room, behind_performs_at, behind_exact_at}
+use Rattle.bp_calls.proofs.WriteBehind.{behind_can, prepared_base, prepared_room, behind_performs_at, behind_exact_at}
 use Rattle.bp_calls.proofs.writing.write_behind.Goals as goal
 use Rattle.bp_calls.proofs.CountLaws.{exact_file}
-
-pub returns-then-free-need-clause-refused : goal.returns-then-free-need-clause-refused
-returns-then-free-need-clause-refused g c =
-    let memory = g.R.Region.memory in
-    behind_lacks (memory c.args.parts.now.region) c.args.parts.now.blocks c.args.parts.now.inodes c.args.off c.args.bytes.now c.args.i _ _ c.need_prep-need.result c.count-free.result c.requires.can c.requires.behind
-    c.tree_of-tree.ensures.root c.tree_of-tree.ensures.size c.need_prep-need.ensures c.count-free.ensures c.if-free-need.true
 
 pub place-size_place-requires-clause-sound : goal.place-size_place-requires-clause-sound
 place-size_place-requires-clause-sound g c = c.requires.can.well_formed.sound 0 inode_file
@@ -24,22 +19,18 @@ place-size_place-requires-clause-there g c = reached-in_file (current_words (g.R
 pub prep-requires : goal.prep-requires
 prep-requires g c =
     let memory = g.R.Region.memory in
-    let enough : c.need_prep-need.result ≤ length (members c.args.parts.now.blocks) = omega (arith, c.if-free-need.false, c.count-free.ensures) in
     record {
       can = (
         c.args.i,
-        behind_can (memory c.args.parts.now.region) c.args.parts.now.blocks c.args.parts.now.inodes c.args.off c.args.bytes.now c.args.i _ _ c.need_prep-need.result c.root_path-root.result.items c.requires.can c.requires.behind
-            c.tree_of-tree.ensures.root c.tree_of-tree.ensures.size c.need_prep-need.ensures enough c.root_path-root.ensures,
+        behind_can (memory c.args.parts.now.region) c.args.parts.now.blocks c.args.parts.now.inodes c.args.off c.args.bytes.now c.args.i c.root_path-root.result.items c.requires.can c.requires.behind c.requires.enough c.root_path-root.ensures,
       );
     }
 
 pub commit_word-requires-clause-in_range : goal.commit_word-requires-clause-in_range
 commit_word-requires-clause-in_range g c =
     let memory = g.R.Region.memory in
-    let enough : c.need_prep-need.result ≤ length (members c.args.parts.now.blocks) = omega (arith, c.if-free-need.false, c.count-free.ensures) in
-    let prepares : CanPrepare (memory c.args.parts.now.region) (members c.args.parts.now.blocks) c.args.i c.root_path-root.result.items c.args.off (c.args.off + length c.args.bytes.now) =
-    behind_can (memory c.args.parts.now.region) c.args.parts.now.blocks c.args.parts.now.inodes c.args.off c.args.bytes.now c.args.i _ _ c.need_prep-need.result c.root_path-root.result.items c.requires.can c.requires.behind
-    c.tree_of-tree.ensures.root c.tree_of-tree.ensures.size c.need_prep-need.ensures enough c.root_path-root.ensures in
+    let prepares : CanPrepare (kept_of c.args.parts.now) (memory c.args.parts.now.region) (members c.args.parts.now.blocks) c.args.i c.root_path-root.result.items c.args.off (c.args.off + length c.args.bytes.now) =
+    behind_can (memory c.args.parts.now.region) c.args.parts.now.blocks c.args.parts.now.inodes c.args.off c.args.bytes.now c.args.i c.root_path-root.result.items c.requires.can c.requires.behind c.requires.enough c.root_path-root.ensures in
     let same = prepared_base (memory c.args.parts.now.region) c.args.parts.now.blocks c.args.parts.now.inodes c.args.off c.args.bytes.now (memory c.prep.new.parts.region) c.prep.new.parts.blocks c.args.i
     (c.prep.ensures.prepares c.args.i prepares) in
     omega (arith, same, c.place-size_place.ensures.in_range, length-current_words (memory c.args.parts.now.region))
@@ -47,30 +38,24 @@ commit_word-requires-clause-in_range g c =
 pub commit_word-requires-clause-room : goal.commit_word-requires-clause-room
 commit_word-requires-clause-room g c =
     let memory = g.R.Region.memory in
-    let enough : c.need_prep-need.result ≤ length (members c.args.parts.now.blocks) = omega (arith, c.if-free-need.false, c.count-free.ensures) in
-    let prepares : CanPrepare (memory c.args.parts.now.region) (members c.args.parts.now.blocks) c.args.i c.root_path-root.result.items c.args.off (c.args.off + length c.args.bytes.now) =
-    behind_can (memory c.args.parts.now.region) c.args.parts.now.blocks c.args.parts.now.inodes c.args.off c.args.bytes.now c.args.i _ _ c.need_prep-need.result c.root_path-root.result.items c.requires.can c.requires.behind
-    c.tree_of-tree.ensures.root c.tree_of-tree.ensures.size c.need_prep-need.ensures enough c.root_path-root.ensures in
+    let prepares : CanPrepare (kept_of c.args.parts.now) (memory c.args.parts.now.region) (members c.args.parts.now.blocks) c.args.i c.root_path-root.result.items c.args.off (c.args.off + length c.args.bytes.now) =
+    behind_can (memory c.args.parts.now.region) c.args.parts.now.blocks c.args.parts.now.inodes c.args.off c.args.bytes.now c.args.i c.root_path-root.result.items c.requires.can c.requires.behind c.requires.enough c.root_path-root.ensures in
     prepared_room (memory c.args.parts.now.region) c.args.parts.now.blocks c.args.parts.now.inodes c.args.off c.args.bytes.now (memory c.prep.new.parts.region) c.prep.new.parts.blocks c.args.i c.requires.can c.requires.behind
     (c.prep.ensures.prepares c.args.i prepares)
 
 pub returns-clause-performs : goal.returns-clause-performs
 returns-clause-performs g c =
     let memory = g.R.Region.memory in
-    let enough : c.need_prep-need.result ≤ length (members c.args.parts.now.blocks) = omega (arith, c.if-free-need.false, c.count-free.ensures) in
-    let prepares : CanPrepare (memory c.args.parts.now.region) (members c.args.parts.now.blocks) c.args.i c.root_path-root.result.items c.args.off (c.args.off + length c.args.bytes.now) =
-    behind_can (memory c.args.parts.now.region) c.args.parts.now.blocks c.args.parts.now.inodes c.args.off c.args.bytes.now c.args.i _ _ c.need_prep-need.result c.root_path-root.result.items c.requires.can c.requires.behind
-    c.tree_of-tree.ensures.root c.tree_of-tree.ensures.size c.need_prep-need.ensures enough c.root_path-root.ensures in
+    let prepares : CanPrepare (kept_of c.args.parts.now) (memory c.args.parts.now.region) (members c.args.parts.now.blocks) c.args.i c.root_path-root.result.items c.args.off (c.args.off + length c.args.bytes.now) =
+    behind_can (memory c.args.parts.now.region) c.args.parts.now.blocks c.args.parts.now.inodes c.args.off c.args.bytes.now c.args.i c.root_path-root.result.items c.requires.can c.requires.behind c.requires.enough c.root_path-root.ensures in
     behind_performs_at (memory c.args.parts.now.region) c.args.parts.now.blocks c.args.parts.now.inodes c.args.off c.args.bytes.now (memory c.prep.new.parts.region) c.prep.new.parts.blocks (memory c.commit_word.new.region)
     c.root_path-root.result.items c.place-size_place.result c.args.i c.requires.can c.requires.behind prepares c.place-size_place.ensures.place (c.prep.ensures.prepares c.args.i prepares) c.commit_word.ensures
 
 pub returns-clause-exact : goal.returns-clause-exact
 returns-clause-exact g c =
     let memory = g.R.Region.memory in
-    let enough : c.need_prep-need.result ≤ length (members c.args.parts.now.blocks) = omega (arith, c.if-free-need.false, c.count-free.ensures) in
-    let prepares : CanPrepare (memory c.args.parts.now.region) (members c.args.parts.now.blocks) c.args.i c.root_path-root.result.items c.args.off (c.args.off + length c.args.bytes.now) =
-    behind_can (memory c.args.parts.now.region) c.args.parts.now.blocks c.args.parts.now.inodes c.args.off c.args.bytes.now c.args.i _ _ c.need_prep-need.result c.root_path-root.result.items c.requires.can c.requires.behind
-    c.tree_of-tree.ensures.root c.tree_of-tree.ensures.size c.need_prep-need.ensures enough c.root_path-root.ensures in
+    let prepares : CanPrepare (kept_of c.args.parts.now) (memory c.args.parts.now.region) (members c.args.parts.now.blocks) c.args.i c.root_path-root.result.items c.args.off (c.args.off + length c.args.bytes.now) =
+    behind_can (memory c.args.parts.now.region) c.args.parts.now.blocks c.args.parts.now.inodes c.args.off c.args.bytes.now c.args.i c.root_path-root.result.items c.requires.can c.requires.behind c.requires.enough c.root_path-root.ensures in
     let done = returns-clause-performs g c in
     exact_file _ _ c.args.parts.now _ c.requires.exact
     (rw c.prep.ensures.inodes

@@ -1,0 +1,13 @@
+-- What a change asks behind its thaw.
+use Rattle.std.specs.Prelude.{◌≡◌, ◌+◌, ◌≤◌, ℕ, [], Bool, length}
+use Rattle.bp_free.specs.Set.{Set, members}
+use Rattle.bp_layout.specs.Need.{Change, need}
+use Rattle.bp_layout.specs.Thaw.{thawed}
+use Rattle.bp_commit.specs.Performs.{room_for}
+use Rattle.pm_region.specs.Memory.{Memory, current_words, room_in}
+
+-- Nothing is left to thaw, as many blocks are free as the change needs, and the log has room for it.
+pub record IsThawedFor (kept : ℕ → Bool) (memory : Memory) (blocks : Set) (change : Change) : Type 0 where
+  pub clear : thawed (current_words memory) kept change ≡ []
+  pub enough : need (current_words memory) change ≤ length (members blocks)
+  pub room : room_for (need (current_words memory) change) ≤ room_in memory + 2

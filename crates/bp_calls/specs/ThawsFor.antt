@@ -1,0 +1,26 @@
+-- What a call does before its change, where some blocks are kept.
+use Rattle.std.specs.Prelude.{◌≡◌, ◌+◌, ◌≤◌, ℕ, List, length}
+use Rattle.bp_free.specs.Set.{members}
+use Rattle.bp_free.specs.declared.parts.Parts.{Parts}
+use Rattle.bp_layout.specs.Thaw.{thawed_on}
+use Rattle.bp_layout.specs.WordPaths.{WordPath}
+use Rattle.bp_commit.specs.Performs.{room_for}
+use Rattle.bp_shapes.specs.Sets.{IsExact, kept_of}
+use Rattle.bp_thaw.specs.Thaws.{Thaws}
+use Rattle.pm_region.specs.Memory.{Memory, current_words, room_in}
+
+-- so many blocks are thawed on these ways
+abbrev pub thaw_count : {R : Type 0} → (R → Memory) → List WordPath → Parts R → ℕ
+thaw_count memory paths parts = length (thawed_on (current_words (memory parts.region)) (kept_of parts) paths)
+
+-- where as many blocks are free as that and so many more, the log has room for a call that takes them all
+abbrev pub HasRoomToThaw : {R : Type 0} → (R → Memory) → List WordPath → Parts R → ℕ → Type 0
+HasRoomToThaw memory paths parts more = thaw_count memory paths parts + more ≤ length (members parts.blocks)
+    → room_for (thaw_count memory paths parts + more) ≤ room_in (memory parts.region)
+
+-- The blocks on the ways are thawed. The sets and counts of the parts are still just those of the image, and the same
+-- blocks are kept.
+pub record ThawsFor {R : Type 0} (memory : R → Memory) (paths : List WordPath) (old new : Parts R) : Type 0 where
+  pub thaws : Thaws (kept_of old) paths (memory old.region) (memory new.region) old.blocks new.blocks
+  pub exact : IsExact (current_words (memory new.region)) new
+  pub frozen : new.frozen ≡ old.frozen

@@ -1,0 +1,201 @@
+//! The words near which a change stores, before it is made.
+
+ghost use Rattle.std.specs.Prelude.{◌≡◌, ℕ, suc, ◌+◌, ◌*◌, ◌/◌, ◌<◌, ◌≤◌, [], ◌∷◌, ◌++◌, length};
+ghost use Rattle.bp_calls.specs.CanWrite.{CanWrite};
+ghost use Rattle.bp_calls.specs.Mounted.{IsMounted};
+ghost use Rattle.bp_changes.specs.Effects.{CanUnlink};
+ghost use Rattle.bp_layout.specs.Directory.{entry_count, inumber_at};
+ghost use Rattle.bp_layout.specs.Inode.{root_of, size_of};
+ghost use Rattle.bp_layout.specs.Need.Change.{leaves, resizes, writes};
+ghost use Rattle.bp_layout.specs.Reached.{IsReached};
+ghost use Rattle.bp_layout.specs.Thaw.{end_path_now, root_path_now, targets};
+ghost use Rattle.bp_layout.specs.WellFormed.{IsWellFormed};
+ghost use Rattle.bp_layout.specs.WordPaths.{tree_path};
+ghost use Rattle.bp_layout.specs.Words.{Image, height_of};
+ghost use Rattle.bp_limits.specs.Limits.{entry_words, max_height};
+ghost use Rattle.bp_thaw.specs.Thaws.{paths_in};
+ghost use Rattle.pm_region.specs.Memory.{current_words};
+
+use crate::committing::{run_for, touched_by};
+use arrayvec::ArrayVec;
+use bp_cow::cover;
+use bp_free::Parts;
+use bp_inodes::{root_path, size_path, tree_of};
+use bp_limits::ENTRY_SIZE;
+use bp_tree::{Slots, Tree, word_path};
+use pm_region::Region;
+use pm_words::span;
+
+/// The ways to these words. No change has more than eight.
+pub type Targets = ArrayVec<Slots, 8>;
+
+/// The path of the word of a byte of a tree other than the inode file, given the tree.
+pub(crate) fn content_path<R: Region>(region: &R, i: u32, tree: Tree, off: u64) -> Slots
+    requires well_formed { IsWellFormed (current_words (R.memory region.now)) }
+    requires reached { IsReached (current_words (R.memory region.now)) i }
+    requires some { 1 ≤ i }
+    requires root { tree.root ≡ root_of (current_words (R.memory region.now)) i }
+    requires below { off < size_of (current_words (R.memory region.now)) i }
+    ensures { result.items ≡ tree_path (height_of (root_of (current_words (R.memory region.now)) 0)) i
+        (suc (height_of (root_of (current_words (R.memory region.now)) i))) (off / 8) }
+{
+    let mut path = root_path(region, i);
+    let within = word_path(tree, off);
+    match path.try_extend_from_slice(within.as_slice()) {
+        Ok(()) => path,
+        Err(_) => unreachable!(),
+    }
+}
+
+/// The path of the inumber of an entry.
+pub fn entry_path<R: Region>(region: &R, dir: u32, slot: u64) -> Slots
+    requires well_formed { IsWellFormed (current_words (R.memory region.now)) }
+    requires reached { IsReached (current_words (R.memory region.now)) dir }
+    requires some { 1 ≤ dir }
+    requires live { slot < entry_count (current_words (R.memory region.now)) dir }
+    ensures { result.items ≡ tree_path (height_of (root_of (current_words (R.memory region.now)) 0)) dir
+        (suc (height_of (root_of (current_words (R.memory region.now)) dir))) (entry_words * slot + 0) }
+{
+    content_path(region, dir, tree_of(region, dir), slot * ENTRY_SIZE)
+}
+
+/// Where a name leaves the entry in `slot`: the inumber alone.
+pub(crate) fn leaving<R: Region>(region: &R, dir: u32, slot: u64) -> Targets
+    requires well_formed { IsWellFormed (current_words (R.memory region.now)) }
+    requires can { CanUnlink (current_words (R.memory region.now)) dir slot
+        (inumber_at (current_words (R.memory region.now)) dir slot) }
+    ensures { paths_in result ≡ targets (current_words (R.memory region.now)) (leaves dir slot) }
+{
+    let mut targets = Targets::new();
+    targets.push(entry_path(region, dir, slot));
+    targets
+}
+
+/// Where a file ends earlier, or where it did: the word of its size alone.
+pub(crate) fn shrinking<R: Region>(region: &R, i: u32) -> Targets
+    requires well_formed { IsWellFormed (current_words (R.memory region.now)) }
+    requires reached { IsReached (current_words (R.memory region.now)) i }
+    ensures { (size : ℕ) → size ≤ size_of (current_words (R.memory region.now)) i →
+        paths_in result ≡ targets (current_words (R.memory region.now)) (resizes i size) }
+{
+    let mut targets = Targets::new();
+    targets.push(size_path(region, i));
+    targets
+}
+
+/// The same path.
+fn copy_of(path: &Slots) -> Slots
+    ensures { result.items ≡ path.now.items }
+{
+    let mut copy = Slots::new();
+    match copy.try_extend_from_slice(path.as_slice()) {
+        Ok(()) => copy,
+        Err(_) => unreachable!(),
+    }
+}
+
+/// A word, and those near which bytes come behind the size of a file.
+fn with_end<R: Region>(region: &R, i: u32, word: Slots) -> Targets
+    requires well_formed { IsWellFormed (current_words (R.memory region.now)) }
+    requires reached { IsReached (current_words (R.memory region.now)) i }
+    requires some { 1 ≤ i }
+    ensures { paths_in result ≡ word.items ∷ root_path_now (current_words (R.memory region.now)) i
+        ∷ end_path_now (current_words (R.memory region.now)) i ∷ [] }
+{
+    let mut targets = Targets::new();
+    targets.push(word);
+    push_end(&mut targets, &root_path(region, i), tree_of(region, i));
+    targets
+}
+
+/// Where a file ends later, with zeros or with bytes behind its size: the word of its size, and the end of its tree.
+pub(crate) fn lengthening<R: Region>(region: &R, i: u32) -> Targets
+    requires well_formed { IsWellFormed (current_words (R.memory region.now)) }
+    requires reached { IsReached (current_words (R.memory region.now)) i }
+    requires some { 1 ≤ i }
+    ensures resizes { (size : ℕ) → size_of (current_words (R.memory region.now)) i < size →
+        paths_in result ≡ targets (current_words (R.memory region.now)) (resizes i size) }
+    ensures writes { (off len : ℕ) → size_of (current_words (R.memory region.now)) i ≤ off → 1 ≤ len →
+        paths_in result ≡ targets (current_words (R.memory region.now)) (writes i off len) }
+{
+    with_end(region, i, size_path(region, i))
+}
+
+/// Where a file gets bytes on both sides of its size: the pointer to the leaf with its inode, below which stand both the
+/// word of its size and its root word, and the end of its tree.
+fn crossing<R: Region>(region: &R, i: u32) -> Targets
+    requires well_formed { IsWellFormed (current_words (R.memory region.now)) }
+    requires reached { IsReached (current_words (R.memory region.now)) i }
+    requires some { 1 ≤ i }
+    ensures { (off len : ℕ) → off < size_of (current_words (R.memory region.now)) i →
+        size_of (current_words (R.memory region.now)) i < off + len →
+        paths_in result ≡ targets (current_words (R.memory region.now)) (writes i off len) }
+{
+    let mut leaf = size_path(region, i);
+    leaf.pop();
+    with_end(region, i, leaf)
+}
+
+/// Where a file gets bytes below its size: the word that covers them.
+fn covering<R: Region>(parts: &Parts<R>, i: u32, off: u64, bytes: &[u8]) -> Targets
+    requires mounted { IsMounted (current_words (R.memory parts.now.region)) parts.now }
+    requires can { CanWrite (current_words (R.memory parts.now.region)) i off bytes.now }
+    requires below { off + length bytes.now ≤ size_of (current_words (R.memory parts.now.region)) i }
+    ensures { paths_in result ≡ targets (current_words (R.memory parts.now.region)) (writes i off (length bytes.now)) }
+{
+    let tree = tree_of(&parts.region, i);
+    let runs = [run_for(&parts.region, i, tree, off, bytes)];
+    let mut targets = Targets::new();
+    targets.push(cover(&parts.region, &touched_by(&runs)));
+    targets
+}
+
+/// Where a file gets bytes.
+pub(crate) fn writing<R: Region>(parts: &Parts<R>, i: u32, off: u64, bytes: &[u8]) -> Targets
+    requires mounted { IsMounted (current_words (R.memory parts.now.region)) parts.now }
+    requires can { CanWrite (current_words (R.memory parts.now.region)) i off bytes.now }
+    ensures { paths_in result ≡ targets (current_words (R.memory parts.now.region)) (writes i off (length bytes.now)) }
+{
+    let size = tree_of(&parts.region, i).size;
+    if size <= off {
+        return lengthening(&parts.region, i);
+    }
+    if off + bytes.len() as u64 <= size {
+        return covering(parts, i, off, bytes);
+    }
+    crossing(&parts.region, i)
+}
+
+/// The path of the word of the byte at the size of a tree, or that of its root word where it is empty or too low for
+/// the byte, given the path of its root word.
+fn end_path(root: &Slots, tree: Tree) -> Slots
+    requires low { 0 < tree.size → height_of tree.root ≤ max_height }
+    requires short { length root.now.items ≤ 6 }
+    ensures { (image : Image) (t : ℕ) → root.now.items ≡ root_path_now image t → tree.root ≡ root_of image t →
+        tree.size ≡ size_of image t → result.items ≡ end_path_now image t }
+{
+    let mut path = copy_of(root);
+    if tree.size == 0 || span(tree.height()) <= tree.size {
+        return path;
+    }
+    let within = word_path(tree, tree.size);
+    match path.try_extend_from_slice(within.as_slice()) {
+        Ok(()) => path,
+        Err(_) => unreachable!(),
+    }
+}
+
+/// Adds the words near which bytes come behind the size of a tree, given the path of its root word: that word, and the
+/// one of the byte at the size.
+pub fn push_end(targets: &mut Targets, root: &Slots, tree: Tree)
+    requires low { 0 < tree.size → height_of tree.root ≤ max_height }
+    requires short { length root.now.items ≤ 6 }
+    requires few { length targets.old.items ≤ 6 }
+    ensures { (image : Image) (t : ℕ) → root.now.items ≡ root_path_now image t → tree.root ≡ root_of image t →
+        tree.size ≡ size_of image t →
+        paths_in targets.new ≡ paths_in targets.old ++ root_path_now image t ∷ end_path_now image t ∷ [] }
+{
+    let end = end_path(root, tree);
+    targets.push(copy_of(root));
+    targets.push(end);
+}

@@ -1,0 +1,68 @@
+//! What is kept near the words of a change is thawed before the change.
+
+ghost use Rattle.std.specs.Prelude.{◌≡◌, ◌+◌, ◌^◌, ◌<◌, ◌≤◌, IfErr, OnErr, OnOk, length};
+ghost use Rattle.bp_calls.specs.Mounted.{IsMounted};
+ghost use Rattle.bp_calls.specs.Space.{LacksBlocks};
+ghost use Rattle.bp_calls.specs.ThawsFor.{HasRoomToThaw, ThawsFor, thaw_count};
+ghost use Rattle.bp_free.specs.Set.{members};
+ghost use Rattle.bp_layout.specs.Members.{Has};
+ghost use Rattle.bp_layout.specs.WordPaths.{WordPath};
+ghost use Rattle.bp_shapes.specs.Sets.{kept_of};
+ghost use Rattle.bp_thaw.specs.Fronts.{IsWay};
+ghost use Rattle.bp_thaw.specs.Thaws.{paths_in};
+ghost use Rattle.pm_region.specs.Memory.{current_words};
+
+use crate::targets::Targets;
+use bp_free::{NoSpace, Parts};
+use bp_thaw::{thaw, thaw_need};
+use pm_region::Region;
+
+/// Whether so many blocks are free, for a change that thaws nothing.
+///
+/// # Errors
+///
+/// Where fewer blocks are free.
+pub(crate) fn enough_free<R: Region>(parts: &Parts<R>, need: u32) -> Result<(), NoSpace>
+    requires { IsMounted (current_words (R.memory parts.now.region)) parts.now }
+    ensures enough { OnOk result (need ≤ length (members parts.now.blocks)) }
+    ensures refused { IfErr result (LacksBlocks (current_words (R.memory parts.now.region)) (kept_of parts.now) need) }
+    ensures free { IfErr result (λ lacks. lacks.free ≡ length (members parts.now.blocks)) }
+{
+    let free = parts.blocks.count();
+    if free < need {
+        return Err(NoSpace { need, free });
+    }
+    Ok(())
+}
+
+/// Thaws what is kept on the ways to some words, for a change that takes `more` blocks after that.
+///
+/// # Errors
+///
+/// Where fewer blocks are free than are taken in all. Nothing has changed then.
+pub fn thaw_before<R: Region>(
+    parts: &mut Parts<R>,
+    targets: &Targets,
+    more: u32,
+) -> Result<(), NoSpace>
+    requires mounted { IsMounted (current_words (R.memory parts.old.region)) parts.old }
+    requires ways { (path : WordPath) → Has (paths_in targets.now) path →
+        IsWay (current_words (R.memory parts.old.region)) path }
+    requires few { more < 2 ^ 31 }
+    requires room { HasRoomToThaw R.memory (paths_in targets.now) parts.old more }
+    ensures thaws { OnOk result (ThawsFor R.memory (paths_in targets.now) parts.old parts.new) }
+    ensures enough { OnOk result (thaw_count R.memory (paths_in targets.now) parts.old + more ≤
+        length (members parts.old.blocks)) }
+    ensures refused { IfErr result (LacksBlocks (current_words (R.memory parts.old.region)) (kept_of parts.old)
+        (thaw_count R.memory (paths_in targets.now) parts.old + more)) }
+    ensures same { OnErr result (parts.new ≡ parts.old) }
+{
+    let need = thaw_need(parts, targets) + more;
+    match enough_free(parts, need) {
+        Ok(()) => {
+            thaw(parts, targets);
+            Ok(())
+        }
+        Err(lacks) => Err(lacks),
+    }
+}

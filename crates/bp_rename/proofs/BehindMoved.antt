@@ -1,10 +1,10 @@
 -- A name moves behind the last entry of another directory: an entry is prepared there, and then one commit takes it in by the directory's size, and empties the old one.
-use Rattle.std.proofs.Common.{◌≡◌, ◌≢◌, ◌⊎◌, ℕ, zero, suc, ◌+◌, ◌*◌, ◌/◌, ◌<◌, ◌≤◌, List, [], ◌∷◌, length, None, slice_index, unwrap_or, refl, sym, ◌∙◌, ap, ap₂, subst, subst₂, arith, inl, inr}
+use Rattle.std.proofs.Common.{◌≡◌, ◌≢◌, ◌⊎◌, ℕ, zero, suc, ◌+◌, ◌*◌, ◌/◌, ◌<◌, ◌≤◌, List, [], ◌∷◌, ◌++◌, length, Bool, None, slice_index, unwrap_or, refl, sym, ◌∙◌, ap, ap₂, subst, arith, inl, inr}
 use Rattle.std.proofs.lemmas.Bool.{cases_eq}
 use Rattle.std.proofs.lemmas.List.{length-append}
-use Rattle.pm_region.specs.Memory.{Memory, current_words}
+use Rattle.pm_region.specs.Memory.{Memory, current_words, room_in}
 use Rattle.pm_region.proofs.MemoryLaws.{room_in-piece}
-use Rattle.bp_append.specs.Prepared.{need_for}
+use Rattle.bp_append.specs.Prepared.{HasLooseEnd, need_for}
 use Rattle.bp_append.specs.Stores.{prep_stores}
 use Rattle.bp_append.proofs.StoresLaws.{behind_whole}
 use Rattle.bp_free.specs.Set.{Set, has, members}
@@ -16,10 +16,15 @@ use Rattle.bp_layout.specs.Need.{common_all, need}
 use Rattle.bp_layout.specs.Need.Change.{moves}
 use Rattle.bp_layout.specs.Reached.{IsReached}
 use Rattle.bp_layout.specs.Reached.IsReached.{inode_file}
-use Rattle.bp_layout.specs.Tree.{IsFull}
+use Rattle.bp_layout.specs.Thaw.{thawed}
+use Rattle.bp_layout.specs.Tree.{IsFull, IsLivePointer, node}
+use Rattle.bp_layout.proofs.TreeLaws.{live_pointer_word, word_at-zero}
+use Rattle.bp_tree.proofs.Digits.{length-digits}
+use Rattle.bp_shapes.specs.Trail.{Trail, block_on, trail_of}
+use Rattle.bp_shapes.proofs.PathTrails.{length-trail_of}
 use Rattle.bp_layout.specs.WellFormed.{IsWellFormed}
-use Rattle.bp_layout.specs.WordPaths.{inode_path, tree_path}
-use Rattle.bp_layout.specs.Words.{Image, block_count, height_of, word}
+use Rattle.bp_layout.specs.WordPaths.{WordPath, digits, inode_path, tree_path}
+use Rattle.bp_layout.specs.Words.{Image, block_count, block_of, height_of, word}
 use Rattle.bp_layout.proofs.Reached.{reached-in_file}
 use Rattle.bp_limits.specs.Limits.{block_words, max_height}
 use Rattle.bp_changes.specs.Commits.{CommitsOnly}
@@ -34,9 +39,9 @@ use Rattle.bp_shapes.specs.Forest.{tree_trail, IsForest}
 use Rattle.bp_shapes.specs.Sets.{AreExact, AreExactFor}
 use Rattle.bp_shapes.proofs.FreeSets.{wf_forest}
 use Rattle.bp_shapes.proofs.MovedSets.{carried_exact}
-use Rattle.bp_commit.specs.Performs.{HasRoomFor, IsOpen, Performs, most_stores_thawed, room_for}
+use Rattle.bp_commit.specs.Performs.{IsOpen, PerformsThawed, most_stores_thawed, room_for}
 use Rattle.bp_cow.specs.CanCommit.{CanCommit}
-use Rattle.bp_cow.specs.Commit.{CommitsTouched, HasRoom, commit_stores, cover_word}
+use Rattle.bp_cow.specs.Commit.{CommitsTouched, HasLooseCover, HasRoom, commit_stores, cover_word}
 use Rattle.bp_cow.specs.Committed.{after_commit, changes_of}
 use Rattle.bp_cow.specs.Cover.{commit_cover, copied_count}
 use Rattle.bp_cow.specs.Job.{IsTurned}
@@ -51,39 +56,51 @@ use Rattle.bp_calls.proofs.AfterLaws.{slot_named_over}
 use Rattle.bp_calls.proofs.EnteredLaws.{name_same, not_named}
 use Rattle.bp_calls.proofs.PreparedSets.{live_before, prepared_exact, prepared_forest, prepared_sets, sizes_low, still_free}
 use Rattle.bp_calls.proofs.SizesWith.{size_with_here, size_with_other, sizes_with}
-use Rattle.bp_calls.proofs.Unthawed.{room_needed, unthawed}
 use Rattle.bp_rename.specs.CanRename.{CanRename, moved_inode}
 use Rattle.bp_rename.specs.RenamesEntry.{RenamesEntry, new_slot}
 use Rattle.bp_rename.specs.RenamesEntry.RenamesEntry.{across}
-use Rattle.bp_rename.specs.TouchesTwo.{TouchesTwo, inumber_path, size_path}
+use Rattle.bp_rename.specs.TouchesTwo.{OtherTree, TouchesTwo, inumber_path, size_path}
 use Rattle.bp_rename.specs.declared.moving.Move.{Move}
-use Rattle.bp_rename.proofs.BehindTouched.{behind_are, behind_cover, behind_few, behind_needs, behind_whole_cover, not_inodes, touched_needs, touched_paths}
-use Rattle.bp_rename.proofs.ContentWords.{AreContent, size_given, size_kept, words_can, words_fronts, words_kept, words_only, words_value}
+use Rattle.bp_rename.proofs.BehindTouched.{behind_are, behind_cover, behind_few, behind_needs, behind_whole_cover, not_inodes, size_fronts, touched_loose, touched_needs, touched_paths, touched_size}
+use Rattle.bp_rename.proofs.ListedTrees.{lists_stay}
+use Rattle.bp_rename.proofs.LooseCovers.{block_stays, still_loose}
+use Rattle.bp_rename.proofs.ContentWords.{AreContent, content_trail, size_given, size_kept, words_can, words_fronts, words_kept, words_only, words_value}
 use Rattle.bp_rename.proofs.Outside.{below_before}
 use Rattle.bp_rename.proofs.TwoWords.{first_value, pick, second_value, two_count}
-use Rattle.bp_layout.specs.Thaw.{none_kept}
+
+-- a trail that is shorter than those of inodes' words is that of a pointer of the inode file
+short_trail : (h i d k n : ℕ) (path : WordPath) → n < suc h → tree_trail h (suc i) d k ≡ trail_of path n → ⊥
+short_trail h i d k n path low same =
+    let root : WordPath = inode_path h (suc i) 1 in
+    let trails : trail_of path n ≡ trail_of (tree_path h (suc i) d k) (length (tree_path h (suc i) d k)) = sym same ∙ sym (content_trail h (suc i) d k) in
+    let long : n ≡ length (root ++ digits d k) =
+    sym (length-trail_of path n) ∙ ap (λ (q : Trail). length q) trails ∙ length-trail_of (tree_path h (suc i) d k) (length (tree_path h (suc i) d k)) in
+    omega (arith, low, long, length-append root (digits d k), length-digits (suc h) (8 * suc i + 1))
 
 -- the inode that moves is a number of 32 bits
 pub moved_few : (image : Image) (move : Move) → CanRename image move → moved_inode image move < 4194304
 moved_few image move can = few_inode image can.well_formed (moved_inode image move) (can.well_formed.inumbers move.from_dir move.from_slot (moved_inode image move) can.source can.entry)
 
 -- the entry can be put there
-pub can_put : (memory : Memory) (move : Move) (blocks inodes : Set) (can : CanRename (current_words memory) move) (other : move.from_dir ≢ move.to_dir) (new_name : move.to_slot ≡ None) (none : empty_slot (current_words memory) move.to_dir ≡ None)
-    (touched : Touched) (is : TouchesTwo touched (size_path (current_words memory) move.to_dir) (inumber_path (current_words memory) move.from_dir move.from_slot) (size_of (current_words memory) move.to_dir + 256) 0) →
-    AreExact (current_words memory) none_kept blocks inodes → need (current_words memory) (moves move.from_dir move.from_slot move.to_dir) ≤ length (members blocks) → HasRoomFor memory none_kept (moves move.from_dir move.from_slot move.to_dir) → CanPutBehind memory blocks move.to_dir move.name.now
-can_put memory move blocks inodes can other new_name none touched is exact enough room = record {
+pub can_put : {kept : ℕ → Bool} (memory : Memory) (move : Move) (blocks inodes : Set) (can : CanRename (current_words memory) move) (other : move.from_dir ≢ move.to_dir) (new_name : move.to_slot ≡ None) (none : empty_slot (current_words memory) move.to_dir ≡ None)
+    (touched : Touched) (is : TouchesTwo (current_words memory) (OtherTree move.to_dir) touched (size_path (current_words memory) move.to_dir) (inumber_path (current_words memory) move.from_dir move.from_slot) (size_of (current_words memory) move.to_dir + 256) 0) →
+    AreExact (current_words memory) kept blocks inodes → need (current_words memory) (moves move.from_dir move.from_slot move.to_dir) ≤ length (members blocks) →
+    room_for (need (current_words memory) (moves move.from_dir move.from_slot move.to_dir)) ≤ room_in memory + 2 → HasLooseEnd (current_words memory) kept move.to_dir → CanPutBehind kept memory blocks move.to_dir move.name.now
+can_put memory move blocks inodes can other new_name none touched is exact enough room loose = record {
   lacks = record { well_formed = can.well_formed; reached = can.target; directory = can.directory; form = can.name; missing = can.slot ∙ new_name };
   none = none;
   inodes = inodes;
   exact = exact;
   enough = let needs = touched_needs (current_words memory) move can other none touched is in omega (arith, needs, enough);
-  room = let needs = touched_needs (current_words memory) move can other none touched is in let asked = room_needed memory (moves move.from_dir move.from_slot move.to_dir) room in omega (arith, needs, asked);
+  room = let needs = touched_needs (current_words memory) move can other none touched is in omega (arith, needs, room);
+  loose = loose;
 }
 
-module _ (old middle : Memory) (move : Move) (blocks inodes after : Set) (can : CanRename (current_words old) move) (new_name : move.to_slot ≡ None) (other : move.from_dir ≢ move.to_dir)
-    (none : empty_slot (current_words old) move.to_dir ≡ None) (exact : AreExact (current_words old) none_kept blocks inodes) (room : HasRoomFor old none_kept (moves move.from_dir move.from_slot move.to_dir))
-    (puts : PutsBehind old middle (members blocks) (members after) move.to_dir (moved_inode (current_words old) move) move.name.now) (as_long : length after ≡ length blocks)
-    (touched : Touched) (is : TouchesTwo touched (size_path (current_words old) move.to_dir) (inumber_path (current_words old) move.from_dir move.from_slot) (size_of (current_words old) move.to_dir + 256) 0) where
+module _ {kept : ℕ → Bool} (old middle : Memory) (move : Move) (blocks inodes after : Set) (can : CanRename (current_words old) move) (new_name : move.to_slot ≡ None) (other : move.from_dir ≢ move.to_dir)
+    (none : empty_slot (current_words old) move.to_dir ≡ None) (exact : AreExact (current_words old) kept blocks inodes)
+    (room : room_for (need (current_words old) (moves move.from_dir move.from_slot move.to_dir)) ≤ room_in old + 2)
+    (puts : PutsBehind kept old middle (members blocks) (members after) move.to_dir (moved_inode (current_words old) move) move.name.now) (as_long : length after ≡ length blocks)
+    (touched : Touched) (is : TouchesTwo (current_words old) (OtherTree move.to_dir) touched (size_path (current_words old) move.to_dir) (inumber_path (current_words old) move.from_dir move.from_slot) (size_of (current_words old) move.to_dir + 256) 0) where
   abbrev image : Image
   image = current_words old
 
@@ -151,8 +168,13 @@ module _ (old middle : Memory) (move : Move) (blocks inodes after : Set) (can : 
   entry_stays : inumber_path image i s ≡ inumber_path mid i s
   entry_stays = ap₂ (λ top root. tree_path (height_of top) i (suc (height_of root)) (32 * s + 0)) root_inodes (sym (puts.prepared.ready.roots i can.source other))
 
-  is_mid : TouchesTwo touched (size_path mid j) (inumber_path mid i s) (size_of image j + 256) 0
-  is_mid = subst₂ (λ p q. TouchesTwo touched p q (size_of image j + 256) 0) size_stays entry_stays is
+  is_mid : TouchesTwo mid (OtherTree j) touched (size_path mid j) (inumber_path mid i s) (size_of image j + 256) 0
+  is_mid = record {
+    none = is.none;
+    trees = lists_stay image mid (OtherTree j) touched.trees.now (ap height_of (sym root_inodes)) (λ t apart reached some. (on t reached, (puts.prepared.ready.roots t reached apart, puts.prepared.ready.sizes t reached))) is.trees;
+    paths = is.paths ∙ ap₂ (λ (p q : WordPath). p ∷ q ∷ []) size_stays entry_stays;
+    values = is.values;
+  }
 
   -- ---- the sizes that count
 
@@ -177,19 +199,19 @@ module _ (old middle : Memory) (move : Move) (blocks inodes after : Set) (can : 
   low : (t : ℕ) → size_of mid t ≤ sizes_with (current_words middle) touched t
   low = sizes_low old middle blocks inodes after j (size_of image j) (size_of image j + 256) puts.bytes can.well_formed exact can.target not_file past puts.prepared (sizes_with mid touched) bound_here bound_other
 
-  unheld : AreUnheld mid (IsReached mid) (sizes_with (current_words middle) touched) none_kept (has after)
+  unheld : AreUnheld mid (IsReached mid) (sizes_with (current_words middle) touched) kept (has after)
   unheld = prepared_exact old middle blocks inodes after j (size_of image j) (size_of image j + 256) puts.bytes can.well_formed exact can.target not_file past puts.prepared (sizes_with mid touched) bound_here bound_other
 
-  sets : AreExactFor mid (IsReached mid) (sizes_with (current_words middle) touched) none_kept after inodes
+  sets : AreExactFor mid (IsReached mid) (sizes_with (current_words middle) touched) kept after inodes
   sets = prepared_sets old middle blocks inodes after j (size_of image j) (size_of image j + 256) puts.bytes can.well_formed exact can.target not_file past puts.prepared (sizes_with mid touched) bound_here bound_other as_long
 
   pub behind_fits : block_count (current_words middle) ≤ length after
   behind_fits = omega (arith, sets.block_room)
 
   are : AreContent mid (sizes_with (current_words middle) touched) touched (pick 0 i) (pick (8 * j + 2) (32 * s + 0))
-  are = behind_are mid behind_formed i s j (size_of image j + 256) source entry.in_size entry.directory target touched is_mid (sizes_with mid touched) low
+  are = behind_are mid behind_formed i s j (size_of image j + 256) source entry.in_size entry.directory target touched is_mid (sizes_with mid touched) low (λ t apart. let same = bound_other t apart in omega (arith, same))
 
-  pub behind_can : CanCommit (current_words middle) (sizes_with (current_words middle) touched) touched (has after)
+  pub behind_can : CanCommit (current_words middle) (sizes_with (current_words middle) touched) kept touched (has after)
   behind_can = words_can mid (sizes_with mid touched) forest touched (pick 0 i) (pick (8 * j + 2) (32 * s + 0)) are (λ t reached. low t) (has after) unheld
 
   count : length touched.words.now ≡ 2
@@ -216,11 +238,37 @@ module _ (old middle : Memory) (move : Move) (blocks inodes after : Set) (can : 
   pub behind_room : HasRoom middle touched
   behind_room =
       enough _ _ _ _ _ _ _ (room_in-piece _ _ old middle puts.prepared.adds.part.added puts.prepared.adds.part.adds puts.prepared.adds.part.piece) (behind_whole (size_of image j) (size_of image j) (size_of image j + 256) max_height)
-      needs few_copies count (room_needed old (moves move.from_dir move.from_slot move.to_dir) room)
+      needs few_copies count room
     where
-      enough : (made behind copied needed words before left : ℕ) → before ≤ left + (2 + (block_words * made + behind + 2)) → behind ≤ block_words * suc max_height → needed ≡ made + copied → copied ≤ 23 → words ≡ 2 → room_for needed ≤ before →
+      enough : (made behind copied needed words before left : ℕ) → before ≤ left + (2 + (block_words * made + behind + 2)) → behind ≤ block_words * suc max_height → needed ≡ made + copied → copied ≤ 23 → words ≡ 2 → room_for needed ≤ before + 2 →
           (block_words + 1) * copied + words + 1 + 2 ≤ left
       enough made behind copied needed words before left a b c d e f = omega (arith, a, b, c, d, e, f)
+
+  -- ---- the word of the cover
+
+  -- the pointers of the inode file stay
+  inode_node : (d k : ℕ) → IsLivePointer (root_of image 0) (size_of image 0) d k → node mid (root_of mid 0) d k ≡ node image (root_of image 0) d k
+  inode_node zero k live = ap block_of (word_at-zero mid (root_of mid 0) k ∙ sym root_inodes ∙ sym (word_at-zero image (root_of image 0) k))
+  inode_node (suc d) k live =
+      ap block_of (puts.prepared.ready.others 0 d k inode_file (λ e. not_file (sym e)) (live_pointer_word (root_of image 0) (size_of image 0) (suc d) k live) (λ e last f. omega (arith, last, live.height)))
+
+  -- so do all on the way to the size
+  size_node : (t d k n : ℕ) → n < length (size_path image j) → IsLivePointer (root_of image t) (size_of image t) d k → tree_trail (height_of (root_of image 0)) t d k ≡ trail_of (size_path image j) n →
+      node mid (root_of mid t) d k ≡ node image (root_of image t) d k
+  size_node zero d k n low live named = inode_node d k live
+  size_node (suc u) d k n low live named =
+      absurd (short_trail (height_of (root_of image 0)) u d k n (size_path image j) (omega (arith, low, length-digits (suc (height_of (root_of image 0))) (8 * j + 2))) named)
+
+  same_blocks : (n : ℕ) → n < length (size_path image j) → block_on mid (trail_of (size_path image j) n) ≡ block_on image (trail_of (size_path image j) n)
+  same_blocks n low =
+      let one = size_fronts image move can other none touched is n low in
+      block_stays image mid (size_of image) (trail_of (size_path image j) n) one (ap height_of (sym root_inodes)) (size_node one.tree one.depth one.index n low one.live one.named)
+
+  pub behind_loose : thawed (current_words old) kept (moves move.from_dir move.from_slot move.to_dir) ≡ [] → HasLooseCover (current_words middle) kept touched
+  behind_loose clear =
+      still_loose image mid touched behind_can.shape (size_path image j) (touched_size image move can other none touched is) same_blocks
+      (covers ∙ sym (behind_cover image can.well_formed i s j (size_of image j + 256) can.source can.entry.in_size can.entry.directory can.target touched is))
+      kept (touched_loose image move can other none touched is kept clear)
 
   few_stores : prep_stores (size_of image j) (size_of image j) (size_of image j + 256) (need_for image j (size_of image j) (size_of image j + 256)) + commit_stores mid touched ≤
       most_stores_thawed (need image (moves move.from_dir move.from_slot move.to_dir))
@@ -232,7 +280,7 @@ module _ (old middle : Memory) (move : Move) (blocks inodes after : Set) (can : 
 
   -- ---- what the commit makes
 
-  module _ (new : Memory) (last : Set) (done : CommitsTouched (sizes_with (current_words middle) touched) touched middle new after last) where
+  module _ (new : Memory) (last : Set) (done : CommitsTouched (sizes_with (current_words middle) touched) kept touched middle new after last) where
     not_source : i ≡ 0 → ⊥
     not_source e = not_inodes image i can.entry.directory e
 
@@ -319,29 +367,28 @@ module _ (old middle : Memory) (move : Move) (blocks inodes after : Set) (can : 
         (subst (λ r. CarriesEntry image (current_words new) i s j r x) slot_is carries)
         (subst (λ r. name_at (current_words new) j r ≡ move.name.now) slot_is name_is)
 
-    open_cover : IsOpen mid none_kept done.taken (cover_word mid touched)
+    open_cover : IsOpen mid kept done.taken (cover_word mid touched)
     open_cover =
-        cover_open mid behind_formed touched behind_can.shape (path_of (word_paths touched) 0) (has-word touched behind_can.shape 0 (omega (arith, count)))
+        cover_open kept mid behind_formed touched behind_can.shape (path_of (word_paths touched) 0) (has-word touched behind_can.shape 0 (omega (arith, count)))
         (λ d deep.
         words_fronts mid (size_of mid) (wf_forest mid behind_formed) touched (pick 0 i) (pick (8 * j + 2) (32 * s + 0))
-        (behind_are mid behind_formed i s j (size_of image j + 256) source entry.in_size entry.directory target touched is_mid (size_of mid) (λ t. omega arith)) 0 d (omega (arith, count)) deep)
-        done.taken
+        (behind_are mid behind_formed i s j (size_of image j + 256) source entry.in_size entry.directory target touched is_mid (size_of mid) (λ t. omega arith) (λ t apart. omega arith)) 0 d (omega (arith, count)) deep)
+        done.loose done.taken
 
-    pub behind_performs : Performs none_kept old new (moves move.from_dir move.from_slot move.to_dir) (RenamesEntry move)
+    pub behind_performs : PerformsThawed kept old new (moves move.from_dir move.from_slot move.to_dir) (RenamesEntry move)
     behind_performs =
-        unthawed old new (moves move.from_dir move.from_slot move.to_dir) (RenamesEntry move)
-        (commit_performs_after old middle new (moves move.from_dir move.from_slot move.to_dir) (RenamesEntry move) (sizes_with mid touched) touched after last puts.prepared.taken 2
+        commit_performs_after old middle new (moves move.from_dir move.from_slot move.to_dir) (RenamesEntry move) (sizes_with mid touched) touched after last puts.prepared.taken 2
         (prep_stores (size_of image j) (size_of image j) (size_of image j + 256) (need_for image j (size_of image j) (size_of image j + 256))) puts.prepared.adds done
         (live_before old middle blocks inodes after j (size_of image j) (size_of image j + 256) puts.bytes can.well_formed exact can.target not_file past puts.prepared (sizes_with mid touched) bound_here bound_other)
         (still_free old middle blocks inodes after j (size_of image j) (size_of image j + 256) puts.bytes can.well_formed exact can.target not_file past puts.prepared (sizes_with mid touched) bound_here bound_other)
         (covers ∙ sym (behind_whole_cover image move can other none)) (omega arith) few_stores (omega (arith, puts.prepared.counted, needs)) open_cover
-        (carried_well_formed mid (current_words new) behind_formed i s j (entry_count mid j) x mid_carries) effect)
+        (carried_well_formed mid (current_words new) behind_formed i s j (entry_count mid j) x mid_carries) effect
 
-    pub behind_exact : length last ≡ length after → AreExact (current_words new) none_kept last inodes
+    pub behind_exact : length last ≡ length after → AreExact (current_words new) kept last inodes
     behind_exact same =
         carried_exact mid (current_words new) behind_formed i s j (entry_count mid j) x mid_carries
         (λ below. can.outside (below_before image mid can.well_formed puts.prepared.ready.meaning i s x can.source can.entry j below))
-        (sizes_with mid touched) none_kept sizes after last inodes sets same done.exact
+        (sizes_with mid touched) kept sizes after last inodes sets same done.exact
 
     pub behind_counts : (counts : List ℕ) → AreCounts (current_words old) counts → AreCounts (current_words new) counts
     behind_counts = carried_counts image (current_words new) can.well_formed i s j (entry_count mid j) x carries can.outside

@@ -1,5 +1,5 @@
 -- A name moves behind the last entry of another directory: what is touched, and what that needs.
-use Rattle.std.proofs.Common.{◌≡◌, ◌≢◌, ℕ, suc, ◌+◌, ◌*◌, ◌<◌, ◌≤◌, List, [], ◌∷◌, ◌++◌, ◌==◌, if◌then◌else◌, length, flat_map, None, refl, sym, ◌∙◌, ap, ap₂, subst, arith, inl, inr}
+use Rattle.std.proofs.Common.{◌≡◌, ◌≢◌, ℕ, suc, ◌+◌, ◌*◌, ◌<◌, ◌≤◌, List, [], ◌∷◌, ◌++◌, ◌==◌, if◌then◌else◌, length, flat_map, Bool, None, refl, sym, ◌∙◌, ap, ap₂, subst, arith, inl, inr}
 use Rattle.std.specs.List.{fold}
 use Rattle.std.proofs.lemmas.Bool.{ne_eqb}
 use Rattle.std.proofs.lemmas.List.{append-nil, length-map}
@@ -14,18 +14,24 @@ use Rattle.bp_layout.specs.Nodes.{height_with, nodes_for}
 use Rattle.bp_layout.specs.Reached.{IsReached}
 use Rattle.bp_layout.specs.Reached.IsReached.{inode_file}
 use Rattle.bp_layout.specs.WellFormed.{IsWellFormed}
+use Rattle.bp_layout.specs.Thaw.{cover_now, thawed}
 use Rattle.bp_layout.specs.WordPaths.{WordPath, inode_path, is_pointed, tree_path}
 use Rattle.bp_layout.specs.Words.{Image, height_of}
 use Rattle.bp_layout.proofs.Reached.{reached-in_file}
 use Rattle.bp_shapes.proofs.FreeSets.{wf_forest}
 use Rattle.bp_tree.proofs.ExistingPaths.{AllThere, content_path-there}
+use Rattle.bp_shapes.specs.Forest.{IsTreePointer}
+use Rattle.bp_shapes.specs.Trail.{trail_of}
+use Rattle.bp_cow.specs.Commit.{HasLooseCover}
 use Rattle.bp_cow.specs.Cover.{LeadsInside, commit_cover, copied_count, copied_paths}
-use Rattle.bp_cow.specs.Touched.{IsTouched, NoneBegins, all_paths}
+use Rattle.bp_cow.specs.Touched.{IsTouched, NoneBegins, all_paths, path_of}
 use Rattle.bp_cow.specs.declared.touched.Touched.{Touched}
 use Rattle.bp_rename.specs.CanRename.{CanRename}
-use Rattle.bp_rename.specs.TouchesTwo.{TouchesTwo, inumber_path, size_path}
+use Rattle.bp_rename.specs.TouchesTwo.{OtherTree, TouchesTwo, inumber_path, size_path}
 use Rattle.bp_rename.specs.declared.moving.Move.{Move}
-use Rattle.bp_rename.proofs.ContentWords.{AreContent, words_apart, words_inside, words_shape}
+use Rattle.bp_rename.proofs.ContentWords.{AreContent, words_apart, words_fronts, words_inside, words_shape}
+use Rattle.bp_rename.proofs.LooseCovers.{cover_loose, now_whole}
+use Rattle.bp_rename.proofs.RenameTargets.{behind_among, behind_touched}
 use Rattle.bp_rename.proofs.TwoWords.{has_second, pick, two_are, two_few, two_paths}
 use Rattle.bp_rename.proofs.WholePaths.{cover-whole, pointed-directory}
 
@@ -35,7 +41,7 @@ not_inodes image t kind e = let two : kind_of image 0 ≡ 2 = subst (λ x. kind_
 -- ---- in any image: the size of inode j, and the inumber of an entry (i, s)
 
 module _ (image : Image) (wf : IsWellFormed image) (i s j size : ℕ) (source : IsReached image i) (in_size : s < entry_count image i) (directory : kind_of image i ≡ 2) (target : IsReached image j)
-    (touched : Touched) (is : TouchesTwo touched (size_path image j) (inumber_path image i s) size 0) where
+    (touched : Touched) (is : TouchesTwo image (OtherTree j) touched (size_path image j) (inumber_path image i s) size 0) where
   low_entry : 8 * (32 * s + 0) < size_of image i
   low_entry = omega (arith, in_size)
 
@@ -43,15 +49,15 @@ module _ (image : Image) (wf : IsWellFormed image) (i s j size : ℕ) (source : 
   low_size = let low : j < inode_count image = reached-in_file image wf j target in omega (arith, low)
 
   -- under sizes that are no less than those of the image
-  pub behind_are : (bound : ℕ → ℕ) → ((t : ℕ) → size_of image t ≤ bound t) → AreContent image bound touched (pick 0 i) (pick (8 * j + 2) (32 * s + 0))
-  behind_are bound more =
+  pub behind_are : (bound : ℕ → ℕ) → ((t : ℕ) → size_of image t ≤ bound t) → ((t : ℕ) → t ≢ j → bound t ≤ size_of image t) → AreContent image bound touched (pick 0 i) (pick (8 * j + 2) (32 * s + 0))
+  behind_are bound more fits =
       let top = more 0 in
       let own = more i in
       two_are image touched 0 (8 * j + 2) i (32 * s + 0) size 0 is bound inode_file source (omega (arith, low_size, top)) (omega (arith, low_entry, own))
-      (λ e same. omega (arith, same)) (λ e. absurd (not_inodes image i directory e)) (λ e f. not_inodes image i directory (sym e))
+      (λ e same. omega (arith, same)) (λ e. absurd (not_inodes image i directory e)) (λ e f. not_inodes image i directory (sym e)) fits
 
   plain : AreContent image (size_of image) touched (pick 0 i) (pick (8 * j + 2) (32 * s + 0))
-  plain = behind_are (size_of image) (λ t. omega arith)
+  plain = behind_are (size_of image) (λ t. omega arith) (λ t apart. omega arith)
 
   pub behind_shape : IsTouched touched
   behind_shape = words_shape image (size_of image) (wf_forest image wf) touched (pick 0 i) (pick (8 * j + 2) (32 * s + 0)) plain
@@ -134,7 +140,7 @@ module _ (image : Image) (move : Move) (can : CanRename image move) (other : mov
         omega (arith, made, count, nothing)
 
   -- for what is touched
-  module _ (touched : Touched) (is : TouchesTwo touched (size_path image move.to_dir) (inumber_path image move.from_dir move.from_slot) (size_of image move.to_dir + 256) 0) where
+  module _ (touched : Touched) (is : TouchesTwo image (OtherTree move.to_dir) touched (size_path image move.to_dir) (inumber_path image move.from_dir move.from_slot) (size_of image move.to_dir + 256) 0) where
     pub touched_paths : all_paths touched ≡ size_path image move.to_dir ∷ inumber_path image move.from_dir move.from_slot ∷ []
     touched_paths = two_paths image touched 0 (8 * move.to_dir + 2) move.from_dir (32 * move.from_slot + 0) (size_of image move.to_dir + 256) 0 is
 
@@ -154,3 +160,26 @@ module _ (image : Image) (move : Move) (can : CanRename image move) (other : mov
     touched_needs =
         behind_needs touched touched_paths image
         (behind_cover image can.well_formed move.from_dir move.from_slot move.to_dir (size_of image move.to_dir + 256) can.source can.entry.in_size can.entry.directory can.target touched is)
+
+    -- the cover is that of the change now
+    pub touched_now : commit_cover image touched ≡ cover_now image (moves move.from_dir move.from_slot move.to_dir)
+    touched_now =
+        behind_cover image can.well_formed move.from_dir move.from_slot move.to_dir (size_of image move.to_dir + 256) can.source can.entry.in_size can.entry.directory can.target touched is
+        ∙ ap common_all (sym (behind_touched image move can none))
+        ∙ sym (now_whole image can.well_formed (moves move.from_dir move.from_slot move.to_dir) move.from_dir (32 * move.from_slot + 0) can.source can.entry.directory low (behind_among image move can none))
+
+    -- the size is the first of them
+    pub touched_size : Has (all_paths touched) (size_path image move.to_dir)
+    touched_size = subst (λ (ps : List WordPath). Has ps (size_path image move.to_dir)) (sym touched_paths) (inl refl)
+
+    pub size_fronts : (d : ℕ) → d < length (size_path image move.to_dir) → IsTreePointer image (size_of image) (trail_of (size_path image move.to_dir) d)
+    size_fronts =
+        subst (λ (p : WordPath). (d : ℕ) → d < length p → IsTreePointer image (size_of image) (trail_of p d)) (ap (λ (ps : List WordPath). path_of ps 0) is.paths)
+        (λ d low. words_fronts image (size_of image) (wf_forest image can.well_formed) touched (pick 0 move.from_dir) (pick (8 * move.to_dir + 2) (32 * move.from_slot + 0)) these 0 d (omega (arith, these.some)) low)
+      where
+        these : AreContent image (size_of image) touched (pick 0 move.from_dir) (pick (8 * move.to_dir + 2) (32 * move.from_slot + 0))
+        these = plain image can.well_formed move.from_dir move.from_slot move.to_dir (size_of image move.to_dir + 256) can.source can.entry.in_size can.entry.directory can.target touched is
+
+    -- so the word of the cover may be stored to where nothing is left to thaw
+    pub touched_loose : (kept : ℕ → Bool) → thawed image kept (moves move.from_dir move.from_slot move.to_dir) ≡ [] → HasLooseCover image kept touched
+    touched_loose kept clear = cover_loose image can.well_formed touched touched_shape (size_path image move.to_dir) touched_size size_fronts kept (moves move.from_dir move.from_slot move.to_dir) touched_now clear

@@ -1,5 +1,5 @@
 -- Content words that are committed, each in a tree: what they ask, and what the commit makes of an image.
-use Rattle.std.proofs.Common.{◌≡◌, ◌≢◌, ℕ, zero, suc, ◌+◌, ◌-◌, ◌*◌, ◌/◌, ◌%◌, ◌<◌, ◌≤◌, List, [], ◌++◌, length, Bool, None, Some, refl, sym, ◌∙◌, ap, subst, subst₂, arith, lt_of_lt_of_le}
+use Rattle.std.proofs.Common.{◌≡◌, ◌≢◌, ℕ, zero, suc, ◌+◌, ◌-◌, ◌*◌, ◌/◌, ◌%◌, ◌<◌, ◌≤◌, List, [], ◌++◌, length, Bool, refl, sym, ◌∙◌, ap, subst, subst₂, arith, lt_of_lt_of_le}
 use Rattle.std.specs.List.{All}
 use Rattle.std.proofs.lemmas.List.{length-append, length-take}
 use Rattle.std.proofs.lemmas.List.Elements.{All-append, All-get_or}
@@ -20,24 +20,26 @@ use Rattle.bp_shapes.proofs.ForestLaws.{skeleton, word-tree}
 use Rattle.bp_shapes.proofs.FreeSets.{content_fronts, content_no_pointer}
 use Rattle.bp_tree.proofs.Digits.{length-digits}
 use Rattle.bp_tree.proofs.PathLaws.{small_digits}
-use Rattle.bp_cow.specs.CanCommit.{CanCommit}
+use Rattle.bp_cow.specs.CanCommit.{CanCommit, IsTreeIn}
 use Rattle.bp_cow.specs.Committed.{IsCommitted, after_commit, changes_of}
 use Rattle.bp_cow.specs.Cover.{LeadsInside, end_path, end_path_of}
 use Rattle.bp_cow.specs.Touched.{IsTouched, NoneBegins, all_paths, job_of, path_of, touched_trail, word_paths}
 use Rattle.bp_cow.specs.declared.touched.Run.{Run}
 use Rattle.bp_cow.specs.declared.touched.Touched.{Touched}
+use Rattle.bp_cow.specs.declared.touched.TreeSize.{TreeSize}
 use Rattle.bp_cow.proofs.CommitLaws.{committed_commits, size_after}
 use Rattle.bp_cow.proofs.CopiesNeed.{paths-by}
 use Rattle.bp_cow.proofs.CoverLaws.{some-ends}
 use Rattle.bp_cow.proofs.RunFronts.{trail_of-take}
 use Rattle.bp_cow.proofs.RunWrites.{digits_trail, root_path_trail}
 use Rattle.bp_cow.proofs.Values.{after-others, after-word}
-use Rattle.bp_layout.specs.Thaw.{none_kept}
 use Rattle.bp_calls.proofs.TreeTrails.{same_word}
 
 -- Content words alone are touched: each in a reached tree below a size that counts, no root word, and no two alike.
 pub record AreContent (image : Image) (bound : ℕ → ℕ) (touched : Touched) (tree number : ℕ → ℕ) : Type 0 where
   pub none : touched.runs.now ≡ []
+  pub trees : (tree : TreeSize) → Has touched.trees.now tree → IsTreeIn image bound tree
+  pub low_trees : (tree : TreeSize) → Has touched.trees.now tree → tree.height ≤ max_height
   pub some : 1 ≤ length touched.words.now
   pub few : length touched.words.now ≤ 32
   pub reached : (i : ℕ) → i < length touched.words.now → IsReached image (tree i)
@@ -95,6 +97,7 @@ module _ (image : Image) (bound : ℕ → ℕ) (forest : IsForest image bound) (
       record {
         runs = λ run has. absurd (none_has run has);
         few_runs = omega (arith, ap (λ (runs : List Run). length runs) are.none);
+        trees = are.low_trees;
         few = are.few;
         words = λ i here.
             rw (are.path i here) (omega (arith, content_some (height_of (root_of image 0)) (tree i) (suc (height_of (root_of image (tree i)))) (number i)));
@@ -149,8 +152,8 @@ module _ (image : Image) (bound : ℕ → ℕ) (forest : IsForest image bound) (
       let deep : d < length (path_of (word_paths touched) 0) = subst (λ (p : WordPath). d < length p) first (omega (arith, long)) in
       (skeleton image bound forest wf.formatted.sized.whole).in_range _ (subst (λ p. IsTreePointer image bound (trail_of p d)) (sym first) (words_fronts 0 d (omega (arith, are.some)) deep))
 
-  module _ (sizes : (t : ℕ) → IsReached image t → size_of image t ≤ bound t) (free : ℕ → Bool) (exact : AreUnheld image (IsReached image) bound none_kept free) where
-    pub words_can : CanCommit image bound touched free
+  module _ {kept : ℕ → Bool} (sizes : (t : ℕ) → IsReached image t → size_of image t ≤ bound t) (free : ℕ → Bool) (exact : AreUnheld image (IsReached image) bound kept free) where
+    pub words_can : CanCommit image bound kept touched free
     words_can = record {
       shape = words_shape;
       forest = forest;
@@ -159,6 +162,7 @@ module _ (image : Image) (bound : ℕ → ℕ) (forest : IsForest image bound) (
       pointers = words_fronts;
       contents = words_no_pointer;
       runs = λ run has. absurd (none_has run has);
+      trees = are.trees;
       apart = λ i k here there same.
           let both = same_word image bound forest (tree i) (number i) (tree k) (number k) (are.reached i here) (are.reached k there) (are.below i here) (are.below k there)
           (sym (words_trail i here) ∙ same ∙ words_trail k there) in
@@ -168,7 +172,7 @@ module _ (image : Image) (bound : ℕ → ℕ) (forest : IsForest image bound) (
 
   -- ---- what the commit makes
 
-  module _ (free : ℕ → Bool) (wf : IsWellFormed image) (can : CanCommit image bound touched free) where
+  module _ {kept : ℕ → Bool} (free : ℕ → Bool) (wf : IsWellFormed image) (can : CanCommit image bound kept touched free) where
     -- a touched word has its value
     pub words_value : (i : ℕ) → i < length touched.words.now →
         after_commit image (job_of touched) (tree_trail (height_of (word image 2)) (tree i) (suc (height_of (root_of image (tree i)))) (number i)) ≡ (job_of touched).value i

@@ -1,5 +1,5 @@
 -- A name has moved into an empty entry of another directory: that it is performed, and that the sets are exact.
-use Rattle.std.proofs.Common.{◌≡◌, ◌≢◌, ℕ, suc, ◌+◌, ◌*◌, ◌%◌, ◌<◌, List, [], ◌∷◌, ◌++◌, ◌==◌, if◌then◌else◌, length, flat_map, Some, refl, sym, ◌∙◌, ap, ap₂, subst, arith, inl}
+use Rattle.std.proofs.Common.{◌≡◌, ◌≢◌, ℕ, suc, ◌+◌, ◌*◌, ◌%◌, ◌<◌, ◌≤◌, List, [], ◌∷◌, ◌++◌, ◌==◌, if◌then◌else◌, length, flat_map, Bool, Some, refl, sym, ◌∙◌, ap, ap₂, subst, arith, inl}
 use Rattle.bp_layout.specs.Directory.{empty_slot}
 use Rattle.bp_layout.specs.Inode.{kind_of, root_of, size_of}
 use Rattle.bp_layout.specs.Members.{Has}
@@ -8,25 +8,32 @@ use Rattle.bp_layout.specs.Need.Change.{moves}
 use Rattle.bp_layout.specs.Need as layout
 use Rattle.std.specs.List.{fold}
 use Rattle.bp_layout.specs.Nodes.{height_with}
+use Rattle.bp_layout.specs.Thaw.{cover_now, thawed}
 use Rattle.bp_layout.specs.WordPaths.{WordPath, is_pointed, tree_path}
 use Rattle.bp_layout.specs.Words.{Image, height_of}
 use Rattle.bp_shapes.proofs.FreeSets.{wf_forest}
 use Rattle.bp_tree.proofs.ExistingPaths.{AllThere, content_path-there}
+use Rattle.bp_shapes.specs.Forest.{IsTreePointer}
+use Rattle.bp_shapes.specs.Trail.{trail_of}
+use Rattle.bp_cow.specs.Commit.{HasLooseCover}
 use Rattle.bp_cow.specs.Cover.{LeadsInside, commit_cover, copied_count, copied_paths}
-use Rattle.bp_cow.specs.Touched.{IsTouched, NoneBegins, all_paths}
+use Rattle.bp_cow.specs.Touched.{IsTouched, NoneBegins, all_paths, path_of, word_paths}
 use Rattle.bp_cow.specs.declared.touched.Touched.{Touched}
 use Rattle.bp_rename.specs.CanRename.{CanRename, moved_inode}
-use Rattle.bp_rename.specs.TouchesTwo.{TouchesTwo, inumber_path}
+use Rattle.bp_rename.specs.TouchesTwo.{AnyTree, TouchesTwo, inumber_path}
 use Rattle.bp_rename.specs.declared.moving.Move.{Move}
 use Rattle.bp_calls.proofs.Refusals.{found_empty}
-use Rattle.bp_rename.proofs.ContentWords.{AreContent, words_apart, words_inside, words_shape}
-use Rattle.bp_rename.proofs.TwoWords.{has_first, pick, two_are, two_paths}
+use Rattle.bp_cow.proofs.CopiesNeed.{has-word}
+use Rattle.bp_rename.proofs.LooseCovers.{cover_loose, now_whole}
+use Rattle.bp_rename.proofs.RenameTargets.{into_among, into_touched}
+use Rattle.bp_rename.proofs.ContentWords.{AreContent, words_apart, words_fronts, words_inside, words_shape}
+use Rattle.bp_rename.proofs.TwoWords.{has_first, pick, two_are, two_few, two_paths}
 use Rattle.bp_rename.proofs.WholePaths.{cover-whole, pointed-directory}
 
 -- ---- what is touched, told on the image before
 
 module _ (image : Image) (move : Move) (s : ℕ) (can : CanRename image move) (other : move.from_dir ≢ move.to_dir) (found : empty_slot image move.to_dir ≡ Some s)
-    (touched : Touched) (is : TouchesTwo touched (inumber_path image move.to_dir s) (inumber_path image move.from_dir move.from_slot) (moved_inode image move) 0) where
+    (touched : Touched) (is : TouchesTwo image AnyTree touched (inumber_path image move.to_dir s) (inumber_path image move.from_dir move.from_slot) (moved_inode image move) 0) where
   abbrev change : Change
   change = moves move.from_dir move.from_slot move.to_dir
 
@@ -40,7 +47,7 @@ module _ (image : Image) (move : Move) (s : ℕ) (can : CanRename image move) (o
   are =
       two_are image touched move.to_dir (32 * s + 0) move.from_dir (32 * move.from_slot + 0) (moved_inode image move) 0 is (size_of image) can.target can.source low_target low_source
       (no_file move.to_dir (32 * s + 0) can.directory) (no_file move.from_dir (32 * move.from_slot + 0) can.entry.directory)
-      (λ e f. other (sym e))
+      (λ e f. other (sym e)) (λ t any. omega arith)
     where
       no_file : (t l : ℕ) → kind_of image t ≡ 2 → t ≡ 0 → l % 8 ≢ 1
       no_file t l kind e = let two : kind_of image 0 ≡ 2 = subst (λ x. kind_of image x ≡ 2) e kind in absurd (omega (arith, two))
@@ -104,3 +111,24 @@ module _ (image : Image) (move : Move) (s : ℕ) (can : CanRename image move) (o
 
   pub into_need : copied_count image touched ≡ need image (moves move.from_dir move.from_slot move.to_dir)
   into_need = into_count image into_cover
+
+  pub into_few : copied_count image touched ≤ 23
+  into_few = two_few image touched move.to_dir (32 * s + 0) move.from_dir (32 * move.from_slot + 0) (moved_inode image move) 0 is into_shape into_apart
+
+  -- the cover is that of the change now
+  pub into_now : commit_cover image touched ≡ cover_now image (moves move.from_dir move.from_slot move.to_dir)
+  into_now =
+      into_cover ∙ into_whole ∙ ap common_all (touched_is ∙ sym (into_touched image move can s found))
+      ∙ sym (now_whole image can.well_formed (moves move.from_dir move.from_slot move.to_dir) move.from_dir (32 * move.from_slot + 0) can.source can.entry.directory low_source (into_among image move can s found))
+
+  pub into_some : 0 < length touched.words.now
+  into_some = omega (arith, are.some)
+
+  pub into_fronts : (d : ℕ) → d < length (path_of (word_paths touched) 0) → IsTreePointer image (size_of image) (trail_of (path_of (word_paths touched) 0) d)
+  into_fronts d low = words_fronts image (size_of image) (wf_forest image can.well_formed) touched (pick move.to_dir move.from_dir) (pick (32 * s + 0) (32 * move.from_slot + 0)) are 0 d into_some low
+
+  -- so it may be stored to where nothing is left to thaw
+  pub into_loose : (kept : ℕ → Bool) → thawed image kept (moves move.from_dir move.from_slot move.to_dir) ≡ [] → HasLooseCover image kept touched
+  into_loose kept clear =
+      cover_loose image can.well_formed touched into_shape (path_of (word_paths touched) 0) (has-word touched into_shape 0 into_some) into_fronts
+      kept (moves move.from_dir move.from_slot move.to_dir) into_now clear

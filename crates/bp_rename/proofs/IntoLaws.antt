@@ -1,5 +1,5 @@
 -- A name moves into an empty entry of another directory: the name is written there first, where nobody sees it.
-use Rattle.std.proofs.Common.{◌≡◌, ◌≢◌, ℕ, suc, ◌+◌, ◌-◌, ◌*◌, ◌<◌, ◌≤◌, [], ◌∷◌, ◌++◌, None, Some, refl, sym, ◌∙◌, ap₂, subst₂, arith}
+use Rattle.std.proofs.Common.{◌≡◌, ◌≢◌, ℕ, suc, ◌+◌, ◌-◌, ◌*◌, ◌/◌, ◌<◌, ◌≤◌, [], ◌∷◌, ◌++◌, length, Bool, false, None, Some, refl, sym, ◌∙◌, ap, ap₂, arith}
 use Rattle.pm_epochs.specs.declared.event.Event.TheVariants.{Barrier}
 use Rattle.pm_epochs.specs.May.{AnyAt, EachMay}
 use Rattle.pm_epochs.proofs.CrashLaws.{IsClosed-barrier, quiet-barrier}
@@ -13,29 +13,30 @@ use Rattle.bp_commit.proofs.PerformsLaws.{same_equivalence}
 use Rattle.bp_dirs.specs.Written.{HasNameAt}
 use Rattle.bp_tree.specs.Within.{IsWithin}
 use Rattle.bp_commit.specs.Performs.{AddsTaking, IsOpen}
+use Rattle.bp_commit.specs.Performs.IsOpen.{in_live}
 use Rattle.bp_layout.specs.Directory.{EntryNames, empty_slot, entry_count, inumber_at, name_at}
 use Rattle.bp_layout.specs.Inode.{ContentStandsAt, kind_of, root_of, size_of}
 use Rattle.bp_layout.specs.Reached.{IsReached}
 use Rattle.bp_layout.specs.Reached.IsReached.{inode_file}
 use Rattle.bp_layout.specs.Same.{Same}
 use Rattle.bp_layout.specs.WellFormed.{IsWellFormed}
-use Rattle.bp_layout.specs.WordPaths.{tree_path}
+use Rattle.bp_layout.specs.WordPaths.{WordPath, tree_path}
 use Rattle.bp_layout.specs.Words.{Image, height_of}
 use Rattle.bp_cow.specs.declared.touched.Touched.{Touched}
 use Rattle.bp_changes.specs.Effects.{CanMoveEntry, IsAtOrBelow}
 use Rattle.bp_calls.specs.Spare.{IsSpare}
 use Rattle.bp_calls.proofs.AfterLaws.{kind_after, names_after, prepared_same, prepared_well_formed, reached_after, size_after, slot_named_after}
 use Rattle.bp_calls.proofs.EnteredLaws.{not_named}
-use Rattle.bp_calls.proofs.OpenPlaces.{content_open, each_weaker}
+use Rattle.bp_calls.proofs.OpenPlaces.{content_live, each_weaker}
 use Rattle.bp_calls.proofs.ReadBack.{name_read}
 use Rattle.bp_calls.proofs.Refusals.{found_empty}
 use Rattle.bp_calls.proofs.Spares.{row_stands, spare_entry}
 use Rattle.bp_calls.proofs.Trees.{SameTrees, spare_trees, word_kept}
 use Rattle.bp_rename.specs.CanRename.{CanRename, moved_inode}
-use Rattle.bp_rename.specs.TouchesTwo.{TouchesTwo, inumber_path}
+use Rattle.bp_rename.specs.TouchesTwo.{AnyTree, TouchesTwo, inumber_path}
 use Rattle.bp_rename.specs.declared.moving.Move.{Move}
+use Rattle.bp_rename.proofs.ListedTrees.{lists_stay}
 use Rattle.bp_rename.proofs.Outside.{below_before}
-use Rattle.bp_layout.specs.Thaw.{none_kept}
 
 module _ (old third mid : Memory) (move : Move) (s entry : ℕ) (can : CanRename (current_words old) move) (new : move.to_slot ≡ None) (other : move.from_dir ≢ move.to_dir)
     (found : empty_slot (current_words old) move.to_dir ≡ Some s) (entry_at : ContentStandsAt (current_words old) move.to_dir (32 * s + 0) entry)
@@ -50,52 +51,72 @@ module _ (old third mid : Memory) (move : Move) (s entry : ℕ) (can : CanRename
   empty : inumber_at (current_words old) move.to_dir s ≡ 0
   empty = (found_empty (current_words old) move.to_dir s found).1
 
-  abbrev Inside : ℕ → Type 0
-  Inside p = IsSpare (current_words old) p × IsOpen (current_words old) none_kept [] p
-
-  name_inside : (p v : ℕ) → AnyAt (IsWithin (entry + 1) 31) p v → AnyAt Inside p v
-  name_inside p v inside =
+  -- the words of the name are an empty entry's
+  stands : (p : ℕ) → IsWithin (entry + 1) 31 p → ContentStandsAt (current_words old) move.to_dir (32 * s + (p - entry)) p
+  stands p inside =
       let low : entry + 1 ≤ p = inside.low in
       let high : p < entry + 1 + 31 = inside.high in
-      let f : ℕ = p - entry in
-      let stands : ContentStandsAt (current_words old) move.to_dir (32 * s + f) p = row_stands (current_words old) move.to_dir (32 * s + 0) f (32 * s + f) entry p (omega arith) (omega arith) (omega arith) entry_at in
-      (spare_entry (current_words old) can.well_formed move.to_dir s f p can.target can.directory in_size empty (omega arith) (omega arith) stands, content_open (current_words old) [] move.to_dir (32 * s + f) p can.target (omega (arith, in_size)) stands)
+      row_stands (current_words old) move.to_dir (32 * s + 0) (p - entry) (32 * s + (p - entry)) entry p (omega arith) (omega arith) (omega arith) entry_at
 
-  all_inside : AddsMay (AnyAt Inside) 0 31 old third
-  all_inside = may_weaker (AnyAt (IsWithin (entry + 1) 31)) (AnyAt Inside) 0 31 old third name_inside spells
+  name_spare : (p v : ℕ) → AnyAt (IsWithin (entry + 1) 31) p v → AnyAt (IsSpare (current_words old)) p v
+  name_spare p v inside =
+      let low : entry + 1 ≤ p = inside.low in
+      let high : p < entry + 1 + 31 = inside.high in
+      spare_entry (current_words old) can.well_formed move.to_dir s (p - entry) p can.target can.directory in_size empty (omega arith) (omega arith) (stands p inside)
 
-  trees_of : (after : Image) → EachMay (AnyAt Inside) (current_words old) after → SameTrees (current_words old) after
-  trees_of after all = spare_trees (current_words old) after can.well_formed (each_weaker Inside (IsSpare (current_words old)) (current_words old) after (λ p both. both.0) all)
+  all_spare : AddsMay (AnyAt (IsSpare (current_words old))) 0 31 old third
+  all_spare = may_weaker (AnyAt (IsWithin (entry + 1) 31)) (AnyAt (IsSpare (current_words old))) 0 31 old third name_spare spells
 
   words : current_words mid ≡ current_words third
   words = current_words-adds third mid (Barrier ∷ []) ends
 
   pub into_trees : SameTrees (current_words old) (current_words mid)
-  into_trees = rw words (trees_of (current_words third) (each_after (AnyAt Inside) 0 31 old third all_inside))
+  into_trees = rw words (spare_trees (current_words old) (current_words third) can.well_formed (each_after (AnyAt (IsSpare (current_words old))) 0 31 old third all_spare))
 
-  pub into_taking : AddsTaking none_kept [] 1 31 old mid
-  into_taking = record {
-    part = record {
-      added = all_inside.added ++ Barrier ∷ [];
-      adds = adds_both old third mid all_inside.added (Barrier ∷ []) all_inside.adds ends;
-      quiet = quiet-barrier Same (current_words old) all_inside.added
-          (quiet_may Same same_equivalence (AnyAt Inside) (current_words old) all_inside.added (λ after all. prepared_same (current_words old) after can.well_formed (trees_of after all).prepared) all_inside.may);
-      closed = IsClosed-barrier all_inside.added [] tt;
-      piece = IsPiece-append 0 31 1 0 all_inside.added (Barrier ∷ []) all_inside.piece IsPiece-barrier;
-    };
-    takes = record {
-      once = tt;
-      free = tt;
-      stored = tt;
-      only = StoresMay-append (AnyAt (IsOpen (current_words old) none_kept [])) all_inside.added (Barrier ∷ [])
-          (StoresMay-weaker (AnyAt Inside) (AnyAt (IsOpen (current_words old) none_kept [])) (λ p v both. both.1) all_inside.added all_inside.may) tt;
-    };
-  }
+  -- where the block of the entry is not kept the name may be stored there
+  module _ (kept : ℕ → Bool) (loose : kept (entry / 512) ≡ false) where
+    abbrev Inside : ℕ → Type 0
+    Inside p = IsSpare (current_words old) p × IsOpen (current_words old) kept [] p
+
+    name_inside : (p v : ℕ) → AnyAt (IsWithin (entry + 1) 31) p v → AnyAt Inside p v
+    name_inside p v inside =
+        let low : entry + 1 ≤ p = inside.low in
+        let high : p < entry + 1 + 31 = inside.high in
+        let block : p / 512 ≡ entry / 512 = omega (arith, low, high, entry_at.at) in
+        (name_spare p v inside, in_live (content_live (current_words old) move.to_dir (32 * s + (p - entry)) p can.target (omega (arith, in_size, high)) (stands p inside)) (ap kept block ∙ loose))
+
+    all_inside : AddsMay (AnyAt Inside) 0 31 old third
+    all_inside = may_weaker (AnyAt (IsWithin (entry + 1) 31)) (AnyAt Inside) 0 31 old third name_inside spells
+
+    trees_of : (after : Image) → EachMay (AnyAt Inside) (current_words old) after → SameTrees (current_words old) after
+    trees_of after all = spare_trees (current_words old) after can.well_formed (each_weaker Inside (IsSpare (current_words old)) (current_words old) after (λ p both. both.0) all)
+
+    pub into_taking : AddsTaking kept [] 1 31 old mid
+    into_taking = record {
+      part = record {
+        added = all_inside.added ++ Barrier ∷ [];
+        adds = adds_both old third mid all_inside.added (Barrier ∷ []) all_inside.adds ends;
+        quiet = quiet-barrier Same (current_words old) all_inside.added
+            (quiet_may Same same_equivalence (AnyAt Inside) (current_words old) all_inside.added (λ after all. prepared_same (current_words old) after can.well_formed (trees_of after all).prepared) all_inside.may);
+        closed = IsClosed-barrier all_inside.added [] tt;
+        piece = IsPiece-append 0 31 1 0 all_inside.added (Barrier ∷ []) all_inside.piece IsPiece-barrier;
+      };
+      takes = record {
+        once = tt;
+        free = tt;
+        stored = tt;
+        only = StoresMay-append (AnyAt (IsOpen (current_words old) kept [])) all_inside.added (Barrier ∷ [])
+            (StoresMay-weaker (AnyAt Inside) (AnyAt (IsOpen (current_words old) kept [])) (λ p v both. both.1) all_inside.added all_inside.may) tt;
+      };
+    }
 
   -- ---- the image in the middle
 
   pub mid_formed : IsWellFormed (current_words mid)
   mid_formed = prepared_well_formed (current_words old) (current_words mid) can.well_formed into_trees.prepared
+
+  pub mid_whole : length (current_words mid) ≡ length (current_words old)
+  mid_whole = into_trees.prepared.meaning.trees.whole
 
   on : (t : ℕ) → IsReached (current_words old) t → IsReached (current_words mid) t
   on = reached_after (current_words old) (current_words mid) can.well_formed into_trees.prepared
@@ -148,7 +169,12 @@ module _ (old third mid : Memory) (move : Move) (s entry : ℕ) (can : CanRename
   same_path t slot reached low =
       ap₂ (λ top root. tree_path (height_of top) t (suc (height_of root)) (32 * slot + 0)) (sym (into_trees.root 0 inode_file (omega (arith, can.well_formed.some_inodes)))) (sym (into_trees.root t reached (omega (arith, low))))
 
-  pub mid_touches : (touched : Touched) (one two : ℕ) → TouchesTwo touched (inumber_path (current_words old) move.to_dir s) (inumber_path (current_words old) move.from_dir move.from_slot) one two →
-      TouchesTwo touched (inumber_path (current_words mid) move.to_dir s) (inumber_path (current_words mid) move.from_dir move.from_slot) one two
-  mid_touches touched one two is =
-      subst₂ (λ p q. TouchesTwo touched p q one two) (same_path move.to_dir s can.target in_size) (same_path move.from_dir move.from_slot can.source can.entry.in_size) is
+  pub mid_touches : (touched : Touched) (one two : ℕ) → TouchesTwo (current_words old) AnyTree touched (inumber_path (current_words old) move.to_dir s) (inumber_path (current_words old) move.from_dir move.from_slot) one two →
+      TouchesTwo (current_words mid) AnyTree touched (inumber_path (current_words mid) move.to_dir s) (inumber_path (current_words mid) move.from_dir move.from_slot) one two
+  mid_touches touched one two is = record {
+    none = is.none;
+    trees = lists_stay (current_words old) (current_words mid) AnyTree touched.trees.now (ap height_of (into_trees.root 0 inode_file (omega (arith, can.well_formed.some_inodes))))
+        (λ t any reached some. (on t reached, (into_trees.root t reached some, sizes t reached))) is.trees;
+    paths = is.paths ∙ ap₂ (λ (p q : WordPath). p ∷ q ∷ []) (same_path move.to_dir s can.target in_size) (same_path move.from_dir move.from_slot can.source can.entry.in_size);
+    values = is.values;
+  }

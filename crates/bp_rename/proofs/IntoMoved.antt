@@ -1,13 +1,13 @@
 -- A name has moved into an empty entry of another directory: that it is performed, and that the sets are exact.
-use Rattle.std.proofs.Common.{◌≡◌, ◌≢◌, ◌⊎◌, ℕ, zero, suc, ◌+◌, ◌*◌, ◌%◌, ◌<◌, ◌≤◌, List, [], ◌∷◌, length, None, Some, unwrap_or, refl, sym, ◌∙◌, ap, subst, arith, inl, inr}
+use Rattle.std.proofs.Common.{◌≡◌, ◌≢◌, ◌⊎◌, ℕ, zero, suc, ◌+◌, ◌*◌, ◌/◌, ◌%◌, ◌<◌, ◌≤◌, List, [], ◌∷◌, length, Bool, false, None, Some, unwrap_or, refl, sym, ◌∙◌, ap, subst, arith, inl, inr}
 use Rattle.pm_epochs.specs.declared.event.Event.TheVariants.{Barrier}
 use Rattle.pm_epochs.specs.May.{AnyAt}
-use Rattle.pm_region.specs.Memory.{Adds, Memory, current_words}
+use Rattle.pm_region.specs.Memory.{Adds, Memory, current_words, room_in}
 use Rattle.pm_region.specs.Safe.{AddsMay}
 use Rattle.pm_region.proofs.SafeLaws.{room_after_quiet}
 use Rattle.bp_dirs.specs.Written.{HasNameAt}
 use Rattle.bp_tree.specs.Within.{IsWithin}
-use Rattle.bp_commit.specs.Performs.{HasRoomFor, Performs}
+use Rattle.bp_commit.specs.Performs.{PerformsThawed, room_for}
 use Rattle.bp_free.specs.Set.{Set, has}
 use Rattle.bp_layout.specs.Directory.{empty_slot, entry_count, name_at}
 use Rattle.bp_layout.specs.Inode.{ContentStandsAt, kind_of, root_of, size_of}
@@ -27,10 +27,15 @@ use Rattle.bp_changes.proofs.Move.{moved_well_formed, moves_carry}
 use Rattle.bp_changes.proofs.Named.{carried_counts}
 use Rattle.bp_shapes.specs.Forest.{tree_trail}
 use Rattle.bp_shapes.specs.Sets.{AreExact}
+use Rattle.bp_shapes.specs.Trail.{block_on, trail_of}
+use Rattle.bp_layout.specs.Thaw.{thawed}
+use Rattle.bp_layout.specs.Tree.{node}
+use Rattle.bp_layout.specs.Reached.IsReached.{inode_file}
+use Rattle.bp_layout.proofs.TreeLaws.{node-kept}
 use Rattle.bp_shapes.proofs.FreeSets.{wf_forest}
 use Rattle.bp_shapes.proofs.MovedSets.{carried_exact}
 use Rattle.bp_cow.specs.CanCommit.{CanCommit}
-use Rattle.bp_cow.specs.Commit.{CommitsTouched, HasRoom}
+use Rattle.bp_cow.specs.Commit.{CommitsTouched, HasLooseCover, HasRoom}
 use Rattle.bp_cow.specs.Committed.{after_commit, changes_of}
 use Rattle.bp_cow.specs.Cover.{commit_cover, copied_count}
 use Rattle.bp_cow.specs.Job.{IsTurned}
@@ -42,25 +47,25 @@ use Rattle.bp_calls.proofs.AfterLaws.{live_before_too, size_after}
 use Rattle.bp_calls.proofs.EnteredLaws.{name_same}
 use Rattle.bp_calls.proofs.SetLaws.{exact_prepared}
 use Rattle.bp_calls.proofs.Trees.{SameTrees}
-use Rattle.bp_calls.proofs.Unthawed.{room_needed, unthawed}
 use Rattle.bp_rename.specs.CanRename.{CanRename, moved_inode}
 use Rattle.bp_rename.specs.RenamesEntry.{RenamesEntry, new_slot}
 use Rattle.bp_rename.specs.RenamesEntry.RenamesEntry.{across}
-use Rattle.bp_rename.specs.TouchesTwo.{TouchesTwo, inumber_path}
+use Rattle.bp_rename.specs.TouchesTwo.{AnyTree, TouchesTwo, inumber_path}
 use Rattle.bp_rename.specs.declared.moving.Move.{Move}
 use Rattle.bp_rename.proofs.ContentWords.{AreContent, size_kept, words_can, words_only, words_value}
-use Rattle.bp_rename.proofs.IntoDone.{into_count, into_paths, into_whole}
+use Rattle.bp_rename.proofs.IntoDone.{into_count, into_cover, into_fronts, into_loose, into_paths, into_whole}
+use Rattle.bp_rename.proofs.LooseCovers.{block_stays, still_loose}
 use Rattle.bp_rename.proofs.IntoLaws.{into_can, into_taking, into_trees, mid_empty, mid_formed, mid_name, mid_outside, mid_touches}
 use Rattle.bp_rename.proofs.TwoWords.{first_value, has_first, no_leaves, pick, second_value, two_are, two_count}
 use Rattle.bp_rename.proofs.WholePaths.{cover-whole, pointed-directory}
-use Rattle.bp_layout.specs.Thaw.{none_kept}
 
-module _ (old third mid : Memory) (move : Move) (s entry : ℕ) (can : CanRename (current_words old) move) (new_name : move.to_slot ≡ None) (other : move.from_dir ≢ move.to_dir)
+module _ {kept : ℕ → Bool} (old third mid : Memory) (move : Move) (s entry : ℕ) (can : CanRename (current_words old) move) (new_name : move.to_slot ≡ None) (other : move.from_dir ≢ move.to_dir)
     (found : empty_slot (current_words old) move.to_dir ≡ Some s) (entry_at : ContentStandsAt (current_words old) move.to_dir (32 * s + 0) entry)
     (spells : AddsMay (AnyAt (IsWithin (entry + 1) 31)) 0 31 old third) (spelled : HasNameAt (current_words third) entry move.name.now)
     (ends : Adds third mid (Barrier ∷ [])) (touched : Touched)
-    (is : TouchesTwo touched (inumber_path (current_words old) move.to_dir s) (inumber_path (current_words old) move.from_dir move.from_slot) (moved_inode (current_words old) move) 0)
-    (blocks inodes : Set) (exact : AreExact (current_words old) none_kept blocks inodes) (room : HasRoomFor old none_kept (moves move.from_dir move.from_slot move.to_dir)) where
+    (is : TouchesTwo (current_words old) AnyTree touched (inumber_path (current_words old) move.to_dir s) (inumber_path (current_words old) move.from_dir move.from_slot) (moved_inode (current_words old) move) 0)
+    (blocks inodes : Set) (exact : AreExact (current_words old) kept blocks inodes)
+    (room : room_for (need (current_words old) (moves move.from_dir move.from_slot move.to_dir)) ≤ room_in old + 2) (loose : kept (entry / 512) ≡ false) where
   can_move : CanMoveEntry (current_words mid) move.from_dir move.from_slot move.to_dir s (moved_inode (current_words old) move)
   can_move = into_can old third mid move s entry can new_name other found entry_at spells spelled ends
 
@@ -70,7 +75,7 @@ module _ (old third mid : Memory) (move : Move) (s entry : ℕ) (can : CanRename
   formed : IsWellFormed (current_words mid)
   formed = mid_formed old third mid move s entry can new_name other found entry_at spells spelled ends
 
-  is_mid : TouchesTwo touched (inumber_path (current_words mid) move.to_dir s) (inumber_path (current_words mid) move.from_dir move.from_slot) (moved_inode (current_words old) move) 0
+  is_mid : TouchesTwo (current_words mid) AnyTree touched (inumber_path (current_words mid) move.to_dir s) (inumber_path (current_words mid) move.from_dir move.from_slot) (moved_inode (current_words old) move) 0
   is_mid = mid_touches old third mid move s entry can new_name other found entry_at spells spelled ends touched (moved_inode (current_words old) move) 0 is
 
   low_target : 8 * (32 * s + 0) < size_of (current_words mid) move.to_dir
@@ -80,18 +85,18 @@ module _ (old third mid : Memory) (move : Move) (s entry : ℕ) (can : CanRename
   are =
       two_are (current_words mid) touched move.to_dir (32 * s + 0) move.from_dir (32 * move.from_slot + 0) (moved_inode (current_words old) move) 0 is_mid (size_of (current_words mid)) can_move.target can_move.reached low_target
       (omega (arith, can_move.entry.in_size)) (no_file move.to_dir (32 * s + 0) can_move.directory) (no_file move.from_dir (32 * move.from_slot + 0) can_move.entry.directory)
-      (λ e f. other (sym e))
+      (λ e f. other (sym e)) (λ t any. omega arith)
     where
       no_file : (t l : ℕ) → kind_of (current_words mid) t ≡ 2 → t ≡ 0 → l % 8 ≢ 1
       no_file t l kind e = let two : kind_of (current_words mid) 0 ≡ 2 = subst (λ t. kind_of (current_words mid) t ≡ 2) e kind in absurd (omega (arith, two))
 
-  exact_mid : AreExact (current_words mid) none_kept blocks inodes
+  exact_mid : AreExact (current_words mid) kept blocks inodes
   exact_mid = exact_prepared (current_words old) (current_words mid) can.well_formed trees.prepared blocks inodes exact
 
   pub into_fits : block_count (current_words mid) ≤ length blocks
   into_fits = omega (arith, exact_mid.block_room)
 
-  pub into_ready : CanCommit (current_words mid) (size_of (current_words mid)) touched (has blocks)
+  pub into_ready : CanCommit (current_words mid) (size_of (current_words mid)) kept touched (has blocks)
   into_ready = words_can (current_words mid) (size_of (current_words mid)) (wf_forest (current_words mid) formed) touched (pick move.to_dir move.from_dir) (pick (32 * s + 0) (32 * move.from_slot + 0)) are (λ t q. omega arith) (has blocks) exact_mid.free_blocks
 
   count : length touched.words.now ≡ 2
@@ -113,11 +118,25 @@ module _ (old third mid : Memory) (move : Move) (s entry : ℕ) (can : CanRename
   pub into_room : HasRoom mid touched
   into_room =
       let few = copied_few (current_words mid) (size_of (current_words mid)) touched (has blocks) formed into_ready in
-      let left = room_after_quiet Same 1 31 old mid (into_taking old third mid move s entry can new_name other found entry_at spells spelled ends).part in
-      let asked = room_needed old (moves move.from_dir move.from_slot move.to_dir) room in
-      omega (arith, few, count, leaves, into_copies, asked, left)
+      let left = room_after_quiet Same 1 31 old mid (into_taking old third mid move s entry can new_name other found entry_at spells spelled ends kept loose).part in
+      omega (arith, few, count, leaves, into_copies, room, left)
 
-  module _ (new : Memory) (left : Set) (done : CommitsTouched (size_of (current_words mid)) touched mid new blocks left) (as_long : length left ≡ length blocks) where
+  -- the pointers on the way to the empty entry stay
+  same_blocks : (d : ℕ) → d < length (path_of (word_paths touched) 0) → block_on (current_words mid) (trail_of (path_of (word_paths touched) 0) d) ≡ block_on (current_words old) (trail_of (path_of (word_paths touched) 0) d)
+  same_blocks d low =
+      let one = into_fronts (current_words old) move s can other found touched is d low in
+      let root = trees.root one.tree one.reached (omega (arith, one.live.live)) in
+      block_stays (current_words old) (current_words mid) (size_of (current_words old)) (trail_of (path_of (word_paths touched) 0) d) one
+      (ap height_of (trees.root 0 inode_file (omega (arith, can.well_formed.some_inodes))))
+      (ap (λ r. node (current_words mid) r one.depth one.index) root
+      ∙ node-kept (current_words old) (current_words mid) (root_of (current_words old) one.tree) (size_of (current_words old) one.tree) (trees.keeps one.tree one.reached) one.depth one.index one.live)
+
+  pub into_mid_loose : thawed (current_words old) kept (moves move.from_dir move.from_slot move.to_dir) ≡ [] → HasLooseCover (current_words mid) kept touched
+  into_mid_loose clear =
+      still_loose (current_words old) (current_words mid) touched into_ready.shape (path_of (word_paths touched) 0) (has-word touched into_ready.shape 0 (omega (arith, count))) same_blocks
+      (covers ∙ sym (into_cover (current_words old) move s can other found touched is)) kept (into_loose (current_words old) move s can other found touched is kept clear)
+
+  module _ (new : Memory) (left : Set) (done : CommitsTouched (size_of (current_words mid)) kept touched mid new blocks left) (as_long : length left ≡ length blocks) where
     apart_from_file : (i : ℕ) → pick move.to_dir move.from_dir i ≡ 0 → ⊥
     apart_from_file zero e = absurd (no_file can_move.directory e)
       where
@@ -184,24 +203,23 @@ module _ (old third mid : Memory) (move : Move) (s entry : ℕ) (can : CanRename
         (subst (λ r. CarriesEntry (current_words old) (current_words new) move.from_dir move.from_slot move.to_dir r (moved_inode (current_words old) move)) slot_is into_carries)
         (subst (λ r. name_at (current_words new) move.to_dir r ≡ move.name.now) slot_is name_is)
 
-    pub into_performs : Performs none_kept old new (moves move.from_dir move.from_slot move.to_dir) (RenamesEntry move)
+    pub into_performs : PerformsThawed kept old new (moves move.from_dir move.from_slot move.to_dir) (RenamesEntry move)
     into_performs =
-        unthawed old new (moves move.from_dir move.from_slot move.to_dir) (RenamesEntry move)
-        (commit_performs_after old mid new (moves move.from_dir move.from_slot move.to_dir) (RenamesEntry move) (size_of (current_words mid)) touched blocks left [] 1 31
-        (into_taking old third mid move s entry can new_name other found entry_at spells spelled ends) done
+        commit_performs_after old mid new (moves move.from_dir move.from_slot move.to_dir) (RenamesEntry move) (size_of (current_words mid)) touched blocks left [] 1 31
+        (into_taking old third mid move s entry can new_name other found entry_at spells spelled ends kept loose) done
         (λ b live. inl (live_before_too (current_words old) (current_words mid) can.well_formed trees.prepared b live))
         (λ b there. (exact.free_blocks.free b there, λ never. never)) covers (omega arith)
         (let few = stores_few (current_words mid) (size_of (current_words mid)) touched (has blocks) formed into_ready in omega (arith, few, leaves, count, into_copies))
         (omega (arith, into_copies))
-        (cover_open (current_words mid) formed touched into_ready.shape (path_of (word_paths touched) 0) (has-word touched into_ready.shape 0 (omega (arith, count)))
-        (λ d low. into_ready.pointers 0 d (omega (arith, count)) low) done.taken)
+        (cover_open kept (current_words mid) formed touched into_ready.shape (path_of (word_paths touched) 0) (has-word touched into_ready.shape 0 (omega (arith, count)))
+        (λ d low. into_ready.pointers 0 d (omega (arith, count)) low) done.loose done.taken)
         (moved_well_formed (current_words mid) (current_words new) formed move.from_dir move.from_slot move.to_dir s (moved_inode (current_words old) move) can_move mid_moves)
-        into_effect)
+        into_effect
 
-    pub into_exact : AreExact (current_words new) none_kept left inodes
+    pub into_exact : AreExact (current_words new) kept left inodes
     into_exact =
         carried_exact (current_words mid) (current_words new) formed move.from_dir move.from_slot move.to_dir s (moved_inode (current_words old) move) mid_carries
-        (mid_outside old third mid move s entry can new_name other found entry_at spells spelled ends) (size_of (current_words mid)) none_kept size_stays blocks left inodes exact_mid as_long done.exact
+        (mid_outside old third mid move s entry can new_name other found entry_at spells spelled ends) (size_of (current_words mid)) kept size_stays blocks left inodes exact_mid as_long done.exact
 
     pub into_counts : (counts : List ℕ) → AreCounts (current_words old) counts → AreCounts (current_words new) counts
     into_counts = carried_counts (current_words old) (current_words new) can.well_formed move.from_dir move.from_slot move.to_dir s (moved_inode (current_words old) move) into_carries can.outside

@@ -1,5 +1,4 @@
 pub mod TouchedNames
-pub mod EntryPaths
 pub mod ContentWords
 pub mod WholePaths
 pub mod TwoWords
@@ -18,5 +17,9 @@ pub mod IntoMoved
 pub mod BehindTouched
 pub mod BehindMoved
 pub mod Renames
-pub mod Asked
+pub mod RenameThawed
 pub mod RenamedStands
+pub mod LooseCovers
+pub mod FewWays
+pub mod RenameTargets
+pub mod ListedTrees

@@ -9,12 +9,13 @@ use Rattle.bp_layout.specs.Reached.IsReached.{inode_file}
 use Rattle.bp_layout.specs.Tree.{byte, content_word}
 use Rattle.bp_layout.specs.WellFormed.{IsWellFormed}
 use Rattle.bp_layout.specs.Words.{Image, block_count, byte_of, word, height_of}
+use Rattle.bp_limits.specs.Limits.{max_height}
 use Rattle.bp_changes.specs.Commits.{Commits, CommitsOnly}
 use Rattle.bp_shapes.specs.Forest.{along, root_trail, tree_trail, IsTreePointer}
 use Rattle.bp_shapes.specs.Trail.{Trail, block_on, trail_of, word_on}
 use Rattle.bp_shapes.proofs.ForestLaws.{skeleton, word-tree}
 use Rattle.bp_shapes.proofs.FreeSets.{wf_forest}
-use Rattle.bp_cow.specs.CanCommit.{CanCommit}
+use Rattle.bp_cow.specs.CanCommit.{CanCommit, IsTreeIn}
 use Rattle.bp_cow.specs.Committed.{IsCommitted, after_commit, changes_of}
 use Rattle.bp_cow.specs.Cover.{LeadsInside, end_path, end_path_of}
 use Rattle.bp_cow.specs.Touched.{IsRun, IsTouched, NoneBegins, all_paths, job_of, laid_word, leaves_of, run_byte, run_end, run_leaves, run_path, run_way, run_word, word_paths}
@@ -32,11 +33,11 @@ use Rattle.bp_cow.proofs.RunsLaws.{laid-one}
 use Rattle.bp_cow.proofs.Values.{after-others, after-run}
 use Rattle.bp_calls.proofs.RunCommits.{IsRunOf, laid_inside, run_in, run_is}
 use Rattle.bp_calls.proofs.TreeTrails.{same_word}
-use Rattle.bp_layout.specs.Thaw.{none_kept}
+use Rattle.bp_cow.proofs.CallerLaws.{no_trees}
 
 -- ---- what is asked
 
-module _ (image : Image) (wf : IsWellFormed image) (n : ℕ) (reached : IsReached image (suc n)) (touched : Touched) (run : Run) (one : touched.runs.now ≡ run ∷ []) (none : length touched.words.now ≡ 0)
+module _ (image : Image) (wf : IsWellFormed image) (n : ℕ) (reached : IsReached image (suc n)) (touched : Touched) (run : Run) (one : touched.runs.now ≡ run ∷ []) (none : length touched.words.now ≡ 0) (bare : touched.trees.now ≡ [])
     (of : IsRunOf image (suc n) run) where
   leaves : leaves_of touched.runs.now ≡ run_leaves run
   leaves = ap leaves_of one ∙ omega arith
@@ -52,6 +53,7 @@ module _ (image : Image) (wf : IsWellFormed image) (n : ℕ) (reached : IsReache
   run_shape = record {
     runs = λ r has. subst IsRun (one_run r has) (run_is image wf n reached run of);
     few_runs = omega (arith, ap (λ (runs : List Run). length runs) one);
+    trees = no_trees (λ tree. tree.height ≤ max_height) bare;
     few = omega (arith, none);
     words = λ i here. absurd (omega (arith, here, none));
     short = λ i here. absurd (omega (arith, here, none));
@@ -59,8 +61,8 @@ module _ (image : Image) (wf : IsWellFormed image) (n : ℕ) (reached : IsReache
     some = omega (arith, leaves);
   }
 
-  pub run_commit : (free : ℕ → Bool) → AreFreeBlocks image none_kept free → CanCommit image (size_of image) touched free
-  run_commit free exact = run_can image wf touched run_shape free exact run one none (run_in image wf n reached run of)
+  pub run_commit : {kept : ℕ → Bool} (free : ℕ → Bool) → AreFreeBlocks image kept free → CanCommit image (size_of image) kept touched free
+  run_commit free exact = run_can image wf touched run_shape free exact (no_trees (IsTreeIn image (size_of image)) bare) run one none (run_in image wf n reached run of)
 
   -- all paths are as long, so none begins another
   pub run_apart : NoneBegins (all_paths touched)
@@ -74,7 +76,7 @@ module _ (image : Image) (wf : IsWellFormed image) (n : ℕ) (reached : IsReache
           (λ i here. absurd (omega (arith, here, none)))
 
   -- the pointers on the path of its first word
-  run_live : (d : ℕ) → d < length (run_path run (run.off / 8)) → IsTreePointer image (size_of image) (trail_of (run_path run (run.off / 8)) d)
+  pub run_live : (d : ℕ) → d < length (run_path run (run.off / 8)) → IsTreePointer image (size_of image) (trail_of (run_path run (run.off / 8)) d)
   run_live d low =
       let short : d ≤ length (run_way run 0) = omega (arith, low, length-run_path run (run.off / 8), length-run_way run 0) in
       subst (IsTreePointer image (size_of image)) (front-run_way run 0 (run.off / 8) d (omega arith) short)
@@ -99,14 +101,14 @@ module _ (image : Image) (wf : IsWellFormed image) (n : ℕ) (reached : IsReache
       ∙ ap (λ (base : Trail). along base (suc run.height) k) (root_path_trail (height_of (root_of image 0)) n run.root.items of.root)
       ∙ ap (λ h. along (root_trail (height_of (word image 2)) (suc n)) (suc h) k) of.height
 
-  module _ (free : ℕ → Bool) (exact : AreFreeBlocks image none_kept free) (directory : kind_of image (suc n) ≡ 2) (new : Image) (turned : Trail → Type 0)
+  module _ {kept : ℕ → Bool} (free : ℕ → Bool) (exact : AreFreeBlocks image kept free) (directory : kind_of image (suc n) ≡ 2) (new : Image) (turned : Trail → Type 0)
       (stage : IsCommitted image new (IsTreePointer image (size_of image)) turned (after_commit image (job_of touched))) where
-    can : CanCommit image (size_of image) touched free
+    can : CanCommit image (size_of image) kept touched free
     can = run_commit free exact
 
-    kept : (t k : ℕ) → IsReached image t → 8 * k < size_of image t → ((t ≡ suc n) × (run.off / 8 ≤ k) × (k ≤ (run_end run - 1) / 8) → ⊥) →
+    stays : (t k : ℕ) → IsReached image t → 8 * k < size_of image t → ((t ≡ suc n) × (run.off / 8 ≤ k) × (k ≤ (run_end run - 1) / 8) → ⊥) →
         after_commit image (job_of touched) (tree_trail (height_of (word image 2)) t (suc (height_of (root_of image t))) k) ≡ content_word image (root_of image t) k
-    kept t k also low other =
+    stays t k also low other =
         after-others image (size_of image) touched free wf can (k % 512) (along (root_trail (height_of (word image 2)) t) (height_of (root_of image t)) (k / 512)) (omega arith)
         (λ i here same. absurd (omega (arith, here, none)))
         (λ r l e first last same. apart r l e first last same)
@@ -127,7 +129,7 @@ module _ (image : Image) (wf : IsWellFormed image) (n : ℕ) (reached : IsReache
     run_sizes (suc m) also =
         let inside : 64 * suc m + 64 ≤ size_of image 0 = can.forest.in_file m also in
         size_after image new (size_of image) can.forest turned (job_of touched) stage m also
-        ∙ kept 0 (8 * suc m + 2) inode_file (omega (arith, inside)) (λ here. omega (arith, here.0))
+        ∙ stays 0 (8 * suc m + 2) inode_file (omega (arith, inside)) (λ here. omega (arith, here.0))
 
     commits : Commits image new (changes_of image (job_of touched))
     commits =
@@ -136,7 +138,7 @@ module _ (image : Image) (wf : IsWellFormed image) (n : ℕ) (reached : IsReache
     pub run_only : (Changed : ℕ → ℕ → Type 0) → ((k : ℕ) → run.off / 8 ≤ k → k ≤ (run_end run - 1) / 8 → Changed (suc n) k) → CommitsOnly image new (changes_of image (job_of touched)) Changed
     run_only Changed told = record {
       commits = commits;
-      kept = λ t k also low other. kept t k also low (λ here. other (subst (λ u. Changed u k) (sym here.0) (told k here.1 here.2)));
+      kept = λ t k also low other. stays t k also low (λ here. other (subst (λ u. Changed u k) (sym here.0) (told k here.1 here.2)));
     }
 
     -- a word of the run

@@ -1,5 +1,5 @@
 -- A name has moved onto another one: that it is performed, that the sets are exact, once what had the name comes back where it has no other, and how many names it has left.
-use Rattle.std.proofs.Common.{◌≡◌, ◌≢◌, ◌⊎◌, ℕ, zero, suc, ◌+◌, ◌*◌, ◌/◌, ◌<◌, ◌≤◌, List, length, set, slice_index, true, false, Some, refl, sym, ◌∙◌, ap₂, subst, arith, inl, inr}
+use Rattle.std.proofs.Common.{◌≡◌, ◌≢◌, ◌⊎◌, ℕ, Bool, zero, suc, ◌+◌, ◌*◌, ◌/◌, ◌<◌, ◌≤◌, List, length, set, slice_index, true, false, Some, refl, sym, ◌∙◌, ap₂, subst, arith, inl, inr}
 use Rattle.std.proofs.lemmas.Bool.{cases_Bool, cases_eq}
 use Rattle.std.proofs.lemmas.List.{length-set}
 use Rattle.bp_free.specs.Set.{Set, has, with}
@@ -8,6 +8,7 @@ use Rattle.bp_layout.proofs.FewLeaves.{few_inodes}
 use Rattle.bp_layout.specs.Directory.{EntryNames, inumber_at}
 use Rattle.bp_layout.specs.Inode.{inode_count, kind_of, root_of, size_of}
 use Rattle.bp_layout.specs.Names.{AreCounts}
+use Rattle.bp_layout.specs.Need.{need}
 use Rattle.bp_layout.specs.Need.Change.{replaces}
 use Rattle.bp_layout.specs.Reached.{HoldsBlock, IsReached}
 use Rattle.bp_layout.specs.Reached.IsReached.{inode_file, named}
@@ -26,7 +27,7 @@ use Rattle.bp_shapes.specs.Forest.{tree_trail}
 use Rattle.bp_shapes.specs.Freed.{IsGivenUp}
 use Rattle.bp_shapes.specs.Sets.{AreExact}
 use Rattle.bp_shapes.proofs.FreeSets.{wf_forest}
-use Rattle.bp_commit.specs.Performs.{HasRoomFor, Performs}
+use Rattle.bp_commit.specs.Performs.{PerformsThawed, room_for}
 use Rattle.bp_cow.specs.CanCommit.{CanCommit}
 use Rattle.bp_cow.specs.Commit.{CommitsTouched, HasRoom}
 use Rattle.bp_cow.specs.Committed.{after_commit, changes_of}
@@ -36,23 +37,21 @@ use Rattle.bp_cow.specs.Touched.{job_of, path_of, word_paths}
 use Rattle.bp_cow.specs.declared.touched.Touched.{Touched}
 use Rattle.bp_cow.proofs.CommitTaking.{commit_performs, copied_few, cover_open, stores_few}
 use Rattle.bp_cow.proofs.CopiesNeed.{has-word}
-use Rattle.pm_region.specs.Memory.{Memory, current_words}
+use Rattle.pm_region.specs.Memory.{Memory, current_words, room_in}
 use Rattle.bp_calls.specs.GivenBack.{GivesBack}
 use Rattle.bp_calls.proofs.GivenUpLaws.{gives_as}
 use Rattle.bp_calls.proofs.Shorter.{CanGiveBack}
-use Rattle.bp_calls.proofs.Unthawed.{room_needed, unthawed}
 use Rattle.bp_rename.specs.CanRename.{CanRename, moved_inode}
-use Rattle.bp_rename.specs.TouchesTwo.{TouchesTwo, inumber_path}
+use Rattle.bp_rename.specs.TouchesTwo.{AnyTree, TouchesTwo, inumber_path}
 use Rattle.bp_rename.specs.declared.moving.Move.{Move}
 use Rattle.bp_rename.proofs.ContentWords.{size_kept, words_only, words_value}
 use Rattle.bp_rename.proofs.OntoLaws.{are, onto_can, onto_commit, onto_cover, onto_need, replaced_reached, replaced_some}
 use Rattle.bp_rename.proofs.TwoWords.{first_value, no_leaves, pick, second_value, two_count}
-use Rattle.bp_layout.specs.Thaw.{none_kept}
 
-module _ (memory : Memory) (move : Move) (r : ℕ) (can : CanRename (current_words memory) move) (onto : move.to_slot ≡ Some r) (touched : Touched)
-    (is : TouchesTwo touched (inumber_path (current_words memory) move.from_dir move.from_slot) (inumber_path (current_words memory) move.to_dir r) 0 (moved_inode (current_words memory) move))
-    (blocks inodes : Set) (exact : AreExact (current_words memory) none_kept blocks inodes) (room : HasRoomFor memory none_kept (replaces move.from_dir move.from_slot move.to_dir r)) where
-  pub ready : CanCommit (current_words memory) (size_of (current_words memory)) touched (has blocks)
+module _ {kept : ℕ → Bool} (memory : Memory) (move : Move) (r : ℕ) (can : CanRename (current_words memory) move) (onto : move.to_slot ≡ Some r) (touched : Touched)
+    (is : TouchesTwo (current_words memory) AnyTree touched (inumber_path (current_words memory) move.from_dir move.from_slot) (inumber_path (current_words memory) move.to_dir r) 0 (moved_inode (current_words memory) move))
+    (blocks inodes : Set) (exact : AreExact (current_words memory) kept blocks inodes) (room : room_for (need (current_words memory) (replaces move.from_dir move.from_slot move.to_dir r)) ≤ room_in memory + 2) where
+  pub ready : CanCommit (current_words memory) (size_of (current_words memory)) kept touched (has blocks)
   ready = onto_commit (current_words memory) move r can onto touched is (has blocks) exact.free_blocks
 
   count : length touched.words.now ≡ 2
@@ -63,15 +62,14 @@ module _ (memory : Memory) (move : Move) (r : ℕ) (can : CanRename (current_wor
 
   pub has_room : HasRoom memory touched
   has_room =
-      let asked = room_needed memory (replaces move.from_dir move.from_slot move.to_dir r) room in
       let few = copied_few (current_words memory) (size_of (current_words memory)) touched (has blocks) can.well_formed ready in
-      omega (arith, few, count, leaves, onto_need (current_words memory) move r can onto touched is, asked)
+      omega (arith, few, count, leaves, onto_need (current_words memory) move r can onto touched is, room)
 
-module _ (old new : Memory) (move : Move) (r : ℕ) (can : CanRename (current_words old) move) (onto : move.to_slot ≡ Some r) (touched : Touched)
-    (is : TouchesTwo touched (inumber_path (current_words old) move.from_dir move.from_slot) (inumber_path (current_words old) move.to_dir r) 0 (moved_inode (current_words old) move))
-    (blocks inodes left : Set) (exact : AreExact (current_words old) none_kept blocks inodes) (room : HasRoomFor old none_kept (replaces move.from_dir move.from_slot move.to_dir r))
-    (done : CommitsTouched (size_of (current_words old)) touched old new blocks left) (as_long : length left ≡ length blocks) where
-  commits : CanCommit (current_words old) (size_of (current_words old)) touched (has blocks)
+module _ {kept : ℕ → Bool} (old new : Memory) (move : Move) (r : ℕ) (can : CanRename (current_words old) move) (onto : move.to_slot ≡ Some r) (touched : Touched)
+    (is : TouchesTwo (current_words old) AnyTree touched (inumber_path (current_words old) move.from_dir move.from_slot) (inumber_path (current_words old) move.to_dir r) 0 (moved_inode (current_words old) move))
+    (blocks inodes left : Set) (exact : AreExact (current_words old) kept blocks inodes) (room : room_for (need (current_words old) (replaces move.from_dir move.from_slot move.to_dir r)) ≤ room_in old + 2)
+    (done : CommitsTouched (size_of (current_words old)) kept touched old new blocks left) (as_long : length left ≡ length blocks) where
+  commits : CanCommit (current_words old) (size_of (current_words old)) kept touched (has blocks)
   commits = ready old move r can onto touched is blocks inodes exact room
 
   some_words : length touched.words.now ≡ 2
@@ -125,18 +123,17 @@ module _ (old new : Memory) (move : Move) (r : ℕ) (can : CanRename (current_wo
   pub onto_well_formed : IsWellFormed (current_words new)
   onto_well_formed = moved_well_formed (current_words old) (current_words new) can.well_formed move.from_dir move.from_slot move.to_dir r (moved_inode (current_words old) move) moved_can onto_moves
 
-  pub onto_performs : Performs none_kept old new (replaces move.from_dir move.from_slot move.to_dir r)
+  pub onto_performs : PerformsThawed kept old new (replaces move.from_dir move.from_slot move.to_dir r)
       (λ image image_after. MovesEntry image image_after move.from_dir move.from_slot move.to_dir r (moved_inode image move))
   onto_performs =
-      unthawed old new (replaces move.from_dir move.from_slot move.to_dir r) (λ image image_after. MovesEntry image image_after move.from_dir move.from_slot move.to_dir r (moved_inode image move))
-      (commit_performs old new (replaces move.from_dir move.from_slot move.to_dir r) (λ image image_after. MovesEntry image image_after move.from_dir move.from_slot move.to_dir r (moved_inode image move))
+      commit_performs old new (replaces move.from_dir move.from_slot move.to_dir r) (λ image image_after. MovesEntry image image_after move.from_dir move.from_slot move.to_dir r (moved_inode image move))
       (size_of (current_words old)) touched blocks left done
       (onto_cover (current_words old) move r can onto touched is) (onto_need (current_words old) move r can onto touched is)
       (let few = stores_few (current_words old) (size_of (current_words old)) touched (has blocks) can.well_formed commits in
       omega (arith, few, leaves old move r can onto touched is blocks inodes exact room, some_words, onto_need (current_words old) move r can onto touched is))
-      (cover_open (current_words old) can.well_formed touched commits.shape (path_of (word_paths touched) 0) (has-word touched commits.shape 0 (omega (arith, some_words)))
-      (λ d low. commits.pointers 0 d (omega (arith, some_words)) low) done.taken)
-      onto_well_formed onto_moves)
+      (cover_open kept (current_words old) can.well_formed touched commits.shape (path_of (word_paths touched) 0) (has-word touched commits.shape 0 (omega (arith, some_words)))
+      (λ d low. commits.pointers 0 d (omega (arith, some_words)) low) done.loose done.taken)
+      onto_well_formed onto_moves
 
   -- ---- what had the name comes back
 
@@ -209,26 +206,26 @@ module _ (old new : Memory) (move : Move) (r : ℕ) (can : CanRename (current_wo
         go (inl e) = subst (IsReached (current_words new)) (sym e) (named more.slot (stays more.directory more.reached not_itself) still_named)
         go (inr other) = stays t was other
 
-    pub named_exact : AreExact (current_words new) none_kept left inodes
+    pub named_exact : AreExact (current_words new) kept left inodes
     named_exact =
-        same_reach_exact (current_words old) (current_words new) (size_of (current_words old)) none_kept onto_moves.trees.whole (size_stays 0 inode_file) size_stays
+        same_reach_exact (current_words old) (current_words new) (size_of (current_words old)) kept onto_moves.trees.whole (size_stays 0 inode_file) size_stays
         (reached_back (current_words old) (current_words new) can.well_formed move.from_dir move.from_slot move.to_dir r (moved_inode (current_words old) move) moved_can onto_moves) still_reached
         blocks left inodes exact as_long done.exact
 
-  module _ (final : Set) (gives : GivesBack (IsGivenUp (current_words new) (root_of (current_words new) (inumber_at (current_words old) move.to_dir r)) (size_of (current_words new) (inumber_at (current_words old) move.to_dir r)) 0) left final) where
-    told : GivesBack (HasBlock (current_words new) (root_of (current_words new) (inumber_at (current_words old) move.to_dir r)) (size_of (current_words new) (inumber_at (current_words old) move.to_dir r))) left final
+  module _ (final : Set) (gives : GivesBack kept (IsGivenUp (current_words new) (root_of (current_words new) (inumber_at (current_words old) move.to_dir r)) (size_of (current_words new) (inumber_at (current_words old) move.to_dir r)) 0) left final) where
+    told : GivesBack kept (HasBlock (current_words new) (root_of (current_words new) (inumber_at (current_words old) move.to_dir r)) (size_of (current_words new) (inumber_at (current_words old) move.to_dir r))) left final
     told = gives_as (IsGivenUp (current_words new) (root_of (current_words new) (inumber_at (current_words old) move.to_dir r)) (size_of (current_words new) (inumber_at (current_words old) move.to_dir r)) 0)
         (HasBlock (current_words new) (root_of (current_words new) (inumber_at (current_words old) move.to_dir r)) (size_of (current_words new) (inumber_at (current_words old) move.to_dir r))) left final
         (λ b gone. gone.has) (λ b held. record { has = held; past = omega arith }) gives
 
     -- where it was the last name
-    pub onto_exact : IsLastName (current_words old) move.to_dir r (inumber_at (current_words old) move.to_dir r) → AreExact (current_words new) none_kept final (with inodes (inumber_at (current_words old) move.to_dir r))
+    pub onto_exact : IsLastName (current_words old) move.to_dir r (inumber_at (current_words old) move.to_dir r) → AreExact (current_words new) kept final (with inodes (inumber_at (current_words old) move.to_dir r))
     onto_exact last = record {
       block_room = rw onto_moves.trees.whole (gives.room ∙ as_long ∙ exact.block_room);
       inode_room = rw onto_moves.trees.whole (length-set inodes (inumber_at (current_words old) move.to_dir r) true ∙ exact.inode_room);
       free_blocks =
           replaced_blocks (current_words old) (current_words new) can.well_formed move.from_dir move.from_slot move.to_dir r (moved_inode (current_words old) move) moved_can onto_moves can.outside some
-          last none_kept (has left) (has final) done.exact (λ b is. elim (told.only b is) [ inl was ↦ inl was | inr given ↦ inr (given, refl) ]) told.still (λ b given loose. told.given b given);
+          last kept (has left) (has final) done.exact told.only told.still told.given;
       free_inodes =
           replaced_inode (current_words old) (current_words new) can.well_formed move.from_dir move.from_slot move.to_dir r (moved_inode (current_words old) move) moved_can onto_moves can.outside some
           last (has inodes) (has (with inodes (inumber_at (current_words old) move.to_dir r))) exact.free_inodes

@@ -1,5 +1,5 @@
 -- A name moves onto another one: what the commit asks, that it is performed, and what comes back.
-use Rattle.std.proofs.Common.{◌≡◌, ◌≢◌, ℕ, ◌+◌, ◌*◌, ◌%◌, ◌<◌, List, [], ◌∷◌, length, Bool, Some, refl, sym, ◌∙◌, ap, ap₂, subst, arith, inl}
+use Rattle.std.proofs.Common.{◌≡◌, ◌≢◌, ℕ, ◌+◌, ◌*◌, ◌%◌, ◌<◌, ◌≤◌, List, [], ◌∷◌, length, Bool, Some, refl, sym, ◌∙◌, ap, ap₂, subst, arith, inl}
 use Rattle.bp_layout.specs.Directory.{EntryNames, inumber_at, name_at}
 use Rattle.bp_layout.specs.Free.{AreUnheld}
 use Rattle.bp_layout.specs.Inode.{kind_of, size_of}
@@ -8,6 +8,7 @@ use Rattle.bp_layout.specs.Need.Change.{replaces}
 use Rattle.bp_layout.specs.Need as layout
 use Rattle.bp_layout.specs.Reached.{IsReached}
 use Rattle.bp_layout.specs.Reached.IsReached.{named}
+use Rattle.bp_layout.specs.Thaw.{cover_now, thawed}
 use Rattle.bp_layout.specs.WellFormed.{IsWellFormed}
 use Rattle.bp_layout.specs.WordPaths.{WordPath, is_pointed}
 use Rattle.bp_layout.specs.Words.{Image}
@@ -15,18 +16,20 @@ use Rattle.bp_changes.specs.Effects.{CanMoveEntry}
 use Rattle.bp_shapes.proofs.FreeSets.{wf_forest}
 use Rattle.bp_tree.proofs.ExistingPaths.{AllThere, content_path-there}
 use Rattle.bp_cow.specs.CanCommit.{CanCommit}
+use Rattle.bp_cow.specs.Commit.{HasLooseCover}
 use Rattle.bp_cow.specs.Cover.{LeadsInside, commit_cover, copied_count, copied_paths}
-use Rattle.bp_cow.specs.Touched.{IsTouched, NoneBegins, all_paths}
+use Rattle.bp_cow.specs.Touched.{IsTouched, NoneBegins, all_paths, path_of, word_paths}
 use Rattle.bp_cow.specs.declared.touched.Touched.{Touched}
 use Rattle.bp_calls.proofs.ReadingLaws.{few_inode}
 use Rattle.bp_rename.specs.CanRename.{CanRename, moved_inode}
-use Rattle.bp_rename.specs.TouchesTwo.{TouchesTwo, inumber_path}
+use Rattle.bp_rename.specs.TouchesTwo.{AnyTree, TouchesTwo, inumber_path}
 use Rattle.bp_rename.specs.declared.moving.Move.{Move}
-use Rattle.bp_rename.proofs.ContentWords.{AreContent, words_apart, words_can, words_inside, words_shape}
+use Rattle.bp_rename.proofs.ContentWords.{AreContent, words_apart, words_can, words_fronts, words_inside, words_shape}
+use Rattle.bp_cow.proofs.CopiesNeed.{has-word}
+use Rattle.bp_rename.proofs.LooseCovers.{cover_loose, now_whole}
 use Rattle.bp_rename.proofs.FoundNames.{found_entry, found_name}
-use Rattle.bp_rename.proofs.TwoWords.{has_first, pick, two_are, two_paths}
+use Rattle.bp_rename.proofs.TwoWords.{has_first, pick, two_are, two_few, two_paths}
 use Rattle.bp_rename.proofs.WholePaths.{cover-whole, pointed-directory}
-use Rattle.bp_layout.specs.Thaw.{none_kept}
 
 module _ (image : Image) (move : Move) (r : ℕ) (can : CanRename image move) (onto : move.to_slot ≡ Some r) where
   abbrev wf : IsWellFormed image
@@ -83,12 +86,12 @@ module _ (image : Image) (move : Move) (r : ℕ) (can : CanRename image move) (o
 
   -- ---- what is touched
 
-  module _ (touched : Touched) (is : TouchesTwo touched (inumber_path image move.from_dir move.from_slot) (inumber_path image move.to_dir r) 0 (moved_inode image move)) where
+  module _ (touched : Touched) (is : TouchesTwo image AnyTree touched (inumber_path image move.from_dir move.from_slot) (inumber_path image move.to_dir r) 0 (moved_inode image move)) where
     pub are : AreContent image (size_of image) touched (pick move.from_dir move.to_dir) (pick (32 * move.from_slot + 0) (32 * r + 0))
     are =
         two_are image touched move.from_dir (32 * move.from_slot + 0) move.to_dir (32 * r + 0) 0 (moved_inode image move) is (size_of image) can.source can.target low_source low_target
         (no_directory move.from_dir (32 * move.from_slot + 0) can.entry.directory) (no_directory move.to_dir (32 * r + 0) can.directory)
-        (λ e f. apart_entries e (omega (arith, f)))
+        (λ e f. apart_entries e (omega (arith, f))) (λ t any. omega arith)
 
     pub onto_shape : IsTouched touched
     onto_shape = words_shape image (size_of image) (wf_forest image can.well_formed) touched (pick move.from_dir move.to_dir) (pick (32 * move.from_slot + 0) (32 * r + 0)) are
@@ -99,7 +102,7 @@ module _ (image : Image) (move : Move) (r : ℕ) (can : CanRename image move) (o
     pub onto_apart : NoneBegins (all_paths touched)
     onto_apart = words_apart image (size_of image) (wf_forest image can.well_formed) touched (pick move.from_dir move.to_dir) (pick (32 * move.from_slot + 0) (32 * r + 0)) are
 
-    pub onto_commit : (free : ℕ → Bool) → AreUnheld image (IsReached image) (size_of image) none_kept free → CanCommit image (size_of image) touched free
+    pub onto_commit : {kept : ℕ → Bool} (free : ℕ → Bool) → AreUnheld image (IsReached image) (size_of image) kept free → CanCommit image (size_of image) kept touched free
     onto_commit free exact = words_can image (size_of image) (wf_forest image can.well_formed) touched (pick move.from_dir move.to_dir) (pick (32 * move.from_slot + 0) (32 * r + 0)) are (λ t q. omega arith) free exact
 
     all_touched : all_paths touched ≡ inumber_path image move.from_dir move.from_slot ∷ inumber_path image move.to_dir r ∷ []
@@ -119,3 +122,23 @@ module _ (image : Image) (move : Move) (r : ℕ) (can : CanRename image move) (o
         ap (λ (path : WordPath). layout.prefixes_of (length path) [] (all_paths touched)) onto_cover
         ∙ ap (λ (paths : List WordPath). layout.prefixes_of (length (cover image (replaces move.from_dir move.from_slot move.to_dir r))) [] paths) all_touched in
         ap (λ (ps : List WordPath). length ps) paths ∙ omega arith
+
+    pub onto_few : copied_count image touched ≤ 23
+    onto_few = two_few image touched move.from_dir (32 * move.from_slot + 0) move.to_dir (32 * r + 0) 0 (moved_inode image move) is onto_shape onto_apart
+
+    -- the cover is that of the change now
+    pub onto_now : commit_cover image touched ≡ cover_now image (replaces move.from_dir move.from_slot move.to_dir r)
+    onto_now =
+        cover-whole (is_pointed image) (all_paths touched) (inumber_path image move.from_dir move.from_slot)
+        (has_first image touched move.from_dir (32 * move.from_slot + 0) move.to_dir (32 * r + 0) 0 (moved_inode image move) is)
+        (pointed-directory image can.well_formed move.from_dir (32 * move.from_slot + 0) can.source can.entry.directory low_source)
+        ∙ ap common_all all_touched
+        ∙ sym (now_whole image can.well_formed (replaces move.from_dir move.from_slot move.to_dir r) move.from_dir (32 * move.from_slot + 0) can.source can.entry.directory low_source (inl refl))
+
+    -- so it may be stored to where nothing is left to thaw
+    pub onto_loose : (kept : ℕ → Bool) → thawed image kept (replaces move.from_dir move.from_slot move.to_dir r) ≡ [] → HasLooseCover image kept touched
+    onto_loose kept clear =
+        let some : 0 < length touched.words.now = omega (arith, are.some) in
+        cover_loose image can.well_formed touched onto_shape (path_of (word_paths touched) 0) (has-word touched onto_shape 0 some)
+        (λ d low. words_fronts image (size_of image) (wf_forest image can.well_formed) touched (pick move.from_dir move.to_dir) (pick (32 * move.from_slot + 0) (32 * r + 0)) are 0 d some low)
+        kept (replaces move.from_dir move.from_slot move.to_dir r) onto_now clear

@@ -1,22 +1,21 @@
 -- Two content words that are committed together.
-use Rattle.std.proofs.Common.{◌≡◌, ◌≢◌, ℕ, zero, suc, ◌*◌, ◌%◌, ◌<◌, ◌≤◌, List, [], ◌∷◌, ◌++◌, length, Bool, true, false, slice_index, refl, sym, ◌∙◌, ap, subst, arith, inl, inr}
-use Rattle.std.specs.Prelude.{map, nat_le, None}
+use Rattle.std.proofs.Common.{◌≡◌, ◌≢◌, ℕ, zero, suc, ◌*◌, ◌%◌, ◌<◌, ◌≤◌, List, [], ◌∷◌, ◌++◌, length, slice_index, refl, sym, ◌∙◌, ap, subst, arith, inl, inr}
+use Rattle.std.specs.Prelude.{map}
 use Rattle.arrayvec.specs.ArrayVec.{ArrayVec}
 use Rattle.std.proofs.lemmas.List.{length-map}
-use Rattle.bp_layout.specs.Inode.{root_of}
+use Rattle.bp_layout.specs.Inode.{root_of, size_of}
 use Rattle.bp_layout.specs.Members.{Has}
 use Rattle.bp_layout.specs.Reached.{IsReached}
 use Rattle.bp_layout.specs.WordPaths.{WordPath, tree_path}
 use Rattle.bp_layout.specs.Words.{Image, height_of}
-use Rattle.bp_cow.specs.Cover.{commit_cover, copied_count}
-use Rattle.bp_cow.specs.Job.{copies_at, turned_for, turned_upto, ways}
+use Rattle.bp_cow.specs.Cover.{copied_count}
 use Rattle.bp_cow.specs.Touched.{IsTouched, NoneBegins, all_paths, job_of, leaves_of, path_of, run_paths, word_paths}
 use Rattle.bp_cow.specs.declared.touched.Touched.{Touched}
-use Rattle.bp_cow.proofs.CommitTaking.{turned_few}
-use Rattle.bp_cow.proofs.CoverOf.{cover_has, count_is}
-use Rattle.bp_cow.proofs.RunsLaws.{way-short}
-use Rattle.bp_rename.specs.TouchesTwo.{AreTwo, TouchesTwo}
+use Rattle.bp_cow.specs.declared.touched.TreeSize.{TreeSize}
+use Rattle.bp_rename.specs.TouchesTwo.{AreTwo, ListsTrees, TouchesTwo}
 use Rattle.bp_rename.proofs.ContentWords.{AreContent}
+use Rattle.bp_rename.proofs.ListedTrees.{sized_in}
+use Rattle.bp_rename.proofs.FewWays.{few_ways}
 
 -- the first for 0, and else the second
 abbrev pub pick : ℕ → ℕ → ℕ → ℕ
@@ -24,19 +23,25 @@ pick a b zero = a
 pick a b (suc i) = b
 
 -- what is touched by two words and no run
-pub touches_two : {first second : WordPath} {one two : ℕ} → (touched : Touched) (words : List (ArrayVec ℕ × ℕ)) → touched.words.now ≡ words → touched.runs.now ≡ [] → AreTwo words first second one two →
-    TouchesTwo touched first second one two
-touches_two touched words e none are = record {
+pub touches_two : (image : Image) (Among : ℕ → Type 0) {first second : WordPath} {one two : ℕ} → (touched : Touched) (words : List (ArrayVec ℕ × ℕ)) (trees : List TreeSize) → touched.words.now ≡ words → touched.runs.now ≡ [] →
+    touched.trees.now ≡ trees → ListsTrees image Among trees → AreTwo words first second one two → TouchesTwo image Among touched first second one two
+touches_two image Among touched words trees e none listed lists are = record {
   none = none;
+  trees = subst (λ (ts : List TreeSize). ListsTrees image Among ts) (sym listed) lists;
   paths = ap (λ (ws : List (ArrayVec ℕ × ℕ)). map (λ word. word.0.items) ws) e ∙ are.paths;
   values = ap (λ (ws : List (ArrayVec ℕ × ℕ)). map (λ word. word.1) ws) e ∙ are.values;
 }
+
+-- with no tree
+pub touches_bare : (image : Image) (Among : ℕ → Type 0) {first second : WordPath} {one two : ℕ} → (touched : Touched) (words : List (ArrayVec ℕ × ℕ)) → touched.words.now ≡ words → touched.runs.now ≡ [] →
+    touched.trees.now ≡ [] → AreTwo words first second one two → TouchesTwo image Among touched first second one two
+touches_bare image Among touched words e none bare are = touches_two image Among touched words [] e none bare (λ tree never. absurd never) are
 
 -- the path of a content word
 abbrev pub word_path : Image → ℕ → ℕ → WordPath
 word_path image t k = tree_path (height_of (root_of image 0)) t (suc (height_of (root_of image t))) k
 
-module _ (image : Image) (touched : Touched) (t k u l one two : ℕ) (is : TouchesTwo touched (tree_path (height_of (root_of image 0)) t (suc (height_of (root_of image t))) k) (tree_path (height_of (root_of image 0)) u (suc (height_of (root_of image u))) l) one two) where
+module _ {Among : ℕ → Type 0} (image : Image) (touched : Touched) (t k u l one two : ℕ) (is : TouchesTwo image Among touched (tree_path (height_of (root_of image 0)) t (suc (height_of (root_of image t))) k) (tree_path (height_of (root_of image 0)) u (suc (height_of (root_of image u))) l) one two) where
   pub two_count : length touched.words.now ≡ 2
   two_count = sym (length-map touched.words.now (λ word. word.0.items)) ∙ ap (λ (ps : List WordPath). length ps) is.paths
 
@@ -52,28 +57,8 @@ module _ (image : Image) (touched : Touched) (t k u l one two : ℕ) (is : Touch
   pub has_second : Has (all_paths touched) (tree_path (height_of (root_of image 0)) u (suc (height_of (root_of image u))) l)
   has_second = rw two_paths (inr (inl refl))
 
-  -- a way has at most 11 pointers
   pub two_few : IsTouched touched → NoneBegins (all_paths touched) → copied_count image touched ≤ 23
-  two_few shape apart = subst (λ n. n ≤ 23) (count_is touched shape image apart (length (commit_cover image touched)) (cover_has touched shape image)) (go (nat_le (length (commit_cover image touched)) (length ((job_of touched).way 0))) refl)
-    where
-      ways_two : ways (job_of touched) ≡ 2
-      ways_two = omega (arith, no_leaves, two_count)
-
-      one_way : (i : ℕ) → i < 2 → turned_for (job_of touched) (length (commit_cover image touched)) i (length ((job_of touched).way i)) ≤ 11
-      one_way i low =
-          let all = turned_few (job_of touched) (length (commit_cover image touched)) i (length ((job_of touched).way i)) in
-          let short : length ((job_of touched).way i) ≤ 11 = way-short touched shape i (omega (arith, low, ways_two)) in
-          omega (arith, all, short)
-
-      all : turned_upto (job_of touched) (length (commit_cover image touched)) (ways (job_of touched)) ≤ 22
-      all =
-          let former = one_way 0 (omega arith) in
-          let latter = one_way 1 (omega arith) in
-          subst (λ n. turned_upto (job_of touched) (length (commit_cover image touched)) n ≤ 22) (sym ways_two) (omega (arith, former, latter))
-
-      go : (x : Bool) → nat_le (length (commit_cover image touched)) (length ((job_of touched).way 0)) ≡ x → copies_at (job_of touched) (length (commit_cover image touched)) ≤ 23
-      go true e = rw e (omega (arith, all))
-      go false e = rw e (omega arith)
+  two_few shape apart = let few = few_ways image touched shape apart in omega (arith, few, no_leaves, two_count)
 
   pub first_value : (job_of touched).value 0 ≡ one
   first_value = ap (λ vs. slice_index vs 0) is.values
@@ -82,10 +67,12 @@ module _ (image : Image) (touched : Touched) (t k u l one two : ℕ) (is : Touch
   second_value = ap (λ vs. slice_index vs 1) is.values
 
   module _ (bound : ℕ → ℕ) (first : IsReached image t) (second : IsReached image u) (low : 8 * k < bound t) (few : 8 * l < bound u)
-      (no_root : t ≡ 0 → k % 8 ≢ 1) (not_root : u ≡ 0 → l % 8 ≢ 1) (apart : t ≡ u → k ≡ l → ⊥) where
+      (no_root : t ≡ 0 → k % 8 ≢ 1) (not_root : u ≡ 0 → l % 8 ≢ 1) (apart : t ≡ u → k ≡ l → ⊥) (fits : (v : ℕ) → Among v → bound v ≤ size_of image v) where
     pub two_are : AreContent image bound touched (pick t u) (pick k l)
     two_are = record {
       none = is.none;
+      trees = λ tree has. let at = is.trees tree has in sized_in image bound tree at.0 at.1.1 (fits at.0 at.1.0);
+      low_trees = λ tree has. (is.trees tree has).1.1.low;
       some = omega (arith, two_count);
       few = omega (arith, two_count);
       reached = λ i here. reaches i;

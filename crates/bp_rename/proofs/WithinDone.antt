@@ -1,5 +1,5 @@
 -- A name has been spelled anew: that it is performed, and that the sets are exact.
-use Rattle.std.proofs.Common.{◌≡◌, ◌≢◌, ℕ, zero, suc, ◌+◌, ◌-◌, ◌*◌, ◌/◌, ◌<◌, ◌≤◌, List, [], ◌∷◌, length, get_or, slice_index, refl, sym, ◌∙◌, ap, subst, arith, inl, le-ltb, le_trans, lt-ltb}
+use Rattle.std.proofs.Common.{◌≡◌, ◌≢◌, ℕ, Bool, zero, suc, ◌+◌, ◌-◌, ◌*◌, ◌/◌, ◌<◌, ◌≤◌, List, length, get_or, slice_index, refl, sym, ◌∙◌, ap, subst, arith, inl, le-ltb, lt-ltb}
 use Rattle.pm_words.proofs.Bytes.{word_of_bytes}
 use Rattle.pm_words.specs.Bytes.{word_bytes}
 use Rattle.bp_free.specs.Set.{Set, has}
@@ -7,6 +7,7 @@ use Rattle.bp_layout.specs.Directory.{EntryNames, Name, entry_word, name_at}
 use Rattle.bp_layout.specs.Inode.{root_of, size_of}
 use Rattle.bp_layout.specs.Names.{AreCounts}
 use Rattle.bp_layout.specs.Members.{Has}
+use Rattle.bp_layout.specs.Need.{need}
 use Rattle.bp_layout.specs.Need.Change.{respells}
 use Rattle.bp_layout.specs.Tree.{byte, content_word}
 use Rattle.bp_layout.specs.Words.{Image, byte_of}
@@ -17,7 +18,7 @@ use Rattle.bp_changes.proofs.Named.{respelled_counts}
 use Rattle.bp_changes.proofs.Respell.{respelled_well_formed}
 use Rattle.bp_shapes.specs.Sets.{AreExact}
 use Rattle.bp_shapes.proofs.MovedSets.{respelled_exact}
-use Rattle.bp_commit.specs.Performs.{HasRoomFor, Performs}
+use Rattle.bp_commit.specs.Performs.{PerformsThawed, room_for}
 use Rattle.bp_cow.specs.CanCommit.{CanCommit}
 use Rattle.bp_cow.specs.Commit.{CommitsTouched, HasRoom}
 use Rattle.bp_cow.specs.Committed.{changes_of}
@@ -28,14 +29,12 @@ use Rattle.bp_cow.specs.declared.touched.Touched.{Touched}
 use Rattle.bp_cow.proofs.CommitTaking.{commit_performs, stores_few}
 use Rattle.bp_cow.proofs.FewCopies.{few_copies}
 use Rattle.bp_cow.proofs.RunLaws.{run_word-inside}
-use Rattle.pm_region.specs.Memory.{Memory, current_words}
+use Rattle.pm_region.specs.Memory.{Memory, current_words, room_in}
 use Rattle.bp_calls.proofs.EnteredLaws.{not_named}
 use Rattle.bp_calls.proofs.RunCommits.{few_leaves, run_open}
-use Rattle.bp_calls.proofs.Unthawed.{room_needed, unthawed}
 use Rattle.bp_rename.specs.Respelled.{TouchesName, respelled_byte}
 use Rattle.bp_rename.proofs.NameRun.{run_commit, run_given, run_only, run_words}
 use Rattle.bp_rename.proofs.WithinLaws.{CanRespell, few_words, name_end, name_run, no_words, within_cover, within_need, within_shape}
-use Rattle.bp_layout.specs.Thaw.{none_kept}
 
 -- the bytes of a word, one by one
 byte_at : (w c : ℕ) → c < 8 → slice_index (word_bytes w) c ≡ byte_of w c
@@ -59,11 +58,11 @@ name_byte name o =
     let back : 8 + o - 8 ≡ o = omega arith in
     rw (le-ltb (8 + o) 8 past, back) refl
 
-module _ (memory : Memory) (n s j : ℕ) (name : Name) (can : CanRespell (current_words memory) (suc n) s j name) (touched : Touched) (is : TouchesName (current_words memory) (suc n) s name touched)
-    (blocks inodes : Set) (exact : AreExact (current_words memory) none_kept blocks inodes) (room : HasRoomFor memory none_kept (respells (suc n) s (length name))) where
-  pub within_ready : CanCommit (current_words memory) (size_of (current_words memory)) touched (has blocks)
+module _ {kept : ℕ → Bool} (memory : Memory) (n s j : ℕ) (name : Name) (can : CanRespell (current_words memory) (suc n) s j name) (touched : Touched) (is : TouchesName (current_words memory) (suc n) s name touched)
+    (blocks inodes : Set) (exact : AreExact (current_words memory) kept blocks inodes) (room : room_for (need (current_words memory) (respells (suc n) s (length name))) ≤ room_in memory + 2) where
+  pub within_ready : CanCommit (current_words memory) (size_of (current_words memory)) kept touched (has blocks)
   within_ready =
-      run_commit (current_words memory) can.well_formed n can.reached touched is.run is.one (no_words (current_words memory) n s j name can touched is) (name_run (current_words memory) n s j name can touched is)
+      run_commit (current_words memory) can.well_formed n can.reached touched is.run is.one (no_words (current_words memory) n s j name can touched is) is.no_trees (name_run (current_words memory) n s j name can touched is)
       (has blocks) exact.free_blocks
 
   few : run_leaves is.run ≤ 257
@@ -72,25 +71,24 @@ module _ (memory : Memory) (n s j : ℕ) (name : Name) (can : CanRespell (curren
   pub within_room : HasRoom memory touched
   within_room =
       let copies = few_copies (current_words memory) (size_of (current_words memory)) touched (has blocks) can.well_formed within_ready is.run is.one in
-      let asked = room_needed memory (respells (suc n) s (length name)) room in
-      omega (arith, copies, few, no_words (current_words memory) n s j name can touched is, within_need (current_words memory) n s j name can touched is, asked)
+      omega (arith, copies, few, no_words (current_words memory) n s j name can touched is, within_need (current_words memory) n s j name can touched is, room)
 
-module _ (old new : Memory) (n s j : ℕ) (name : Name) (can : CanRespell (current_words old) (suc n) s j name) (touched : Touched) (is : TouchesName (current_words old) (suc n) s name touched)
-    (blocks inodes left : Set) (exact : AreExact (current_words old) none_kept blocks inodes) (room : HasRoomFor old none_kept (respells (suc n) s (length name)))
-    (done : CommitsTouched (size_of (current_words old)) touched old new blocks left) (as_long : length left ≡ length blocks) where
+module _ {kept : ℕ → Bool} (old new : Memory) (n s j : ℕ) (name : Name) (can : CanRespell (current_words old) (suc n) s j name) (touched : Touched) (is : TouchesName (current_words old) (suc n) s name touched)
+    (blocks inodes left : Set) (exact : AreExact (current_words old) kept blocks inodes) (room : room_for (need (current_words old) (respells (suc n) s (length name))) ≤ room_in old + 2)
+    (done : CommitsTouched (size_of (current_words old)) kept touched old new blocks left) (as_long : length left ≡ length blocks) where
   few_of : (length name + 7) / 8 ≤ 30
   few_of = few_words (current_words old) n s j name can touched is
 
   ends : run_end is.run ≡ 256 * s + 16 + 8 * ((length name + 7) / 8)
   ends = name_end (current_words old) n s j name can touched is
 
-  ready : CanCommit (current_words old) (size_of (current_words old)) touched (has blocks)
+  ready : CanCommit (current_words old) (size_of (current_words old)) kept touched (has blocks)
   ready = within_ready old n s j name can touched is blocks inodes exact room
 
   -- the word of the length
   length_word : entry_word (current_words new) (suc n) s 1 ≡ length name
   length_word =
-      run_words (current_words old) can.well_formed n can.reached touched is.run is.one (no_words (current_words old) n s j name can touched is) (name_run (current_words old) n s j name can touched is)
+      run_words (current_words old) can.well_formed n can.reached touched is.run is.one (no_words (current_words old) n s j name can touched is) is.no_trees (name_run (current_words old) n s j name can touched is)
       (has blocks) exact.free_blocks can.names.directory (current_words new) (IsTurned (job_of touched) (length (commit_cover (current_words old) touched))) done.words
       (32 * s + 1) (omega (arith, is.is.from)) (omega (arith, ends)) (omega (arith, can.names.in_size))
       ∙ sym (run_word-inside is.run (32 * s + 1) (content_word (current_words old) (root_of (current_words old) (suc n)) (32 * s + 1)) (word_bytes (length name)) (omega (arith, is.is.from)) (omega (arith, ends)) refl same)
@@ -107,7 +105,7 @@ module _ (old new : Memory) (n s j : ℕ) (name : Name) (can : CanRespell (curre
       each : (o : ℕ) → o < length name → byte (current_words new) (root_of (current_words new) (suc n)) (256 * s + 16 + o) ≡ get_or name o 0
       each o low =
           let at : 256 * s + 16 + o - is.run.off ≡ 8 + o = omega (arith, is.is.from) in
-          run_given (current_words old) can.well_formed n can.reached touched is.run is.one (no_words (current_words old) n s j name can touched is) (name_run (current_words old) n s j name can touched is)
+          run_given (current_words old) can.well_formed n can.reached touched is.run is.one (no_words (current_words old) n s j name can touched is) is.no_trees (name_run (current_words old) n s j name can touched is)
           (has blocks) exact.free_blocks can.names.directory (current_words new) (IsTurned (job_of touched) (length (commit_cover (current_words old) touched))) done.words
           (256 * s + 16 + o) is.is.small (omega (arith, is.is.from)) (omega (arith, ends, low)) (omega (arith, low, can.form.short, can.names.in_size))
           ∙ ap (slice_index is.run.bytes.now) at ∙ is.is.bytes_are (8 + o) (omega (arith, low)) ∙ name_byte name o
@@ -118,26 +116,25 @@ module _ (old new : Memory) (n s j : ℕ) (name : Name) (can : CanRespell (curre
   pub within_respells : RespellsEntry (current_words old) (current_words new) (suc n) s j
   within_respells =
       commit_respells (current_words old) (current_words new) (changes_of (current_words old) (job_of touched)) (suc n) s j can.well_formed can.reached can.names
-      (run_only (current_words old) can.well_formed n can.reached touched is.run is.one (no_words (current_words old) n s j name can touched is) (name_run (current_words old) n s j name can touched is)
+      (run_only (current_words old) can.well_formed n can.reached touched is.run is.one (no_words (current_words old) n s j name can touched is) is.no_trees (name_run (current_words old) n s j name can touched is)
       (has blocks) exact.free_blocks can.names.directory (current_words new) (IsTurned (job_of touched) (length (commit_cover (current_words old) touched))) done.words
       (λ t l. (t ≡ suc n) × (32 * s + 1 ≤ l) × (l < 32 * s + 32))
       (λ k first last. (refl, omega (arith, first, is.is.from), omega (arith, last, ends, few_of))))
       (rw within_name can.form) (λ same. no_name s j can.names (same ∙ within_name)) (λ x l names other same. no_name x l names (same ∙ within_name))
 
   pub within_performs : (Effect : Image → Image → Type 0) → (RespellsEntry (current_words old) (current_words new) (suc n) s j → name_at (current_words new) (suc n) s ≡ name → Effect (current_words old) (current_words new)) →
-      Performs none_kept old new (respells (suc n) s (length name)) Effect
+      PerformsThawed kept old new (respells (suc n) s (length name)) Effect
   within_performs Effect so =
-      unthawed old new (respells (suc n) s (length name)) Effect
-      (commit_performs old new (respells (suc n) s (length name)) Effect (size_of (current_words old)) touched blocks left done
+      commit_performs old new (respells (suc n) s (length name)) Effect (size_of (current_words old)) touched blocks left done
       (within_cover (current_words old) n s j name can touched is) (within_need (current_words old) n s j name can touched is)
       (let stores = stores_few (current_words old) (size_of (current_words old)) touched (has blocks) can.well_formed ready in
       omega (arith, stores, ap leaves_of is.one, few old n s j name can touched is blocks inodes exact room, no_words (current_words old) n s j name can touched is, within_need (current_words old) n s j name can touched is))
-      (run_open (current_words old) can.well_formed n can.reached is.run (name_run (current_words old) n s j name can touched is) touched (within_shape (current_words old) n s j name can touched is) (subst (λ runs. Has runs is.run) (sym is.one) (inl refl)) done.taken)
+      (run_open (current_words old) can.well_formed n can.reached is.run (name_run (current_words old) n s j name can touched is) kept touched (within_shape (current_words old) n s j name can touched is) (subst (λ runs. Has runs is.run) (sym is.one) (inl refl)) done.loose done.taken)
       (respelled_well_formed (current_words old) (current_words new) can.well_formed (suc n) s j within_respells)
-      (so within_respells within_name))
+      (so within_respells within_name)
 
-  pub within_exact : AreExact (current_words new) none_kept left inodes
-  within_exact = respelled_exact (current_words old) (current_words new) can.well_formed (suc n) s j within_respells none_kept blocks left inodes exact as_long done.exact
+  pub within_exact : AreExact (current_words new) kept left inodes
+  within_exact = respelled_exact (current_words old) (current_words new) can.well_formed (suc n) s j within_respells kept blocks left inodes exact as_long done.exact
 
   pub within_counts : (counts : List ℕ) → AreCounts (current_words old) counts → AreCounts (current_words new) counts
   within_counts = respelled_counts (current_words old) (current_words new) can.well_formed (suc n) s j within_respells
@@ -147,30 +144,30 @@ module _ (old new : Memory) (n s j : ℕ) (name : Name) (can : CanRespell (curre
 
 -- ---- told of any directory
 
-module _ (old : Memory) (s j : ℕ) (name : Name) (touched : Touched) (blocks inodes : Set) (exact : AreExact (current_words old) none_kept blocks inodes) where
-  pub within_ready_at : (i : ℕ) → HasRoomFor old none_kept (respells i s (length name)) → CanRespell (current_words old) i s j name → TouchesName (current_words old) i s name touched → CanCommit (current_words old) (size_of (current_words old)) touched (has blocks)
+module _ {kept : ℕ → Bool} (old : Memory) (s j : ℕ) (name : Name) (touched : Touched) (blocks inodes : Set) (exact : AreExact (current_words old) kept blocks inodes) where
+  pub within_ready_at : (i : ℕ) → room_for (need (current_words old) (respells i s (length name))) ≤ room_in old + 2 → CanRespell (current_words old) i s j name → TouchesName (current_words old) i s name touched → CanCommit (current_words old) (size_of (current_words old)) kept touched (has blocks)
   within_ready_at zero room can is = absurd (omega (arith, can.names.directory))
   within_ready_at (suc n) room can is = within_ready old n s j name can touched is blocks inodes exact room
 
-  pub within_room_at : (i : ℕ) → HasRoomFor old none_kept (respells i s (length name)) → CanRespell (current_words old) i s j name → TouchesName (current_words old) i s name touched → HasRoom old touched
+  pub within_room_at : (i : ℕ) → room_for (need (current_words old) (respells i s (length name))) ≤ room_in old + 2 → CanRespell (current_words old) i s j name → TouchesName (current_words old) i s name touched → HasRoom old touched
   within_room_at zero room can is = absurd (omega (arith, can.names.directory))
   within_room_at (suc n) room can is = within_room old n s j name can touched is blocks inodes exact room
 
-  module _ (new : Memory) (left : Set) (done : CommitsTouched (size_of (current_words old)) touched old new blocks left) (as_long : length left ≡ length blocks) where
-    pub within_performs_at : (i : ℕ) → HasRoomFor old none_kept (respells i s (length name)) → CanRespell (current_words old) i s j name → TouchesName (current_words old) i s name touched → (Effect : Image → Image → Type 0) →
-        (RespellsEntry (current_words old) (current_words new) i s j → name_at (current_words new) i s ≡ name → Effect (current_words old) (current_words new)) → Performs none_kept old new (respells i s (length name)) Effect
+  module _ (new : Memory) (left : Set) (done : CommitsTouched (size_of (current_words old)) kept touched old new blocks left) (as_long : length left ≡ length blocks) where
+    pub within_performs_at : (i : ℕ) → room_for (need (current_words old) (respells i s (length name))) ≤ room_in old + 2 → CanRespell (current_words old) i s j name → TouchesName (current_words old) i s name touched → (Effect : Image → Image → Type 0) →
+        (RespellsEntry (current_words old) (current_words new) i s j → name_at (current_words new) i s ≡ name → Effect (current_words old) (current_words new)) → PerformsThawed kept old new (respells i s (length name)) Effect
     within_performs_at zero room can is Effect so = absurd (omega (arith, can.names.directory))
     within_performs_at (suc n) room can is Effect so = within_performs old new n s j name can touched is blocks inodes left exact room done as_long Effect so
 
-    pub within_exact_at : (i : ℕ) → HasRoomFor old none_kept (respells i s (length name)) → CanRespell (current_words old) i s j name → TouchesName (current_words old) i s name touched → AreExact (current_words new) none_kept left inodes
+    pub within_exact_at : (i : ℕ) → room_for (need (current_words old) (respells i s (length name))) ≤ room_in old + 2 → CanRespell (current_words old) i s j name → TouchesName (current_words old) i s name touched → AreExact (current_words new) kept left inodes
     within_exact_at zero room can is = absurd (omega (arith, can.names.directory))
     within_exact_at (suc n) room can is = within_exact old new n s j name can touched is blocks inodes left exact room done as_long
 
-    pub within_counts_at : (i : ℕ) → HasRoomFor old none_kept (respells i s (length name)) → CanRespell (current_words old) i s j name → TouchesName (current_words old) i s name touched →
+    pub within_counts_at : (i : ℕ) → room_for (need (current_words old) (respells i s (length name))) ≤ room_in old + 2 → CanRespell (current_words old) i s j name → TouchesName (current_words old) i s name touched →
         (counts : List ℕ) → AreCounts (current_words old) counts → AreCounts (current_words new) counts
     within_counts_at zero room can is = absurd (omega (arith, can.names.directory))
     within_counts_at (suc n) room can is = within_counts old new n s j name can touched is blocks inodes left exact room done as_long
 
-    pub within_whole_at : (i : ℕ) → HasRoomFor old none_kept (respells i s (length name)) → CanRespell (current_words old) i s j name → TouchesName (current_words old) i s name touched → length (current_words new) ≡ length (current_words old)
+    pub within_whole_at : (i : ℕ) → room_for (need (current_words old) (respells i s (length name))) ≤ room_in old + 2 → CanRespell (current_words old) i s j name → TouchesName (current_words old) i s name touched → length (current_words new) ≡ length (current_words old)
     within_whole_at zero room can is = absurd (omega (arith, can.names.directory))
     within_whole_at (suc n) room can is = within_whole old new n s j name can touched is blocks inodes left exact room done as_long

@@ -1,5 +1,5 @@
 -- A name is spelled anew: what is touched, and what that needs.
-use Rattle.std.proofs.Common.{◌≡◌, ℕ, zero, suc, ◌+◌, ◌-◌, ◌*◌, ◌/◌, ◌<◌, ◌≤◌, List, [], ◌∷◌, ◌++◌, length, map, None, refl, sym, ◌∙◌, ap, ap₂, arith, inl}
+use Rattle.std.proofs.Common.{◌≡◌, ℕ, zero, suc, ◌+◌, ◌-◌, ◌*◌, ◌/◌, ◌<◌, ◌≤◌, List, [], ◌∷◌, ◌++◌, length, map, Bool, None, refl, sym, ◌∙◌, ap, ap₂, subst, arith, inl}
 use Rattle.std.specs.List.{range_with_len}
 use Rattle.std.proofs.lemmas.List.{append-nil}
 use Rattle.bp_layout.specs.Directory.{EntryNames, IsName, Name, slot_named}
@@ -9,17 +9,22 @@ use Rattle.bp_layout.specs.Need.{Change, common_all, copied, cover, entry_path, 
 use Rattle.bp_layout.specs.Need.Change.{respells}
 use Rattle.bp_layout.specs.Need as layout
 use Rattle.bp_layout.specs.Reached.{IsReached}
+use Rattle.bp_layout.specs.Thaw.{cover_now, targets, thawed}
 use Rattle.bp_layout.specs.WellFormed.{IsWellFormed}
+use Rattle.bp_layout.proofs.ThawLaws.{loose-on}
 use Rattle.bp_layout.specs.WordPaths.{WordPath, digits, inode_path, is_pointed, tree_path}
 use Rattle.bp_layout.specs.Words.{Image, height_of}
 use Rattle.bp_tree.proofs.ExistingPaths.{AllThere, content_path-there}
+use Rattle.bp_cow.specs.Commit.{HasLooseCover}
 use Rattle.bp_cow.specs.Cover.{LeadsInside, commit_cover, copied_count, copied_paths}
-use Rattle.bp_cow.specs.Touched.{IsTouched, NoneBegins, all_paths, run_end, paths_of_run, run_path, run_paths, word_paths}
+use Rattle.bp_cow.specs.Touched.{IsTouched, NoneBegins, all_paths, leaves_of, run_end, run_leaves, paths_of_run, run_path, run_paths, word_paths}
 use Rattle.bp_cow.specs.declared.touched.Touched.{Touched}
-use Rattle.bp_calls.proofs.RunCommits.{IsRunOf}
+use Rattle.bp_calls.proofs.RunCommits.{IsRunOf, few_leaves, run_loose}
 use Rattle.bp_rename.specs.CanRename.{CanRename, moved_inode}
 use Rattle.bp_rename.specs.Respelled.{TouchesName}
 use Rattle.bp_rename.specs.declared.moving.Move.{Move}
+use Rattle.bp_rename.proofs.FewWays.{few_ways}
+use Rattle.bp_rename.proofs.LooseCovers.{now_whole}
 use Rattle.bp_rename.proofs.NameRun.{run_apart, run_inside, run_shape}
 use Rattle.bp_rename.proofs.WholePaths.{cover-whole, pointed-directory}
 
@@ -62,13 +67,13 @@ module _ (image : Image) (n s j : ℕ) (name : Name) (can : CanRespell image (su
   no_words = ap (λ ws. length ws) is.no_words
 
   pub within_shape : IsTouched touched
-  within_shape = run_shape image can.well_formed n can.reached touched is.run is.one no_words name_run
+  within_shape = run_shape image can.well_formed n can.reached touched is.run is.one no_words is.no_trees name_run
 
   pub within_inside : LeadsInside image touched
-  within_inside = run_inside image can.well_formed n can.reached touched is.run is.one no_words name_run
+  within_inside = run_inside image can.well_formed n can.reached touched is.run is.one no_words is.no_trees name_run
 
   pub within_apart : NoneBegins (all_paths touched)
-  within_apart = run_apart image can.well_formed n can.reached touched is.run is.one no_words name_run
+  within_apart = run_apart image can.well_formed n can.reached touched is.run is.one no_words is.no_trees name_run
 
   -- ---- the paths
 
@@ -117,6 +122,27 @@ module _ (image : Image) (n s j : ℕ) (name : Name) (can : CanRespell image (su
       ∙ ap (λ (paths : List WordPath). layout.prefixes_of (length (cover image (respells (suc n) s (length name)))) [] paths) same_paths in
       ap (λ (ps : List WordPath). length ps) paths ∙ omega arith
 
+  pub within_few : copied_count image touched ≤ 2828
+  within_few =
+      let few = few_ways image touched within_shape within_apart in
+      let leaves : leaves_of touched.runs.now ≡ run_leaves is.run = ap leaves_of is.one ∙ omega arith in
+      omega (arith, few, leaves, no_words, few_leaves is.run (omega (arith, is.is.count, few_words)))
+
+  -- the cover is that of the change now
+  pub within_now : commit_cover image touched ≡ cover_now image (respells (suc n) s (length name))
+  within_now =
+      cover-whole (is_pointed image) (all_paths touched) (tree_path (height_of (root_of image 0)) (suc n) (suc (height_of (root_of image (suc n)))) (32 * s + 1))
+      (rw same_paths first_in)
+      (pointed-directory image can.well_formed (suc n) (32 * s + 1) can.reached can.names.directory low)
+      ∙ ap common_all same_paths
+      ∙ sym (now_whole image can.well_formed (respells (suc n) s (length name)) (suc n) (32 * s + 1) can.reached can.names.directory low (inl refl))
+
+  -- so it may be stored to where nothing is left to thaw
+  pub within_loose : (kept : ℕ → Bool) → thawed image kept (respells (suc n) s (length name)) ≡ [] → HasLooseCover image kept touched
+  within_loose kept clear =
+      run_loose image can.well_formed n can.reached is.run name_run kept touched within_shape (subst (λ runs. Has runs is.run) (sym is.one) (inl refl))
+      (loose-on image kept (targets image (respells (suc n) s (length name))) clear (commit_cover image touched) (inl (sym within_now)) (length (commit_cover image touched) - 1))
+
 -- ---- told of any directory
 
 module _ (image : Image) (s j : ℕ) (name : Name) (touched : Touched) where
@@ -135,6 +161,18 @@ module _ (image : Image) (s j : ℕ) (name : Name) (touched : Touched) where
   pub within_need_at : (i : ℕ) → CanRespell image i s j name → TouchesName image i s name touched → copied_count image touched ≡ need image (respells i s (length name))
   within_need_at zero can is = absurd (omega (arith, can.names.directory))
   within_need_at (suc n) can is = within_need image n s j name can touched is
+
+  pub within_few_at : (i : ℕ) → CanRespell image i s j name → TouchesName image i s name touched → copied_count image touched ≤ 2828
+  within_few_at zero can is = absurd (omega (arith, can.names.directory))
+  within_few_at (suc n) can is = within_few image n s j name can touched is
+
+  pub within_now_at : (i : ℕ) → CanRespell image i s j name → TouchesName image i s name touched → commit_cover image touched ≡ cover_now image (respells i s (length name))
+  within_now_at zero can is = absurd (omega (arith, can.names.directory))
+  within_now_at (suc n) can is = within_now image n s j name can touched is
+
+  pub within_loose_at : (i : ℕ) → CanRespell image i s j name → TouchesName image i s name touched → (kept : ℕ → Bool) → thawed image kept (respells i s (length name)) ≡ [] → HasLooseCover image kept touched
+  within_loose_at zero can is kept clear = absurd (omega (arith, can.names.directory))
+  within_loose_at (suc n) can is kept clear = within_loose image n s j name can touched is kept clear
 
 -- ---- of a move
 

@@ -34,4 +34,5 @@ pub record TouchesName (image : Image) (i slot : ℕ) (name : Name) (touched : T
   pub run : Run
   pub one : touched.runs.now ≡ run ∷ []
   pub no_words : touched.words.now ≡ []
+  pub no_trees : touched.trees.now ≡ []
   pub is : IsNameRun image i slot name run

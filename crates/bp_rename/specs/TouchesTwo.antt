@@ -1,12 +1,17 @@
 -- Two touched words.
-use Rattle.std.specs.Prelude.{◌≡◌, ℕ, suc, ◌+◌, ◌*◌, List, [], ◌∷◌, map}
+use Rattle.std.specs.Prelude.{◌≡◌, ◌≢◌, ℕ, suc, ◌+◌, ◌*◌, ◌<◌, ◌≤◌, List, [], ◌∷◌, length, map}
 use Rattle.arrayvec.specs.ArrayVec.{ArrayVec}
 use Rattle.bp_cow.specs.Touched.{word_paths, word_values}
 use Rattle.bp_cow.specs.declared.touched.Touched.{Touched}
-use Rattle.bp_limits.specs.Limits.{entry_words}
-use Rattle.bp_layout.specs.Inode.{root_of}
+use Rattle.bp_cow.specs.declared.touched.TreeSize.{TreeSize}
+use Rattle.bp_limits.specs.Limits.{entry_words, max_height, super_root}
+use Rattle.bp_layout.specs.Inode.{root_of, size_of}
+use Rattle.bp_layout.specs.Members.{Has}
+use Rattle.bp_layout.specs.Reached.{IsReached}
 use Rattle.bp_layout.specs.WordPaths.{WordPath, inode_path, tree_path}
-use Rattle.bp_layout.specs.Words.{Image, height_of}
+use Rattle.bp_layout.specs.Words.{Image, height_of, word}
+use Rattle.bp_shapes.specs.Forest.{root_trail}
+use Rattle.bp_shapes.specs.Trail.{trail_of}
 
 -- the path of the inumber of an entry
 abbrev pub inumber_path : Image → ℕ → ℕ → WordPath
@@ -22,8 +27,30 @@ pub record AreTwo (words : List (ArrayVec ℕ × ℕ)) (first second : WordPath)
   pub paths : map (λ word. word.0.items) words ≡ first ∷ second ∷ []
   pub values : map (λ word. word.1) words ≡ one ∷ two ∷ []
 
--- These words alone are touched, in this order, and get these values.
-pub record TouchesTwo (touched : Touched) (first second : WordPath) (one two : ℕ) : Type 0 where
+-- A tree that an image reaches, and that has bytes: how high it is, and its size.
+pub record IsSizedTree (image : Image) (t : ℕ) (tree : TreeSize) : Type 0 where
+  pub reached : IsReached image t
+  pub some : 0 < size_of image t
+  pub root : trail_of tree.root.items (length tree.root.items) ≡ root_trail (height_of (word image super_root)) t
+  pub height : tree.height ≡ height_of (root_of image t)
+  pub low : tree.height ≤ max_height
+  pub size : tree.size ≡ size_of image t
+
+-- each of these is such a tree, one of those that are told
+abbrev pub ListsTrees : Image → (ℕ → Type 0) → List TreeSize → Type 0
+ListsTrees image Among trees = (tree : TreeSize) → Has trees tree → (t : ℕ) × (Among t × IsSizedTree image t tree)
+
+abbrev pub AnyTree : ℕ → Type 0
+AnyTree t = Unit {0}
+
+abbrev pub OtherTree : ℕ → ℕ → Type 0
+OtherTree j t = t ≢ j
+
+-- These words alone are touched, in this order, and get these values. Trees that the ways to them go through are told of
+-- an image, one of these.
+pub record TouchesTwo (image : Image) (Among : ℕ → Type 0) (touched : Touched) (first second : WordPath)
+    (one two : ℕ) : Type 0 where
   pub none : touched.runs.now ≡ []
+  pub trees : ListsTrees image Among touched.trees.now
   pub paths : word_paths touched ≡ first ∷ second ∷ []
   pub values : word_values touched ≡ one ∷ two ∷ []

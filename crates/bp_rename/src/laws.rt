@@ -2,6 +2,7 @@
 
 ghost use Rattle.std.specs.Prelude.{ℕ, [], ◌∷◌, ◌++◌};
 ghost use Rattle.bp_calls.specs.Removed.{IsFoundAt};
+ghost use Rattle.bp_changes.specs.Thawed.{AfterThaw};
 ghost use Rattle.bp_layout.specs.Directory.{Name};
 ghost use Rattle.bp_layout.specs.Lookup.{Path};
 ghost use Rattle.bp_layout.specs.WellFormed.{IsWellFormed};
@@ -15,7 +16,7 @@ use crate::moving::Move;
 /// directories, where the second is not below the name.
 pub fn renamed_names_move(old: &[u64], new: &[u64], to_move: &Move<'_>)
     requires { CanRename old.now to_move.now }
-    ensures { RenamesEntry to_move.now old.now new.now → MovesPath to_move.now old.now new.now }
+    ensures { AfterThaw (RenamesEntry to_move.now) old.now new.now → MovesPath to_move.now old.now new.now }
 {}
 
 /// A name that a path finds may move into a directory that is not below it, where no entry has the new name there, or

@@ -12,5 +12,4 @@ mod touching;
 mod within;
 
 pub use moving::Move;
-pub use needing::need;
 pub use renaming::{rename, rename_in};

@@ -1,14 +1,17 @@
-//! What a rename needs.
+//! What a rename needs, and near which words it stores.
 
-ghost use Rattle.std.specs.Prelude.{◌≡◌};
+ghost use Rattle.std.specs.Prelude.{◌≡◌, ◌^◌, ◌<◌};
 ghost use Rattle.bp_layout.specs.Need.{need};
 ghost use Rattle.bp_rename.specs.CanRename.{CanRename, IsSlotAcross, change_of};
+ghost use Rattle.bp_layout.specs.Thaw.{targets};
+ghost use Rattle.bp_thaw.specs.Thaws.{paths_in};
 ghost use Rattle.pm_region.specs.Memory.{current_words};
 
-use crate::across::need_across;
+use crate::across::{need_across, targets_across};
 use crate::moving::Move;
-use crate::onto::need_onto;
-use crate::within::need_within;
+use crate::onto::{need_onto, targets_onto};
+use crate::within::{need_within, targets_within};
+use bp_calls::Targets;
 use bp_dirs::free_slot;
 use bp_inodes::tree_of;
 use pm_region::Region;
@@ -25,11 +28,13 @@ pub(crate) fn slot_across<R: Region>(region: &R, to_move: &Move<'_>) -> Option<u
     }
 }
 
-/// What [`need`] tells, given what [`slot_across`] does.
+/// How many blocks a rename needs once nothing is left to thaw, given what [`slot_across`] tells. No block has to be free
+/// for it.
 pub(crate) fn need_with<R: Region>(region: &R, to_move: &Move<'_>, empty: Option<u64>) -> u32
     requires can { CanRename (current_words (R.memory region.now)) to_move.now }
     requires empty { IsSlotAcross (current_words (R.memory region.now)) to_move.now empty }
-    ensures { result ≡ need (current_words (R.memory region.now)) (change_of to_move.now) }
+    ensures need { result ≡ need (current_words (R.memory region.now)) (change_of to_move.now) }
+    ensures few { result < 2 ^ 31 }
 {
     match to_move.to_slot {
         Some(slot) => need_onto(region, to_move, slot),
@@ -38,10 +43,15 @@ pub(crate) fn need_with<R: Region>(region: &R, to_move: &Move<'_>, empty: Option
     }
 }
 
-/// How many blocks a rename needs. No block has to be free for it.
-pub fn need<R: Region>(region: &R, to_move: &Move<'_>) -> u32
+/// The words near which a rename stores, given what [`slot_across`] tells.
+pub(crate) fn targets_with<R: Region>(region: &R, to_move: &Move<'_>, empty: Option<u64>) -> Targets
     requires can { CanRename (current_words (R.memory region.now)) to_move.now }
-    ensures { result ≡ need (current_words (R.memory region.now)) (change_of to_move.now) }
+    requires empty { IsSlotAcross (current_words (R.memory region.now)) to_move.now empty }
+    ensures { paths_in result ≡ targets (current_words (R.memory region.now)) (change_of to_move.now) }
 {
-    need_with(region, to_move, slot_across(region, to_move))
+    match to_move.to_slot {
+        Some(slot) => targets_onto(region, to_move, slot),
+        None if to_move.from_dir == to_move.to_dir => targets_within(region, to_move),
+        None => targets_across(region, to_move, empty),
+    }
 }

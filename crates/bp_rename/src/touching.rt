@@ -1,42 +1,84 @@
-//! The words that a rename touches.
+//! The words that a rename touches, and the trees that the ways to them go through.
 
-ghost use Rattle.std.specs.Prelude.{◌≡◌, suc, ◌+◌, ◌*◌, ◌<◌, ◌≤◌, []};
-ghost use Rattle.bp_limits.specs.Limits.{entry_words};
-ghost use Rattle.bp_layout.specs.Directory.{entry_count};
-ghost use Rattle.bp_layout.specs.Inode.{root_of};
+ghost use Rattle.std.specs.Prelude.{◌≡◌, ◌≢◌, ℕ, ◌<◌, ◌≤◌, []};
+ghost use Rattle.bp_layout.specs.Inode.{size_of};
 ghost use Rattle.bp_layout.specs.Reached.{IsReached};
 ghost use Rattle.bp_layout.specs.WellFormed.{IsWellFormed};
-ghost use Rattle.bp_layout.specs.WordPaths.{tree_path};
-ghost use Rattle.bp_layout.specs.Words.{height_of};
+ghost use Rattle.bp_rename.specs.TouchesTwo.{AnyTree, IsSizedTree, ListsTrees, OtherTree};
 ghost use Rattle.pm_region.specs.Memory.{current_words};
 
-use bp_cow::Touched;
-use bp_inodes::{root_path, tree_of};
-use bp_limits::ENTRY_SIZE;
-use bp_tree::{Slots, word_path};
+use bp_cow::{Touched, TreeSize};
+use bp_inodes::{inode_file, root_path, tree_of};
+use bp_tree::Slots;
 use pm_region::Region;
 
-/// The path of the inumber of an entry.
-pub(crate) fn entry_path<R: Region>(region: &R, dir: u32, slot: u64) -> Slots
+/// The tree of a directory that has entries, with its size.
+fn size_of_directory<R: Region>(region: &R, dir: u32) -> TreeSize
     requires well_formed { IsWellFormed (current_words (R.memory region.now)) }
     requires reached { IsReached (current_words (R.memory region.now)) dir }
     requires some { 1 ≤ dir }
-    requires live { slot < entry_count (current_words (R.memory region.now)) dir }
-    ensures { result.items ≡ tree_path (height_of (root_of (current_words (R.memory region.now)) 0)) dir
-        (suc (height_of (root_of (current_words (R.memory region.now)) dir))) (entry_words * slot + 0) }
+    requires entries { 0 < size_of (current_words (R.memory region.now)) dir }
+    ensures { IsSizedTree (current_words (R.memory region.now)) dir result }
 {
-    let mut path = root_path(region, dir);
-    let within = word_path(tree_of(region, dir), slot * ENTRY_SIZE);
-    match path.try_extend_from_slice(within.as_slice()) {
-        Ok(()) => path,
-        Err(_) => unreachable!(),
+    let tree = tree_of(region, dir);
+    TreeSize {
+        root: root_path(region, dir),
+        height: tree.height(),
+        size: tree.size,
     }
 }
 
-/// What is touched by two words and no run.
-pub(crate) fn touched_two(words: &[(Slots, u64); 2]) -> Touched<'_>
+/// The inode file, with its size.
+fn size_of_inodes<R: Region>(region: &R) -> TreeSize
+    requires { IsWellFormed (current_words (R.memory region.now)) }
+    ensures { IsSizedTree (current_words (R.memory region.now)) 0 result }
+{
+    let tree = inode_file(region);
+    TreeSize {
+        root: Slots::new(),
+        height: tree.height(),
+        size: tree.size,
+    }
+}
+
+/// The trees that the ways to words of a directory go through.
+pub(crate) fn trees_of_one<R: Region>(region: &R, dir: u32) -> [TreeSize; 2]
+    requires well_formed { IsWellFormed (current_words (R.memory region.now)) }
+    requires reached { IsReached (current_words (R.memory region.now)) dir }
+    requires some { 1 ≤ dir }
+    requires entries { 0 < size_of (current_words (R.memory region.now)) dir }
+    ensures { (j : ℕ) → 1 ≤ j → dir ≢ j → ListsTrees (current_words (R.memory region.now)) (OtherTree j) result }
+{
+    [size_of_directory(region, dir), size_of_inodes(region)]
+}
+
+/// The same of two directories.
+pub(crate) fn trees_of_both<R: Region>(region: &R, first: u32, second: u32) -> [TreeSize; 3]
+    requires well_formed { IsWellFormed (current_words (R.memory region.now)) }
+    requires first_reached { IsReached (current_words (R.memory region.now)) first }
+    requires first_some { 1 ≤ first }
+    requires first_entries { 0 < size_of (current_words (R.memory region.now)) first }
+    requires second_reached { IsReached (current_words (R.memory region.now)) second }
+    requires second_some { 1 ≤ second }
+    requires second_entries { 0 < size_of (current_words (R.memory region.now)) second }
+    ensures { ListsTrees (current_words (R.memory region.now)) AnyTree result }
+{
+    [
+        size_of_directory(region, first),
+        size_of_directory(region, second),
+        size_of_inodes(region),
+    ]
+}
+
+/// What is touched by two words and no run, on ways through these trees.
+pub(crate) fn touched_two<'a>(words: &'a [(Slots, u64); 2], trees: &'a [TreeSize]) -> Touched<'a>
     ensures words { result.words.now ≡ words.now }
     ensures none { result.runs.now ≡ [] }
+    ensures trees { result.trees.now ≡ trees.now }
 {
-    Touched { words, runs: &[] }
+    Touched {
+        words,
+        runs: &[],
+        trees,
+    }
 }

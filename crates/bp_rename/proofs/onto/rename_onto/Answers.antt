@@ -1,12 +1,16 @@
-use Rattle.std.proofs.Common.{◌≡◌, ◌-◌, slice_index, ◌∙◌, ap, arith}
+use Rattle.std.proofs.Common.{◌≡◌, ◌-◌, ◌/◌, length, slice_index, refl, sym, ◌∙◌, ap, arith}
+use Rattle.bp_free.specs.Set.{Set}
 use Rattle.std.proofs.lemmas.List.{length-set}
 use Rattle.bp_layout.specs.Directory.{inumber_at, inumber_in}
+use Rattle.bp_shapes.specs.Sets.{kept_of}
 use Rattle.pm_region.specs.Memory.{Memory, current_words}
 use Rattle.bp_rename.proofs.OntoDone.{has_room, inode_in_room, inode_taken, inode_there, kind_some, named_exact, onto_counts, onto_exact, onto_gives, onto_performs, onto_well_formed, onto_whole, ready}
 use Rattle.bp_rename.proofs.OntoNames.{onto_counted, onto_last, onto_named, onto_other}
-use Rattle.bp_rename.proofs.OntoLaws.{onto_need, replaced, replaced_few, replaced_some}
+use Rattle.bp_rename.proofs.OntoLaws.{onto_loose, onto_need, replaced, replaced_few, replaced_some}
 use Rattle.bp_layout.specs.Reached.IsReached.{inode_file}
+use Rattle.bp_rename.specs.TouchesTwo.{AnyTree}
 use Rattle.bp_rename.proofs.TwoWords.{touches_two}
+use Rattle.bp_calls.proofs.TargetPaths.{directory_some}
 use Rattle.bp_calls.proofs.CountLaws.{exact_with}
 use Rattle.bp_rename.proofs.onto.rename_onto.Goals as goal
 
@@ -25,19 +29,21 @@ overflow_cast-replaced g c =
 
 pub commit-requires : goal.commit-requires
 commit-requires g c κs within =
-    let touches = touches_two c.touched_two-touched.result c.words_onto-words.result c.touched_two-touched.ensures.words c.touched_two-touched.ensures.none c.words_onto-words.ensures in
+    let touches = touches_two (current_words (g.R.Region.memory c.args.parts.now.region)) AnyTree c.touched_two-touched.result c.words_onto-words.result c.trees_of_both-trees.result c.touched_two-touched.ensures.words c.touched_two-touched.ensures.none c.touched_two-touched.ensures.trees c.trees_of_both-trees.ensures c.words_onto-words.ensures in
     let old : Memory = g.R.Region.memory c.args.parts.now.region in
     let can = ready old c.args.to_move.now c.args.slot c.requires.can c.requires.onto
     c.touched_two-touched.result touches c.args.parts.now.blocks c.args.parts.now.inodes c.requires.exact.sets c.requires.room in
     let room = has_room old c.args.to_move.now c.args.slot c.requires.can c.requires.onto
     c.touched_two-touched.result touches c.args.parts.now.blocks c.args.parts.now.inodes c.requires.exact.sets c.requires.room in
+    let loose = onto_loose (current_words old) c.args.to_move.now c.args.slot c.requires.can c.requires.onto
+    c.touched_two-touched.result touches (kept_of c.args.parts.now) c.requires.clear in
     let count = onto_need (current_words old) c.args.to_move.now c.args.slot c.requires.can c.requires.onto
     c.touched_two-touched.result touches in
-    (within, record { well_formed = c.requires.can.well_formed; can = can; fits = omega (arith, c.requires.exact.sets.block_room); some = omega (arith, count, c.requires.enough); room = room })
+    (within, (record { well_formed = c.requires.can.well_formed; can = can; loose = loose; fits = omega (arith, c.requires.exact.sets.block_room); some = omega (arith, count, c.requires.enough); room = room }, record { room = omega (arith, c.requires.exact.frozen_room); same = λ b. refl }))
 
 pub get-inode-requires-clause-sound : goal.get-inode-requires-clause-sound
 get-inode-requires-clause-sound g c =
-    let touches = touches_two c.touched_two-touched.result c.words_onto-words.result c.touched_two-touched.ensures.words c.touched_two-touched.ensures.none c.words_onto-words.ensures in
+    let touches = touches_two (current_words (g.R.Region.memory c.args.parts.now.region)) AnyTree c.touched_two-touched.result c.words_onto-words.result c.trees_of_both-trees.result c.touched_two-touched.ensures.words c.touched_two-touched.ensures.none c.touched_two-touched.ensures.trees c.trees_of_both-trees.ensures c.words_onto-words.ensures in
     let old : Memory = g.R.Region.memory c.args.parts.now.region in
     let new : Memory = g.R.Region.memory c.commit.new.parts.region in
     let formed = onto_well_formed old new c.args.to_move.now c.args.slot c.requires.can c.requires.onto
@@ -54,7 +60,7 @@ get-inode-requires-clause-some g c =
 
 pub get-inode-requires-clause-there : goal.get-inode-requires-clause-there
 get-inode-requires-clause-there g c =
-    let touches = touches_two c.touched_two-touched.result c.words_onto-words.result c.touched_two-touched.ensures.words c.touched_two-touched.ensures.none c.words_onto-words.ensures in
+    let touches = touches_two (current_words (g.R.Region.memory c.args.parts.now.region)) AnyTree c.touched_two-touched.result c.words_onto-words.result c.trees_of_both-trees.result c.touched_two-touched.ensures.words c.touched_two-touched.ensures.none c.touched_two-touched.ensures.trees c.trees_of_both-trees.ensures c.words_onto-words.ensures in
     let old : Memory = g.R.Region.memory c.args.parts.now.region in
     let new : Memory = g.R.Region.memory c.commit.new.parts.region in
     let named : c.inumber-replaced.result ≡ inumber_at (current_words old) c.args.to_move.now.to_dir c.args.slot =
@@ -64,7 +70,7 @@ get-inode-requires-clause-there g c =
 
 pub get-inode-requires-clause-least : goal.get-inode-requires-clause-least
 get-inode-requires-clause-least g c =
-    let touches = touches_two c.touched_two-touched.result c.words_onto-words.result c.touched_two-touched.ensures.words c.touched_two-touched.ensures.none c.words_onto-words.ensures in
+    let touches = touches_two (current_words (g.R.Region.memory c.args.parts.now.region)) AnyTree c.touched_two-touched.result c.words_onto-words.result c.trees_of_both-trees.result c.touched_two-touched.ensures.words c.touched_two-touched.ensures.none c.touched_two-touched.ensures.trees c.trees_of_both-trees.ensures c.words_onto-words.ensures in
     let old : Memory = g.R.Region.memory c.args.parts.now.region in
     let new : Memory = g.R.Region.memory c.commit.new.parts.region in
     let named : c.inumber-replaced.result ≡ inumber_at (current_words old) c.args.to_move.now.to_dir c.args.slot =
@@ -74,7 +80,7 @@ get-inode-requires-clause-least g c =
 
 pub get-inode-requires-clause-most : goal.get-inode-requires-clause-most
 get-inode-requires-clause-most g c =
-    let touches = touches_two c.touched_two-touched.result c.words_onto-words.result c.touched_two-touched.ensures.words c.touched_two-touched.ensures.none c.words_onto-words.ensures in
+    let touches = touches_two (current_words (g.R.Region.memory c.args.parts.now.region)) AnyTree c.touched_two-touched.result c.words_onto-words.result c.trees_of_both-trees.result c.touched_two-touched.ensures.words c.touched_two-touched.ensures.none c.touched_two-touched.ensures.trees c.trees_of_both-trees.ensures c.words_onto-words.ensures in
     let old : Memory = g.R.Region.memory c.args.parts.now.region in
     let new : Memory = g.R.Region.memory c.commit.new.parts.region in
     let named : c.inumber-replaced.result ≡ inumber_at (current_words old) c.args.to_move.now.to_dir c.args.slot =
@@ -84,7 +90,7 @@ get-inode-requires-clause-most g c =
 
 pub give_back-requires-clause-sound : goal.give_back-requires-clause-sound
 give_back-requires-clause-sound g c =
-    let touches = touches_two c.touched_two-touched.result c.words_onto-words.result c.touched_two-touched.ensures.words c.touched_two-touched.ensures.none c.words_onto-words.ensures in
+    let touches = touches_two (current_words (g.R.Region.memory c.args.parts.now.region)) AnyTree c.touched_two-touched.result c.words_onto-words.result c.trees_of_both-trees.result c.touched_two-touched.ensures.words c.touched_two-touched.ensures.none c.touched_two-touched.ensures.trees c.trees_of_both-trees.ensures c.words_onto-words.ensures in
     let old : Memory = g.R.Region.memory c.args.parts.now.region in
     let new : Memory = g.R.Region.memory c.commit.new.parts.region in
     let named : c.inumber-replaced.result ≡ inumber_at (current_words old) c.args.to_move.now.to_dir c.args.slot =
@@ -94,7 +100,7 @@ give_back-requires-clause-sound g c =
 
 pub give_back-requires-clause-taken : goal.give_back-requires-clause-taken
 give_back-requires-clause-taken g c =
-    let touches = touches_two c.touched_two-touched.result c.words_onto-words.result c.touched_two-touched.ensures.words c.touched_two-touched.ensures.none c.words_onto-words.ensures in
+    let touches = touches_two (current_words (g.R.Region.memory c.args.parts.now.region)) AnyTree c.touched_two-touched.result c.words_onto-words.result c.trees_of_both-trees.result c.touched_two-touched.ensures.words c.touched_two-touched.ensures.none c.touched_two-touched.ensures.trees c.trees_of_both-trees.ensures c.words_onto-words.ensures in
     let old : Memory = g.R.Region.memory c.args.parts.now.region in
     let new : Memory = g.R.Region.memory c.commit.new.parts.region in
     let named : c.inumber-replaced.result ≡ inumber_at (current_words old) c.args.to_move.now.to_dir c.args.slot =
@@ -102,9 +108,18 @@ give_back-requires-clause-taken g c =
     rw (c.get-inode.ensures.root, c.get-inode.ensures.size, named) (onto_gives old new c.args.to_move.now c.args.slot c.requires.can c.requires.onto
     c.touched_two-touched.result touches c.args.parts.now.blocks c.args.parts.now.inodes c.commit.new.parts.blocks c.requires.exact.sets c.requires.room c.commit.ensures.commits c.commit.ensures.size).taken
 
+pub give_back-requires-clause-known : goal.give_back-requires-clause-known
+give_back-requires-clause-known g c =
+    let touches = touches_two (current_words (g.R.Region.memory c.args.parts.now.region)) AnyTree c.touched_two-touched.result c.words_onto-words.result c.trees_of_both-trees.result c.touched_two-touched.ensures.words c.touched_two-touched.ensures.none c.touched_two-touched.ensures.trees c.trees_of_both-trees.ensures c.words_onto-words.ensures in
+    let old : Memory = g.R.Region.memory c.args.parts.now.region in
+    let new : Memory = g.R.Region.memory c.commit.new.parts.region in
+    let whole = onto_whole old new c.args.to_move.now c.args.slot c.requires.can c.requires.onto
+    c.touched_two-touched.result touches c.args.parts.now.blocks c.args.parts.now.inodes c.commit.new.parts.blocks c.requires.exact.sets c.requires.room c.commit.ensures.commits c.commit.ensures.size in
+    ap (λ (kept : Set). length kept) c.commit.ensures.frozen ∙ c.requires.exact.frozen_room ∙ sym (ap (λ n. n / 512) whole)
+
 pub give-requires-clause-in_range : goal.give-requires-clause-in_range
 give-requires-clause-in_range g c =
-    let touches = touches_two c.touched_two-touched.result c.words_onto-words.result c.touched_two-touched.ensures.words c.touched_two-touched.ensures.none c.words_onto-words.ensures in
+    let touches = touches_two (current_words (g.R.Region.memory c.args.parts.now.region)) AnyTree c.touched_two-touched.result c.words_onto-words.result c.trees_of_both-trees.result c.touched_two-touched.ensures.words c.touched_two-touched.ensures.none c.touched_two-touched.ensures.trees c.trees_of_both-trees.ensures c.words_onto-words.ensures in
     let old : Memory = g.R.Region.memory c.args.parts.now.region in
     let named : c.inumber-replaced.result ≡ inumber_at (current_words old) c.args.to_move.now.to_dir c.args.slot =
     c.inumber-replaced.ensures ∙ ap (λ root. inumber_in (current_words old) root c.args.slot) c.tree_of-target.ensures.root in
@@ -114,7 +129,7 @@ give-requires-clause-in_range g c =
 
 pub give-requires-clause-taken : goal.give-requires-clause-taken
 give-requires-clause-taken g c =
-    let touches = touches_two c.touched_two-touched.result c.words_onto-words.result c.touched_two-touched.ensures.words c.touched_two-touched.ensures.none c.words_onto-words.ensures in
+    let touches = touches_two (current_words (g.R.Region.memory c.args.parts.now.region)) AnyTree c.touched_two-touched.result c.words_onto-words.result c.trees_of_both-trees.result c.touched_two-touched.ensures.words c.touched_two-touched.ensures.none c.touched_two-touched.ensures.trees c.trees_of_both-trees.ensures c.words_onto-words.ensures in
     let old : Memory = g.R.Region.memory c.args.parts.now.region in
     let named : c.inumber-replaced.result ≡ inumber_at (current_words old) c.args.to_move.now.to_dir c.args.slot =
     c.inumber-replaced.ensures ∙ ap (λ root. inumber_in (current_words old) root c.args.slot) c.tree_of-target.ensures.root in
@@ -153,7 +168,7 @@ set-requires g c =
 -- what had the name has another one
 pub returns-then-names-gt0 : goal.returns-then-names-gt0
 returns-then-names-gt0 g c =
-    let touches = touches_two c.touched_two-touched.result c.words_onto-words.result c.touched_two-touched.ensures.words c.touched_two-touched.ensures.none c.words_onto-words.ensures in
+    let touches = touches_two (current_words (g.R.Region.memory c.args.parts.now.region)) AnyTree c.touched_two-touched.result c.words_onto-words.result c.trees_of_both-trees.result c.touched_two-touched.ensures.words c.touched_two-touched.ensures.none c.touched_two-touched.ensures.trees c.trees_of_both-trees.ensures c.words_onto-words.ensures in
     let old : Memory = g.R.Region.memory c.args.parts.now.region in
     let new : Memory = g.R.Region.memory c.commit.new.parts.region in
     let named : c.inumber-replaced.result ≡ inumber_at (current_words old) c.args.to_move.now.to_dir c.args.slot =
@@ -166,6 +181,7 @@ returns-then-names-gt0 g c =
     record {
       performs = onto_performs old new c.args.to_move.now c.args.slot c.requires.can c.requires.onto
           c.touched_two-touched.result touches c.args.parts.now.blocks c.args.parts.now.inodes c.commit.new.parts.blocks c.requires.exact.sets c.requires.room c.commit.ensures.commits c.commit.ensures.size;
+      frozen = c.commit.ensures.frozen;
       exact = exact_with _ _ c.args.parts.now _ c.requires.exact
           (rw c.commit.ensures.inodes (named_exact old new c.args.to_move.now c.args.slot c.requires.can c.requires.onto
           c.touched_two-touched.result touches c.args.parts.now.blocks c.args.parts.now.inodes c.commit.new.parts.blocks c.requires.exact.sets c.requires.room c.commit.ensures.commits c.commit.ensures.size more)) c.commit.ensures.frozen
@@ -179,7 +195,7 @@ returns-then-names-gt0 g c =
 -- the name was its last
 pub returns : goal.returns
 returns g c =
-    let touches = touches_two c.touched_two-touched.result c.words_onto-words.result c.touched_two-touched.ensures.words c.touched_two-touched.ensures.none c.words_onto-words.ensures in
+    let touches = touches_two (current_words (g.R.Region.memory c.args.parts.now.region)) AnyTree c.touched_two-touched.result c.words_onto-words.result c.trees_of_both-trees.result c.touched_two-touched.ensures.words c.touched_two-touched.ensures.none c.touched_two-touched.ensures.trees c.trees_of_both-trees.ensures c.words_onto-words.ensures in
     let old : Memory = g.R.Region.memory c.args.parts.now.region in
     let new : Memory = g.R.Region.memory c.commit.new.parts.region in
     let named : c.inumber-replaced.result ≡ inumber_at (current_words old) c.args.to_move.now.to_dir c.args.slot =
@@ -192,14 +208,29 @@ returns g c =
     record {
       performs = onto_performs old new c.args.to_move.now c.args.slot c.requires.can c.requires.onto
           c.touched_two-touched.result touches c.args.parts.now.blocks c.args.parts.now.inodes c.commit.new.parts.blocks c.requires.exact.sets c.requires.room c.commit.ensures.commits c.commit.ensures.size;
+      frozen = c.commit.ensures.frozen;
       exact = exact_with _ _ c.args.parts.now _ c.requires.exact
           (rw (c.give.ensures, c.commit.ensures.inodes, named)
           (onto_exact old new c.args.to_move.now c.args.slot c.requires.can c.requires.onto
           c.touched_two-touched.result touches c.args.parts.now.blocks c.args.parts.now.inodes c.commit.new.parts.blocks c.requires.exact.sets c.requires.room c.commit.ensures.commits c.commit.ensures.size c.give_back.new.blocks
-          (rw (c.get-inode.ensures.root, c.get-inode.ensures.size, named) at c.give_back.ensures) last)) c.commit.ensures.frozen
+          (rw (c.get-inode.ensures.root, c.get-inode.ensures.size, named, c.commit.ensures.frozen) at c.give_back.ensures) last)) c.commit.ensures.frozen
           (onto_whole old new c.args.to_move.now c.args.slot c.requires.can c.requires.onto
           c.touched_two-touched.result touches c.args.parts.now.blocks c.args.parts.now.inodes c.commit.new.parts.blocks c.requires.exact.sets c.requires.room c.commit.ensures.commits c.commit.ensures.size)
           (rw (c.commit.ensures.counts, c.set.ensures) (length-set _ _ _))
           (rw (c.commit.ensures.counts, c.set.ensures, named) (onto_counts old new c.args.to_move.now c.args.slot c.requires.can c.requires.onto
           c.touched_two-touched.result touches c.args.parts.now.blocks c.args.parts.now.inodes c.commit.new.parts.blocks c.requires.exact.sets c.requires.room c.commit.ensures.commits c.commit.ensures.size c.args.parts.now.counts c.requires.exact.counts low (c.names-names.result - 1) (omega (arith, some, read))));
     }
+
+-- ---- the trees that the ways go through
+
+pub trees_of_both-trees-requires-clause-first_some : goal.trees_of_both-trees-requires-clause-first_some
+trees_of_both-trees-requires-clause-first_some g c = directory_some (current_words (g.R.Region.memory c.args.parts.now.region)) c.args.to_move.now.from_dir c.requires.can.entry.directory
+
+pub trees_of_both-trees-requires-clause-first_entries : goal.trees_of_both-trees-requires-clause-first_entries
+trees_of_both-trees-requires-clause-first_entries g c = omega (arith, c.requires.can.entry.in_size)
+
+pub trees_of_both-trees-requires-clause-second_some : goal.trees_of_both-trees-requires-clause-second_some
+trees_of_both-trees-requires-clause-second_some g c = directory_some (current_words (g.R.Region.memory c.args.parts.now.region)) c.args.to_move.now.to_dir c.requires.can.directory
+
+pub trees_of_both-trees-requires-clause-second_entries : goal.trees_of_both-trees-requires-clause-second_entries
+trees_of_both-trees-requires-clause-second_entries g c = let low = (replaced (current_words (g.R.Region.memory c.args.parts.now.region)) c.args.to_move.now c.args.slot c.requires.can c.requires.onto).in_size in omega (arith, low)

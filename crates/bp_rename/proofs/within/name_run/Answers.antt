@@ -1,4 +1,4 @@
-use Rattle.std.proofs.Common.{◌≡◌, ◌+◌, ◌*◌, take, refl, ◌∙◌, ap, arith}
+use Rattle.std.proofs.Common.{◌≡◌, ◌+◌, ◌*◌, take, ◌∙◌, ap, arith}
 use Rattle.bp_layout.specs.Words.{height_of}
 use Rattle.pm_region.specs.Memory.{current_words}
 use Rattle.bp_rename.specs.Respelled.{respelled_length}

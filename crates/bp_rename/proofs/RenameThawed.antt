@@ -1,0 +1,62 @@
+-- What may be renamed may be renamed behind a thaw, and what is made of it then is made of the plain tree before it.
+use Rattle.std.proofs.Common.{◌≡◌, ℕ, ◌∷◌, ◌++◌, [], Option, None, Some, sym, ◌∙◌, subst}
+use Rattle.bp_changes.specs.Effects.{IsAtOrBelow}
+use Rattle.bp_changes.specs.Thawed.{AfterThaw, SameShape}
+use Rattle.bp_changes.proofs.ReachedOn.{names_on, reached_on}
+use Rattle.bp_changes.proofs.SameMeaning.{name-same, names-back, well_formed-same}
+use Rattle.bp_changes.proofs.ShapeLaws.{empty-same}
+use Rattle.bp_layout.specs.Below.{rest_below}
+use Rattle.bp_layout.specs.Directory.{EntryNames, Name, inumber_at, name_at}
+use Rattle.bp_layout.specs.Words.{Image}
+use Rattle.bp_plain.specs.Plain.{with_moved}
+use Rattle.bp_plain.specs.Stands.{Shows}
+use Rattle.bp_calls.proofs.AfterLaws.{slot_named_over}
+use Rattle.bp_calls.proofs.ThawedShows.{found_thawed, shows_thawed}
+use Rattle.bp_rename.specs.CanRename.{CanRename, IsSlotAcross, moved_inode}
+use Rattle.bp_rename.specs.MovesPath.{MovesPath}
+use Rattle.bp_rename.specs.RenamesEntry.{RenamesEntry}
+use Rattle.bp_rename.specs.declared.moving.Move.{Move}
+use Rattle.bp_rename.proofs.OntoLaws.{replaced, replaced_reached}
+use Rattle.bp_rename.proofs.Outside.{below_before}
+use Rattle.bp_rename.proofs.RenamedStands.{renamed_moves}
+
+module _ (old mid : Image) (move : Move) (can : CanRename old move) (shape : SameShape old mid) where
+  moved : inumber_at mid move.from_dir move.from_slot ≡ moved_inode old move
+  moved = shape.meaning.inumber move.from_dir move.from_slot can.source can.entry.directory can.entry.in_size
+
+  target_inode : (r : ℕ) → move.to_slot ≡ Some r → inumber_at mid move.to_dir r ≡ inumber_at old move.to_dir r
+  target_inode r is = shape.meaning.inumber move.to_dir r can.target can.directory (replaced old move r can is).in_size
+
+  pub rename_on : CanRename mid move
+  rename_on = record {
+    well_formed = well_formed-same old mid can.well_formed shape.meaning;
+    source = reached_on old mid shape.meaning move.from_dir can.source;
+    entry = subst (EntryNames mid move.from_dir move.from_slot) (sym moved)
+        (names_on old mid shape.meaning move.from_dir move.from_slot (moved_inode old move) can.source can.entry);
+    target = reached_on old mid shape.meaning move.to_dir can.target;
+    directory = shape.meaning.kind move.to_dir can.target ∙ can.directory;
+    outside = λ below.
+        can.outside (below_before old mid can.well_formed shape.meaning move.from_dir move.from_slot (moved_inode old move) can.source can.entry move.to_dir
+        (subst (λ x. IsAtOrBelow mid x move.to_dir) moved below));
+    name = can.name;
+    slot = slot_named_over old mid can.well_formed shape.meaning move.to_dir move.name.now can.target can.directory ∙ can.slot;
+    apart = λ r is same. can.apart r is (sym (target_inode r is) ∙ same ∙ moved);
+    alone = λ r x l is names.
+        can.alone r x l is
+        (names-back old mid can.well_formed shape.meaning (inumber_at old move.to_dir r) x l (replaced_reached old move r can is)
+        (subst (λ u. EntryNames mid u x l) (target_inode r is) names));
+  }
+
+  -- the least empty slot is the same
+  pub slot_on : (empty : Option ℕ) → IsSlotAcross old move empty → IsSlotAcross mid move empty
+  slot_on empty is none other = is none other ∙ sym (empty-same old mid shape move.to_dir can.target can.directory)
+
+pub renamed_after : (old new : Image) (move : Move) → CanRename old move → AfterThaw (RenamesEntry move) old new → MovesPath move old new
+renamed_after old new move can after map from to shows from_is to_is outside =
+    let same = after.thawed.meaning in
+    let name : name_at after.middle move.from_dir move.from_slot ≡ name_at old move.from_dir move.from_slot =
+    name-same old after.middle can.well_formed same move.from_dir move.from_slot (moved_inode old move) can.source can.entry in
+    subst (λ (n : Name). Shows new (with_moved map (from ++ n ∷ []) (to ++ move.name.now ∷ []))) name
+    (renamed_moves after.middle new move (rename_on old after.middle move can after.thawed) after.effect map from to (shows_thawed old after.middle can.well_formed same map shows)
+    (found_thawed old after.middle can.well_formed same from move.from_dir from_is) (found_thawed old after.middle can.well_formed same to move.to_dir to_is)
+    (subst (λ (n : Name). rest_below (from ++ n ∷ []) to ≡ None) (sym name) outside))

@@ -1,29 +1,28 @@
 -- Calls that write bytes into several files at once: why they are refused, and what they make of the plain tree.
-use Rattle.std.proofs.Common.{◌≡◌, ◌≢◌, ◌⊎◌, ℕ, ◌+◌, ◌≤◌, ◌<◌, ◌==◌, List, [], ◌∷◌, ◌++◌, length, map, Bool, true, false, refl, sym, ◌∙◌, ap, ap₂, subst, Option, None, Some, inl, inr, arith, true≢false}
+use Rattle.std.proofs.Common.{◌≡◌, ◌⊎◌, ℕ, ◌+◌, ◌≤◌, ◌<◌, ◌==◌, List, [], ◌∷◌, length, map, Bool, true, false, refl, sym, ◌∙◌, ap, ap₂, Option, None, Some, inl, inr, arith, true≢false}
 use Rattle.std.specs.Prelude.{nat_lt, is_none, unwrap_or}
 use Rattle.std.specs.List.{fold, list_any, sum_by}
 use Rattle.std.proofs.lemmas.Bool.{cases_lt, lt-ltb, le-ltb}
 use Rattle.bp_layout.specs.Inode.{kind_of, size_of}
-use Rattle.bp_layout.specs.Lookup.{Path, lookup}
+use Rattle.bp_layout.specs.Lookup.{Path}
 use Rattle.bp_layout.specs.Members.{Each}
 use Rattle.bp_layout.specs.Need.{Change, Stretch}
 use Rattle.bp_layout.specs.Need.Change.{overwrites}
 use Rattle.bp_layout.specs.PathText.{parse}
 use Rattle.bp_layout.specs.WellFormed.{IsWellFormed}
 use Rattle.bp_layout.specs.Words.{Image}
-use Rattle.bp_changes.specs.Overwrites.{OverwritesFiles, Patch}
+use Rattle.bp_changes.specs.Overwrites.{Patch}
 use Rattle.bp_stands.specs.Pieces.{ArePatches, PieceFinds}
 use Rattle.bp_stands.specs.Pieces.ArePatches.{none as no_patch, more as more_patches}
-use Rattle.bp_stands.proofs.OverwriteStands.{pieces_shows}
-use Rattle.bp_calls.specs.Overwritten.{IsPatchIn, byte_count, stretch_of, stretches_of}
+use Rattle.bp_calls.specs.Overwritten.{IsPatchIn, byte_count, stretches_of}
 use Rattle.bp_limits.specs.Limits.{max_batch}
 use Rattle.bp_plain.specs.Calls.{Piece, Refusal}
 use Rattle.bp_plain.specs.Calls.Answer.{done}
 use Rattle.bp_plain.specs.Calls.Call.{batch}
 use Rattle.bp_plain.specs.Calls.Refusal.{bad_path, is_dir, past_end, too_long}
-use Rattle.bp_plain.specs.Plain.{bytes_at, file_refusal, first, is_dir_at, on_parsed, path_named, piece_refusal, refusal, tree_after, when}
+use Rattle.bp_plain.specs.Plain.{bytes_at, file_refusal, first, is_dir_at, on_parsed, path_named, piece_refusal, refusal, when}
 use Rattle.bp_plain.specs.PlainTree.{FileTree}
-use Rattle.bp_plain.specs.Stands.{Shows, Stands}
+use Rattle.bp_plain.specs.Stands.{Stands}
 use Rattle.bp_plain.proofs.Carried.{batch_refused}
 use Rattle.bp_volume.specs.Step.{AreStretches, IsChange, PathFinds}
 use Rattle.bp_volume.specs.Step.AreStretches.{none as no_stretch, more as more_stretches}
@@ -189,6 +188,3 @@ module _ (image : Image) (pieces : List Piece) where
           says = λ tree. refl;
           stays = λ tree. refl;
         }
-
-        pub batch_shows : (after : Image) → IsWellFormed image → OverwritesFiles patches image after → (tree : FileTree) → Stands image tree → Shows after (tree_after tree (batch pieces)).now
-        batch_shows after wf over tree stands = pieces_shows image after wf pieces patches are over tree.now stands.now

@@ -5,10 +5,9 @@ use Rattle.bp_changes.proofs.Named.{counts_same}
 use Rattle.bp_free.specs.declared.parts.Parts.{Parts}
 use Rattle.bp_layout.specs.Names.{IsNamed}
 use Rattle.bp_layout.specs.Reached.{IsFreeBlock, IsLiveBlock}
-use Rattle.bp_layout.specs.Thaw.{none_kept}
 use Rattle.bp_layout.specs.Words.{Image}
 use Rattle.bp_layout.proofs.BesideTrees.{SameTrees, same_back, names_back, reached_back, block_back}
-use Rattle.bp_shapes.specs.Sets.{IsExact}
+use Rattle.bp_shapes.specs.Sets.{IsExact, kept_of}
 
 module _ (old new : Image) (same : SameTrees old new) where
   pub named_back : (j : ℕ) (e : ℕ × ℕ) → IsNamed new j e → IsNamed old j e
@@ -28,7 +27,7 @@ beside_exact old new same parts exact = record {
     inode_room = rw same.whole exact.sets.inode_room;
     free_blocks = record {
       free = λ b is.
-          let free : IsFreeBlock old none_kept b = exact.sets.free_blocks.free b is in
+          let free : IsFreeBlock old (kept_of parts) b = exact.sets.free_blocks.free b is in
           record { low = free.low; high = rw same.whole free.high; free = λ live. free.free (live_back old new same b live); loose = free.loose };
       all = λ b free. exact.sets.free_blocks.all b
           (record { low = free.low; high = rw same.whole at free.high; free = λ live. free.free (live_back new old back b live); loose = free.loose });

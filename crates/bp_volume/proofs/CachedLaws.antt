@@ -1,5 +1,5 @@
 -- A volume after a call, with what it remembers of its directories.
-use Rattle.std.proofs.Common.{ℕ, [], ◌∷◌}
+use Rattle.std.proofs.Common.{◌≡◌, ℕ, [], ◌∷◌}
 use Rattle.pm_epochs.specs.declared.event.Event.TheVariants.{Mark}
 use Rattle.pm_region.specs.Memory.{Memory, current_words, Adds}
 use Rattle.pm_region.proofs.MemoryLaws.{current_words-adds}
@@ -7,19 +7,15 @@ use Rattle.bp_cache.specs.Cache.{IsCacheOf}
 use Rattle.bp_cache.specs.declared.cache.DirectoryCache.{DirectoryCache}
 use Rattle.bp_cache.proofs.EffectLaws.{cache_kept, same_trees_keep_all}
 use Rattle.bp_free.specs.declared.parts.Parts.{Parts}
-use Rattle.bp_layout.specs.Format.{upgraded}
-use Rattle.bp_layout.specs.Whole.{IsFileSystem}
-use Rattle.bp_layout.specs.Words.{Image}
-use Rattle.bp_layout.proofs.Upgrade.{upgraded_file_system}
-use Rattle.bp_shapes.specs.Sets.{IsExact}
+use Rattle.bp_layout.specs.Trees.{AreFrozen}
+use Rattle.bp_shapes.specs.Sets.{IsExact, kept_of}
 use Rattle.bp_plain.specs.Calls.{Call, Answer}
 use Rattle.bp_volume.specs.Carried.{CarriesOut}
-use Rattle.bp_volume.specs.Upgraded.{Upgrades, upgrade_events}
-use Rattle.bp_volume.specs.Upgraded.Upgrades.{first, second}
 use Rattle.bp_volume.specs.Volume.{IsCachedVolume, IsVolume}
 use Rattle.bp_volume.proofs.CarriedLaws.{carried_volume}
 use Rattle.bp_volume.proofs.FileCallLaws.{volume-marked}
-use Rattle.bp_volume.proofs.UpgradeLaws.{trees_upgraded, volume_upgraded}
+use Rattle.bp_volume.proofs.SuperLaws.{CallsSuper, super_trees, volume_super}
+use Rattle.bp_volume.proofs.SuperLaws.CallsSuper.{anew, unchanged}
 
 -- a mark changes no word
 right_marked : (made new : Memory) (cache : DirectoryCache) → IsCacheOf (current_words made) cache → Adds made new (Mark ∷ []) → IsCacheOf (current_words new) cache
@@ -32,23 +28,24 @@ cached_marked old new parts region pending cache volume right ends = record { vo
 
 -- a call that was carried out
 pub cached_carried : {R : Type 0} {call : Call} {answer : Answer} (middle made new : Memory) (parts after : Parts R) (region : R) (pending : ℕ) (cache : DirectoryCache) → IsVolume middle parts pending →
-    CarriesOut middle call answer made → IsExact (current_words made) after → IsCacheOf (current_words made) cache → Adds made new (Mark ∷ []) → IsCachedVolume new (record after { region = region }) pending cache
-cached_carried middle made new parts after region pending cache volume called exact right ends = record {
-  volume = carried_volume middle made new parts after region pending volume called exact ends;
+    CarriesOut middle call answer made → IsExact (current_words made) after → after.frozen ≡ parts.frozen → IsCacheOf (current_words made) cache → Adds made new (Mark ∷ []) →
+    IsCachedVolume new (record after { region = region }) pending cache
+cached_carried middle made new parts after region pending cache volume called exact kept right ends = record {
+  volume = carried_volume middle made new parts after region pending volume called exact kept ends;
   right = right_marked made new cache right ends;
 }
 
--- an upgrade
-right_upgraded : (memory made : Memory) (cache : DirectoryCache) → IsFileSystem (current_words memory) → Upgrades memory made → IsCacheOf (current_words memory) cache → IsCacheOf (current_words made) cache
-right_upgraded memory made cache is (first one adds) right =
-    let image : Image = current_words memory in
-    rw (current_words-adds memory made upgrade_events adds)
-    (cache_kept image (upgraded image) cache (same_trees_keep_all image (upgraded image) (trees_upgraded image) (upgraded_file_system image is.first).first) right)
-right_upgraded memory made cache is (second two same) right = rw same right
+-- a call that stores words of the superblock beside the first tree
+right_super : (memory made : Memory) (call : Call) (answer : Answer) (cache : DirectoryCache) → CallsSuper memory made call answer → IsCacheOf (current_words memory) cache → IsCacheOf (current_words made) cache
+right_super memory made call answer cache (anew is does) right =
+    cache_kept (current_words memory) (current_words made) cache
+    (same_trees_keep_all (current_words memory) (current_words made) (super_trees memory made call does) does.well.first) right
+right_super memory made call answer cache (unchanged same told) right = rw same right
 
-pub cached_upgraded : {R : Type 0} (memory made marked : Memory) (parts : Parts R) (region : R) (pending : ℕ) (cache : DirectoryCache) → IsVolume memory parts pending → IsCacheOf (current_words memory) cache →
-    Upgrades memory made → Adds made marked (Mark ∷ []) → IsCachedVolume marked (record parts { region = region }) pending cache
-cached_upgraded memory made marked parts region pending cache volume right upgrades ends = record {
-  volume = volume_upgraded memory made marked parts region pending volume upgrades ends;
-  right = right_marked made marked cache (right_upgraded memory made cache volume.well_formed upgrades right) ends;
+pub cached_super : {R : Type 0} (memory made marked : Memory) (call : Call) (answer : Answer) (parts after : Parts R) (region : R) (pending : ℕ) (cache : DirectoryCache) → IsVolume memory parts pending →
+    IsCacheOf (current_words memory) cache → CallsSuper memory made call answer → IsExact (current_words made) after → AreFrozen (current_words made) (kept_of after) → Adds made marked (Mark ∷ []) →
+    IsCachedVolume marked (record after { region = region }) pending cache
+cached_super memory made marked call answer parts after region pending cache volume right called exact frozen ends = record {
+  volume = volume_super memory made marked call answer parts after region pending volume called exact frozen ends;
+  right = right_marked made marked cache (right_super memory made call answer cache called right) ends;
 }

@@ -1,5 +1,5 @@
 -- A call on a file, from what it did before its mark.
-use Rattle.std.proofs.Common.{◌≡◌, ℕ, ◌*◌, ◌/◌, ◌<◌, ◌≤◌, [], ◌∷◌, length, sym, ◌∙◌, ap, arith}
+use Rattle.std.proofs.Common.{◌≡◌, ℕ, ◌*◌, ◌/◌, ◌<◌, ◌≤◌, [], ◌∷◌, length, sym, ◌∙◌, ap, subst, arith}
 use Rattle.pm_epochs.specs.declared.event.Event.{Event}
 use Rattle.pm_epochs.specs.declared.event.Event.TheVariants.{Mark}
 use Rattle.std.specs.Prelude.{List}
@@ -9,16 +9,18 @@ use Rattle.pm_region.proofs.MemoryLaws.{capacity-adds, current_words-adds, lengt
 use Rattle.bp_free.specs.declared.parts.Parts.{Parts}
 use Rattle.bp_layout.specs.Whole.{IsFileSystem, SameFiles}
 use Rattle.bp_layout.specs.Words.{block_count}
-use Rattle.bp_layout.proofs.NoSecond.{none_frozen}
-use Rattle.bp_shapes.specs.Sets.{IsExact}
+use Rattle.bp_layout.specs.Trees.{AreFrozen}
+use Rattle.bp_free.specs.Set.{has}
+use Rattle.bp_shapes.specs.Sets.{IsExact, kept_of}
 use Rattle.bp_plain.specs.Calls.{Call, Answer}
 use Rattle.bp_limits.specs.Limits.{call_room}
 use Rattle.bp_volume.specs.FileCall.{FileCall}
-use Rattle.bp_volume.specs.Carried.{ChangesTree, CarriesOut}
+use Rattle.bp_volume.specs.Carried.{ChangesTree, CarriesOut, PerformsCall}
 use Rattle.bp_volume.specs.Carried.CarriesOut.{changed, unchanged}
 use Rattle.bp_volume.specs.Volume.{IsVolume}
 use Rattle.bp_volume.proofs.FileCallLaws.{exact_parts, file_call_changed, file_call_unchanged, volume-marked}
-use Rattle.bp_volume.proofs.SafeLaws.{alone_safe, file_system_after, whole_safe}
+use Rattle.bp_volume.proofs.ChangeLaws.{frozen_once}
+use Rattle.bp_volume.proofs.SafeLaws.{file_system_after, frozen_after, whole_safe}
 
 pub blocks-adds : (old new : Memory) (more : List Event) → Adds old new more → block_count (current_words new) ≡ block_count (current_words old)
 blocks-adds old new more adds =
@@ -29,29 +31,34 @@ pub mark_fits : {call : Call} {answer : Answer} {middle made : Memory} → Carri
 mark_fits (changed performs) room = performs.room
 mark_fits (unchanged same tells) room = rw same (omega (arith, room))
 
+-- the blocks of the snapshot are those that they were
+frozen_carried : {R : Type 0} {call : Call} {answer : Answer} (middle made : Memory) (parts after : Parts R) (pending : ℕ) → IsVolume middle parts pending → PerformsCall middle call answer made →
+    after.frozen ≡ parts.frozen → AreFrozen (current_words made) (kept_of after)
+frozen_carried {R} {call} {answer} middle made parts after pending volume does kept =
+    let same : does.kept ≡ kept_of after = frozen_once (current_words middle) does.kept (kept_of parts) does.frozen volume.frozen ∙ ap has (sym kept) in
+    subst (AreFrozen (current_words made)) same (frozen_after does.kept middle made does.change (ChangesTree call answer) does.performs volume.well_formed does.frozen)
+
 -- the volume is one again, with the sets and counts of the new words
 pub carried_volume : {R : Type 0} {call : Call} {answer : Answer} (middle made new : Memory) (parts after : Parts R) (region : R) (pending : ℕ) → IsVolume middle parts pending →
-    CarriesOut middle call answer made → IsExact (current_words made) after → Adds made new (Mark ∷ []) → IsVolume new (record after { region = region }) pending
-carried_volume {R} {call} {answer} middle made new parts after region pending volume (changed does) exact ends =
+    CarriesOut middle call answer made → IsExact (current_words made) after → after.frozen ≡ parts.frozen → Adds made new (Mark ∷ []) → IsVolume new (record after { region = region }) pending
+carried_volume {R} {call} {answer} middle made new parts after region pending volume (changed does) exact kept ends =
     let words : current_words new ≡ current_words made = current_words-adds made new (Mark ∷ []) ends in
     let capacity : new.capacity ≡ middle.capacity = capacity-adds made new (Mark ∷ []) ends ∙ capacity-adds middle made _ does.performs.commit.adds in
     let is : IsFileSystem (current_words made) = file_system_after does.kept middle made does.change (ChangesTree call answer) does.performs volume.well_formed does.frozen in
     record {
       safe = whole_safe does.kept middle made does.change (ChangesTree call answer) does.performs volume.well_formed does.frozen new ends volume.safe;
-      alone = alone_safe does.kept middle made does.change (ChangesTree call answer) does.performs volume.well_formed does.frozen new ends volume.alone;
       roomy = rw capacity volume.roomy;
       well_formed = rw words is;
-      frozen = rw words (none_frozen (current_words made) is.no_second);
+      frozen = rw words (frozen_carried middle made parts after pending volume does kept);
       exact = rw words (exact_parts (current_words made) after region exact);
       scans = volume.scans ∙ ap (λ n. 64 * n) (sym (blocks-adds made new (Mark ∷ []) ends ∙ blocks-adds middle made _ does.performs.commit.adds));
     }
-carried_volume {R} {call} {answer} middle made new parts after region pending volume (unchanged same tells) exact ends =
+carried_volume {R} {call} {answer} middle made new parts after region pending volume (unchanged same tells) exact kept ends =
     let here : IsVolume middle after pending = record {
       safe = volume.safe;
-      alone = volume.alone;
       roomy = volume.roomy;
       well_formed = volume.well_formed;
-      frozen = volume.frozen;
+      frozen = subst (AreFrozen (current_words middle)) (ap has (sym kept)) volume.frozen;
       exact = rw same at exact;
       scans = volume.scans;
     } in

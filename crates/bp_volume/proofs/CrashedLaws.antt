@@ -9,22 +9,19 @@ use Rattle.pm_region.proofs.SafeLaws.{safe_crashed}
 use Rattle.bp_free.specs.declared.parts.Parts.{Parts}
 use Rattle.bp_layout.specs.Whole.{IsFileSystem, SameFiles}
 use Rattle.bp_layout.specs.Words.{block_count}
-use Rattle.bp_layout.proofs.NoSecond.{alone_file_system, none_frozen}
-use Rattle.bp_shapes.specs.Sets.{IsExact}
-use Rattle.bp_volume.specs.Volume.{HaveNoSecond, IsVolume}
-use Rattle.bp_volume.proofs.SafeLaws.{alone_equivalence}
+use Rattle.bp_layout.specs.Trees.{AreFrozen}
+use Rattle.bp_shapes.specs.Sets.{IsExact, kept_of}
+use Rattle.bp_volume.specs.Volume.{IsVolume}
+use Rattle.bp_volume.proofs.SafeLaws.{whole_of_same}
 use Rattle.bp_volume.proofs.WholeLaws.{whole_equivalence}
 
 module _ {R : Type 0} (memory : Memory) (parts : Parts R) (pending : ℕ) (volume : IsVolume memory parts pending) (cut : PowerCut) (right : IsRight memory.events cut) (new : Memory) (left : new ≡ crashed memory cut) where
   pub crashed_safe : IsSafe SameFiles new
   crashed_safe = rw left (safe_crashed SameFiles whole_equivalence memory cut volume.safe right)
 
-  crashed_alone : IsSafe HaveNoSecond new
-  crashed_alone = rw left (safe_crashed HaveNoSecond alone_equivalence memory cut volume.alone right)
-
-  -- the words are a file system, as their first tree is well formed and there is no second
+  -- the words are a file system, as both their trees mean what they mean
   pub crashed_file_system : IsFileSystem (current_words new)
-  crashed_file_system = alone_file_system (current_words new) crashed_safe.well.first.old_well_formed crashed_alone.well.old_none
+  crashed_file_system = whole_of_same (current_words new) (current_words new) crashed_safe.well
 
   pub blocks-crashed : block_count (current_words memory) ≡ block_count (current_words new)
   blocks-crashed = rw left (ap (λ n. n / 512) (length-current_words memory ∙ sym (length-words_after memory.base (kept_stores memory.events cut))))
@@ -34,13 +31,12 @@ module _ {R : Type 0} (memory : Memory) (parts : Parts R) (pending : ℕ) (volum
   crashed_shows count is = rw (left, is) (volume.safe.right.each cut right)
 
   -- a volume again, with the sets and counts of the new words
-  pub crashed_volume : (made : Parts R) (made_pending : ℕ) → IsExact (current_words new) made → made_pending ≡ pending → IsVolume new made made_pending
-  crashed_volume made made_pending exact same = record {
+  pub crashed_volume : (made : Parts R) (made_pending : ℕ) → AreFrozen (current_words new) (kept_of made) → IsExact (current_words new) made → made_pending ≡ pending → IsVolume new made made_pending
+  crashed_volume made made_pending frozen exact same = record {
     safe = crashed_safe;
-    alone = crashed_alone;
     roomy = rw left volume.roomy;
     well_formed = crashed_file_system;
-    frozen = none_frozen (current_words new) crashed_file_system.no_second;
+    frozen = frozen;
     exact = exact;
     scans = same ∙ volume.scans ∙ ap (λ n. 64 * n) blocks-crashed;
   }

@@ -1,13 +1,11 @@
--- A call needs few blocks, so that a log with room for a call keeps room for the mark.
-use Rattle.std.proofs.Common.{◌≡◌, ◌⊎◌, ℕ, zero, suc, ◌+◌, ◌-◌, ◌*◌, ◌/◌, ◌%◌, ◌<◌, ◌≤◌, List, [], ◌∷◌, ◌++◌, length, take, map, filter, Bool, true, false, Option, None, Some, not, ◌||◌, ◌==◌, refl, sym, ◌∙◌, ap, subst, inl, inr, arith, append_assoc}
+-- A change needs few blocks, besides those that are thawed before it.
+use Rattle.std.proofs.Common.{◌≡◌, ◌⊎◌, ℕ, zero, suc, ◌+◌, ◌-◌, ◌*◌, ◌/◌, ◌%◌, ◌<◌, ◌≤◌, List, [], ◌∷◌, ◌++◌, length, take, map, filter, Bool, true, false, Option, None, Some, not, ◌||◌, ◌==◌, refl, sym, ◌∙◌, ap, inl, inr, arith, append_assoc}
 use Rattle.std.specs.Prelude.{bytes_eq, if◌then◌else◌, flat_map, fold, nat_lt, min, max}
 use Rattle.std.specs.List.{range_with_len, list_any}
 use Rattle.std.proofs.lemmas.Bool.{cases_eq, cases_lt, le-ltb, ltb-true}
 use Rattle.std.proofs.lemmas.List.{length-append, length-map, length-take-le, take-append-le}
 use Rattle.std.proofs.lemmas.List.FromFn.{length-map-range_with_len}
-use Rattle.pm_region.specs.Memory.{Memory, current_words, room_in}
-use Rattle.pm_region.proofs.SafeLaws.{room_after_commit}
-use Rattle.bp_limits.specs.Limits.{block_size, call_room, entry_size, max_height, max_write}
+use Rattle.bp_limits.specs.Limits.{block_size, entry_size, max_height, max_write}
 use Rattle.bp_layout.specs.Directory.{empty_slot, entry_count, inumber_at}
 use Rattle.bp_layout.specs.Inode.{root_of, size_of}
 use Rattle.bp_layout.specs.Need.{Beyond, Change, Entrant, beyond, prepared_for, new_inodes, height_after, touched, content_path, entered, entry_path, inode_word_path, new_entry, is_prefix, prefixes_from, prefixes_of, cover_of, is_there_after, need}
@@ -16,22 +14,18 @@ use Rattle.bp_layout.specs.Need.Change.{writes, resizes, enters, leaves}
 use Rattle.bp_layout.specs.Nodes.{TreeNode, height_with, nodes_for}
 use Rattle.bp_layout.specs.Reached.{IsReached}
 use Rattle.bp_layout.specs.Reached.IsReached.{inode_file}
-use Rattle.bp_layout.specs.Same.{Same}
-use Rattle.bp_layout.specs.Thaw.{full_need, none_kept}
 use Rattle.bp_layout.specs.WellFormed.{IsWellFormed}
 use Rattle.bp_layout.specs.WordPaths.{WordPath, digits}
 use Rattle.bp_layout.specs.Words.{Image, height_of}
 use Rattle.bp_layout.proofs.Below.{bytes_eq_self}
 use Rattle.bp_layout.proofs.Finding.{Finds, find-passes}
-use Rattle.bp_layout.proofs.ThawLaws.{full_need-none}
 use Rattle.bp_append.proofs.FewNeeded.{few_needed}
 use Rattle.bp_append.proofs.NeedLaws.{tall_low}
-use Rattle.bp_commit.specs.Performs.{HasRoomFor, Performs, most_barriers, most_stores, room_for}
 use Rattle.bp_tree.proofs.Digits.{length-digits}
 
 -- ---- copies
 
-filter_few : (p : WordPath → Bool) (xs : List WordPath) → length (filter p xs) ≤ length xs
+pub filter_few : (p : WordPath → Bool) (xs : List WordPath) → length (filter p xs) ≤ length xs
 filter_few p [] = omega arith
 filter_few p (x ∷ xs) = go (p x) refl (filter_few p xs)
   where
@@ -197,9 +191,10 @@ module _ (image : Image) where
 
 -- ---- changes
 
--- so many blocks leave room for a mark, where each takes a store more than it has words
+-- So many blocks, and those that a call thaws besides, leave room for a mark, where each takes a store more than it has
+-- words.
 abbrev pub IsFew : ℕ → Type 0
-IsFew needed = needed ≤ 448
+IsFew needed = needed ≤ 400
 
 module _ (image : Image) (wf : IsWellFormed image) (i : ℕ) (reached : IsReached image i) where
   -- a file of another size
@@ -294,25 +289,3 @@ module _ (image : Image) (wf : IsWellFormed image) (i : ℕ) (reached : IsReache
   pub few_entered : IsFew (need image (enters i entrant))
   few_entered =
       omega (arith, new_entry_few image wf i reached (empty_slot image i), inodes_few entrant, enters_alone (empty_slot image i) refl (length (cover_of (is_there_after image (enters i entrant)) (touched image (enters i entrant)))))
-
--- ---- room, where no block is kept
-
-few_in_all : (image : Image) (change : Change) → IsFew (need image change) → IsFew (full_need image none_kept change)
-few_in_all image change few = subst IsFew (sym (full_need-none image change)) few
-
-room_enough : (needed room : ℕ) → IsFew needed → call_room ≤ room → room_for needed ≤ room
-room_enough needed room few enough = omega (arith, few, enough)
-
-room_is_left : (needed room left : ℕ) → IsFew needed → call_room ≤ room → room ≤ left + (most_barriers + most_stores needed) → 0 < left
-room_is_left needed room left few enough took = omega (arith, few, enough, took)
-
--- a log with room for a call has room for a change that needs few blocks
-pub few_room : (memory : Memory) (change : Change) → IsFew (need (current_words memory) change) → call_room ≤ room_in memory → HasRoomFor memory none_kept change
-few_room memory change few room =
-    room_enough (full_need (current_words memory) none_kept change) (room_in memory) (few_in_all (current_words memory) change few) room
-
--- few blocks leave room
-pub performs_room : (old new : Memory) (change : Change) (Effect : Image → Image → Type 0) → Performs none_kept old new change Effect → IsFew (need (current_words old) change) → call_room ≤ room_in old → 0 < room_in new
-performs_room old new change Effect performs few room =
-    room_is_left (full_need (current_words old) none_kept change) (room_in old) (room_in new) (few_in_all (current_words old) change few) room
-    (room_after_commit Same _ performs.value most_barriers (most_stores (full_need (current_words old) none_kept change)) old new performs.commit)

@@ -1,5 +1,5 @@
 -- A batch needs few blocks: each of its stretches copies one leaf more than its bytes fill, one more where they begin and end in the midst of one, and a way.
-use Rattle.std.proofs.Common.{◌≡◌, ◌⊎◌, ℕ, zero, suc, ◌+◌, ◌-◌, ◌*◌, ◌/◌, ◌<◌, ◌≤◌, List, [], ◌∷◌, ◌++◌, length, map, refl, sym, subst, inl, inr, arith}
+use Rattle.std.proofs.Common.{◌≡◌, ◌⊎◌, ℕ, zero, suc, ◌+◌, ◌-◌, ◌*◌, ◌/◌, ◌≤◌, List, [], ◌∷◌, ◌++◌, length, map, refl, sym, subst, inl, inr, arith}
 use Rattle.std.specs.Prelude.{flat_map}
 use Rattle.std.specs.List.{range_with_len}
 use Rattle.std.proofs.lemmas.Bool.{cases_eq, eq-eqb, ne_eqb}
@@ -8,7 +8,7 @@ use Rattle.bp_limits.specs.Limits.{max_batch, max_height, max_pieces}
 use Rattle.bp_changes.specs.Overwrites.{Patch}
 use Rattle.bp_layout.specs.Inode.{kind_of, root_of, size_of}
 use Rattle.bp_layout.specs.Members.{Each}
-use Rattle.bp_layout.specs.Need.{Stretch, content_path_at, cover, need, prefixes_of, stretch_paths, touched}
+use Rattle.bp_layout.specs.Need.{content_path_at, cover, need, prefixes_of, stretch_paths}
 use Rattle.bp_layout.specs.Need.Change.{overwrites}
 use Rattle.bp_layout.specs.Reached.{IsReached}
 use Rattle.bp_layout.specs.Reached.IsReached.{inode_file}

@@ -19,8 +19,8 @@ use Rattle.bp_limits.specs.Limits.{call_room}
 use Rattle.bp_volume.specs.FileCall.{FileCall}
 use Rattle.bp_volume.specs.FileCall.IsCheap.{changes}
 use Rattle.bp_volume.specs.Told.{Tells}
-use Rattle.bp_volume.specs.Volume.{HaveNoSecond, IsVolume}
-use Rattle.bp_volume.proofs.SafeLaws.{alone_equivalence, whole_safe}
+use Rattle.bp_volume.specs.Volume.{IsVolume}
+use Rattle.bp_volume.proofs.SafeLaws.{whole_safe}
 use Rattle.bp_volume.proofs.WholeLaws.{whole_equivalence}
 
 -- the sets and counts of parts do not hang on their region
@@ -37,7 +37,6 @@ volume-marked old new parts region pending volume adds =
     let words : current_words new ≡ current_words old = current_words-adds old new (Mark ∷ []) adds in
     record {
       safe = safe_mark SameFiles whole_equivalence old new volume.safe adds;
-      alone = safe_mark HaveNoSecond alone_equivalence old new volume.alone adds;
       roomy = rw (capacity-adds old new (Mark ∷ []) adds) volume.roomy;
       well_formed = rw words volume.well_formed;
       frozen = rw words volume.frozen;

@@ -7,6 +7,8 @@ pub mod CreateLaws
 pub mod AskingLaws
 pub mod ChangeLaws
 pub mod FewBlocks
+pub mod FewThawed
+pub mod ThawedLaws
 pub mod FileLaws
 pub mod FewStretches
 pub mod BatchLaws
@@ -35,3 +37,7 @@ pub mod WholeLaws
 pub mod SharingLaws
 pub mod ToldNames
 pub mod CachedLaws
+pub mod SuperLaws
+pub mod LiveBlocks
+pub mod SnapLaws
+pub mod SecondAsking

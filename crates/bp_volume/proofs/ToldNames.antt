@@ -1,10 +1,16 @@
 -- What a removal and a rename do to the names that the cache of a volume knows.
-use Rattle.std.proofs.Common.{◌≡◌, ℕ, refl, sym, ◌∙◌, ap, subst, Option, None, Some}
+use Rattle.std.proofs.Common.{◌≡◌, ℕ, refl, sym, ◌∙◌, ap, ap₂, subst, Option, None, Some}
+use Rattle.std.specs.Prelude.{unwrap_or}
 use Rattle.std.specs.Option.{option_map}
 use Rattle.bp_cache.specs.Changes.{NameLeaves}
 use Rattle.bp_cache.specs.declared.name_at.NameAt.{NameAt}
 use Rattle.bp_cache.proofs.EffectLaws.{IsNameAt, carries_move, moves_replace, removes_leave, respells_move}
+use Rattle.bp_calls.proofs.AfterLaws.{directories_over, empty_slot_over, slot_named_over}
+use Rattle.bp_calls.proofs.LeavingThawed.{leaving_on}
 use Rattle.bp_changes.specs.Effects.{CanUnlink, RemovesEntry}
+use Rattle.bp_changes.specs.SameMeaning.{SameMeaning}
+use Rattle.bp_changes.specs.Thawed.{AfterThaw}
+use Rattle.bp_changes.proofs.SameMeaning.{well_formed-same}
 use Rattle.bp_layout.specs.Directory.{Name, inumber_at, name_at, slot_named}
 use Rattle.bp_layout.specs.Inode.{IsDirectory}
 use Rattle.bp_layout.specs.Reached.{IsReached}
@@ -20,6 +26,7 @@ use Rattle.bp_rename.proofs.OntoLaws.{onto_can, spelled}
 use Rattle.bp_volume.specs.Renaming.{IsMoveOf, IsNewName, MovesName}
 use Rattle.bp_volume.specs.declared.renaming.Ends.{Ends}
 use Rattle.bp_volume.specs.declared.walking.NamedEntry.{NamedEntry}
+use Rattle.bp_volume.proofs.ThawedLaws.{rename_on}
 
 -- this is the name by which the entry was found, in its slot
 pub record IsNameOf (entry : NamedEntry) (at : NameAt) : Type 0 where
@@ -44,9 +51,12 @@ found_at image entry at is reached directory named = record {
 -- ---- a name goes
 
 pub name_leaves : (old new : Image) → IsWellFormed old → (entry : NamedEntry) (at : NameAt) → IsNameOf entry at → CanUnlink old entry.dir entry.slot (inumber_at old entry.dir entry.slot) →
-    slot_named old entry.dir entry.name.now ≡ Some entry.slot → RemovesEntry old new entry.dir entry.slot → NameLeaves old new at
-name_leaves old new wf entry at is can named removes =
-    removes_leave old new wf entry.dir entry.slot (inumber_at old entry.dir entry.slot) can removes at (found_at old entry at is can.reached can.entry.directory named)
+    slot_named old entry.dir entry.name.now ≡ Some entry.slot → (after : AfterThaw (λ image later. RemovesEntry image later entry.dir entry.slot) old new) → NameLeaves after.middle new at
+name_leaves old new wf entry at is can named after =
+    let same : SameMeaning old after.middle = after.thawed.meaning in
+    let may : CanUnlink after.middle entry.dir entry.slot (inumber_at after.middle entry.dir entry.slot) = leaving_on old after.middle wf same entry.dir entry.slot can in
+    removes_leave after.middle new (well_formed-same old after.middle wf same) entry.dir entry.slot (inumber_at after.middle entry.dir entry.slot) may after.effect at
+    (found_at after.middle entry at is may.reached may.entry.directory (slot_named_over old after.middle wf same entry.dir entry.name.now can.reached can.entry.directory ∙ named))
 
 -- ---- a name moves
 
@@ -97,5 +107,35 @@ module _ (old new : Image) (ends : Ends) (named : slot_named old ends.source.dir
         spelled = now ∙ name;
       })
 
-  pub name_moves : RenamesEntry move old new → MovesName old new from to ends.target.there
+  name_moves : RenamesEntry move old new → MovesName old new from to ends.target.there
   name_moves = moves_by ends.target.there refl
+
+-- so behind a thaw
+module _ (old new : Image) (ends : Ends) (named : slot_named old ends.source.dir ends.source.name.now ≡ Some ends.source.slot) (move : Move) (is : IsMoveOf ends move) (can : CanRename old move)
+    (from : NameAt) (source : IsNameOf ends.source from) (to : NameAt) (target : IsNewName old ends to) (after : AfterThaw (RenamesEntry move) old new) where
+  abbrev same : SameMeaning old after.middle
+  same = after.thawed.meaning
+
+  named_thawed : slot_named after.middle ends.source.dir ends.source.name.now ≡ Some ends.source.slot
+  named_thawed =
+      slot_named_over old after.middle can.well_formed same ends.source.dir ends.source.name.now (subst (IsReached old) is.from_dir can.source) (subst (λ d. IsDirectory old d) is.from_dir can.entry.directory) ∙ named
+
+  -- a directory that the name comes to gives it the slot that it would have given it before
+  slot_thawed : new_slot after.middle ends.target.dir ≡ new_slot old ends.target.dir
+  slot_thawed =
+      let reached : IsReached old ends.target.dir = subst (IsReached old) is.to_dir can.target in
+      let directory : IsDirectory old ends.target.dir = subst (λ d. IsDirectory old d) is.to_dir can.directory in
+      ap₂ unwrap_or (empty_slot_over old after.middle can.well_formed same ends.target.dir reached directory) ((directories_over old after.middle can.well_formed same).count ends.target.dir reached directory)
+
+  target_thawed : IsNewName after.middle ends to
+  target_thawed = record {
+    dir = target.dir;
+    name = target.name;
+    there = target.there;
+    within = target.within;
+    across = λ none apart. target.across none apart ∙ sym slot_thawed;
+  }
+
+  pub name_moves_thawed : MovesName after.middle new from to ends.target.there
+  name_moves_thawed =
+      name_moves after.middle new ends named_thawed move is (rename_on old after.middle can.well_formed same move can) from source to target_thawed after.effect

@@ -161,10 +161,6 @@ module _ (kept : ℕ → Bool) (old new : Memory) (change : Change) (Effect : Im
   whole_file_system = record {
     first = done.well_formed;
     second = λ there. (whole_rest.same (sym whole_rest.there ∙ there)).new_well_formed;
-    no_second = record {
-      root = λ two. kept_words.superblock 4 (omega arith) (λ e. omega (arith, e)) (λ e. omega (arith, e)) ∙ fs.no_second.root (sym whole_version ∙ two);
-      size = λ two. kept_words.superblock 5 (omega arith) (λ e. omega (arith, e)) (λ e. omega (arith, e)) ∙ fs.no_second.size (sym whole_version ∙ two);
-    };
   }
 
   pub whole_frozen : AreFrozen (current_words new) kept

@@ -8,3 +8,4 @@ pub mod Upgraded
 pub mod Seen
 pub mod Carried
 pub mod Renaming
+pub mod Snapped

@@ -1,14 +1,16 @@
 -- A volume that can take a call.
 use Rattle.std.specs.Prelude.{◌≤◌}
 use Rattle.bp_free.specs.declared.parts.Parts.{Parts}
+use Rattle.bp_layout.specs.Trees.{AreFrozen}
 use Rattle.bp_layout.specs.Whole.{IsFileSystem}
 use Rattle.bp_limits.specs.Limits.{call_room}
-use Rattle.bp_shapes.specs.Sets.{IsExact}
+use Rattle.bp_shapes.specs.Sets.{IsExact, kept_of}
 use Rattle.pm_region.specs.Memory.{Memory, current_words, room_in}
 
--- The words are a file system, the sets and counts of these parts are just its own, and there is room for what a call
--- stores.
+-- The words are a file system, the sets and counts of these parts are just its own, its frozen blocks are those of the
+-- snapshot, and there is room for what a call stores.
 pub record IsReady {R : Type 0} (memory : Memory) (parts : Parts R) : Type 0 where
   pub well_formed : IsFileSystem (current_words memory)
   pub exact : IsExact (current_words memory) parts
+  pub frozen : AreFrozen (current_words memory) (kept_of parts)
   pub room : call_room ≤ room_in memory

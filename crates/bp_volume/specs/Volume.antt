@@ -7,21 +7,15 @@ use Rattle.pm_region.specs.Safe.{IsSafe}
 use Rattle.bp_shapes.specs.Sets.{IsExact, kept_of}
 use Rattle.bp_free.specs.declared.parts.Parts.{Parts}
 use Rattle.bp_layout.specs.Trees.{AreFrozen}
-use Rattle.bp_layout.specs.Whole.{HasNoSecond, IsFileSystem, SameFiles}
-use Rattle.bp_layout.specs.Words.{Image, block_count}
+use Rattle.bp_layout.specs.Whole.{IsFileSystem, SameFiles}
+use Rattle.bp_layout.specs.Words.{block_count}
 use Rattle.bp_limits.specs.Limits.{block_inodes, call_room}
 
--- neither image has a second tree
-pub record HaveNoSecond (old new : Image) : Type 0 where
-  pub old_none : HasNoSecond old
-  pub new_none : HasNoSecond new
-
--- A crash at any moment leaves what some calls left, and no second tree. A call has its room, the words are a file
+-- A crash at any moment leaves what some calls left. A call has its room, the words are a file
 -- system, the sets have just its free blocks and inodes and the blocks of its snapshot, the counts are those of its
 -- names, and a scan has its memory.
 pub record IsVolume {R : Type 0} (memory : Memory) (parts : Parts R) (pending : ℕ) : Type 0 where
   pub safe : IsSafe SameFiles memory
-  pub alone : IsSafe HaveNoSecond memory
   pub roomy : call_room ≤ memory.capacity
   pub well_formed : IsFileSystem (current_words memory)
   pub frozen : AreFrozen (current_words memory) (kept_of parts)

@@ -13,6 +13,7 @@ ghost use Rattle.pm_region.specs.Memory.{current_words};
 use crate::walking::{file_at, inode_at};
 use bp_cache::DirectoryCache;
 use bp_calls::{links, list, read, stat};
+use bp_dirs::Finder;
 use bp_free::Parts;
 use bp_inodes::get;
 use bp_layout::{Kind, Listing, Stat};
@@ -21,17 +22,17 @@ use pm_region::Region;
 use std::alloc::{AllocError, Global};
 
 /// What `stat` answers.
-pub(crate) fn stat_at<R: Region>(
+pub(crate) fn stat_at<R: Region, F: Finder>(
     region: &R,
-    cache: &mut DirectoryCache,
+    finder: &mut F,
     text: &[u8],
 ) -> Result<Stat, FsError>
     requires well_formed { IsWellFormed (current_words (R.memory region.now)) }
-    requires right { IsCacheOf (current_words (R.memory region.now)) cache.old }
+    requires right { F.right finder.old (current_words (R.memory region.now)) }
     ensures told { Tells (current_words (R.memory region.now)) (stat text.now) (stat_answer_of result) }
-    ensures right { IsCacheOf (current_words (R.memory region.now)) cache.new }
+    ensures right { F.right finder.new (current_words (R.memory region.now)) }
 {
-    let i = inode_at(region, cache, text)?;
+    let i = inode_at(region, finder, text)?;
     Ok(stat(region, i))
 }
 
@@ -70,38 +71,38 @@ fn list_inode<R: Region>(alloc: Global, region: &R, text: &[u8], i: u32) -> Resu
 }
 
 /// What `list` answers.
-pub(crate) fn list_at<R: Region>(
+pub(crate) fn list_at<R: Region, F: Finder>(
     alloc: Global,
     region: &R,
-    cache: &mut DirectoryCache,
+    finder: &mut F,
     text: &[u8],
 ) -> Result<Listing, FsError>
     requires well_formed { IsWellFormed (current_words (R.memory region.now)) }
-    requires right { IsCacheOf (current_words (R.memory region.now)) cache.old }
+    requires right { F.right finder.old (current_words (R.memory region.now)) }
     ensures told { Tells (current_words (R.memory region.now)) (list text.now) (list_answer_of result) }
-    ensures right { IsCacheOf (current_words (R.memory region.now)) cache.new }
+    ensures right { F.right finder.new (current_words (R.memory region.now)) }
 {
-    let i = inode_at(region, cache, text)?;
+    let i = inode_at(region, finder, text)?;
     list_inode(alloc, region, text, i)
 }
 
 /// What `read` answers.
-pub(crate) fn read_at<R: Region>(
+pub(crate) fn read_at<R: Region, F: Finder>(
     region: &R,
-    cache: &mut DirectoryCache,
+    finder: &mut F,
     text: &[u8],
     off: u64,
     into: &mut [u8],
 ) -> Result<usize, FsError>
     requires well_formed { IsWellFormed (current_words (R.memory region.now)) }
-    requires right { IsCacheOf (current_words (R.memory region.now)) cache.old }
+    requires right { F.right finder.old (current_words (R.memory region.now)) }
     ensures told { Tells (current_words (R.memory region.now)) (read text.now off (length into.old))
         (read_answer result into.new) }
     ensures fits { IfOk result (λ count. count ≤ length into.new) }
     ensures rest { IfOk result (λ count. drop count into.new ≡ drop count into.old) }
     ensures unread { OnErr result (into.new ≡ into.old) }
-    ensures right { IsCacheOf (current_words (R.memory region.now)) cache.new }
+    ensures right { F.right finder.new (current_words (R.memory region.now)) }
 {
-    let file = file_at(region, cache, text)?;
+    let file = file_at(region, finder, text)?;
     Ok(read(region, file.inumber, off, into))
 }

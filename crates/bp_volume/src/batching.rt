@@ -137,6 +137,7 @@ fn batch_into<R: Region>(
         (patches_seen patches.now) }
     ensures called { CarriesOut (R.memory parts.old.region) (batch (map (piece_in text.now) pieces.now))
         (unit_answer result) (R.memory parts.new.region) }
+    ensures frozen { parts.new.frozen ≡ parts.old.frozen }
     ensures exact { IsExact (current_words (R.memory parts.new.region)) parts.new }
     ensures names { KeepsAllNames (current_words (R.memory parts.old.region)) (current_words (R.memory parts.new.region)) }
 {
@@ -159,6 +160,7 @@ pub(crate) fn batch_at<R: Region>(
     requires lie { All (LiesIn text.now) pieces.now }
     ensures called { CarriesOut (R.memory parts.old.region) (batch (map (piece_in text.now) pieces.now))
         (unit_answer result) (R.memory parts.new.region) }
+    ensures frozen { parts.new.frozen ≡ parts.old.frozen }
     ensures exact { IsExact (current_words (R.memory parts.new.region)) parts.new }
     ensures right { IsCacheOf (current_words (R.memory parts.new.region)) cache.new }
 {

@@ -33,6 +33,7 @@ fn create_new<R: Region>(
     requires right { IsCacheOf (current_words (R.memory parts.old.region)) cache.old }
     ensures called { CarriesOut (R.memory parts.old.region) (making kind text.now) (unit_answer result)
         (R.memory parts.new.region) }
+    ensures frozen { parts.new.frozen ≡ parts.old.frozen }
     ensures exact { IsExact (current_words (R.memory parts.new.region)) parts.new }
     ensures right { IsCacheOf (current_words (R.memory parts.new.region)) cache.new }
 {
@@ -53,6 +54,7 @@ pub(crate) fn create_at<R: Region>(
     requires right { IsCacheOf (current_words (R.memory parts.old.region)) cache.old }
     ensures called { CarriesOut (R.memory parts.old.region) (making kind text.now) (unit_answer result)
         (R.memory parts.new.region) }
+    ensures frozen { parts.new.frozen ≡ parts.old.frozen }
     ensures exact { IsExact (current_words (R.memory parts.new.region)) parts.new }
     ensures right { IsCacheOf (current_words (R.memory parts.new.region)) cache.new }
 {

@@ -14,6 +14,7 @@ mod replying;
 mod rescanning;
 mod resizing;
 mod sets;
+mod snapping;
 mod space;
 mod upgrading;
 mod volume;

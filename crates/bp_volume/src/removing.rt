@@ -16,6 +16,7 @@ ghost use Rattle.bp_volume.specs.Step.{FindsEntry};
 ghost use Rattle.bp_volume.specs.Told.{Refuses};
 ghost use Rattle.pm_region.specs.Memory.{current_words};
 
+use crate::refusing::no_space;
 use crate::walking::{NamedEntry, entry_at};
 use bp_cache::DirectoryCache;
 use bp_calls::remove;
@@ -109,11 +110,12 @@ pub(crate) fn unlink_at<R: Region>(
     requires right { IsCacheOf (current_words (R.memory parts.old.region)) cache.old }
     ensures called { CarriesOut (R.memory parts.old.region) (unlink text.now) (unit_answer result)
         (R.memory parts.new.region) }
+    ensures frozen { parts.new.frozen ≡ parts.old.frozen }
     ensures exact { IsExact (current_words (R.memory parts.new.region)) parts.new }
     ensures right { IsCacheOf (current_words (R.memory parts.new.region)) cache.new }
 {
     let file = file_entry(&parts.region, cache, text)?;
-    remove(parts, file.dir, file.slot);
+    remove(parts, file.dir, file.slot).map_err(no_space)?;
     cache.leave(file.at());
     Ok(())
 }
@@ -128,11 +130,12 @@ pub(crate) fn rmdir_at<R: Region>(
     requires right { IsCacheOf (current_words (R.memory parts.old.region)) cache.old }
     ensures called { CarriesOut (R.memory parts.old.region) (rmdir text.now) (unit_answer result)
         (R.memory parts.new.region) }
+    ensures frozen { parts.new.frozen ≡ parts.old.frozen }
     ensures exact { IsExact (current_words (R.memory parts.new.region)) parts.new }
     ensures right { IsCacheOf (current_words (R.memory parts.new.region)) cache.new }
 {
     let empty = empty_entry(&parts.region, cache, text)?;
-    remove(parts, empty.dir, empty.slot);
+    remove(parts, empty.dir, empty.slot).map_err(no_space)?;
     cache.leave(empty.at());
     cache.drop_directory(empty.inumber);
     Ok(())

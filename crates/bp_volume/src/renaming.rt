@@ -298,6 +298,7 @@ fn move_name<R: Region>(
     requires may { MayMove (current_words (R.memory parts.old.region)) from.now to.now ends.now }
     ensures called { CarriesOut (R.memory parts.old.region) (rename from.now to.now) (unit_answer result)
         (R.memory parts.new.region) }
+    ensures frozen { parts.new.frozen ≡ parts.old.frozen }
     ensures exact { IsExact (current_words (R.memory parts.new.region)) parts.new }
     ensures right { IsCacheOf (current_words (R.memory parts.new.region)) cache.new }
 {
@@ -322,6 +323,7 @@ fn rename_found<R: Region>(
     requires found { FindsEnds (current_words (R.memory parts.old.region)) from.now to.now ends.now }
     ensures called { CarriesOut (R.memory parts.old.region) (rename from.now to.now) (unit_answer result)
         (R.memory parts.new.region) }
+    ensures frozen { parts.new.frozen ≡ parts.old.frozen }
     ensures exact { IsExact (current_words (R.memory parts.new.region)) parts.new }
     ensures right { IsCacheOf (current_words (R.memory parts.new.region)) cache.new }
 {
@@ -343,6 +345,7 @@ pub(crate) fn rename_at<R: Region>(
     requires right { IsCacheOf (current_words (R.memory parts.old.region)) cache.old }
     ensures called { CarriesOut (R.memory parts.old.region) (rename from.now to.now) (unit_answer result)
         (R.memory parts.new.region) }
+    ensures frozen { parts.new.frozen ≡ parts.old.frozen }
     ensures exact { IsExact (current_words (R.memory parts.new.region)) parts.new }
     ensures right { IsCacheOf (current_words (R.memory parts.new.region)) cache.new }
 {

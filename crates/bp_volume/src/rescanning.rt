@@ -2,14 +2,15 @@
 
 ghost use Rattle.std.specs.Prelude.{◌*◌, ◌≡◌, length};
 ghost use Rattle.bp_limits.specs.Limits.{block_inodes};
+ghost use Rattle.bp_layout.specs.Trees.{AreFrozen};
 ghost use Rattle.bp_layout.specs.Whole.{IsFileSystem};
 ghost use Rattle.bp_layout.specs.Words.{block_count};
 ghost use Rattle.bp_scan.specs.Totals.{HasTotals};
-ghost use Rattle.bp_shapes.specs.Sets.{IsExact};
+ghost use Rattle.bp_shapes.specs.Sets.{IsExact, kept_of};
 ghost use Rattle.pm_region.specs.Memory.{current_words};
 
 use bp_free::Parts;
-use bp_scan::{Pending, Totals, scan};
+use bp_scan::{Pending, Totals, scan_whole};
 use pm_region::Region;
 
 /// Makes the sets and counts those of the words, which are a file system, whatever they had, and tells what it holds. It
@@ -23,13 +24,15 @@ pub(crate) fn rescan<R: Region>(parts: &mut Parts<R>, pending: &mut Pending) -> 
     requires pending { pending.old ≡ block_inodes * block_count (current_words (R.memory parts.old.region)) }
     ensures region { parts.new.region ≡ parts.old.region }
     ensures exact { IsExact (current_words (R.memory parts.new.region)) parts.new }
+    ensures frozen { AreFrozen (current_words (R.memory parts.new.region)) (kept_of parts.new) }
     ensures totals { HasTotals (current_words (R.memory parts.old.region)) result }
     ensures pending { pending.new ≡ pending.old }
 {
-    match scan(
+    match scan_whole(
         &parts.region,
         &mut parts.blocks,
         &mut parts.inodes,
+        &mut parts.frozen,
         pending,
         &mut parts.counts,
     ) {

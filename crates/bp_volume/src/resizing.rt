@@ -33,6 +33,7 @@ fn resize<R: Region>(
     requires size { file.size ≡ size_of (current_words (R.memory parts.old.region)) file.inumber }
     ensures called { CarriesOut (R.memory parts.old.region) (truncate text.now size) (unit_answer result)
         (R.memory parts.new.region) }
+    ensures frozen { parts.new.frozen ≡ parts.old.frozen }
     ensures exact { IsExact (current_words (R.memory parts.new.region)) parts.new }
     ensures names { KeepsAllNames (current_words (R.memory parts.old.region)) (current_words (R.memory parts.new.region)) }
 {
@@ -56,6 +57,7 @@ pub(crate) fn truncate_at<R: Region>(
     requires right { IsCacheOf (current_words (R.memory parts.old.region)) cache.old }
     ensures called { CarriesOut (R.memory parts.old.region) (truncate text.now size) (unit_answer result)
         (R.memory parts.new.region) }
+    ensures frozen { parts.new.frozen ≡ parts.old.frozen }
     ensures exact { IsExact (current_words (R.memory parts.new.region)) parts.new }
     ensures right { IsCacheOf (current_words (R.memory parts.new.region)) cache.new }
 {

@@ -13,10 +13,10 @@ ghost use Rattle.pm_region.specs.Memory.{crashed, current_words, drained, room_i
 ghost use Rattle.pm_region.specs.Safe.{IsSafe};
 ghost use Rattle.bp_limits.specs.declared.version.Version.TheVariants.{One};
 ghost use Rattle.bp_plain.specs.Calls.Answer.{done};
-ghost use Rattle.bp_plain.specs.Calls.Call.{batch, create, link, links, list, mkdir, read, rename, rmdir, stat, truncate, unlink, upgrade, write};
+ghost use Rattle.bp_plain.specs.Calls.Call.{batch, create, link, links, list, mkdir, read, rename, rmdir, snap, snap_list, snap_read, snap_stat, stat};
+ghost use Rattle.bp_plain.specs.Calls.Call.{truncate, unlink, unsnap, upgrade, write};
 ghost use Rattle.bp_plain.specs.PlainTree.{empty_tree};
 ghost use Rattle.bp_plain.specs.Seen.{CanAsk, LiesIn, call_of, piece_in};
-ghost use Rattle.bp_plain.specs.Served.{IsServed};
 ghost use Rattle.bp_plain.specs.Stands.{Stands};
 ghost use Rattle.bp_scan.specs.Faults.{IsFault};
 ghost use Rattle.bp_scan.specs.Totals.{HasLive, HasTotals};
@@ -35,6 +35,7 @@ use crate::replying::{tell_done, tell_links, tell_list, tell_read, tell_stat};
 use crate::rescanning::rescan;
 use crate::resizing::truncate_at;
 use crate::sets::{Sets, memory_for};
+use crate::snapping::{snap_at, snap_list_at, snap_read_at, snap_stat_at, unsnap_at};
 use crate::space::Space;
 use crate::upgrading::upgrade_region;
 use crate::writing::write_at;
@@ -43,7 +44,7 @@ use bp_free::Parts;
 use bp_layout::{Kind, Listing, Stat};
 use bp_limits::{BLOCK_WORDS, CALL_ROOM, Version};
 use bp_plain::{Call, FsError, Piece, Reply};
-use bp_scan::{MountFault, Pending, Totals, scan};
+use bp_scan::{MountFault, Pending, Totals, scan_whole};
 use pm_epochs::{BadChoice, Choice, Kept};
 use pm_region::Region;
 use std::alloc::Global;
@@ -182,8 +183,8 @@ impl<R: Region> Volume<R> {
         Ok(kept)
     }
 
-    /// What the volume holds in all: its files, directories, bytes and live blocks. It takes time for the whole image, as a
-    /// mount does, and no memory.
+    /// What the volume holds in all: its files, directories and bytes, and the live blocks of both its trees. It takes time for
+    /// the whole image, as a mount does, and no memory.
     pub fn totals(&mut self) -> Totals
         ensures totals { HasTotals (current_words self.old) result }
         ensures same { self.new ≡ self.old }
@@ -191,7 +192,7 @@ impl<R: Region> Volume<R> {
         rescan(&mut self.parts, &mut self.pending)
     }
 
-    /// How many blocks are free, and how many are live.
+    /// How many blocks are free, and how many are live in one of both trees.
     pub fn space(&self) -> Space
         ensures free { HasSpace (current_words self.now) result.free }
         ensures live { HasLive (current_words self.now) result.live }
@@ -431,10 +432,86 @@ impl<R: Region> Volume<R> {
         self.parts.region.mark();
     }
 
-    /// Makes a call, and tells its result in the reply. A read may ask for 65,536 bytes at most. Calls on a snapshot are
-    /// not carried out yet.
+    /// Makes a snapshot: the files and directories as they are now, which can be read until it is let go. It copies nothing
+    /// and needs no block, but the blocks that the tree has now are kept, so that later changes may need more.
+    ///
+    /// # Errors
+    ///
+    /// `OldVersion` in version 1, whose format has no snapshot; then `HasSnap` where there is one. Nothing has changed then.
+    pub fn snap(&mut self) -> Result<(), FsError>
+        ensures { FileCall self.old snap (unit_answer result) self.new }
+    {
+        self.make_room();
+        let made = snap_at(&mut self.parts);
+        self.parts.region.mark();
+        made
+    }
+
+    /// Lets the snapshot go. The blocks that it alone has are free then. It takes time for the whole image, as a mount does.
+    ///
+    /// # Errors
+    ///
+    /// `NoSnap` where there is none. Nothing has changed then.
+    pub fn unsnap(&mut self) -> Result<(), FsError>
+        ensures { FileCall self.old unsnap (unit_answer result) self.new }
+    {
+        self.make_room();
+        let made = unsnap_at(&mut self.parts, &mut self.pending);
+        self.parts.region.mark();
+        made
+    }
+
+    /// Reads what [`Volume::read`] read when the snapshot was made.
+    ///
+    /// # Errors
+    ///
+    /// `BadPath` where the text is no path; `NoSnap` where there is no snapshot; then those of [`Volume::read`], as it was
+    /// then. `into` stays as it was.
+    pub fn snap_read(&mut self, path: &[u8], off: u64, into: &mut [u8]) -> Result<usize, FsError>
+        ensures called { FileCall self.old (snap_read path.now off (length into.old)) (read_answer result into.new)
+            self.new }
+        ensures fits { IfOk result (λ count. count ≤ length into.new) }
+        ensures rest { IfOk result (λ count. drop count into.new ≡ drop count into.old) }
+        ensures unread { OnErr result (into.new ≡ into.old) }
+    {
+        self.make_room();
+        let told = snap_read_at(&self.parts.region, path, off, into);
+        self.parts.region.mark();
+        told
+    }
+
+    /// What [`Volume::stat`] told when the snapshot was made.
+    ///
+    /// # Errors
+    ///
+    /// `BadPath` where the text is no path; `NoSnap` where there is no snapshot; then those of [`Volume::stat`], as it was
+    /// then.
+    pub fn snap_stat(&mut self, path: &[u8]) -> Result<Stat, FsError>
+        ensures { FileCall self.old (snap_stat path.now) (stat_answer_of result) self.new }
+    {
+        self.make_room();
+        let told = snap_stat_at(&self.parts.region, path);
+        self.parts.region.mark();
+        told
+    }
+
+    /// The names that [`Volume::list`] gave when the snapshot was made.
+    ///
+    /// # Errors
+    ///
+    /// `BadPath` where the text is no path; `NoSnap` where there is no snapshot; then those of [`Volume::list`], as it was
+    /// then, and after all others `Memory`, where the list finds none now.
+    pub fn snap_list(&mut self, alloc: Global, path: &[u8]) -> Result<Listing, FsError>
+        ensures { FileCall self.old (snap_list path.now) (list_answer_of result) self.new }
+    {
+        self.make_room();
+        let told = snap_list_at(alloc, &self.parts.region, path);
+        self.parts.region.mark();
+        told
+    }
+
+    /// Makes a call, and tells its result in the reply. A read may ask for 65,536 bytes at most.
     pub fn apply(&mut self, alloc: Global, call: &Call, reply: &mut Reply)
-        requires served { IsServed (call_of call.now) }
         requires can { CanAsk call.now }
         ensures { FileCall self.old (call_of call.now) reply.new.answer self.new }
     {
@@ -453,11 +530,11 @@ impl<R: Region> Volume<R> {
             Call::Links(path) => tell_links(reply, self.links(path)),
             Call::Upgrade => self.apply_upgrade(reply),
             Call::Batch { text, pieces } => tell_done(reply, self.batch(text, pieces)),
-            Call::Snap
-            | Call::Unsnap
-            | Call::SnapList(_)
-            | Call::SnapStat(_)
-            | Call::SnapRead { .. } => unreachable!(),
+            Call::Snap => tell_done(reply, self.snap()),
+            Call::Unsnap => tell_done(reply, self.unsnap()),
+            Call::SnapList(path) => self.apply_snap_list(alloc, path, reply),
+            Call::SnapStat(path) => tell_stat(reply, self.snap_stat(path)),
+            Call::SnapRead { path, off, len } => self.apply_snap_read(path, *off, *len, reply),
         }
     }
 
@@ -501,6 +578,38 @@ impl<R: Region> Volume<R> {
         tell_read(reply, told);
     }
 
+    /// Lists the names in a directory of the snapshot in a reply, which gives the memory of its last listing back before.
+    fn apply_snap_list(&mut self, alloc: Global, path: &[u8], reply: &mut Reply)
+        ensures { FileCall self.old (snap_list path.now) reply.new.answer self.new }
+    {
+        reply.set_done();
+        tell_list(reply, self.snap_list(alloc, path));
+    }
+
+    /// Reads so many bytes of the snapshot at most into the front of `buffer`.
+    fn snap_read_front(
+        &mut self,
+        path: &[u8],
+        off: u64,
+        len: usize,
+        buffer: &mut [u8],
+    ) -> Result<usize, FsError>
+        requires { len ≤ length buffer.old }
+        ensures called { FileCall self.old (snap_read path.now off len) (read_answer result buffer.new) self.new }
+        ensures fits { IfOk result (λ count. count ≤ len) }
+    {
+        self.snap_read(path, off, &mut buffer[..len])
+    }
+
+    /// Reads bytes of the snapshot into the memory of a reply, and tells the result there.
+    fn apply_snap_read(&mut self, path: &[u8], off: u64, len: usize, reply: &mut Reply)
+        requires { len ≤ max_read }
+        ensures { FileCall self.old (snap_read path.now off len) reply.new.answer self.new }
+    {
+        let told = self.snap_read_front(path, off, len, reply.buffer());
+        tell_read(reply, told);
+    }
+
     /// Makes a volume of a region with an empty log whose image passes a scan.
     fn scanned(region: R, sets: Sets, cache: DirectoryCache) -> Result<Volume<R>, (R, MountFault)>
         requires sized { IsSized (R.memory region).base }
@@ -521,10 +630,17 @@ impl<R: Region> Volume<R> {
             mut blocks,
             mut inodes,
             mut counts,
-            frozen,
+            mut frozen,
             mut pending,
         } = sets;
-        match scan(&region, &mut blocks, &mut inodes, &mut pending, &mut counts) {
+        match scan_whole(
+            &region,
+            &mut blocks,
+            &mut inodes,
+            &mut frozen,
+            &mut pending,
+            &mut counts,
+        ) {
             Ok(_) => Ok(Volume {
                 parts: Parts {
                     region,

@@ -20,7 +20,7 @@ ghost use Rattle.bp_volume.specs.Told.{StopsAtEntry, StopsAtFile, StopsAtNew, St
 ghost use Rattle.pm_region.specs.Memory.{current_words};
 
 use bp_cache::{DirectoryCache, NameAt};
-use bp_dirs::{Both, Spot, inumber};
+use bp_dirs::{Both, Finder, Spot, inumber};
 use bp_inodes::{get, tree_of};
 use bp_layout::Kind;
 use bp_limits::ENTRY_SIZE;
@@ -137,52 +137,52 @@ pub(crate) fn bad_path(_: BadPath) -> FsError
 }
 
 /// The inode at a path.
-pub(crate) fn inode_on<R: Region>(
+pub(crate) fn inode_on<R: Region, F: Finder>(
     region: &R,
-    cache: &mut DirectoryCache,
+    finder: &mut F,
     path: &Path<'_>,
 ) -> Result<u32, FsError>
     requires well_formed { IsWellFormed (current_words (R.memory region.now)) }
-    requires right { IsCacheOf (current_words (R.memory region.now)) cache.old }
+    requires right { F.right finder.old (current_words (R.memory region.now)) }
     ensures found { IfOk result (λ i. lookup (current_words (R.memory region.now)) path.now ≡ Some i) }
     ensures stopped { IfErr result (λ e. RefusesWalk (current_words (R.memory region.now)) path.now (refusal_of e)) }
-    ensures right { IsCacheOf (current_words (R.memory region.now)) cache.new }
+    ensures right { F.right finder.new (current_words (R.memory region.now)) }
 {
-    let entry = walk_by(region, path, cache).map_err(refused)?;
+    let entry = walk_by(region, path, finder).map_err(refused)?;
     Ok(entry.inumber)
 }
 
 /// The inode at a path text.
-pub(crate) fn inode_at<R: Region>(
+pub(crate) fn inode_at<R: Region, F: Finder>(
     region: &R,
-    cache: &mut DirectoryCache,
+    finder: &mut F,
     text: &[u8],
 ) -> Result<u32, FsError>
     requires well_formed { IsWellFormed (current_words (R.memory region.now)) }
-    requires right { IsCacheOf (current_words (R.memory region.now)) cache.old }
+    requires right { F.right finder.old (current_words (R.memory region.now)) }
     ensures found { IfOk result (λ i. PathFinds (current_words (R.memory region.now)) text.now i) }
     ensures stopped { IfErr result (λ e. StopsWalk (current_words (R.memory region.now)) text.now (refusal_of e)) }
-    ensures right { IsCacheOf (current_words (R.memory region.now)) cache.new }
+    ensures right { F.right finder.new (current_words (R.memory region.now)) }
 {
     let path = parse(text).map_err(bad_path)?;
-    inode_on(region, cache, &path)
+    inode_on(region, finder, &path)
 }
 
 /// The file at a path.
-pub(crate) fn file_on<R: Region>(
+pub(crate) fn file_on<R: Region, F: Finder>(
     region: &R,
-    cache: &mut DirectoryCache,
+    finder: &mut F,
     path: &Path<'_>,
 ) -> Result<FoundFile, FsError>
     requires well_formed { IsWellFormed (current_words (R.memory region.now)) }
-    requires right { IsCacheOf (current_words (R.memory region.now)) cache.old }
+    requires right { F.right finder.old (current_words (R.memory region.now)) }
     ensures found { IfOk result (λ file. lookup (current_words (R.memory region.now)) path.now ≡ Some file.inumber) }
     ensures kind { IfOk result (λ file. IsFile (current_words (R.memory region.now)) file.inumber) }
     ensures size { IfOk result (λ file. file.size ≡ size_of (current_words (R.memory region.now)) file.inumber) }
     ensures refused { IfErr result (λ e. RefusesFileAt (current_words (R.memory region.now)) path.now (refusal_of e)) }
-    ensures right { IsCacheOf (current_words (R.memory region.now)) cache.new }
+    ensures right { F.right finder.new (current_words (R.memory region.now)) }
 {
-    let i = inode_on(region, cache, path)?;
+    let i = inode_on(region, finder, path)?;
     let inode = get(region, i);
     match inode.kind {
         Kind::File => Ok(FoundFile {
@@ -194,21 +194,21 @@ pub(crate) fn file_on<R: Region>(
 }
 
 /// The file at a path text.
-pub(crate) fn file_at<R: Region>(
+pub(crate) fn file_at<R: Region, F: Finder>(
     region: &R,
-    cache: &mut DirectoryCache,
+    finder: &mut F,
     text: &[u8],
 ) -> Result<FoundFile, FsError>
     requires well_formed { IsWellFormed (current_words (R.memory region.now)) }
-    requires right { IsCacheOf (current_words (R.memory region.now)) cache.old }
+    requires right { F.right finder.old (current_words (R.memory region.now)) }
     ensures found { IfOk result (λ file. PathFinds (current_words (R.memory region.now)) text.now file.inumber) }
     ensures kind { IfOk result (λ file. IsFile (current_words (R.memory region.now)) file.inumber) }
     ensures size { IfOk result (λ file. file.size ≡ size_of (current_words (R.memory region.now)) file.inumber) }
     ensures refused { IfErr result (λ e. StopsAtFile (current_words (R.memory region.now)) text.now (refusal_of e)) }
-    ensures right { IsCacheOf (current_words (R.memory region.now)) cache.new }
+    ensures right { F.right finder.new (current_words (R.memory region.now)) }
 {
     let path = parse(text).map_err(bad_path)?;
-    file_on(region, cache, &path)
+    file_on(region, finder, &path)
 }
 
 /// The entry at a path below the root directory.

@@ -4,7 +4,7 @@ use Rattle.pm_region.specs.Memory.{current_words}
 use Rattle.bp_calls.specs.Overwritten.{patches_seen}
 use Rattle.bp_stands.specs.Pieces.{ArePatches}
 use Rattle.bp_stands.specs.Pieces.ArePatches.{none as no_patch}
-use Rattle.bp_volume.proofs.PieceLaws.{patch_pushed, path_here, paths_behind, piece_at, piece_passes, piece_refused}
+use Rattle.bp_volume.proofs.PieceLaws.{patch_pushed, paths_behind, piece_at, piece_passes, piece_refused}
 use Rattle.bp_volume.proofs.batching.patches_for.Goals as goal
 
 pub loop-piece-init : goal.loop-piece-init

@@ -2,17 +2,16 @@ use Rattle.std.proofs.Common.{ap}
 use Rattle.std.proofs.lemmas.Result.{MatchResult-weaker, err_from_is_err_and, on_err_weaker}
 use Rattle.pm_region.specs.Memory.{current_words}
 use Rattle.bp_free.specs.declared.parts.Parts.{Parts}
-use Rattle.bp_layout.specs.Thaw.{none_kept}
-use Rattle.bp_layout.proofs.NoSecond.{none_frozen}
-use Rattle.bp_rename.proofs.RenamedStands.{renamed_moves}
 use Rattle.bp_rename.specs.CanRename.{change_of}
+use Rattle.bp_shapes.specs.Sets.{kept_of}
 use Rattle.bp_volume.specs.Carried.CarriesOut.{changed}
-use Rattle.bp_volume.proofs.CacheLaws.{on_ok_was}
+use Rattle.bp_volume.proofs.CacheLaws.{cache_thawed, on_ok_was}
 use Rattle.bp_volume.proofs.ChangeLaws.{carried_lacks, lacks_space, performs_call}
-use Rattle.bp_volume.proofs.FewBlocks.{few_room, performs_room}
+use Rattle.bp_volume.proofs.FewThawed.{few_room, performs_room}
 use Rattle.bp_volume.proofs.MovingLaws.{may_rename, moving_few, moving_makes, moving_shows}
 use Rattle.bp_volume.proofs.TargetLaws.{slot_handed}
-use Rattle.bp_volume.proofs.ToldNames.{name_moves}
+use Rattle.bp_volume.proofs.ThawedLaws.{path_moves}
+use Rattle.bp_volume.proofs.ToldNames.{name_moves_thawed}
 use Rattle.bp_volume.proofs.WalkLaws.{reached_at}
 use Rattle.bp_volume.proofs.renaming.move_name.Goals as goal
 
@@ -20,7 +19,7 @@ pub rename_in-requires-clause-can : goal.rename_in-requires-clause-can
 rename_in-requires-clause-can g c = may_rename _ c.args.from.now c.args.to.now c.args.ends.now c.requires.may c.requires.ready.well_formed.first c.move_of-to_move.result c.move_of-to_move.ensures
 
 pub rename_in-requires-clause-room : goal.rename_in-requires-clause-room
-rename_in-requires-clause-room g c = λ enough. few_room (g.R.Region.memory c.args.parts.now.region) (change_of c.move_of-to_move.result) (moving_few _ c.args.from.now c.args.to.now c.args.ends.now c.requires.may c.requires.ready.well_formed.first c.move_of-to_move.result c.move_of-to_move.ensures) c.requires.ready.room
+rename_in-requires-clause-room g c = λ enough. few_room (kept_of c.args.parts.now) (g.R.Region.memory c.args.parts.now.region) (change_of c.move_of-to_move.result) (moving_few _ c.args.from.now c.args.to.now c.args.ends.now c.requires.may c.requires.ready.well_formed.first c.move_of-to_move.result c.move_of-to_move.ensures) c.requires.ready.room
 
 pub rename_in-requires-clause-empty : goal.rename_in-requires-clause-empty
 rename_in-requires-clause-empty g c = slot_handed (current_words (g.R.Region.memory c.args.parts.now.region)) c.args.ends.now c.move_of-to_move.result c.move_of-to_move.ensures c.requires.may.found.are.target.empty
@@ -35,22 +34,22 @@ returns-in_err-map_err-clause-called g c =
     rw (p.1, p.2) (carried_lacks _ _ _ c.rename_in.result _ c.in_err-map_err.ensures.cases
     (on_err_weaker c.rename_in.result (ap (λ (parts : Parts g.row.R.Denot). g.R.Region.memory parts.region)) c.rename_in.ensures.same)
     (MatchResult-weaker c.rename_in.result c.rename_in.ensures.refused (λ _ nothing. nothing)
-    (lacks_space _ _ (change_of c.move_of-to_move.result) makes none_kept (none_frozen _ c.requires.ready.well_formed.no_second))))
+    (lacks_space _ _ (change_of c.move_of-to_move.result) makes (kept_of c.args.parts.now) c.requires.ready.frozen)))
 
 pub returns-clause-called : goal.returns-clause-called
 returns-clause-called g c =
     let makes = moving_makes _ c.args.from.now c.args.to.now c.args.ends.now c.requires.may c.requires.ready.well_formed.first c.move_of-to_move.result c.move_of-to_move.ensures in
     let can = may_rename _ c.args.from.now c.args.to.now c.args.ends.now c.requires.may c.requires.ready.well_formed.first c.move_of-to_move.result c.move_of-to_move.ensures in
     let done = on_ok_was c.rename_in.result _ c.in_ok-map_err.ensures.cases c.rename_in.ensures.performs in
-    changed (performs_call none_kept _ _ _ (change_of c.move_of-to_move.result) _ c.requires.ready.well_formed (none_frozen _ c.requires.ready.well_formed.no_second) makes done
+    changed (performs_call (kept_of c.args.parts.now) _ _ _ (change_of c.move_of-to_move.result) _ c.requires.ready.well_formed c.requires.ready.frozen makes done
     (λ renames. moving_shows _ c.args.from.now c.args.to.now c.args.ends.now c.requires.may c.requires.ready.well_formed.first c.move_of-to_move.result c.move_of-to_move.ensures _
-    (renamed_moves _ _ c.move_of-to_move.result can renames))
-    (performs_room _ _ _ _ done (moving_few _ c.args.from.now c.args.to.now c.args.ends.now c.requires.may c.requires.ready.well_formed.first c.move_of-to_move.result c.move_of-to_move.ensures) c.requires.ready.room))
+    (path_moves _ _ c.requires.ready.well_formed.first c.move_of-to_move.result can renames))
+    (performs_room (kept_of c.args.parts.now) _ _ _ _ done (moving_few _ c.args.from.now c.args.to.now c.args.ends.now c.requires.may c.requires.ready.well_formed.first c.move_of-to_move.result c.move_of-to_move.ensures) c.requires.ready.room))
 
 pub returns-clause-right : goal.returns-clause-right
 returns-clause-right g c =
     let can = may_rename _ c.args.from.now c.args.to.now c.args.ends.now c.requires.may c.requires.ready.well_formed.first c.move_of-to_move.result c.move_of-to_move.ensures in
     let done = on_ok_was c.rename_in.result _ c.in_ok-map_err.ensures.cases c.rename_in.ensures.performs in
-    c.tell_move.ensures _ _ c.requires.right
-    (name_moves _ _ c.args.ends.now c.requires.may.found.are.named c.move_of-to_move.result c.move_of-to_move.ensures can _ (record { dir = c.at.ensures.dir; name = c.at.ensures.name; slot = c.at.ensures.slot })
+    c.tell_move.ensures _ _ (cache_thawed _ _ _ c.requires.ready.well_formed.first done.effect.thawed c.requires.right)
+    (name_moves_thawed _ _ c.args.ends.now c.requires.may.found.are.named c.move_of-to_move.result c.move_of-to_move.ensures can _ (record { dir = c.at.ensures.dir; name = c.at.ensures.name; slot = c.at.ensures.slot })
     _ c.target_at-target.ensures done.effect)

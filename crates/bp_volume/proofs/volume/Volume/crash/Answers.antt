@@ -26,7 +26,7 @@ rescan-requires-clause-pending g c = c.self.invariant.volume.scans ∙ ap (λ n.
 pub invariant_of-self-2 : goal.invariant_of-self-2
 invariant_of-self-2 g c = record {
   volume = crashed_volume _ _ _ c.self.invariant.volume _ (c.in_ok-kept.ensures.right.0 refl) (g.R.Region.memory c.rescan.new.parts.region) (ap g.R.Region.memory c.rescan.ensures.region ∙ c.in_ok-kept.ensures.left) _ _
-      c.rescan.ensures.exact c.rescan.ensures.pending;
+      c.rescan.ensures.frozen c.rescan.ensures.exact c.rescan.ensures.pending;
   right = c.clear.ensures _;
 }
 

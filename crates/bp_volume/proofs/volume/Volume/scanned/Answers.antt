@@ -9,18 +9,18 @@ invariant_of-result g c =
     let memory : Memory = g.R.Region.memory c.args.region in
     let blocks : block_count memory.base ≡ block_count (current_words memory) = ap block_count (sym (words_fresh memory c.requires.fresh)) in
     record {
-      volume = scanned_volume memory _ _ c.requires.fresh c.requires.roomy (c.in-Ok.ensures.well_formed.0 refl)
+      volume = scanned_volume memory _ _ c.requires.fresh c.requires.roomy (c.in-Ok.ensures.well_formed.0 refl) c.in-Ok.ensures.frozen
           (record {
             sets = record {
-              block_room = c.scan.ensures.block_room ∙ c.requires.blocks ∙ blocks;
-              inode_room = c.scan.ensures.inode_room ∙ c.requires.inodes ∙ ap (λ n. 64 * n) blocks;
+              block_room = c.scan_whole.ensures.block_room ∙ c.requires.blocks ∙ blocks;
+              inode_room = c.scan_whole.ensures.inode_room ∙ c.requires.inodes ∙ ap (λ n. 64 * n) blocks;
               free_blocks = c.in-Ok.ensures.blocks;
               free_inodes = c.in-Ok.ensures.inodes;
             };
             counts = c.in-Ok.ensures.counts;
-            count_room = c.scan.ensures.count_room ∙ c.requires.counts ∙ ap (λ n. 64 * n) blocks;
-            frozen_room = c.requires.frozen ∙ blocks;
+            count_room = c.scan_whole.ensures.count_room ∙ c.requires.counts ∙ ap (λ n. 64 * n) blocks;
+            frozen_room = c.scan_whole.ensures.frozen_room ∙ c.requires.frozen ∙ blocks;
           })
-          (c.scan.ensures.pending ∙ c.requires.pending ∙ ap (λ n. 64 * n) blocks);
+          (c.scan_whole.ensures.pending ∙ c.requires.pending ∙ ap (λ n. 64 * n) blocks);
       right = rw (words_fresh memory c.requires.fresh) c.requires.right;
     }

@@ -1,30 +1,26 @@
 use Rattle.std.proofs.Common.{arith, subst, sym, ◌-◌}
-use Rattle.bp_layout.specs.Free.{HasFree}
-use Rattle.bp_layout.specs.Thaw.{none_kept}
 use Rattle.bp_layout.specs.Whole.{HasSpace}
 use Rattle.bp_scan.specs.Totals.{HasLive}
 use Rattle.pm_region.specs.Memory.{Memory, current_words}
-use Rattle.bp_volume.proofs.SpaceLaws.{free_counted, live_counted, some_live}
+use Rattle.bp_volume.proofs.SpaceLaws.{live_counted, some_live, space_counted}
 use Rattle.bp_volume.proofs.volume.Volume.space.Goals as goal
 
 pub overflow_sub-live : goal.overflow_sub-live
-overflow_sub-live g c = omega (arith, some_live _ c.self.invariant.volume.well_formed.first c.self.inside.parts.blocks c.self.inside.parts.inodes c.self.invariant.volume.exact.sets, c.room.ensures, c.count-free.ensures)
+overflow_sub-live g c =
+    omega (arith, some_live _ c.self.invariant.volume.well_formed.first _ _ _ c.self.invariant.volume.frozen c.self.invariant.volume.exact.sets, c.room.ensures, c.count-free.ensures)
 
 pub overflow_sub-live-2 : goal.overflow_sub-live-2
-overflow_sub-live-2 g c = omega (arith, some_live _ c.self.invariant.volume.well_formed.first c.self.inside.parts.blocks c.self.inside.parts.inodes c.self.invariant.volume.exact.sets, c.room.ensures, c.count-free.ensures)
+overflow_sub-live-2 g c =
+    omega (arith, some_live _ c.self.invariant.volume.well_formed.first _ _ _ c.self.invariant.volume.frozen c.self.invariant.volume.exact.sets, c.room.ensures, c.count-free.ensures)
 
 pub returns-clause-free : goal.returns-clause-free
 returns-clause-free g c =
     subst (λ (memory : Memory). HasSpace (current_words memory) c.count-free.result) c.self.view_is
-    (record {
-      kept = none_kept;
-      are = c.self.invariant.volume.frozen;
-      free = subst (λ n. HasFree (current_words (g.R.Region.memory c.self.inside.parts.region)) none_kept n) (sym c.count-free.ensures)
-          (free_counted _ c.self.invariant.volume.well_formed.first c.self.inside.parts.blocks c.self.inside.parts.inodes c.self.invariant.volume.exact.sets);
-    })
+    (subst (λ n. HasSpace (current_words (g.R.Region.memory c.self.inside.parts.region)) n) (sym c.count-free.ensures)
+    (space_counted _ c.self.invariant.volume.well_formed.first c.self.inside.parts.frozen c.self.inside.parts.blocks c.self.inside.parts.inodes c.self.invariant.volume.frozen c.self.invariant.volume.exact.sets))
 
 pub returns-clause-live : goal.returns-clause-live
 returns-clause-live g c =
     subst (λ (memory : Memory). HasLive (current_words memory) (c.room.result - c.count-free.result - 1)) c.self.view_is
-    (live_counted _ c.self.invariant.volume.well_formed.first c.self.inside.parts.blocks c.self.inside.parts.inodes c.self.invariant.volume.exact.sets _
-    (omega (arith, some_live _ c.self.invariant.volume.well_formed.first c.self.inside.parts.blocks c.self.inside.parts.inodes c.self.invariant.volume.exact.sets, c.room.ensures, c.count-free.ensures)))
+    (live_counted _ c.self.invariant.volume.well_formed.first c.self.inside.parts.frozen c.self.inside.parts.blocks c.self.inside.parts.inodes c.self.invariant.volume.frozen c.self.invariant.volume.exact.sets _
+    (omega (arith, some_live _ c.self.invariant.volume.well_formed.first c.self.inside.parts.frozen c.self.inside.parts.blocks c.self.inside.parts.inodes c.self.invariant.volume.frozen c.self.invariant.volume.exact.sets, c.room.ensures, c.count-free.ensures)))

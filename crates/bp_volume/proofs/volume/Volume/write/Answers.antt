@@ -8,7 +8,7 @@ mark-requires g c = mark_fits c.write_at-made.ensures.called (rw c.self.view_is 
 
 pub invariant_of-self : goal.invariant_of-self
 invariant_of-self g c =
-    cached_carried _ _ _ _ _ _ _ _ c.self.invariant.volume c.write_at-made.ensures.called c.write_at-made.ensures.exact c.write_at-made.ensures.right c.mark.ensures
+    cached_carried _ _ _ _ _ _ _ _ c.self.invariant.volume c.write_at-made.ensures.called c.write_at-made.ensures.exact c.write_at-made.ensures.frozen c.write_at-made.ensures.right c.mark.ensures
 
 pub returns : goal.returns
 returns g c = file_call_carried c.args.self.now _ _ _ _ _ (c.self.view_is ∙ c.make_room.ensures.memory) c.self.invariant.volume.safe c.self.invariant.volume.well_formed c.write_at-made.ensures.called c.mark.ensures

@@ -1,0 +1,318 @@
+-- A snapshot is made by two words of the superblock: the first of them nobody sees, and the second makes the first tree the
+-- second one, too. It goes by one word.
+use Rattle.std.proofs.Common.{◌≡◌, ◌≢◌, ◌⊎◌, ℕ, zero, suc, take, ◌/◌, ◌<◌, ◌≤◌, List, [], ◌∷◌, length, set, Bool, true, false, Option, None, Some, refl, sym, ◌∙◌, ap, subst, arith, inl, inr, get_or-set_same, get_or-set_other}
+use Rattle.std.specs.Prelude.{◌&&◌, is_none, is_some, nat_lt, not}
+use Rattle.std.proofs.lemmas.Bool.{lt-ltb}
+use Rattle.std.proofs.lemmas.List.{length-set}
+use Rattle.pm_epochs.specs.declared.event.Event.{Event}
+use Rattle.pm_epochs.specs.declared.event.Event.TheVariants.{Store}
+use Rattle.pm_epochs.specs.Crash.{IsQuiet}
+use Rattle.pm_epochs.specs.Log.{words_after}
+use Rattle.pm_epochs.specs.Replay.{stores_of}
+use Rattle.pm_epochs.specs.May.{AnyAt, EachMay}
+use Rattle.pm_epochs.proofs.MayLaws.{quiet_may, same_where_none}
+use Rattle.pm_region.specs.Memory.{Adds, Memory, current_words}
+use Rattle.pm_region.proofs.MemoryLaws.{current_words-adds}
+use Rattle.bp_changes.specs.Harmless.{Agrees, IsHarmless}
+use Rattle.bp_changes.proofs.Frame.{same-by_agreement}
+use Rattle.bp_changes.proofs.Stores.{harmless_here}
+use Rattle.bp_free.specs.Set.{has}
+use Rattle.bp_free.specs.declared.parts.Parts.{Parts}
+use Rattle.bp_layout.specs.Formatted.{version_of}
+use Rattle.bp_layout.specs.Free.{AreFreeBlocks}
+use Rattle.bp_layout.specs.Need.{Change}
+use Rattle.bp_layout.specs.Reached.{IsFreeBlock}
+use Rattle.bp_layout.specs.Same.{Same}
+use Rattle.bp_layout.specs.Thaw.{none_kept}
+use Rattle.bp_layout.specs.Trees.{AreFrozen, has_snapshot, snapshot_of}
+use Rattle.bp_layout.specs.WellFormed.{IsWellFormed}
+use Rattle.bp_layout.specs.Whole.{IsFileSystem, SameFiles}
+use Rattle.bp_layout.specs.Words.{Image, block_count, word}
+use Rattle.bp_layout.proofs.NoSecond.{alone_file_system, has_none, kept_none}
+use Rattle.bp_limits.specs.Limits.{is_two, version_at}
+use Rattle.bp_limits.specs.declared.version.Version.TheVariants.{One, Two}
+use Rattle.bp_plain.specs.Calls.{Answer}
+use Rattle.bp_plain.specs.Calls.Answer.{done, refused as is_refused}
+use Rattle.bp_plain.specs.Calls.Call.{snap, unsnap}
+use Rattle.bp_plain.specs.Calls.Refusal.{has_snap, no_snap, old_version}
+use Rattle.bp_plain.specs.Plain.{first, when}
+use Rattle.bp_plain.specs.PlainTree.{FileTree, PathMap}
+use Rattle.bp_plain.specs.Stands.{ShowsSnapshot, Stands}
+use Rattle.bp_scan.specs.Others.{HasOthers}
+use Rattle.bp_scan.specs.Scanned.{AreOthersLive}
+use Rattle.bp_scan.proofs.BothScans.{frozen_others}
+use Rattle.bp_shapes.specs.Sets.{IsExact, kept_of}
+use Rattle.bp_stands.proofs.SnapStands.{idle-harmless, snap_stands, snapped_same, snapshot_is, unsnap_stands, unsnapped_same}
+use Rattle.bp_volume.specs.Carried.{ChangesTree}
+use Rattle.bp_volume.specs.Snapped.{Snaps, Unsnaps, snap_events, unsnap_events}
+use Rattle.bp_volume.specs.Snapped.Snaps.{made as has_made, refused as has_refused}
+use Rattle.bp_volume.specs.Snapped.Unsnaps.{gone, refused as refuses}
+use Rattle.bp_volume.specs.Step.{Fits, IsChange}
+use Rattle.bp_volume.specs.Told.{Tells}
+use Rattle.bp_volume.proofs.BesideExact.{beside_exact}
+use Rattle.bp_volume.proofs.LiveBlocks.{others_live}
+use Rattle.bp_volume.proofs.SafeLaws.{long_words, whole_self}
+use Rattle.bp_volume.proofs.StepLaws.{refused_steps}
+use Rattle.bp_volume.proofs.SuperLaws.{CallsSuper, StoresSuper, changing_steps, super_trees}
+use Rattle.bp_volume.proofs.SuperLaws.CallsSuper.{anew, unchanged}
+use Rattle.bp_volume.proofs.WholeLaws.{whole_equivalence}
+
+-- ---- the snapshot of the tree for which an image stands
+
+module _ (image : Image) (tree : FileTree) (stands : Stands image tree) where
+  clash : (b : Bool) → b ≡ true → b ≡ false → ⊥
+  clash b one two = absurd (cc)
+
+  pub tree_has_none : has_snapshot image ≡ false → tree.snap ≡ None
+  tree_has_none none = go tree.snap stands.snap
+    where
+      go : (snap : Option PathMap) → ShowsSnapshot image snap → snap ≡ None
+      go None shows = refl
+      go (Some map) shows = absurd (clash (has_snapshot image) shows.0 none)
+
+  pub tree_has_one : has_snapshot image ≡ true → (map : PathMap) × (tree.snap ≡ Some map)
+  tree_has_one there = go tree.snap stands.snap
+    where
+      go : (snap : Option PathMap) → ShowsSnapshot image snap → (map : PathMap) × (snap ≡ Some map)
+      go None shows = absurd (clash (has_snapshot image) there shows)
+      go (Some map) shows = (map, refl)
+
+-- ---- refusals
+
+pub snap_too_old : (image : Image) → version_of image ≡ One → Tells image snap (is_refused old_version)
+snap_too_old image one tree stands =
+    refused_steps image tree snap old_version (ap (λ version. first (when (not (is_two version)) old_version ∷ when (is_some tree.snap) has_snap ∷ [])) (stands.version ∙ one))
+
+pub snap_again : (image : Image) → version_of image ≡ Two → has_snapshot image ≡ true → Tells image snap (is_refused has_snap)
+snap_again image two there tree stands =
+    let one = tree_has_one image tree stands there in
+    refused_steps image tree snap has_snap
+    (ap (λ version. first (when (not (is_two version)) old_version ∷ when (is_some tree.snap) has_snap ∷ [])) (stands.version ∙ two)
+    ∙ ap (λ o. first (when (is_some o) has_snap ∷ [])) one.1)
+
+pub unsnap_none : (image : Image) → has_snapshot image ≡ false → Tells image unsnap (is_refused no_snap)
+unsnap_none image none tree stands = refused_steps image tree unsnap no_snap (ap (λ o. when (is_none o) no_snap) (tree_has_none image tree stands none))
+
+-- ---- stores behind the words of the first tree
+
+abbrev IsIdle : ℕ → Type 0
+IsIdle place = (4 ≤ place) × (place < 512)
+
+module _ (image other : Image) (wf : IsWellFormed image) (each : EachMay (AnyAt IsIdle) image other) where
+  idle_agrees : Agrees image other
+  idle_agrees = record { whole = each.size; each = λ place. go place (each.each place) }
+    where
+      go : (place : ℕ) → (word other place ≡ word image place) ⊎ IsIdle place → IsHarmless image place (word other place)
+      go place (inl same) = subst (IsHarmless image place) (sym same) (harmless_here image place)
+      go place (inr at) = idle-harmless image place (word other place) at.0 at.1
+
+  -- the first tree means what it meant
+  idle_same : Same image other
+  idle_same = same-by_agreement image other wf idle_agrees
+
+-- ---- a snapshot is made
+
+-- the root word of the second tree
+abbrev IsSecondRoot : ℕ → Type 0
+IsSecondRoot place = place ≡ 4
+
+module _ (image : Image) (is : IsFileSystem image) (two : version_of image ≡ Two) (none : has_snapshot image ≡ false) where
+  long : 6 ≤ length image
+  long = long_words image is
+
+  abbrev snapped : Image
+  snapped = set (set image 4 (word image 2)) 5 (word image 3)
+
+  -- no image in between has a snapshot
+  between_none : (other : Image) → EachMay (AnyAt IsSecondRoot) image other → has_snapshot other ≡ false
+  between_none other each =
+      let at : (place : ℕ) → place ≢ 4 → word other place ≡ word image place = λ place apart. same_where_none (AnyAt IsSecondRoot) image other each place (λ value e. apart e) in
+      (λ i. is_two (version_at (at 0 (λ e. omega (arith, e)) i)) && nat_lt 0 (at 5 (λ e. omega (arith, e)) i)) ∙ none
+
+  between_same : (other : Image) → EachMay (AnyAt IsSecondRoot) image other → SameFiles image other
+  between_same other each = record {
+    first = idle_same image other is.first (record { size = each.size; each = λ place. go place (each.each place) });
+    second = record {
+      there = between_none other each ∙ sym none;
+      same = λ there. absurd (let both : true ≡ false = sym there ∙ none in cc);
+    };
+  }
+    where
+      go : (place : ℕ) → (word other place ≡ word image place) ⊎ IsSecondRoot place → (word other place ≡ word image place) ⊎ IsIdle place
+      go place (inl same) = inl same
+      go place (inr e) = inr (omega (arith, e), omega (arith, e))
+
+  snap_quiet : IsQuiet SameFiles image (Store 4 (word image 2) ∷ [])
+  snap_quiet = quiet_may SameFiles whole_equivalence (AnyAt IsSecondRoot) image (Store 4 (word image 2) ∷ []) between_same (refl, tt)
+
+  -- the second tree is there
+  there_now : has_snapshot snapped ≡ true
+  there_now =
+      let size : word snapped 5 ≡ word image 3 = get_or-set_same (set image 4 (word image 2)) 5 (word image 3) 0 (rw (length-set image 4 (word image 2)) (omega (arith, long))) in
+      let mark : word snapped 0 ≡ word image 0 =
+      get_or-set_other (set image 4 (word image 2)) 5 0 (word image 3) 0 (λ e. omega (arith, e)) ∙ get_or-set_other image 4 0 (word image 2) 0 (λ e. omega (arith, e)) in
+      let some : 4096 ≤ word image 3 = is.first.some_inodes in
+      (λ i. is_two ((ap version_at mark ∙ two) i) && nat_lt 0 (size i)) ∙ lt-ltb 0 (word image 3) (omega (arith, some))
+
+  snapped_well : IsWellFormed snapped
+  snapped_well = (snapped_same image long is.first).new_well_formed
+
+  snapped_second : IsWellFormed (snapshot_of snapped)
+  snapped_second = subst IsWellFormed (sym (snapshot_is image long is.first)) snapped_well
+
+  snapped_file_system : IsFileSystem snapped
+  snapped_file_system = record { first = snapped_well; second = λ there. snapped_second }
+
+  -- no change of an image is one of a snap, so it needs no block
+  snap_needs_none : Fits image snap
+  snap_needs_none needed free has = absurd (nothing has.change has.is)
+    where
+      nothing : (change : Change) → IsChange image snap change → ⊥
+      nothing change changes = elim changes [ ]
+
+  snap_changes : ChangesTree snap done image snapped
+  snap_changes tree stands =
+      changing_steps image snapped tree snap
+      (ap (λ version. first (when (not (is_two version)) old_version ∷ when (is_some tree.snap) has_snap ∷ [])) (stands.version ∙ two)
+      ∙ ap (λ o. first (when (is_some o) has_snap ∷ [])) (tree_has_none image tree stands none))
+      refl refl snap_needs_none (snap_stands image long is.first two tree stands)
+
+module _ (memory made : Memory) (is : IsFileSystem (current_words memory)) (two : version_of (current_words memory) ≡ Two) (none : has_snapshot (current_words memory) ≡ false)
+    (adds : Adds memory made (snap_events (current_words memory))) where
+  abbrev image : Image
+  image = current_words memory
+
+  words_snapped : current_words made ≡ snapped image is two none
+  words_snapped = current_words-adds memory made (snap_events image) adds
+
+  snap_stores : StoresSuper memory made snap
+  snap_stores = record {
+    prepared = Store 4 (word image 2) ∷ [];
+    place = 5;
+    value = word image 3;
+    adds = adds;
+    quiet = snap_quiet image is two none;
+    piece = record { unmarked = refl; few_barriers = omega arith; few_stores = omega arith };
+    beside = ((omega arith, (λ e. omega (arith, e)), (λ e. omega (arith, e))), ((omega arith, (λ e. omega (arith, e)), (λ e. omega (arith, e))), tt));
+    told = refl;
+    well = rw words_snapped (snapped_file_system image is two none);
+    changes = rw words_snapped (snap_changes image is two none);
+  }
+
+  -- ---- the sets, where all blocks that are not free are kept from then on
+
+  module _ {R : Type 0} (parts : Parts R) (exact : IsExact image parts) (frozen : AreFrozen image (kept_of parts)) where
+    -- no block was kept before
+    loose : kept_of parts ≡ none_kept
+    loose = kept_none image (kept_of parts) none frozen
+
+    exact_now : IsExact (current_words made) parts
+    exact_now = beside_exact image (current_words made) (super_trees memory made snap snap_stores) parts exact
+
+    free_now : AreFreeBlocks (current_words made) none_kept (has parts.blocks)
+    free_now = subst (λ kept. AreFreeBlocks (current_words made) kept (has parts.blocks)) loose exact_now.sets.free_blocks
+
+    second_is : snapshot_of (current_words made) ≡ current_words made
+    second_is = ap snapshot_of words_snapped ∙ snapshot_is image (long image is two none) is.first ∙ sym words_snapped
+
+    module _ (after : Parts R) (blocks : after.blocks ≡ parts.blocks) (inodes : after.inodes ≡ parts.inodes) (counts : after.counts ≡ parts.counts) (others : HasOthers parts.blocks after.frozen) where
+      pub frozen_snapped : AreFrozen (current_words made) (kept_of after)
+      frozen_snapped =
+          frozen_others (current_words made) parts.blocks after.frozen (rw words_snapped (there_now image is two none))
+          (rw words_snapped (snapped_second image is two none)) exact_now.sets.block_room
+          (subst (λ words. AreFreeBlocks words none_kept (has parts.blocks)) (sym second_is) free_now)
+          (subst (λ words. AreOthersLive words (has parts.blocks)) (sym second_is)
+          (others_live (current_words made) snap_stores.well.first parts exact_now free_now)) others
+
+      -- a block that is free is not one of the others
+      free_loose : (b : ℕ) → has parts.blocks b ≡ true → has after.frozen b ≡ false
+      free_loose b is_free =
+          let free : IsFreeBlock (current_words made) none_kept b = free_now.free b is_free in
+          let room : length parts.blocks ≡ block_count (current_words made) = exact_now.sets.block_room in
+          let low : b < block_count (current_words made) = free.high in
+          others.below b free.low (omega (arith, room, low)) ∙ ap not is_free
+
+      pub exact_snapped : IsExact (current_words made) after
+      exact_snapped = record {
+        sets = record {
+          block_room = ap length blocks ∙ exact_now.sets.block_room;
+          inode_room = ap length inodes ∙ exact_now.sets.inode_room;
+          free_blocks = record {
+            free = λ b is_free.
+                let was : has parts.blocks b ≡ true = sym (ap (λ s. has s b) blocks) ∙ is_free in
+                let free : IsFreeBlock (current_words made) none_kept b = free_now.free b was in
+                record { low = free.low; high = free.high; free = free.free; loose = free_loose b was };
+            all = λ b free. ap (λ s. has s b) blocks ∙ free_now.all b (record { low = free.low; high = free.high; free = free.free; loose = refl });
+          };
+          free_inodes = rw inodes exact_now.sets.free_inodes;
+        };
+        counts = rw counts exact_now.counts;
+        count_room = ap (λ (n : List ℕ). length n) counts ∙ exact_now.count_room;
+        frozen_room = others.room ∙ exact_now.sets.block_room;
+      }
+
+pub snap_calls : (memory made : Memory) (answer : Answer) → IsFileSystem (current_words memory) → Snaps memory answer made → CallsSuper memory made snap answer
+snap_calls memory made answer is (has_made told two none adds) = anew told (snap_stores memory made is two none adds)
+snap_calls memory made answer is (has_refused same told) = unchanged same told
+
+-- ---- it goes
+
+-- of no event a crash keeps none
+quiet_none : (image : Image) → IsFileSystem image → IsQuiet SameFiles image []
+quiet_none image is = record {
+  each = λ cut right. subst (λ (events : List Event). SameFiles (words_after image (stores_of cut.epoch cut.mask events)) image) (sym (none_taken cut.moment)) (whole_self image is);
+}
+  where
+    none_taken : (moment : ℕ) → take {A = Event} moment [] ≡ []
+    none_taken zero = refl
+    none_taken (suc moment) = refl
+
+module _ (image : Image) (is : IsFileSystem image) (there : has_snapshot image ≡ true) where
+  abbrev unsnapped : Image
+  unsnapped = set image 5 0
+
+  gone_now : has_snapshot unsnapped ≡ false
+  gone_now = has_none unsnapped (λ two. get_or-set_same image 5 0 0 (let long = long_words image is in omega (arith, long)))
+
+  unsnapped_file_system : IsFileSystem unsnapped
+  unsnapped_file_system = alone_file_system unsnapped (unsnapped_same image (long_words image is) is.first).new_well_formed gone_now
+
+  unsnap_needs_none : Fits image unsnap
+  unsnap_needs_none needed free has = absurd (nothing has.change has.is)
+    where
+      nothing : (change : Change) → IsChange image unsnap change → ⊥
+      nothing change changes = elim changes [ ]
+
+  unsnap_changes : ChangesTree unsnap done image unsnapped
+  unsnap_changes tree stands =
+      let one = tree_has_one image tree stands there in
+      changing_steps image unsnapped tree unsnap (ap (λ o. when (is_none o) no_snap) one.1) refl refl unsnap_needs_none (unsnap_stands image (long_words image is) is.first tree stands)
+
+module _ (memory made : Memory) (is : IsFileSystem (current_words memory)) (there : has_snapshot (current_words memory) ≡ true) (adds : Adds memory made unsnap_events) where
+  words_unsnapped : current_words made ≡ set (current_words memory) 5 0
+  words_unsnapped = current_words-adds memory made unsnap_events adds
+
+  unsnap_stores : StoresSuper memory made unsnap
+  unsnap_stores = record {
+    prepared = [];
+    place = 5;
+    value = 0;
+    adds = adds;
+    quiet = quiet_none (current_words memory) is;
+    piece = record { unmarked = refl; few_barriers = omega arith; few_stores = omega arith };
+    beside = ((omega arith, (λ e. omega (arith, e)), (λ e. omega (arith, e))), tt);
+    told = refl;
+    well = rw words_unsnapped (unsnapped_file_system (current_words memory) is there);
+    changes = rw words_unsnapped (unsnap_changes (current_words memory) is there);
+  }
+
+  -- the words are a file system, of as many blocks, so a scan of them passes
+  pub unsnapped_well : IsFileSystem (current_words made)
+  unsnapped_well = unsnap_stores.well
+
+  pub unsnapped_blocks : block_count (current_words made) ≡ block_count (current_words memory)
+  unsnapped_blocks = ap (λ (words : Image). length words / 512) words_unsnapped ∙ ap (λ n. n / 512) (length-set (current_words memory) 5 0)
+
+pub unsnap_calls : (memory made : Memory) (answer : Answer) → IsFileSystem (current_words memory) → Unsnaps memory answer made → CallsSuper memory made unsnap answer
+unsnap_calls memory made answer is (gone told there adds) = anew told (unsnap_stores memory made is there adds)
+unsnap_calls memory made answer is (refuses same told) = unchanged same told

@@ -1,0 +1,153 @@
+-- Calls that store words of the superblock beside the first tree, as far as their mark: a quiet preparation, and then one store
+-- alone in its epoch.
+use Rattle.std.proofs.Common.{◌≡◌, ◌≢◌, ℕ, ◌*◌, ◌<◌, ◌≤◌, List, [], ◌∷◌, ◌++◌, true, false, None, Some, refl, sym, ◌∙◌, ap, subst, arith}
+use Rattle.std.specs.Prelude.{◌&&◌, is_none, if◌then◌else◌}
+use Rattle.pm_epochs.specs.declared.event.Event.{Event}
+use Rattle.pm_epochs.specs.declared.event.Event.TheVariants.{Mark}
+use Rattle.pm_epochs.specs.Crash.{IsQuiet, commit}
+use Rattle.pm_epochs.specs.Log.{IsPiece}
+use Rattle.pm_epochs.specs.May.{AnyAt, EachMay, StoresMay}
+use Rattle.pm_epochs.proofs.MayLaws.{EachMay-stored, same_where_none}
+use Rattle.pm_region.specs.Memory.{Adds, Memory, current_words, room_in, with_room}
+use Rattle.pm_region.specs.Safe.{AddsCommit, IsSafe}
+use Rattle.pm_region.proofs.MemoryLaws.{adds_both, capacity-adds, current_words-adds, current_words-with_room}
+use Rattle.pm_region.proofs.SafeLaws.{room_after_commit, safe_committed}
+use Rattle.bp_free.specs.declared.parts.Parts.{Parts}
+use Rattle.bp_layout.specs.Trees.{AreFrozen}
+use Rattle.bp_layout.specs.Whole.{IsFileSystem, SameFiles}
+use Rattle.bp_layout.specs.Words.{Image}
+use Rattle.bp_layout.proofs.BesideTrees.{SameTrees}
+use Rattle.bp_limits.specs.Limits.{call_room}
+use Rattle.bp_plain.specs.Calls.{Answer, Call}
+use Rattle.bp_plain.specs.Calls.Answer.{done}
+use Rattle.bp_plain.specs.Plain.{answer, answer_or, changes, is_changing, plain, refusal, tree_after}
+use Rattle.bp_plain.specs.PlainTree.{FileTree}
+use Rattle.bp_plain.specs.Stands.{Stands}
+use Rattle.bp_shapes.specs.Sets.{IsExact, kept_of}
+use Rattle.bp_volume.specs.Carried.{ChangesTree}
+use Rattle.bp_volume.specs.FileCall.{FileCall, has_changed, super_events}
+use Rattle.bp_volume.specs.FileCall.IsCheap.{tells}
+use Rattle.bp_volume.specs.Step.{Fits, StepFor}
+use Rattle.bp_volume.specs.Step.StepFor.{changed}
+use Rattle.bp_volume.specs.Told.{Tells}
+use Rattle.bp_volume.specs.Volume.{IsVolume}
+use Rattle.bp_volume.proofs.CarriedLaws.{blocks-adds}
+use Rattle.bp_volume.proofs.FileCallLaws.{exact_parts, file_call_unchanged, volume-marked}
+use Rattle.bp_volume.proofs.SafeLaws.{whole_self}
+use Rattle.bp_volume.proofs.WholeLaws.{whole_equivalence}
+
+-- the words of the superblock that do not tell of the first tree
+abbrev pub IsBeside : ℕ → Type 0
+IsBeside place = (place ≤ 5) × (place ≢ 2) × (place ≢ 3)
+
+-- stores to some of them leave the first tree as it was
+pub trees_beside : (Stored : ℕ → Type 0) → ((place : ℕ) → Stored place → place < 512) → (Stored 2 → ⊥) → (Stored 3 → ⊥) → (old new : Image) → EachMay (AnyAt Stored) old new → SameTrees old new
+trees_beside Stored low not_root not_size old new each = record {
+  whole = each.size;
+  root = same_where_none (AnyAt Stored) old new each 2 (λ value at. not_root at);
+  size = same_where_none (AnyAt Stored) old new each 3 (λ value at. not_size at);
+  blocks = λ place high. same_where_none (AnyAt Stored) old new each place (λ value at. omega (arith, low place at, high));
+}
+
+-- The call has these events, makes a file system, and changes each tree for which the image stands.
+pub record StoresSuper (memory made : Memory) (call : Call) : Type 0 where
+  pub prepared : List Event
+  pub place : ℕ
+  pub value : ℕ
+  pub adds : Adds memory made (prepared ++ commit place value)
+  pub quiet : IsQuiet SameFiles (current_words memory) prepared
+  pub piece : IsPiece 2 3 (prepared ++ commit place value)
+  pub beside : StoresMay (AnyAt IsBeside) (prepared ++ commit place value)
+  pub told : super_events (current_words memory) call ≡ Some (prepared ++ commit place value)
+  pub well : IsFileSystem (current_words made)
+  pub changes : ChangesTree call done (current_words memory) (current_words made)
+
+-- it does so, or it changes nothing and this may be its answer
+pub data CallsSuper (memory made : Memory) (call : Call) (answer : Answer) : Type 0 where
+  anew : answer ≡ done → StoresSuper memory made call → CallsSuper memory made call answer
+  unchanged : made ≡ memory → Tells (current_words memory) call answer → CallsSuper memory made call answer
+
+module _ (memory made : Memory) (call : Call) (does : StoresSuper memory made call) where
+  abbrev events : List Event
+  events = does.prepared ++ commit does.place does.value
+
+  whole_commit : AddsCommit SameFiles does.place does.value 2 3 memory made
+  whole_commit = record { prepared = does.prepared; adds = does.adds; quiet = does.quiet; piece = does.piece }
+
+  pub super_trees : SameTrees (current_words memory) (current_words made)
+  super_trees =
+      trees_beside IsBeside (λ place at. omega (arith, at.0)) (λ at. at.1 refl) (λ at. at.2 refl) (current_words memory) (current_words made)
+      (rw (current_words-adds memory made events does.adds) (EachMay-stored (AnyAt IsBeside) (current_words memory) events does.beside))
+
+  super_fits : call_room ≤ room_in memory → 1 ≤ room_in made
+  super_fits room = omega (arith, room, room_after_commit SameFiles does.place does.value 2 3 memory made whole_commit)
+
+  module _ (marked : Memory) (ends : Adds made marked (Mark ∷ [])) where
+    words : current_words marked ≡ current_words made
+    words = current_words-adds made marked (Mark ∷ []) ends
+
+    super_safe : IsSafe SameFiles memory → IsSafe SameFiles marked
+    super_safe safe =
+        safe_committed SameFiles whole_equivalence does.place does.value 2 3 memory made marked safe whole_commit ends (rw words (whole_self (current_words made) does.well))
+
+    super_volume : {R : Type 0} (parts after : Parts R) (region : R) (pending : ℕ) → IsVolume memory parts pending → IsExact (current_words made) after → AreFrozen (current_words made) (kept_of after) →
+        IsVolume marked (record after { region = region }) pending
+    super_volume parts after region pending volume exact frozen = record {
+      safe = super_safe volume.safe;
+      roomy = rw (capacity-adds made marked (Mark ∷ []) ends ∙ capacity-adds memory made events does.adds) volume.roomy;
+      well_formed = rw words does.well;
+      frozen = rw words frozen;
+      exact = rw words (exact_parts (current_words made) after region exact);
+      scans = volume.scans ∙ ap (λ n. 64 * n) (sym (blocks-adds made marked (Mark ∷ []) ends ∙ blocks-adds memory made events does.adds));
+    }
+
+-- ---- a call, behind the room that it made
+
+-- its mark has room
+pub super_mark_fits : (memory made : Memory) (call : Call) (answer : Answer) → CallsSuper memory made call answer → call_room ≤ room_in memory → 1 ≤ room_in made
+super_mark_fits memory made call answer (anew is does) room = super_fits memory made call does room
+super_mark_fits memory made call answer (unchanged same told) room = rw same (omega (arith, room))
+
+pub volume_super : {R : Type 0} (memory made marked : Memory) (call : Call) (answer : Answer) (parts after : Parts R) (region : R) (pending : ℕ) → IsVolume memory parts pending → CallsSuper memory made call answer →
+    IsExact (current_words made) after → AreFrozen (current_words made) (kept_of after) → Adds made marked (Mark ∷ []) → IsVolume marked (record after { region = region }) pending
+volume_super memory made marked call answer parts after region pending volume (anew is does) exact frozen ends = super_volume memory made call does marked ends parts after region pending volume exact frozen
+volume_super memory made marked call answer parts after region pending volume (unchanged same told) exact frozen ends =
+    let here : IsVolume memory after pending = record {
+      safe = volume.safe;
+      roomy = volume.roomy;
+      well_formed = volume.well_formed;
+      frozen = rw same at frozen;
+      exact = rw same at exact;
+      scans = volume.scans;
+    } in
+    volume-marked memory marked after region pending here (rw same at ends)
+
+-- the whole call
+pub file_call_super : (old middle made new : Memory) (call : Call) (answer : Answer) → middle ≡ with_room call_room old → IsSafe SameFiles middle → CallsSuper middle made call answer → Adds made new (Mark ∷ []) →
+    FileCall old call answer new
+file_call_super old middle made new call answer room safe (anew is does) ends =
+    let before : current_words middle ≡ current_words old = ap current_words room ∙ current_words-with_room call_room old in
+    let made_events : List Event = events middle made call does in
+    let told : ChangesTree call answer (current_words old) (current_words new) =
+    rw is (rw (words middle made call does new ends) (subst (λ image. ChangesTree call done image (current_words made)) before does.changes)) in
+    record {
+      added = made_events;
+      unmarked = does.piece.unmarked;
+      adds = subst (λ memory. Adds memory new (made_events ++ Mark ∷ [])) room (adds_both middle made new made_events (Mark ∷ []) does.adds ends);
+      step = λ tree stands. (told tree stands).1;
+      silent = λ tree stands none. absurd (let both : true ≡ false = sym (told tree stands).0 ∙ none in cc);
+      short = λ tree stands changing. tells (subst (λ image. super_events image call ≡ Some made_events) before does.told);
+      safe = super_safe middle made call does new ends safe;
+    }
+file_call_super old middle made new call answer room safe (unchanged same told) ends = file_call_unchanged old middle new call answer room safe (rw same at ends) told
+
+-- ---- what such a call changes of a tree
+
+-- where it is not refused, and changes the tree
+pub changing_steps : (image made : Image) (tree : FileTree) (call : Call) → refusal tree call ≡ None → changes tree call ≡ true → answer tree call ≡ done → Fits image call → Stands made (tree_after tree call) →
+    (has_changed tree call done ≡ true) × StepFor image tree call done made
+changing_steps image made tree call none changing is fits stands =
+    let now : is_changing tree call ≡ true = ap (λ o. is_none o && changes tree call) none ∙ changing in
+    let says : (plain tree call).0 ≡ done = ap (λ o. (answer_or tree call o).0) none ∙ is in
+    let gives : (plain tree call).1 ≡ tree_after tree call = ap (λ o. (answer_or tree call o).1) none ∙ ap (λ b. if b then tree_after tree call else tree) changing in
+    (ap (λ b. b && true) now, subst (λ a. StepFor image tree call a made) says (changed now fits (subst (Stands made) (sym gives) stands)))

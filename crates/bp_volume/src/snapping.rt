@@ -1,0 +1,198 @@
+//! The snapshot: it is made and let go by words of the superblock alone, and read as the first tree is.
+
+ghost use Rattle.std.specs.Prelude.{◌*◌, ◌≡◌, ◌<◌, ◌≤◌, IfErr, IfOk, OnErr, OnOk, Some, drop, false, length};
+ghost use Rattle.bp_layout.specs.Formatted.{IsSized, version_of};
+ghost use Rattle.bp_layout.specs.Trees.{AreFrozen, has_snapshot};
+ghost use Rattle.bp_layout.specs.Whole.{IsFileSystem};
+ghost use Rattle.bp_layout.specs.Words.{block_count};
+ghost use Rattle.bp_limits.specs.Limits.{block_inodes};
+ghost use Rattle.bp_limits.specs.declared.version.Version.TheVariants.{Two};
+ghost use Rattle.bp_plain.specs.Calls.Answer.{refused};
+ghost use Rattle.bp_plain.specs.Calls.Call.{snap, snap_list, snap_read, snap_stat};
+ghost use Rattle.bp_plain.specs.Calls.Refusal.{no_snap};
+ghost use Rattle.bp_plain.specs.Plain.{on_path};
+ghost use Rattle.bp_plain.specs.Seen.{refusal_of};
+ghost use Rattle.bp_scan.specs.Others.{HasOthers};
+ghost use Rattle.bp_shapes.specs.Sets.{IsExact, kept_of};
+ghost use Rattle.bp_volume.specs.Ready.{IsReady};
+ghost use Rattle.bp_volume.specs.Seen.{list_answer_of, read_answer, stat_answer_of, unit_answer};
+ghost use Rattle.bp_volume.specs.Snapped.{Snaps, Unsnaps, snap_events, unsnap_events};
+ghost use Rattle.bp_volume.specs.Told.{Tells};
+ghost use Rattle.pm_region.specs.Memory.{Adds, current_words, room_in};
+
+use crate::asking::{list_at, read_at, stat_at};
+use crate::rescanning::rescan;
+use bp_dirs::Scan;
+use bp_free::{Blocks, Parts};
+use bp_layout::{Listing, Stat};
+use bp_limits::{SUPER_ROOT, SUPER_SECOND_ROOT, SUPER_SECOND_SIZE, SUPER_SIZE, Version};
+use bp_path::parse;
+use bp_plain::FsError;
+use bp_scan::Pending;
+use bp_second::Shown;
+use bp_tree::version;
+use pm_region::Region;
+use std::alloc::Global;
+
+/// Whether there is a snapshot.
+fn has_second<R: Region>(region: &R) -> bool
+    requires { IsSized (current_words (R.memory region.now)) }
+    ensures { result ≡ has_snapshot (current_words (R.memory region.now)) }
+{
+    match version(region) {
+        Version::One => false,
+        Version::Two => region.load(SUPER_SECOND_SIZE) != 0,
+    }
+}
+
+/// Why no snapshot is made, where none is.
+fn may_snap<R: Region>(region: &R) -> Result<(), FsError>
+    requires { IsSized (current_words (R.memory region.now)) }
+    ensures version { OnOk result (version_of (current_words (R.memory region.now)) ≡ Two) }
+    ensures none { OnOk result (has_snapshot (current_words (R.memory region.now)) ≡ false) }
+    ensures refused { IfErr result
+        (λ error. Tells (current_words (R.memory region.now)) snap (refused (refusal_of error))) }
+{
+    match version(region) {
+        Version::One => Err(FsError::OldVersion),
+        Version::Two => {
+            if has_second(region) {
+                return Err(FsError::HasSnap);
+            }
+            Ok(())
+        }
+    }
+}
+
+/// Stores the root word and the size of the first tree as those of the second. The size comes last, since it tells that there
+/// is one.
+fn store_second<R: Region>(region: &mut R)
+    requires sized { IsSized (current_words (R.memory region.old)) }
+    requires room { 4 ≤ room_in (R.memory region.old) }
+    ensures { Adds (R.memory region.old) (R.memory region.new) (snap_events (current_words (R.memory region.old))) }
+{
+    let root = region.load(SUPER_ROOT);
+    let size = region.load(SUPER_SIZE);
+    region.store(SUPER_SECOND_ROOT, root);
+    region.barrier();
+    region.store(SUPER_SECOND_SIZE, size);
+    region.barrier();
+}
+
+/// Stores the size 0 as that of the second tree, which is gone then.
+fn drop_second<R: Region>(region: &mut R)
+    requires sized { IsSized (current_words (R.memory region.old)) }
+    requires room { 3 ≤ room_in (R.memory region.old) }
+    ensures { Adds (R.memory region.old) (R.memory region.new) unsnap_events }
+{
+    // The store stands alone in its epoch, as the last one of each change does.
+    region.barrier();
+    region.store(SUPER_SECOND_SIZE, 0);
+    region.barrier();
+}
+
+/// Puts all blocks but the first that are not free into a set, whatever it had.
+fn freeze(free: &Blocks, frozen: &mut Blocks)
+    requires some { 0 < length free.now }
+    requires room { length frozen.old ≡ length free.now }
+    ensures { HasOthers free.now frozen.new }
+{
+    frozen.clear();
+    for block in 1..free.room() {
+        if !free.is_free(block) {
+            frozen.give(block);
+        }
+    }
+}
+
+/// What `snap` does before its mark. No block is read or copied: those of the first tree are kept from then on.
+pub(crate) fn snap_at<R: Region>(parts: &mut Parts<R>) -> Result<(), FsError>
+    requires ready { IsReady (R.memory parts.old.region) parts.old }
+    ensures snaps { Snaps (R.memory parts.old.region) (unit_answer result) (R.memory parts.new.region) }
+    ensures exact { IsExact (current_words (R.memory parts.new.region)) parts.new }
+    ensures frozen { AreFrozen (current_words (R.memory parts.new.region)) (kept_of parts.new) }
+{
+    may_snap(&parts.region)?;
+    store_second(&mut parts.region);
+    freeze(&parts.blocks, &mut parts.frozen);
+    Ok(())
+}
+
+/// What `unsnap` does before its mark. Which of the blocks of the snapshot are free then, a scan of the first tree tells.
+pub(crate) fn unsnap_at<R: Region>(
+    parts: &mut Parts<R>,
+    pending: &mut Pending,
+) -> Result<(), FsError>
+    requires ready { IsReady (R.memory parts.old.region) parts.old }
+    requires pending { pending.old ≡ block_inodes * block_count (current_words (R.memory parts.old.region)) }
+    ensures unsnaps { Unsnaps (R.memory parts.old.region) (unit_answer result) (R.memory parts.new.region) }
+    ensures exact { IsExact (current_words (R.memory parts.new.region)) parts.new }
+    ensures frozen { AreFrozen (current_words (R.memory parts.new.region)) (kept_of parts.new) }
+    ensures pending { pending.new ≡ pending.old }
+{
+    if !has_second(&parts.region) {
+        return Err(FsError::NoSnap);
+    }
+    drop_second(&mut parts.region);
+    rescan(parts, pending);
+    Ok(())
+}
+
+/// The refusal of a call at a path of the snapshot, where there is none.
+fn no_snapshot(text: &[u8]) -> FsError
+    ensures { on_path text.now (λ path. Some no_snap) ≡ Some (refusal_of result) }
+{
+    match parse(text) {
+        Ok(_) => FsError::NoSnap,
+        Err(_) => FsError::BadPath,
+    }
+}
+
+/// What `snap_stat` answers.
+pub(crate) fn snap_stat_at<R: Region>(region: &R, text: &[u8]) -> Result<Stat, FsError>
+    requires { IsFileSystem (current_words (R.memory region.now)) }
+    ensures { Tells (current_words (R.memory region.now)) (snap_stat text.now) (stat_answer_of result) }
+{
+    if !has_second(region) {
+        return Err(no_snapshot(text));
+    }
+    let second = Shown::second(region);
+    stat_at(&second, &mut Scan, text)
+}
+
+/// What `snap_list` answers.
+pub(crate) fn snap_list_at<R: Region>(
+    alloc: Global,
+    region: &R,
+    text: &[u8],
+) -> Result<Listing, FsError>
+    requires { IsFileSystem (current_words (R.memory region.now)) }
+    ensures { Tells (current_words (R.memory region.now)) (snap_list text.now) (list_answer_of result) }
+{
+    if !has_second(region) {
+        return Err(no_snapshot(text));
+    }
+    let second = Shown::second(region);
+    list_at(alloc, &second, &mut Scan, text)
+}
+
+/// What `snap_read` answers.
+pub(crate) fn snap_read_at<R: Region>(
+    region: &R,
+    text: &[u8],
+    off: u64,
+    into: &mut [u8],
+) -> Result<usize, FsError>
+    requires { IsFileSystem (current_words (R.memory region.now)) }
+    ensures told { Tells (current_words (R.memory region.now)) (snap_read text.now off (length into.old))
+        (read_answer result into.new) }
+    ensures fits { IfOk result (λ count. count ≤ length into.new) }
+    ensures rest { IfOk result (λ count. drop count into.new ≡ drop count into.old) }
+    ensures unread { OnErr result (into.new ≡ into.old) }
+{
+    if !has_second(region) {
+        return Err(no_snapshot(text));
+    }
+    let second = Shown::second(region);
+    read_at(&second, &mut Scan, text, off, into)
+}

@@ -77,6 +77,43 @@ fn a_format_has_the_greatest_size_of_its_version(rt: HostRuntime) -> Result<(), 
     Ok(())
 }
 
+/// A volume of version 2 with a snapshot of the file `/a`, which has two bytes.
+fn kept(alloc: Global) -> Result<Volume<ListRegion>, Fail> {
+    let mut volume = fresh(alloc)?;
+    volume.upgrade();
+    volume.create(b"/a")?;
+    volume.write(b"/a", 0, b"hi")?;
+    volume.snap()?;
+    Ok(volume)
+}
+
+#[test]
+fn a_snapshot_stays_as_it_was(rt: HostRuntime) -> Result<(), Fail> {
+    let mut volume = kept(rt.alloc())?;
+    let mut bytes = [0u8; 4];
+    assert_eq!(rt; volume.write(b"/a", 0, b"yo"), Ok(()));
+    assert_eq!(rt; volume.unlink(b"/a"), Ok(()));
+    assert_eq!(rt; volume.snap_read(b"/a", 0, &mut bytes), Ok(2));
+    assert_eq!(rt; bytes, *b"hi\0\0");
+    assert_eq!(rt; volume.snap_stat(b"/a"), Ok(Stat::File { size: 2 }));
+    let names = volume.snap_list(rt.alloc(), b"/")?;
+    assert_eq!(rt; names.len(), 1);
+    assert_eq!(rt; names.at(0).1, b"a".as_slice());
+    Ok(())
+}
+
+#[test]
+fn a_snapshot_comes_and_goes(rt: HostRuntime) -> Result<(), Fail> {
+    let mut volume = kept(rt.alloc())?;
+    assert_eq!(rt; volume.snap(), Err(FsError::HasSnap));
+    assert_eq!(rt; volume.unsnap(), Ok(()));
+    assert_eq!(rt; volume.unsnap(), Err(FsError::NoSnap));
+    assert_eq!(rt; volume.snap_stat(b"/a"), Err(FsError::NoSnap));
+    let mut volume = fresh(rt.alloc())?;
+    assert_eq!(rt; volume.snap(), Err(FsError::OldVersion));
+    Ok(())
+}
+
 #[test]
 fn an_image_is_mounted(rt: HostRuntime) -> Result<(), Fail> {
     let region = region_of(rt.alloc(), laid(rt.alloc(), &EMPTY)?)?;

@@ -288,6 +288,19 @@ module _ (text : List ℕ) (word : IsWord text) where
       line : call_line (read text off len) ≡ codes "read " ++ (w ++ 32 ∷ (decimal off ++ 32 ∷ decimal len))
       line = simp append_assoc
 
+  snap_read_asks : (off len : ℕ) → off < 2 ^ 64 → len ≤ max_read → IsRead (snap_read text off len)
+  snap_read_asks off len low few fits =
+      asks (snap_read text off len) (codes "sread" ∷ w ∷ decimal off ∷ decimal len ∷ []) (snap_read w off len) fits
+      (ap words_of line ∙ ap (λ ws. codes "sread" ∷ ws) (three_words (decimal off) (decimal len) (decimal_whole off low) (decimal_whole len small)))
+      (rw (has.some, filled (decimal off) (decimal_nonempty off low), filled (decimal len) (decimal_nonempty len small), decimal_spells off low, decimal_spells len small, le-leb len max_read few) refl)
+      (ap (λ p. file_call (snap_read p off len)) has.is)
+    where
+      small : len < 2 ^ 64
+      small = omega (arith, few)
+
+      line : call_line (snap_read text off len) ≡ codes "sread " ++ (w ++ 32 ∷ (decimal off ++ 32 ∷ decimal len))
+      line = simp append_assoc
+
   write_asks : (off : ℕ) (new : List ℕ) → off < 2 ^ 64 → are_bytes new ≡ true → IsRead (write text off new)
   write_asks off new low bytes fits =
       asks (write text off new) (codes "write" ∷ w ∷ decimal off ∷ digits_or_dash new ∷ []) (write w off new) fits
@@ -326,9 +339,9 @@ call_asks (truncate text size) is = truncate_asks text is.0 size is.1
 call_asks (rename from to) is = pair_asks from to is.0 is.1 (codes "rename") rename refl refl (λ p q. refl) (λ p q. refl) (simp append_assoc)
 call_asks (link from to) is = pair_asks from to is.0 is.1 (codes "link") link refl refl (λ p q. refl) (λ p q. refl) (simp append_assoc)
 call_asks upgrade is = λ fits. refl
-call_asks snap is = absurd is
-call_asks unsnap is = absurd is
-call_asks (snap_list text) is = absurd is
-call_asks (snap_stat text) is = absurd is
-call_asks (snap_read text off len) is = absurd is
+call_asks snap is = λ fits. refl
+call_asks unsnap is = λ fits. refl
+call_asks (snap_list text) is = path_asks text is (codes "slist") snap_list refl refl (λ p. refl) (λ p. refl) refl
+call_asks (snap_stat text) is = path_asks text is (codes "sstat") snap_stat refl refl (λ p. refl) (λ p. refl) refl
+call_asks (snap_read text off len) is = snap_read_asks text is.0 off len is.1 is.2
 call_asks (batch pieces) is = absurd is

@@ -7,12 +7,12 @@ use Rattle.std.specs.Result.{result_ok}
 use Rattle.hex.specs.Hex.{decode_of}
 use Rattle.hex.specs.declared.error.FromHexError.{FromHexError}
 use Rattle.hex.proofs.HexLemmas.{decode_of-ok}
-use Rattle.bp_limits.specs.Limits.{max_pieces, max_read}
-use Rattle.bp_script.specs.Commands.{Command, asked_by, bare_command, batch_of, bytes_spelled, cache_command, command_by_words, decoded, in_grammar, is_empty_word, mask_in, masked_crash, number_spelled, pair_command, path_command, piece_words, read_command, row_command, storm_command, truncate_command, whole_crash, word_command, words_of, write_command}
+use Rattle.bp_limits.specs.Limits.{max_pieces}
+use Rattle.bp_script.specs.Commands.{Command, asked_by, bare_command, batch_of, bytes_spelled, cache_command, command_by_words, decoded, in_grammar, is_empty_word, length_spelled, mask_in, masked_crash, number_spelled, pair_command, path_command, piece_words, read_command, row_command, snap_read_command, storm_command, truncate_command, whole_crash, word_command, words_of, write_command}
 use Rattle.bp_replay.specs.Wanted.Wanted.{all, nothing}
 use Rattle.bp_script.specs.Commands.Command.{file_call, sync, space, crash, log, bad_syntax}
 use Rattle.bp_plain.specs.Calls.{Piece}
-use Rattle.bp_plain.specs.Calls.Call.{create, mkdir, unlink, rmdir, list, stat, read, rename, link, links, upgrade, batch}
+use Rattle.bp_plain.specs.Calls.Call.{create, mkdir, unlink, rmdir, list, stat, rename, link, links, upgrade, snap, unsnap, snap_list, snap_stat, batch}
 use Rattle.bp_script.proofs.Rows.{parts_within}
 
 -- ---- most commands have none
@@ -25,7 +25,9 @@ bare_none : (verb : List ℕ) → mask_in (bare_command verb) ≡ []
 bare_none verb =
     none_either (bytes_eq verb (codes "sync")) sync _ refl
     (none_either (bytes_eq verb (codes "space")) space _ refl
-    (none_either (bytes_eq verb (codes "log")) log _ refl (none_either (bytes_eq verb (codes "upgrade")) (file_call upgrade) bad_syntax refl refl)))
+    (none_either (bytes_eq verb (codes "log")) log _ refl
+    (none_either (bytes_eq verb (codes "upgrade")) (file_call upgrade) _ refl
+    (none_either (bytes_eq verb (codes "snap")) (file_call snap) _ refl (none_either (bytes_eq verb (codes "unsnap")) (file_call unsnap) bad_syntax refl refl)))))
 
 path_none : (verb path : List ℕ) → mask_in (path_command verb path) ≡ []
 path_none verb path =
@@ -35,7 +37,9 @@ path_none verb path =
     (none_either (bytes_eq verb (codes "rmdir")) (file_call (rmdir path)) _ refl
     (none_either (bytes_eq verb (codes "list")) (file_call (list path)) _ refl
     (none_either (bytes_eq verb (codes "stat")) (file_call (stat path)) _ refl
-    (none_either (bytes_eq verb (codes "links")) (file_call (links path)) bad_syntax refl refl))))))
+    (none_either (bytes_eq verb (codes "links")) (file_call (links path)) _ refl
+    (none_either (bytes_eq verb (codes "slist")) (file_call (snap_list path)) _ refl
+    (none_either (bytes_eq verb (codes "sstat")) (file_call (snap_stat path)) bad_syntax refl refl))))))))
 
 whole_none : (word : List ℕ) → mask_in (whole_crash word) ≡ []
 whole_none word = none_either (bytes_eq word (codes "all")) (crash all) _ refl (none_either (bytes_eq word (codes "none")) (crash nothing) bad_syntax refl refl)
@@ -67,11 +71,12 @@ pair_none verb first second =
 read_none : (path : List ℕ) (off len : Option ℕ) → mask_in (read_command path off len) ≡ []
 read_none path None len = refl
 read_none path (Some off) None = refl
-read_none path (Some off) (Some len) = go (nat_le len max_read)
-  where
-    go : (a : Bool) → mask_in (if a then file_call (read path off len) else bad_syntax) ≡ []
-    go true = refl
-    go false = refl
+read_none path (Some off) (Some len) = refl
+
+snap_read_none : (path : List ℕ) (off len : Option ℕ) → mask_in (snap_read_command path off len) ≡ []
+snap_read_none path None len = refl
+snap_read_none path (Some off) None = refl
+snap_read_none path (Some off) (Some len) = refl
 
 write_none : (path : List ℕ) (off : Option ℕ) (new : Option (List ℕ)) → mask_in (write_command path off new) ≡ []
 write_none path None new = refl
@@ -104,12 +109,13 @@ none_short : (digits : ℕ) (mask : List ℕ) → mask ≡ [] → 2 * length mas
 none_short digits mask e = omega (arith, ap length e)
 
 -- of a line of four words, by its verb
-long_short : (digits : ℕ) (a b c : Bool) (x y z : Command) → mask_in x ≡ [] → mask_in y ≡ [] → 2 * length (mask_in z) ≤ digits
-    → 2 * length (mask_in (if a then x else if b then y else if c then z else bad_syntax)) ≤ digits
-long_short digits true b c x y z p q r = none_short digits (mask_in x) p
-long_short digits false true c x y z p q r = none_short digits (mask_in y) q
-long_short digits false false true x y z p q r = r
-long_short digits false false false x y z p q r = omega arith
+long_short : (digits : ℕ) (a b c d : Bool) (x y z u : Command) → mask_in x ≡ [] → mask_in y ≡ [] → 2 * length (mask_in z) ≤ digits → mask_in u ≡ []
+    → 2 * length (mask_in (if a then x else if b then y else if c then z else if d then u else bad_syntax)) ≤ digits
+long_short digits true b c d x y z u p q r s = none_short digits (mask_in x) p
+long_short digits false true c d x y z u p q r s = none_short digits (mask_in y) q
+long_short digits false false true d x y z u p q r s = r
+long_short digits false false false true x y z u p q r s = none_short digits (mask_in u) s
+long_short digits false false false false x y z u p q r s = omega arith
 
 batch_none : (found : Option (List Piece)) → mask_in (batch_of found) ≡ []
 batch_none None = refl
@@ -120,10 +126,12 @@ row_short digits verb [] fit = none_short digits (mask_in (bare_command verb)) (
 row_short digits verb (word ∷ []) fit = none_short digits (mask_in (word_command verb word)) (word_none verb word)
 row_short digits verb (first ∷ second ∷ []) fit = none_short digits (mask_in (pair_command verb first second)) (pair_none verb first second)
 row_short digits verb (first ∷ second ∷ third ∷ []) fit =
-    long_short digits (bytes_eq verb (codes "read")) (bytes_eq verb (codes "write")) (bytes_eq verb (codes "crash"))
-    (read_command first (number_spelled second) (number_spelled third)) (write_command first (number_spelled second) (bytes_spelled third)) (masked_crash (number_spelled first) (number_spelled second) (bytes_spelled third))
-    (read_none first (number_spelled second) (number_spelled third)) (write_none first (number_spelled second) (bytes_spelled third))
+    long_short digits (bytes_eq verb (codes "read")) (bytes_eq verb (codes "write")) (bytes_eq verb (codes "crash")) (bytes_eq verb (codes "sread"))
+    (read_command first (number_spelled second) (length_spelled third)) (write_command first (number_spelled second) (bytes_spelled third)) (masked_crash (number_spelled first) (number_spelled second) (bytes_spelled third))
+    (snap_read_command first (number_spelled second) (length_spelled third))
+    (read_none first (number_spelled second) (length_spelled third)) (write_none first (number_spelled second) (bytes_spelled third))
     (masked_short digits (number_spelled first) (number_spelled second) (bytes_spelled third) (λ bytes is. omega (arith, bytes_short third bytes is, fit.1.1.0)))
+    (snap_read_none first (number_spelled second) (length_spelled third))
 row_short digits verb (a ∷ b ∷ c ∷ d ∷ words) fit = omega arith
 
 words_short : (digits : ℕ) (words : List (List ℕ)) → AllByRecursion (λ word. length word ≤ digits) words → 2 * length (mask_in (command_by_words words)) ≤ digits

@@ -1,12 +1,11 @@
 -- Only a line of four words and more asks for a batch.
-use Rattle.std.proofs.Common.{◌≡◌, ℕ, List, Bool, true, false, Option, None, Some, Result, Ok, codes, if◌then◌else◌, nat_le, refl, ◌∙◌, ap, true≢false}
+use Rattle.std.proofs.Common.{◌≡◌, ℕ, List, Bool, true, false, Option, None, Some, Result, Ok, codes, if◌then◌else◌, refl, ◌∙◌, ap, true≢false}
 use Rattle.std.specs.Prelude.{bytes_eq}
-use Rattle.bp_limits.specs.Limits.{max_read}
 use Rattle.bp_plain.specs.Calls.{Call}
-use Rattle.bp_plain.specs.Calls.Call.{create, mkdir, unlink, rmdir, list, stat, read, rename, link, links, upgrade, batch}
+use Rattle.bp_plain.specs.Calls.Call.{create, mkdir, unlink, rmdir, list, stat, rename, link, links, upgrade, snap, unsnap, snap_list, snap_stat, batch}
 use Rattle.bp_plain.specs.declared.calls.Call.TheVariants as given
 use Rattle.bp_replay.specs.Wanted.Wanted.{all, nothing}
-use Rattle.bp_script.specs.Commands.{Command, bare_command, bytes_spelled, cache_command, decoded, decoded_call, long_command, masked_crash, number_spelled, pair_command, path_command, read_command, storm_command, truncate_command, whole_crash, word_command, write_command}
+use Rattle.bp_script.specs.Commands.{Command, bare_command, bytes_spelled, cache_command, decoded, decoded_call, length_spelled, long_command, masked_crash, number_spelled, pair_command, path_command, read_command, snap_read_command, storm_command, truncate_command, whole_crash, word_command, write_command}
 use Rattle.bp_script.specs.Commands.Command.{file_call, sync, space, crash, log, bad_syntax}
 use Rattle.bp_script.specs.Lines.{HasItsParts, line_asks}
 use Rattle.bp_script.specs.declared.lines.Line.{Line}
@@ -27,9 +26,15 @@ either false first second one other = other
 
 none_read : (path : List ℕ) (off len : Option ℕ) → has_batch (read_command path off len) ≡ false
 unfolding has_batch is_batch
-none_read path (Some off) (Some len) = either (nat_le len max_read) (file_call (read path off len)) bad_syntax refl refl
+none_read path (Some off) (Some len) = refl
 none_read path None len = refl
 none_read path (Some off) None = refl
+
+none_snap_read : (path : List ℕ) (off len : Option ℕ) → has_batch (snap_read_command path off len) ≡ false
+unfolding has_batch is_batch
+none_snap_read path (Some off) (Some len) = refl
+none_snap_read path None len = refl
+none_snap_read path (Some off) None = refl
 
 none_write : (path : List ℕ) (off : Option ℕ) (new : Option (List ℕ)) → has_batch (write_command path off new) ≡ false
 unfolding has_batch is_batch
@@ -68,7 +73,9 @@ unfolding has_batch is_batch
 none_bare verb =
     either (bytes_eq verb (codes "sync")) sync _ refl
     (either (bytes_eq verb (codes "space")) space _ refl
-    (either (bytes_eq verb (codes "log")) log _ refl (either (bytes_eq verb (codes "upgrade")) (file_call upgrade) bad_syntax refl refl)))
+    (either (bytes_eq verb (codes "log")) log _ refl
+    (either (bytes_eq verb (codes "upgrade")) (file_call upgrade) _ refl
+    (either (bytes_eq verb (codes "snap")) (file_call snap) _ refl (either (bytes_eq verb (codes "unsnap")) (file_call unsnap) bad_syntax refl refl)))))
 
 none_path : (verb path : List ℕ) → has_batch (path_command verb path) ≡ false
 unfolding has_batch is_batch
@@ -78,7 +85,9 @@ none_path verb path =
     (either (bytes_eq verb (codes "unlink")) (file_call (unlink path)) _ refl
     (either (bytes_eq verb (codes "rmdir")) (file_call (rmdir path)) _ refl
     (either (bytes_eq verb (codes "list")) (file_call (list path)) _ refl
-    (either (bytes_eq verb (codes "stat")) (file_call (stat path)) _ refl (either (bytes_eq verb (codes "links")) (file_call (links path)) bad_syntax refl refl))))))
+    (either (bytes_eq verb (codes "stat")) (file_call (stat path)) _ refl
+    (either (bytes_eq verb (codes "links")) (file_call (links path)) _ refl
+    (either (bytes_eq verb (codes "slist")) (file_call (snap_list path)) _ refl (either (bytes_eq verb (codes "sstat")) (file_call (snap_stat path)) bad_syntax refl refl))))))))
 
 pub none_word : (verb word : List ℕ) → has_batch (word_command verb word) ≡ false
 none_word verb word =
@@ -96,9 +105,10 @@ none_pair verb first second =
 pub none_long : (verb first second third : List ℕ) → has_batch (long_command verb first second third) ≡ false
 unfolding has_batch
 none_long verb first second third =
-    either (bytes_eq verb (codes "read")) (read_command first (number_spelled second) (number_spelled third)) _ (none_read first (number_spelled second) (number_spelled third))
+    either (bytes_eq verb (codes "read")) (read_command first (number_spelled second) (length_spelled third)) _ (none_read first (number_spelled second) (length_spelled third))
     (either (bytes_eq verb (codes "write")) (write_command first (number_spelled second) (bytes_spelled third)) _ (none_write first (number_spelled second) (bytes_spelled third))
-    (either (bytes_eq verb (codes "crash")) (masked_crash (number_spelled first) (number_spelled second) (bytes_spelled third)) bad_syntax (none_masked (number_spelled first) (number_spelled second) (bytes_spelled third)) refl))
+    (either (bytes_eq verb (codes "crash")) (masked_crash (number_spelled first) (number_spelled second) (bytes_spelled third)) _ (none_masked (number_spelled first) (number_spelled second) (bytes_spelled third))
+    (either (bytes_eq verb (codes "sread")) (snap_read_command first (number_spelled second) (length_spelled third)) bad_syntax (none_snap_read first (number_spelled second) (length_spelled third)) refl)))
 
 -- decoded paths make no batch of another call
 decoded_none : (call : Call) → is_batch (decoded_call call) ≡ is_batch call

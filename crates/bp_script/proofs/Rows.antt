@@ -13,9 +13,10 @@ use Rattle.std.specs.Str.Parse.{digits_value}
 use Rattle.hex.specs.Hex.{decode_of, is_hex_digit}
 use Rattle.hex.specs.declared.error.FromHexError.{FromHexError}
 use Rattle.hex.proofs.HexLemmas.{decode_of-ok}
-use Rattle.bp_plain.specs.Calls.Call.{upgrade}
-use Rattle.bp_script.specs.Commands.{Command, asked_by, bare_command, batch_of, bytes_spelled, command_by_words, decoded, is_empty_word, long_command, masked_crash, number_spelled, pair_command, path_bytes, piece_words, read_command, row_command, word_command, words_of, write_command}
-use Rattle.bp_script.specs.Commands.Command.{bad_syntax, file_call, log, space, sync}
+use Rattle.bp_plain.specs.Calls.Call.{upgrade, snap, unsnap}
+use Rattle.bp_script.specs.Commands.{Command, asked_by, bare_command, batch_of, bytes_spelled, command_by_words, decoded, is_empty_word, long_command, masked_crash, number_spelled, pair_command, path_bytes, piece_words, read_command, row_command, snap_read_command, whole_crash, word_command, words_of, write_command}
+use Rattle.bp_replay.specs.Wanted.Wanted.{all, nothing}
+use Rattle.bp_script.specs.Commands.Command.{bad_syntax, crash, file_call, log, space, sync}
 use Rattle.bp_script.specs.Lines.{path_row}
 use Rattle.bp_script.specs.declared.lines.PathVerb.{PathVerb}
 use Rattle.bp_script.specs.declared.lines.PathVerb.TheVariants as verb
@@ -121,6 +122,10 @@ no_length : (path : List ℕ) (off : Option ℕ) → read_command path off None 
 no_length path None = refl
 no_length path (Some off) = refl
 
+no_snap_length : (path : List ℕ) (off : Option ℕ) → snap_read_command path off None ≡ bad_syntax
+no_snap_length path None = refl
+no_snap_length path (Some off) = refl
+
 no_bytes : (path : List ℕ) (off : Option ℕ) → write_command path off None ≡ bad_syntax
 no_bytes path None = refl
 no_bytes path (Some off) = refl
@@ -132,14 +137,22 @@ no_mask (Some moment) (Some epoch) = refl
 
 long_with_space : (verb first second third : List ℕ) (i : ℕ) → i < length third → slice_index third i ≡ 32 → long_command verb first second third ≡ bad_syntax
 long_with_space verb first second third i inside is =
-    rw (number_with_space third i inside is, bytes_with_space third i inside is, no_length first (number_spelled second), no_bytes first (number_spelled second), no_mask (number_spelled first) (number_spelled second))
-    (go (bytes_eq verb (codes "read")) (bytes_eq verb (codes "write")) (bytes_eq verb (codes "crash")))
+    rw (
+      number_with_space third i inside is,
+      bytes_with_space third i inside is,
+      no_length first (number_spelled second),
+      no_bytes first (number_spelled second),
+      no_mask (number_spelled first) (number_spelled second),
+      no_snap_length first (number_spelled second),
+    )
+    (go (bytes_eq verb (codes "read")) (bytes_eq verb (codes "write")) (bytes_eq verb (codes "crash")) (bytes_eq verb (codes "sread")))
   where
-    go : (a b c : Bool) → (if a then bad_syntax else if b then bad_syntax else if c then bad_syntax else bad_syntax) ≡ bad_syntax
-    go true b c = refl
-    go false true c = refl
-    go false false true = refl
-    go false false false = refl
+    go : (a b c d : Bool) → (if a then bad_syntax else if b then bad_syntax else if c then bad_syntax else if d then bad_syntax else bad_syntax) ≡ bad_syntax
+    go true b c d = refl
+    go false true c d = refl
+    go false false true d = refl
+    go false false false true = refl
+    go false false false false = refl
 
 -- what is behind the third space, as a whole
 pub asked_behind : (verb first second rest : List ℕ) → bytes_eq verb (codes "batch") ≡ false → 0 < length first → 0 < length second → 0 < length rest
@@ -179,6 +192,8 @@ decoded-path verb.Rmdir path = refl
 decoded-path verb.List path = refl
 decoded-path verb.Stat path = refl
 decoded-path verb.Links path = refl
+decoded-path verb.SnapList path = refl
+decoded-path verb.SnapStat path = refl
 
 decoded_either : (test : Bool) (x y : Command) → x ≡ decoded x → y ≡ decoded y → (if test then x else y) ≡ decoded (if test then x else y)
 decoded_either true x y p q = p
@@ -188,7 +203,12 @@ decoded-bare : (verb : List ℕ) → bare_command verb ≡ decoded (bare_command
 decoded-bare verb =
     decoded_either (bytes_eq verb (codes "sync")) sync _ refl
     (decoded_either (bytes_eq verb (codes "space")) space _ refl
-    (decoded_either (bytes_eq verb (codes "log")) log _ refl (decoded_either (bytes_eq verb (codes "upgrade")) (file_call upgrade) bad_syntax refl refl)))
+    (decoded_either (bytes_eq verb (codes "log")) log _ refl
+    (decoded_either (bytes_eq verb (codes "upgrade")) (file_call upgrade) _ refl
+    (decoded_either (bytes_eq verb (codes "snap")) (file_call snap) _ refl (decoded_either (bytes_eq verb (codes "unsnap")) (file_call unsnap) bad_syntax refl refl)))))
+
+pub decoded-whole : (word : List ℕ) → whole_crash word ≡ decoded (whole_crash word)
+decoded-whole word = decoded_either (bytes_eq word (codes "all")) (crash all) _ refl (decoded_either (bytes_eq word (codes "none")) (crash nothing) bad_syntax refl refl)
 
 pub bare_asked : (verb : List ℕ) → bare_command verb ≡ decoded (asked_by (verb ∷ []))
 bare_asked verb = decoded-bare verb ∙ ap decoded (sym (asked_one verb))

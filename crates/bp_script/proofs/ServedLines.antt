@@ -6,24 +6,33 @@ use Rattle.std.proofs.lemmas.Bool.{leb-true}
 use Rattle.std.proofs.lemmas.List.{length-map}
 use Rattle.bp_limits.specs.Limits.{max_pieces, max_read}
 use Rattle.bp_plain.specs.Calls.{Call, Piece}
-use Rattle.bp_plain.specs.Calls.Call.{create, mkdir, unlink, rmdir, list, stat, read, rename, link, links, upgrade, batch}
+use Rattle.bp_plain.specs.Calls.Call.{create, mkdir, unlink, rmdir, list, stat, read, rename, link, links, upgrade, snap, unsnap, snap_list, snap_stat, snap_read, batch}
 use Rattle.bp_plain.specs.Served.{IsServed}
 use Rattle.bp_replay.specs.Wanted.Wanted.{all, nothing}
-use Rattle.bp_script.specs.Commands.{Command, IsServedCommand, bare_command, batch_of, bytes_spelled, cache_command, command_by_words, decoded, decoded_call, decoded_piece, in_grammar, is_empty_word, long_command, masked_crash, number_spelled, pair_command, path_command, piece_words, read_command, row_command, storm_command, truncate_command, whole_crash, word_command, words_of, write_command}
+use Rattle.bp_script.specs.Commands.{Command, IsServedCommand, bare_command, batch_of, bytes_spelled, cache_command, command_by_words, decoded, decoded_call, decoded_piece, in_grammar, is_empty_word, length_spelled, long_command, masked_crash, number_spelled, pair_command, path_command, piece_words, read_command, row_command, short_length, snap_read_command, storm_command, truncate_command, whole_crash, word_command, words_of, write_command}
 use Rattle.bp_script.specs.Commands.Command.{file_call, sync, space, crash, log, bad_syntax}
 
 served_either : (test : Bool) (first second : Command) → IsServedCommand first → IsServedCommand second → IsServedCommand (if test then first else second)
 served_either true first second one other = one
 served_either false first second one other = other
 
-served_read : (path : List ℕ) (off len : Option ℕ) → IsServedCommand (read_command path off len)
+served_read : (path : List ℕ) (off number : Option ℕ) → IsServedCommand (read_command path off (short_length number))
 served_read path (Some off) (Some len) = go (nat_le len max_read) refl
   where
-    go : (few : Bool) → nat_le len max_read ≡ few → IsServedCommand (if few then file_call (read path off len) else bad_syntax)
+    go : (few : Bool) → nat_le len max_read ≡ few → IsServedCommand (read_command path (Some off) (if few then Some len else None))
     go true e = leb-true len max_read e
     go false e = tt
-served_read path None len = tt
+served_read path None number = tt
 served_read path (Some off) None = tt
+
+served_snap_read : (path : List ℕ) (off number : Option ℕ) → IsServedCommand (snap_read_command path off (short_length number))
+served_snap_read path (Some off) (Some len) = go (nat_le len max_read) refl
+  where
+    go : (few : Bool) → nat_le len max_read ≡ few → IsServedCommand (snap_read_command path (Some off) (if few then Some len else None))
+    go true e = leb-true len max_read e
+    go false e = tt
+served_snap_read path None number = tt
+served_snap_read path (Some off) None = tt
 
 served_write : (path : List ℕ) (off : Option ℕ) (new : Option (List ℕ)) → IsServedCommand (write_command path off new)
 served_write path (Some off) (Some new) = tt
@@ -38,7 +47,9 @@ served_bare : (verb : List ℕ) → IsServedCommand (bare_command verb)
 served_bare verb =
     served_either (bytes_eq verb (codes "sync")) sync _ tt
     (served_either (bytes_eq verb (codes "space")) space _ tt
-    (served_either (bytes_eq verb (codes "log")) log _ tt (served_either (bytes_eq verb (codes "upgrade")) (file_call upgrade) bad_syntax tt tt)))
+    (served_either (bytes_eq verb (codes "log")) log _ tt
+    (served_either (bytes_eq verb (codes "upgrade")) (file_call upgrade) _ tt
+    (served_either (bytes_eq verb (codes "snap")) (file_call snap) _ tt (served_either (bytes_eq verb (codes "unsnap")) (file_call unsnap) bad_syntax tt tt)))))
 
 served_whole : (word : List ℕ) → IsServedCommand (whole_crash word)
 served_whole word = served_either (bytes_eq word (codes "all")) (crash all) _ tt (served_either (bytes_eq word (codes "none")) (crash nothing) bad_syntax tt tt)
@@ -64,7 +75,10 @@ served_path verb path =
     (served_either (bytes_eq verb (codes "unlink")) (file_call (unlink path)) _ tt
     (served_either (bytes_eq verb (codes "rmdir")) (file_call (rmdir path)) _ tt
     (served_either (bytes_eq verb (codes "list")) (file_call (list path)) _ tt
-    (served_either (bytes_eq verb (codes "stat")) (file_call (stat path)) _ tt (served_either (bytes_eq verb (codes "links")) (file_call (links path)) bad_syntax tt tt))))))
+    (served_either (bytes_eq verb (codes "stat")) (file_call (stat path)) _ tt
+    (served_either (bytes_eq verb (codes "links")) (file_call (links path)) _ tt
+    (served_either (bytes_eq verb (codes "slist")) (file_call (snap_list path)) _ tt
+    (served_either (bytes_eq verb (codes "sstat")) (file_call (snap_stat path)) bad_syntax tt tt))))))))
 
 served_word : (verb word : List ℕ) → IsServedCommand (word_command verb word)
 served_word verb word =
@@ -80,9 +94,10 @@ served_pair verb first second =
 
 served_long : (verb first second third : List ℕ) → IsServedCommand (long_command verb first second third)
 served_long verb first second third =
-    served_either (bytes_eq verb (codes "read")) (read_command first (number_spelled second) (number_spelled third)) _ (served_read first (number_spelled second) (number_spelled third))
+    served_either (bytes_eq verb (codes "read")) (read_command first (number_spelled second) (length_spelled third)) _ (served_read first (number_spelled second) (number_spelled third))
     (served_either (bytes_eq verb (codes "write")) (write_command first (number_spelled second) (bytes_spelled third)) _ (served_write first (number_spelled second) (bytes_spelled third))
-    (served_either (bytes_eq verb (codes "crash")) (masked_crash (number_spelled first) (number_spelled second) (bytes_spelled third)) bad_syntax (served_masked (number_spelled first) (number_spelled second) (bytes_spelled third)) tt))
+    (served_either (bytes_eq verb (codes "crash")) (masked_crash (number_spelled first) (number_spelled second) (bytes_spelled third)) _ (served_masked (number_spelled first) (number_spelled second) (bytes_spelled third))
+    (served_either (bytes_eq verb (codes "sread")) (snap_read_command first (number_spelled second) (length_spelled third)) bad_syntax (served_snap_read first (number_spelled second) (number_spelled third)) tt)))
 
 served_batch : (found : Option (List Piece)) → IsServedCommand (batch_of found)
 served_batch None = tt
@@ -108,6 +123,7 @@ served_words (verb ∷ words) =
 -- decoded paths make no other call of one
 served_decoded_call : (call : Call) → IsServed call → IsServed (decoded_call call)
 served_decoded_call (read path off len) served = served
+served_decoded_call (snap_read path off len) served = served
 served_decoded_call (batch pieces) served = let len = length-map pieces decoded_piece in (omega (arith, len, served.0), omega (arith, len, served.1))
 served_decoded_call call served = served
 

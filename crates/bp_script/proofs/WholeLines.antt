@@ -1,7 +1,8 @@
 -- The line of a call is one line.
-use Rattle.std.proofs.Common.{◌≡◌, ◌∙◌, ℕ, ◌==◌, List, ◌++◌, not, true, codes, decimal, refl, arith}
+use Rattle.std.proofs.Common.{◌≡◌, ◌∙◌, ℕ, ◌^◌, ◌<◌, ◌≤◌, ◌==◌, List, ◌++◌, not, true, codes, decimal, refl, arith}
 use Rattle.std.specs.Cmp.{first_so}
 use Rattle.std.proofs.lemmas.List.Folds.{list_all-append}
+use Rattle.bp_limits.specs.Limits.{max_read}
 use Rattle.bp_plain.specs.Calls.{Call}
 use Rattle.bp_plain.specs.Calls.Call.{create, mkdir, unlink, rmdir, list, stat, read, write, truncate, rename, link, links, upgrade, snap, unsnap, snap_list, snap_stat, snap_read, batch}
 use Rattle.bp_script.specs.Export.{IsOneLine, IsSpelled, IsWord, call_line, path_word}
@@ -21,6 +22,14 @@ path_line text word = word_line (path_word text) (path_whole text word.bytes)
 behind : (xs ys : List ℕ) → IsOneLine xs → IsOneLine ys → IsOneLine (xs ++ codes " " ++ ys)
 behind xs ys one two = both (xs ++ codes " ") ys (both xs (codes " ") one refl) two
 
+-- a verb, a path and two numbers
+read_line : (verb text : List ℕ) (off len : ℕ) → IsOneLine verb → IsWord text → off < 2 ^ 64 → len ≤ max_read
+    → IsOneLine (verb ++ path_word text ++ codes " " ++ decimal off ++ codes " " ++ decimal len)
+read_line verb text off len one word low few =
+    behind (verb ++ path_word text ++ codes " " ++ decimal off) (decimal len)
+    (behind (verb ++ path_word text) (decimal off) (both verb (path_word text) one (path_line text word)) (word_line (decimal off) (decimal_whole off low)))
+    (word_line (decimal len) (decimal_whole len (omega (arith, few))))
+
 pub one_line : (call : Call) → IsSpelled call → IsOneLine (call_line call)
 one_line (create text) is = both (codes "create ") (path_word text) refl (path_line text is)
 one_line (mkdir text) is = both (codes "mkdir ") (path_word text) refl (path_line text is)
@@ -29,10 +38,7 @@ one_line (rmdir text) is = both (codes "rmdir ") (path_word text) refl (path_lin
 one_line (list text) is = both (codes "list ") (path_word text) refl (path_line text is)
 one_line (stat text) is = both (codes "stat ") (path_word text) refl (path_line text is)
 one_line (links text) is = both (codes "links ") (path_word text) refl (path_line text is)
-one_line (read text off len) is =
-    behind (codes "read " ++ path_word text ++ codes " " ++ decimal off) (decimal len)
-    (behind (codes "read " ++ path_word text) (decimal off) (both (codes "read ") (path_word text) refl (path_line text is.0)) (word_line (decimal off) (decimal_whole off is.1)))
-    (word_line (decimal len) (decimal_whole len (omega (arith, is.2))))
+one_line (read text off len) is = read_line (codes "read ") text off len refl is.0 is.1 is.2
 one_line (write text off new) is =
     behind (codes "write " ++ path_word text ++ codes " " ++ decimal off) (digits_or_dash new)
     (behind (codes "write " ++ path_word text) (decimal off) (both (codes "write ") (path_word text) refl (path_line text is.0)) (word_line (decimal off) (decimal_whole off is.1)))
@@ -41,9 +47,9 @@ one_line (truncate text size) is = behind (codes "truncate " ++ path_word text) 
 one_line (rename from to) is = behind (codes "rename " ++ path_word from) (path_word to) (both (codes "rename ") (path_word from) refl (path_line from is.0)) (path_line to is.1)
 one_line (link from to) is = behind (codes "link " ++ path_word from) (path_word to) (both (codes "link ") (path_word from) refl (path_line from is.0)) (path_line to is.1)
 one_line upgrade is = refl
-one_line snap is = absurd is
-one_line unsnap is = absurd is
-one_line (snap_list text) is = absurd is
-one_line (snap_stat text) is = absurd is
-one_line (snap_read text off len) is = absurd is
+one_line snap is = refl
+one_line unsnap is = refl
+one_line (snap_list text) is = both (codes "slist ") (path_word text) refl (path_line text is)
+one_line (snap_stat text) is = both (codes "sstat ") (path_word text) refl (path_line text is)
+one_line (snap_read text off len) is = read_line (codes "sread ") text off len refl is.0 is.1 is.2
 one_line (batch pieces) is = absurd is

@@ -9,7 +9,7 @@ use Rattle.percent_encoding.specs.Percent.{percent_decode}
 use Rattle.bp_limits.specs.Limits.{max_line, max_pieces, max_read}
 use Rattle.bp_plain.specs.Calls.{Call, Piece}
 use Rattle.bp_plain.specs.Served.{IsServed}
-use Rattle.bp_plain.specs.Calls.Call.{create, mkdir, unlink, rmdir, list, stat, read, write, truncate, rename, link, links, upgrade, batch}
+use Rattle.bp_plain.specs.Calls.Call.{create, mkdir, unlink, rmdir, list, stat, read, write, truncate, rename, link, links, upgrade, snap, unsnap, snap_list, snap_stat, snap_read, batch}
 use Rattle.bp_replay.specs.Wanted.{Wanted}
 use Rattle.bp_replay.specs.Wanted.Wanted.{all, nothing, at}
 
@@ -57,6 +57,15 @@ abbrev pub number_spelled : List ℕ → Option ℕ
 number_spelled word =
     if is_numeral word && nat_lt (digits_value 10 word) 18446744073709551616 then Some (digits_value 10 word) else None
 
+-- a length that one call reads
+abbrev pub short_length : Option ℕ → Option ℕ
+short_length (Some len) = if nat_le len max_read then Some len else None
+short_length None = None
+
+-- the length of a read that a word stands for
+abbrev pub length_spelled : List ℕ → Option ℕ
+length_spelled word = short_length (number_spelled word)
+
 -- ---- bytes
 
 -- the bytes that a word of hexadecimal digits stands for, two digits of either case each; `-` stands for none
@@ -66,8 +75,13 @@ bytes_spelled word = if bytes_eq word (codes "-") then Some [] else result_ok (d
 -- ---- the table, with paths as they are written
 
 abbrev pub read_command : List ℕ → Option ℕ → Option ℕ → Command
-read_command path (Some off) (Some len) = if nat_le len max_read then file_call (read path off len) else bad_syntax
+read_command path (Some off) (Some len) = file_call (read path off len)
 read_command path off len = bad_syntax
+
+-- of the snapshot
+abbrev pub snap_read_command : List ℕ → Option ℕ → Option ℕ → Command
+snap_read_command path (Some off) (Some len) = file_call (snap_read path off len)
+snap_read_command path off len = bad_syntax
 
 -- a call refuses what is too long for it
 abbrev pub write_command : List ℕ → Option ℕ → Option (List ℕ) → Command
@@ -121,13 +135,19 @@ cache_command (Some seed) = cache seed
 cache_command None = bad_syntax
 
 -- lines of one word, of two, of three and of four
+abbrev pub bare_call : List ℕ → Command
+bare_call verb =
+    if bytes_eq verb (codes "upgrade") then file_call upgrade
+    else if bytes_eq verb (codes "snap") then file_call snap
+    else if bytes_eq verb (codes "unsnap") then file_call unsnap
+    else bad_syntax
+
 abbrev pub bare_command : List ℕ → Command
 bare_command verb =
     if bytes_eq verb (codes "sync") then sync
     else if bytes_eq verb (codes "space") then space
     else if bytes_eq verb (codes "log") then log
-    else if bytes_eq verb (codes "upgrade") then file_call upgrade
-    else bad_syntax
+    else bare_call verb
 
 abbrev pub path_command : List ℕ → List ℕ → Command
 path_command verb path =
@@ -138,6 +158,8 @@ path_command verb path =
     else if bytes_eq verb (codes "list") then file_call (list path)
     else if bytes_eq verb (codes "stat") then file_call (stat path)
     else if bytes_eq verb (codes "links") then file_call (links path)
+    else if bytes_eq verb (codes "slist") then file_call (snap_list path)
+    else if bytes_eq verb (codes "sstat") then file_call (snap_stat path)
     else bad_syntax
 
 -- a second word that is a path, but behind `crash`, `storm` and `cache`
@@ -157,10 +179,11 @@ pair_command verb first second =
 
 abbrev pub long_command : List ℕ → List ℕ → List ℕ → List ℕ → Command
 long_command verb first second third =
-    if bytes_eq verb (codes "read") then read_command first (number_spelled second) (number_spelled third)
+    if bytes_eq verb (codes "read") then read_command first (number_spelled second) (length_spelled third)
     else if bytes_eq verb (codes "write") then write_command first (number_spelled second) (bytes_spelled third)
     else if bytes_eq verb (codes "crash") then masked_crash (number_spelled first) (number_spelled second)
     (bytes_spelled third)
+    else if bytes_eq verb (codes "sread") then snap_read_command first (number_spelled second) (length_spelled third)
     else bad_syntax
 
 -- a verb and the words behind it, by how many there are
@@ -176,6 +199,7 @@ row_command verb words = bad_syntax
 --     create PATH      mkdir PATH      unlink PATH      rmdir PATH      list PATH      stat PATH
 --     read PATH OFF LEN      write PATH OFF HEX      truncate PATH SIZE
 --     rename PATH PATH      link PATH PATH      links PATH      upgrade
+--     snap      unsnap      slist PATH      sstat PATH      sread PATH OFF LEN
 --     batch PATH OFF HEX ..      with PATH OFF HEX 1 to 16 times
 --     crash all      crash none      crash MOMENT EPOCH MASK      storm SEED      cache SEED
 abbrev pub command_by_words : List (List ℕ) → Command
@@ -219,8 +243,11 @@ decoded_call (truncate path size) = truncate (path_bytes path) size
 decoded_call (rename from to) = rename (path_bytes from) (path_bytes to)
 decoded_call (link from to) = link (path_bytes from) (path_bytes to)
 decoded_call (links path) = links (path_bytes path)
+decoded_call (snap_list path) = snap_list (path_bytes path)
+decoded_call (snap_stat path) = snap_stat (path_bytes path)
+decoded_call (snap_read path off len) = snap_read (path_bytes path) off len
 decoded_call (batch pieces) = batch (map decoded_piece pieces)
--- the others have no line
+-- the others have no path
 decoded_call call = call
 
 abbrev pub decoded : Command → Command

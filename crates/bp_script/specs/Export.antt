@@ -4,7 +4,7 @@ use Rattle.std.specs.List.{list_all}
 use Rattle.percent_encoding.specs.Percent.{percent_encode_byte}
 use Rattle.bp_limits.specs.Limits.{max_line, max_read, max_text}
 use Rattle.bp_plain.specs.Calls.{Call}
-use Rattle.bp_plain.specs.Calls.Call.{create, mkdir, unlink, rmdir, list, stat, read, write, truncate, rename, link, links, upgrade}
+use Rattle.bp_plain.specs.Calls.Call.{create, mkdir, unlink, rmdir, list, stat, read, write, truncate, rename, link, links, upgrade, snap, unsnap, snap_list, snap_stat, snap_read, batch}
 use Rattle.bp_plain.specs.Export.{are_bytes, export_calls}
 use Rattle.bp_plain.specs.PlainTree.{FileTree}
 use Rattle.bp_script.specs.Commands.{command_of}
@@ -31,8 +31,14 @@ call_line (rename from to) = codes "rename " ++ path_word from ++ codes " " ++ p
 call_line (link from to) = codes "link " ++ path_word from ++ codes " " ++ path_word to
 call_line (links text) = codes "links " ++ path_word text
 call_line upgrade = codes "upgrade"
--- the others have no line
-call_line call = []
+call_line snap = codes "snap"
+call_line unsnap = codes "unsnap"
+call_line (snap_list text) = codes "slist " ++ path_word text
+call_line (snap_stat text) = codes "sstat " ++ path_word text
+call_line (snap_read text off len) =
+    codes "sread " ++ path_word text ++ codes " " ++ decimal off ++ codes " " ++ decimal len
+-- nothing is told of the line of a batch
+call_line (batch pieces) = []
 
 -- ---- the calls that can be spelled
 
@@ -41,7 +47,7 @@ pub record IsWord (text : List ℕ) : Type 0 where
   pub some : 1 ≤ length text
   pub bytes : are_bytes text ≡ true
 
--- A call that has a line: its paths are some bytes, its numbers below 2 ^ 64, and a read is of as much as one call reads.
+-- A call that has such a line: its paths are some bytes, its numbers below 2 ^ 64, and a read is of as much as one call reads.
 abbrev pub IsSpelled : Call → Type 0
 IsSpelled (create text) = IsWord text
 IsSpelled (mkdir text) = IsWord text
@@ -56,7 +62,12 @@ IsSpelled (rename from to) = IsWord from × IsWord to
 IsSpelled (link from to) = IsWord from × IsWord to
 IsSpelled (links text) = IsWord text
 IsSpelled upgrade = Unit {0}
-IsSpelled call = ⊥
+IsSpelled snap = Unit {0}
+IsSpelled unsnap = Unit {0}
+IsSpelled (snap_list text) = IsWord text
+IsSpelled (snap_stat text) = IsWord text
+IsSpelled (snap_read text off len) = IsWord text × (off < 2 ^ 64) × (len ≤ max_read)
+IsSpelled (batch pieces) = ⊥
 
 -- its line is no longer than a line may be
 abbrev pub FitsLine : Call → Type 0

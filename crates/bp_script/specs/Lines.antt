@@ -5,7 +5,7 @@ use Rattle.std.specs.List.{All}
 use Rattle.std.specs.Option.{option_map_or}
 use Rattle.std.specs.Io.BufRead.{Rests}
 use Rattle.std.specs.Vec.{vec_capacity}
-use Rattle.bp_plain.specs.Calls.Call.{create, mkdir, unlink, rmdir, list, stat, rename, link, links}
+use Rattle.bp_plain.specs.Calls.Call.{create, mkdir, unlink, rmdir, list, stat, rename, link, links, snap_list, snap_stat}
 use Rattle.bp_plain.specs.Calls.{Piece}
 use Rattle.bp_plain.specs.Seen.{CanAsk, LiesIn, call_of, piece_in}
 use Rattle.bp_plain.specs.declared.calls.Call.TheVariants as given
@@ -103,6 +103,8 @@ path_row verb.Rmdir path = file_call (rmdir path)
 path_row verb.List path = file_call (list path)
 path_row verb.Stat path = file_call (stat path)
 path_row verb.Links path = file_call (links path)
+path_row verb.SnapList path = file_call (snap_list path)
+path_row verb.SnapStat path = file_call (snap_stat path)
 
 -- what a verb and another word ask for
 abbrev pub word_row : Option WordVerb → List ℕ → Command

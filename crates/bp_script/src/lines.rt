@@ -3,7 +3,7 @@
 ghost use Rattle.bp_plain.specs.Calls.Call.{batch, link, rename, write};
 ghost use Rattle.bp_replay.specs.Wanted.Wanted.{at};
 ghost use Rattle.bp_script.specs.Commands.Command.{bad_syntax, crash, file_call};
-ghost use Rattle.bp_script.specs.Commands.{IsServedCommand, asked_by, bare_command, bytes_spelled, cache_command, decoded, in_grammar, long_command, mask_in, masked_crash, number_spelled, pair_command, part_bytes, path_bytes, read_command, storm_command, truncate_command, unslashed, whole_crash, word_command, words_of, write_command};
+ghost use Rattle.bp_script.specs.Commands.{IsServedCommand, asked_by, bare_call, bare_command, bytes_spelled, cache_command, decoded, in_grammar, length_spelled, long_command, mask_in, masked_crash, number_spelled, pair_command, part_bytes, path_bytes, read_command, snap_read_command, storm_command, truncate_command, unslashed, whole_crash, word_command, words_of, write_command};
 ghost use Rattle.bp_script.specs.Lines.{CanBeAsked, HasItsParts, HoldsParts, KeepsRoom, decoded_room, first_held, line_asks, most_room, pair_row, path_row, pieces_held, second_held, word_row};
 ghost use Rattle.std.specs.Borrow.{sem};
 ghost use Rattle.std.specs.List.{slice_split};
@@ -300,9 +300,10 @@ impl Decoded {
         ensures meaning { line_asks result ≡ decoded (long_command verb.now first.now second.now third.now) }
     {
         match verb {
-            b"read" => read(self.path_of(first), number(second), number(third)),
+            b"read" => read(self.path_of(first), number(second), read_len(third)),
             b"write" => self.write(first, number(second), third),
             b"crash" => self.crash(number(first), number(second), third),
+            b"sread" => snap_read(self.path_of(first), number(second), read_len(third)),
             _ => Err(Syntax),
         }
     }
@@ -518,7 +519,18 @@ fn bare(verb: &[u8]) -> Result<Line<'static>, Syntax>
         b"sync" => Ok(Line::Sync),
         b"space" => Ok(Line::Space),
         b"log" => Ok(Line::Log),
+        _ => bare_call(verb),
+    }
+}
+
+/// The line of a call that names no path.
+fn bare_call(verb: &[u8]) -> Result<Line<'static>, Syntax>
+    ensures { line_asks result ≡ bare_call verb.now }
+{
+    match verb {
         b"upgrade" => Ok(Line::Call(Call::Upgrade)),
+        b"snap" => Ok(Line::Call(Call::Snap)),
+        b"unsnap" => Ok(Line::Call(Call::Unsnap)),
         _ => Err(Syntax),
     }
 }
@@ -574,6 +586,8 @@ enum PathVerb {
     List,
     Stat,
     Links,
+    SnapList,
+    SnapStat,
 }
 
 /// The verb that a word spells.
@@ -591,6 +605,8 @@ fn word_verb(verb: &[u8]) -> Option<WordVerb>
         b"list" => Some(WordVerb::Path(PathVerb::List)),
         b"stat" => Some(WordVerb::Path(PathVerb::Stat)),
         b"links" => Some(WordVerb::Path(PathVerb::Links)),
+        b"slist" => Some(WordVerb::Path(PathVerb::SnapList)),
+        b"sstat" => Some(WordVerb::Path(PathVerb::SnapStat)),
         _ => None,
     }
 }
@@ -634,6 +650,8 @@ fn path_line(verb: PathVerb, path: &[u8]) -> Line<'_>
         PathVerb::List => Call::List(path),
         PathVerb::Stat => Call::Stat(path),
         PathVerb::Links => Call::Links(path),
+        PathVerb::SnapList => Call::SnapList(path),
+        PathVerb::SnapStat => Call::SnapStat(path),
     })
 }
 
@@ -648,22 +666,38 @@ fn truncate(path: &[u8], size: Option<u64>) -> Result<Line<'_>, Syntax>
 }
 
 /// The line of a read.
-fn read(path: &[u8], off: Option<u64>, len: Option<u64>) -> Result<Line<'_>, Syntax>
+fn read(path: &[u8], off: Option<u64>, len: Option<usize>) -> Result<Line<'_>, Syntax>
     ensures { line_asks result ≡ read_command path.now off len }
 {
     match (off, len) {
-        (Some(off), Some(len)) => {
+        (Some(off), Some(len)) => Ok(Line::Call(Call::Read { path, off, len })),
+        _ => Err(Syntax),
+    }
+}
+
+/// The line of a read of the snapshot.
+fn snap_read(path: &[u8], off: Option<u64>, len: Option<usize>) -> Result<Line<'_>, Syntax>
+    ensures { line_asks result ≡ snap_read_command path.now off len }
+{
+    match (off, len) {
+        (Some(off), Some(len)) => Ok(Line::Call(Call::SnapRead { path, off, len })),
+        _ => Err(Syntax),
+    }
+}
+
+/// The length of a read that a word stands for: a number, of no more bytes than one call reads.
+fn read_len(word: &[u8]) -> Option<usize>
+    ensures { result ≡ length_spelled word.now }
+{
+    match number(word) {
+        Some(len) => {
             if len <= MAX_READ as u64 {
-                Ok(Line::Call(Call::Read {
-                    path,
-                    off,
-                    len: len as usize,
-                }))
+                Some(len as usize)
             } else {
-                Err(Syntax)
+                None
             }
         }
-        _ => Err(Syntax),
+        None => None,
     }
 }
 

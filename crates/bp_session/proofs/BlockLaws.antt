@@ -1,6 +1,6 @@
 -- The bytes of an image, word by word.
-use Rattle.std.proofs.Common.{zero, suc, refl, sym, ◌∙◌, ap, arith, ◌≡◌, ℕ, ◌+◌, ◌*◌, ◌-◌, ◌<◌, List, [], ◌∷◌, ◌++◌, min, length, take, drop, get_or, get_or-drop, length-drop}
-use Rattle.std.proofs.Math.Seq.{take-suc}
+use Rattle.std.proofs.Common.{zero, suc, refl, sym, ◌∙◌, ap, arith, ◌≡◌, ℕ, ◌+◌, ◌*◌, ◌-◌, ◌<◌, ◌≤◌, List, [], ◌∷◌, ◌++◌, min, length, take, drop, get_or, get_or-drop, length-drop}
+use Rattle.std.proofs.Math.Seq.{take-suc, take-add}
 use Rattle.bp_io.specs.Files.{blocks_of}
 use Rattle.bp_layout.specs.Words.{Image}
 use Rattle.bp_layout.specs.Bytes.{image_bytes}
@@ -48,6 +48,14 @@ pub one_more : (words : Image) (k : ℕ) → k < length words → image_bytes (t
 one_more words k low =
     let next : k + 1 ≡ suc k = omega arith in
     rw (next, take-suc words k 0 low, image_bytes-append (take k words) (get_or words k 0 ∷ [])) (ap (λ l. image_bytes (take k words) ++ l) (image_bytes-one (get_or words k 0)))
+
+-- the first eight words and those behind them
+pub front_rest : (image : Image) (count : ℕ) → 8 ≤ count → image_bytes (take 8 image) ++ image_bytes (take ((8 + (count - 8)) - 8) (drop 8 image)) ≡ image_bytes (take count image)
+front_rest image count some =
+    let width : (8 + (count - 8)) - 8 ≡ count - 8 = omega arith in
+    let whole : 8 + (count - 8) ≡ count = omega (arith, some) in
+    sym (image_bytes-append (take 8 image) (take ((8 + (count - 8)) - 8) (drop 8 image)))
+    ∙ ap image_bytes (ap (λ n. take 8 image ++ take n (drop 8 image)) width ∙ sym (take-add 8 (count - 8) image) ∙ ap (λ n. take n image) whole)
 
 -- one more word of a block
 pub word_more : (words read : List ℕ) (first k word : ℕ) → first + k < length words → word ≡ get_or words (first + k) 0 → read ≡ take k (drop first words)

@@ -1,17 +1,20 @@
 //! The words of a region as the blocks of a file.
 
-ghost use Rattle.std.specs.Prelude.{◌≡◌, ◌≤◌, ◌<◌, ◌^◌, ◌+◌, ◌*◌, ◌/◌, ◌%◌, length};
+ghost use Rattle.std.specs.Prelude.{◌≡◌, ◌≤◌, ◌<◌, ◌^◌, ◌+◌, ◌*◌, ◌/◌, ◌%◌, length, take};
 ghost use Rattle.bp_io.specs.Files.{blocks_of};
 ghost use Rattle.bp_limits.specs.Limits.{block_size, block_words};
 ghost use Rattle.bp_layout.specs.Bytes.{image_bytes};
 ghost use Rattle.pm_region.specs.Memory.{current_words};
 
 use bp_limits::BLOCK_WORDS;
-use pm_region::Region;
+use pm_region::{HEAD_WORDS, Region};
 use pm_words::write_word;
 
 /// The most blocks that a load or a save hands over in one call. More would save no time.
 pub const RUN_BLOCKS: u32 = 16;
+
+/// The words that are read one by one, as a length.
+const HEAD: usize = HEAD_WORDS as usize;
 
 /// The bytes that spell the words.
 fn encode(words: &[u64], into: &mut [u8])
@@ -23,6 +26,32 @@ fn encode(words: &[u64], into: &mut [u8])
     }
 }
 
+/// The words that a region gives one by one.
+fn head_words<R: Region>(region: &R) -> [u64; HEAD]
+    requires { HEAD ≤ length (R.memory region.now).base }
+    ensures { result ≡ take HEAD (current_words (R.memory region.now)) }
+{
+    let mut words = [0; HEAD];
+    for k in 0..HEAD {
+        words[k] = region.load(k as u32);
+    }
+    words
+}
+
+/// The bytes of the first words as they are now, as many as `into` has room for.
+fn read_front<R: Region>(region: &R, into: &mut [u8])
+    requires some { 8 * HEAD ≤ length into.old }
+    requires whole { length into.old % 8 ≡ 0 }
+    requires inside { length into.old / 8 ≤ length (R.memory region.now).base }
+    requires fits { length into.old / 8 < 2 ^ 32 }
+    ensures { into.new ≡ image_bytes (take (length into.old / 8) (current_words (R.memory region.now))) }
+{
+    let count = (into.len() / 8) as u32;
+    let (head, rest) = into.split_at_mut(8 * HEAD);
+    encode(&head_words(region), head);
+    encode(region.load_words(HEAD_WORDS, count - HEAD_WORDS), rest);
+}
+
 /// The bytes of the words as they are now, of as many blocks as `into` has room for, from the block `first` on.
 pub fn read_blocks<R: Region>(region: &R, first: u32, into: &mut [u8])
     requires whole { length into.old % block_size ≡ 0 }
@@ -31,6 +60,13 @@ pub fn read_blocks<R: Region>(region: &R, first: u32, into: &mut [u8])
     ensures { into.new
         ≡ blocks_of (image_bytes (current_words (R.memory region.now))) first (length into.old / block_size) }
 {
+    if into.is_empty() {
+        return;
+    }
+    if first == 0 {
+        read_front(region, into);
+        return;
+    }
     let count = (into.len() / 8) as u32;
     encode(region.load_words(BLOCK_WORDS * first, count), into);
 }

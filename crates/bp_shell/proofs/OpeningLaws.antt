@@ -8,9 +8,8 @@ use Rattle.bp_session.proofs.SavingLaws.{stays_attached, still_attached}
 use Rattle.bp_layout.specs.Bytes.{image_bytes}
 use Rattle.bp_free.specs.Set.{Set, has, members}
 use Rattle.bp_layout.specs.Free.{AreFreeBlocks, numbers_below}
-use Rattle.bp_layout.specs.Thaw.{none_kept}
-use Rattle.bp_layout.specs.Whole.{HasNoSecond, HasSpace}
-use Rattle.bp_layout.proofs.NoSecond.{none_frozen}
+use Rattle.bp_layout.specs.Trees.{AreFrozen}
+use Rattle.bp_layout.specs.Whole.{HasSpace}
 use Rattle.bp_layout.specs.Checks.{number_of}
 use Rattle.bp_layout.specs.Words.{Image, block_count}
 use Rattle.bp_scan.specs.Faults.{IsFault}
@@ -180,10 +179,10 @@ pub if_memory : (stop : Stop) → stop ≡ Memory → stop ≡ Outside → ⊥
 if_memory stop is e = let no : ◌≡◌ {A = Stop} Memory Outside = sym is ∙ e in cc
 
 -- the blocks of a set of a scan, counted
-pub counted : (image : Image) (set : Set) (count : ℕ) → HasNoSecond image → AreFreeBlocks image none_kept (has set) → length set ≡ block_count image → count ≡ length (members set) → HasSpace image count
-counted image set count none are size is = record {
-  kept = none_kept;
-  are = none_frozen image none;
+pub counted : (image : Image) (frozen set : Set) (count : ℕ) → AreFrozen image (has frozen) → AreFreeBlocks image (has frozen) (has set) → length set ≡ block_count image → count ≡ length (members set) → HasSpace image count
+counted image frozen set count kept are size is = record {
+  kept = has frozen;
+  are = kept;
   free = record {
     set = has set;
     are = are;

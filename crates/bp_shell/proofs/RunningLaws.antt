@@ -11,7 +11,7 @@ use Rattle.bp_script.specs.Commands.{Command}
 use Rattle.bp_script.specs.Texts.{LineReply}
 use Rattle.bp_script.specs.declared.notices.Notice.{Notice}
 use Rattle.bp_layout.specs.Whole.{IsFileSystem}
-use Rattle.bp_layout.proofs.NoSecond.{none_fails_whole}
+use Rattle.bp_layout.proofs.BothTrees.{none_fails_whole}
 use Rattle.bp_scan.specs.Length.{wanted_length}
 use Rattle.bp_session.specs.Acting.{state}
 use Rattle.bp_session.specs.Files.{AreWordsOf64Bits, IsAbsent}

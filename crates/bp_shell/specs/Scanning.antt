@@ -3,17 +3,19 @@ use Rattle.std.specs.Prelude.{◌≡◌, ◌*◌, ℕ, List, length}
 use Rattle.bp_free.specs.Set.{Set, has}
 use Rattle.bp_layout.specs.Free.{AreFreeBlocks}
 use Rattle.bp_layout.specs.Names.{AreCounts}
-use Rattle.bp_layout.specs.Thaw.{none_kept}
+use Rattle.bp_layout.specs.Trees.{AreFrozen}
 use Rattle.bp_layout.specs.Whole.{IsFileSystem}
 use Rattle.bp_layout.specs.Words.{Image, block_count}
 use Rattle.bp_limits.specs.Limits.{block_inodes}
 use Rattle.bp_scan.specs.Totals.{HasTotals}
 use Rattle.bp_scan.specs.declared.totals.Totals.{Totals}
 
--- The image is a file system, of which a scan found the free blocks, how many names each inode has, and what it holds in all.
-pub record IsScanned (image : Image) (blocks : Set) (counts : List ℕ) (totals : Totals) : Type 0 where
+-- The image is a file system, of which a scan found the blocks of the snapshot, those that are in neither tree, how many names
+-- each inode has in the first tree, and what it holds in all.
+pub record IsScanned (image : Image) (kept blocks : Set) (counts : List ℕ) (totals : Totals) : Type 0 where
   pub whole : IsFileSystem image
-  pub free : AreFreeBlocks image none_kept (has blocks)
+  pub frozen : AreFrozen image (has kept)
+  pub free : AreFreeBlocks image (has kept) (has blocks)
   pub block_room : length blocks ≡ block_count image
   pub named : AreCounts image counts
   pub inode_room : length counts ≡ block_inodes * block_count image

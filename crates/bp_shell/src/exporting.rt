@@ -1,4 +1,4 @@
-//! The program `export`.
+//! The program `export`. It tells of the first tree alone: a script makes no snapshot's old bytes.
 
 ghost use Rattle.bp_layout.specs.Names.{AreCounts};
 ghost use Rattle.bp_layout.specs.Whole.{IsFileSystem};
@@ -52,7 +52,7 @@ fn examine<F: Files>(alloc: Global, name: &str, files: &mut F) -> Result<(RawReg
     ensures holds { IfOk result (λ found. HoldsFileSystem ((F.view files.old).contents name.now) found.0.base) }
     ensures fresh { IfOk result (λ found. found.0.events ≡ []) }
     ensures scanned { IfOk result
-        (λ found. IsScanned found.0.base found.1.sets.blocks found.1.sets.counts found.1.totals) }
+        (λ found. IsScanned found.0.base found.1.sets.frozen found.1.sets.blocks found.1.sets.counts found.1.totals) }
     ensures reason { IfErr result (IsReason ((F.view files.old).contents name.now)) }
     ensures cause { HasStopCause (F.view files.old).faults (F.view files.new).faults result }
     ensures reads { OnlyReads name.now (F.view files.old) (F.view files.new) }

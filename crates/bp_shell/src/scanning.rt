@@ -14,7 +14,7 @@ ghost use Rattle.std.specs.Prelude.{◌*◌, ◌≡◌, ◌⊎◌, [], IfErr, If
 use crate::opening::stop_of;
 use crate::stop::Stop;
 use bp_limits::BLOCK_WORDS;
-use bp_scan::{Totals, scan};
+use bp_scan::{Totals, scan_whole};
 use bp_volume::Sets;
 use pm_raw::RawRegion;
 use pm_region::Region;
@@ -23,21 +23,23 @@ use std::alloc::Global;
 /// What a scan found of a file system.
 #[derive(Drop)]
 pub(crate) struct Scanned {
-    /// Its free blocks, and how many names each inode has.
+    /// Its free blocks and those of its snapshot, and how many names each inode has.
     pub(crate) sets: Sets,
     /// What it holds in all.
     pub(crate) totals: Totals,
 }
 
-/// Scans an image with these sets.
+/// Scans both trees of an image with these sets.
 fn scan_with(region: &RawRegion, sets: &mut Sets) -> Result<Totals, Stop>
     requires fresh { region.now.events ≡ [] }
     requires sized { IsSized region.now.base }
     requires blocks { length sets.old.blocks ≡ block_count region.now.base }
     requires inodes { length sets.old.inodes ≡ block_inodes * block_count region.now.base }
     requires counts { length sets.old.counts ≡ block_inodes * block_count region.now.base }
+    requires frozen { length sets.old.frozen ≡ block_count region.now.base }
     requires pending { sets.old.pending ≡ block_inodes * block_count region.now.base }
-    ensures found { IfOk result (λ totals. IsScanned region.now.base sets.new.blocks sets.new.counts totals) }
+    ensures found { IfOk result
+        (λ totals. IsScanned region.now.base sets.new.frozen sets.new.blocks sets.new.counts totals) }
     ensures refused { IfErr result (λ stop. (known : Known) (notice : Notice) → HasImage known region.now.base →
         stop ≡ Refused notice → RefusesFile known notice) }
     ensures kinds { IfErr result (λ stop. ((notice : Notice) × (stop ≡ Refused notice)) ⊎ (stop ≡ Memory)) }
@@ -46,16 +48,16 @@ fn scan_with(region: &RawRegion, sets: &mut Sets) -> Result<Totals, Stop>
         blocks,
         inodes,
         counts,
+        frozen,
         pending,
-        ..
     } = sets;
-    match scan(region, blocks, inodes, pending, counts) {
+    match scan_whole(region, blocks, inodes, frozen, pending, counts) {
         Ok(totals) => Ok(totals),
         Err(fault) => Err(stop_of(fault)),
     }
 }
 
-/// Scans an image.
+/// Scans both trees of an image.
 ///
 /// # Errors
 ///
@@ -64,7 +66,7 @@ pub(crate) fn scan_image(alloc: Global, region: &RawRegion) -> Result<Scanned, S
     requires fresh { region.now.events ≡ [] }
     requires sized { IsSized region.now.base }
     ensures found { IfOk result
-        (λ found. IsScanned region.now.base found.sets.blocks found.sets.counts found.totals) }
+        (λ found. IsScanned region.now.base found.sets.frozen found.sets.blocks found.sets.counts found.totals) }
     ensures refused { IfErr result (λ stop. (known : Known) (notice : Notice) → HasImage known region.now.base →
         stop ≡ Refused notice → RefusesFile known notice) }
     ensures kinds { IfErr result (λ stop. ((notice : Notice) × (stop ≡ Refused notice)) ⊎ (stop ≡ Memory)) }

@@ -16,3 +16,13 @@ pub returns-in-links : goal.returns-in-links
 returns-in-links c =
     let same : c.args.verb.now ≡ codes "links" = text_from_reads c.args.verb.now (codes "links") (omega arith) (omega arith) in
     λ word. rw same refl
+
+pub returns-in-slist : goal.returns-in-slist
+returns-in-slist c =
+    let same : c.args.verb.now ≡ codes "slist" = text_from_reads c.args.verb.now (codes "slist") (omega arith) (omega arith) in
+    λ word. rw same refl
+
+pub returns-in-sstat : goal.returns-in-sstat
+returns-in-sstat c =
+    let same : c.args.verb.now ≡ codes "sstat" = text_from_reads c.args.verb.now (codes "sstat") (omega arith) (omega arith) in
+    λ word. rw same refl

@@ -6,10 +6,7 @@ use Rattle.bp_session.specs.Work.{answer_in}
 use Rattle.bp_session.proofs.acting.act_but_sync.Goals as goal
 
 pub apply-requires : goal.apply-requires
-apply-requires g c = record {
-  served = rw c.in-Ok-Call.field-0-is at c.in-Ok-Call.ensures.served;
-  can = rw c.in-Ok-Call.field-0-is at c.in-Ok-Call.ensures.can;
-}
+apply-requires g c = record { can = rw c.in-Ok-Call.field-0-is at c.in-Ok-Call.ensures.can }
 
 pub returns-then-len-gt-MAX_LINE-clause-does : goal.returns-then-len-gt-MAX_LINE-clause-does
 returns-then-len-gt-MAX_LINE-clause-does g c = λ _. rw (command_long c.args.buffers.now.line.items (omega arith)) (does_long c.args.volume.now _)

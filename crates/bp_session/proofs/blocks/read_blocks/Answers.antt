@@ -22,3 +22,11 @@ returns g c =
     let count = length c.args.into.now / 8 in
     let width : (512 * c.args.first + count) - 512 * c.args.first ≡ 512 * (length c.args.into.now / 4096) = omega (arith, c.requires.whole) in
     c.encode.ensures ∙ ap image_bytes (c.load_words.ensures ∙ ap (λ n. take n (drop (512 * c.args.first) words)) width) ∙ sym (blocks-image_bytes words c.args.first (length c.args.into.now / 4096))
+
+pub returns-then-first-eq0 : goal.returns-then-first-eq0
+returns-then-first-eq0 g c =
+    let image = current_words (g.R.Region.memory c.args.region.now) in
+    let blocks = length c.args.into.now / 4096 in
+    let width : length c.args.into.now / 8 ≡ 512 * blocks = omega (arith, c.requires.whole) in
+    let whole = ap (λ n. take n image) width ∙ ap (λ first. take (512 * blocks) (drop (512 * first) image)) (sym c.if-first-eq0.true) in
+    c.read_front.ensures ∙ ap image_bytes whole ∙ sym (blocks-image_bytes image c.args.first blocks)

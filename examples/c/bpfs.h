@@ -57,8 +57,8 @@
  *
  * COST
  *   A volume has its own copy of the words (4 KiB a block) and some hundred bytes a block beside it, and a log of 524,288 events (19 MB, of
- *   which the system gives what is used). Memory is taken by bpfs_mount, bpfs_format_events and bpfs_list; calls may take some to remember
- *   where names stand, and go on without where there is none.
+ *   which the system gives what is used). Memory is taken by bpfs_mount, bpfs_format_events, bpfs_list and bpfs_snap_list; calls may take
+ *   some to remember where names stand, and go on without where there is none.
  *
  * CARRYING
  *   The log is a list of events, in order.
@@ -103,6 +103,9 @@ enum {
     BPFS_TOO_BIG = 10,       /* past the greatest size of a file: 2^39 bytes in version 1, 2^57 in version 2 */
     BPFS_NO_SPACE = 11,      /* exactly where fewer blocks are free than the call needs; bpfs_lack tells both */
     BPFS_NO_MEMORY = 12,     /* malloc gave none */
+    BPFS_NO_SNAP = 13,       /* there is no snapshot */
+    BPFS_HAS_SNAP = 14,      /* there is a snapshot already */
+    BPFS_OLD_VERSION = 15,   /* an image of version 1 has no snapshot */
     BPFS_PAST_END = 16,      /* a piece of a batch ends behind its file's end */
     BPFS_HAS_NONE = 32,      /* the handle holds no volume */
     BPFS_HAS_ONE = 33,       /* the handle holds a volume already */
@@ -203,7 +206,7 @@ uint32_t bpfs_close(bpfs *fs);
 
 /* Each is one atomic step. Each adds its events and then one mark to the log, a mark also where it is refused; only BPFS_HAS_NONE and
  * BPFS_LOG_FULL add none, and each may answer those. Each with a path may answer BPFS_BAD_PATH, BPFS_NOT_FOUND and BPFS_NOT_DIR. The other
- * answers stand beside each. */
+ * answers stand beside each. While there is a snapshot, each with a lack may answer BPFS_NO_SPACE too. */
 
 /* Makes an empty file; an empty directory. BPFS_EXISTS, BPFS_NO_SPACE. */
 uint32_t bpfs_create(bpfs *fs, const uint8_t *path, size_t length, bpfs_lack *lack);
@@ -236,10 +239,18 @@ uint32_t bpfs_truncate(bpfs *fs, const uint8_t *path, size_t length, uint64_t si
 /* Makes an image of version 1 one of version 2, with the same tree. In version 2 it does nothing. There is no way back. */
 uint32_t bpfs_upgrade(bpfs *fs);
 
+/* Keeps the tree as it is now: the snapshot, of which there is one at most, in version 2 alone. It takes no block. From then on a call that
+ * changes the tree first copies each block that it would store to, and that is the snapshot's, with those on the way to it: so any of them
+ * may need blocks, a removal too. BPFS_OLD_VERSION, BPFS_HAS_SNAP. */
+uint32_t bpfs_snap(bpfs *fs);
+
+/* Gives the snapshot up. The blocks that were kept for it alone are free then. BPFS_NO_SNAP. */
+uint32_t bpfs_unsnap(bpfs *fs);
+
 /* ---- calls that change nothing ------------------------------------------------------------------------------------------------------ */
 
-/* The first four (read, stat, links, list) add one mark to the log, as the calls above do, and may answer BPFS_LOG_FULL too. Each may answer
- * BPFS_HAS_NONE, and each with a path BPFS_BAD_PATH, BPFS_NOT_FOUND and BPFS_NOT_DIR. */
+/* The first seven (read, stat, links, list, and those of the snapshot) add one mark to the log, as the calls above do, and may answer
+ * BPFS_LOG_FULL too. Each may answer BPFS_HAS_NONE, and each with a path BPFS_BAD_PATH, BPFS_NOT_FOUND and BPFS_NOT_DIR. */
 
 /* Reads what a file has from `offset` on, at most `capacity` bytes; *count says how many. BPFS_IS_DIR. */
 uint32_t bpfs_read(bpfs *fs, const uint8_t *path, size_t length, uint64_t offset, uint8_t *into, size_t capacity, size_t *count);
@@ -251,17 +262,22 @@ uint32_t bpfs_stat(bpfs *fs, const uint8_t *path, size_t length, bpfs_found *fou
 uint32_t bpfs_links(bpfs *fs, const uint8_t *path, size_t length, uint32_t *count);
 
 /* Makes the listing of a directory, in the order of the names' bytes; *count says how many names it has. The handle keeps it, whatever
- * happens to the directory, until the next bpfs_list or bpfs_close. BPFS_NO_MEMORY. */
+ * happens to the directory, until the next bpfs_list, bpfs_snap_list or bpfs_close. BPFS_NO_MEMORY. */
 uint32_t bpfs_list(bpfs *fs, const uint8_t *path, size_t length, size_t *count);
+
+/* The same of the snapshot, whatever has changed since. BPFS_NO_SNAP too. */
+uint32_t bpfs_snap_read(bpfs *fs, const uint8_t *path, size_t length, uint64_t offset, uint8_t *into, size_t capacity, size_t *count);
+uint32_t bpfs_snap_stat(bpfs *fs, const uint8_t *path, size_t length, bpfs_found *found);
+uint32_t bpfs_snap_list(bpfs *fs, const uint8_t *path, size_t length, size_t *count);
 
 /* Tells one name of the last listing, by its index from 0 on: its bytes (no 0 behind them), their number, and whether it is a directory's.
  * BPFS_MAX_NAME places always serve. BPFS_OUT_OF_RANGE: no listing, no such index, or too few places. */
 uint32_t bpfs_listed(bpfs *fs, size_t index, uint8_t *name, size_t capacity, size_t *length, bool *is_dir);
 
-/* Tells the free blocks and those in use, exactly. */
+/* Tells the free blocks and those in use, by the snapshot too, exactly. */
 uint32_t bpfs_space(bpfs *fs, bpfs_blocks *blocks);
 
-/* Scans the image, which takes the time of a mount, and tells its sums. */
+/* Scans the image, which takes the time of a mount, and tells its sums: of the tree, but with the snapshot's blocks. */
 uint32_t bpfs_totals(bpfs *fs, bpfs_sums *sums);
 
 /* Copies `count` words from `first` on, as they are now. BPFS_OUT_OF_RANGE. */
@@ -354,6 +370,19 @@ static inline uint32_t bpfs_list_any(bpfs *fs, const uint8_t *path, size_t lengt
     return bpfs_list(fs, BPFS_BYTES(path, length), length, count);
 }
 
+static inline uint32_t bpfs_snap_read_any(bpfs *fs, const uint8_t *path, size_t length, uint64_t offset, uint8_t *into, size_t capacity,
+                                          size_t *count) {
+    return bpfs_snap_read(fs, BPFS_BYTES(path, length), length, offset, (uint8_t *)bpfs_some(into, capacity), capacity, count);
+}
+
+static inline uint32_t bpfs_snap_stat_any(bpfs *fs, const uint8_t *path, size_t length, bpfs_found *found) {
+    return bpfs_snap_stat(fs, BPFS_BYTES(path, length), length, found);
+}
+
+static inline uint32_t bpfs_snap_list_any(bpfs *fs, const uint8_t *path, size_t length, size_t *count) {
+    return bpfs_snap_list(fs, BPFS_BYTES(path, length), length, count);
+}
+
 static inline uint32_t bpfs_listed_any(bpfs *fs, size_t index, uint8_t *name, size_t capacity, size_t *length, bool *is_dir) {
     return bpfs_listed(fs, index, (uint8_t *)bpfs_some(name, capacity), capacity, length, is_dir);
 }
@@ -386,6 +415,9 @@ static inline size_t bpfs_run_at_any(bpfs *fs, size_t first, bpfs_run *run, uint
 #define bpfs_stat(...) bpfs_stat_any(__VA_ARGS__)
 #define bpfs_links(...) bpfs_links_any(__VA_ARGS__)
 #define bpfs_list(...) bpfs_list_any(__VA_ARGS__)
+#define bpfs_snap_read(...) bpfs_snap_read_any(__VA_ARGS__)
+#define bpfs_snap_stat(...) bpfs_snap_stat_any(__VA_ARGS__)
+#define bpfs_snap_list(...) bpfs_snap_list_any(__VA_ARGS__)
 #define bpfs_listed(...) bpfs_listed_any(__VA_ARGS__)
 #define bpfs_words(...) bpfs_words_any(__VA_ARGS__)
 #define bpfs_events(...) bpfs_events_any(__VA_ARGS__)

@@ -103,6 +103,11 @@ static void closed_handles(void) {
     IS(BPFS_HAS_NONE, bpfs_batch(&fs, NULL, 0, NULL, 0, &lack));
     IS(BPFS_HAS_NONE, bpfs_truncate(&fs, PATH("/a"), 0, &lack));
     IS(BPFS_HAS_NONE, bpfs_upgrade(&fs));
+    IS(BPFS_HAS_NONE, bpfs_snap(&fs));
+    IS(BPFS_HAS_NONE, bpfs_unsnap(&fs));
+    IS(BPFS_HAS_NONE, bpfs_snap_read(&fs, PATH("/a"), 0, bytes, sizeof bytes, &count));
+    IS(BPFS_HAS_NONE, bpfs_snap_stat(&fs, PATH("/a"), &found));
+    IS(BPFS_HAS_NONE, bpfs_snap_list(&fs, PATH("/"), &count));
     IS(BPFS_HAS_NONE, bpfs_read(&fs, PATH("/a"), 0, bytes, sizeof bytes, &count));
     IS(BPFS_HAS_NONE, bpfs_stat(&fs, PATH("/a"), &found));
     IS(BPFS_HAS_NONE, bpfs_links(&fs, PATH("/a"), &names));
@@ -231,6 +236,17 @@ static void lists(void) {
     IS(BPFS_OUT_OF_RANGE, bpfs_listed(&fs, 0, NULL, 0, &length, &is_dir));
 }
 
+/* Where words are told that stand in the superblock, behind it, or across its end. */
+static void tells_words(void) {
+    static uint64_t all[WORDS], some[16];
+    IS(BPFS_OK, bpfs_words(&fs, 0, all, WORDS));
+    for (uint32_t first = 0; first < 12; first++)
+        for (size_t count = 0; count <= 16; count++) {
+            IS(BPFS_OK, bpfs_words(&fs, first, some, count));
+            IS(0, memcmp(some, all + first, 8 * count));
+        }
+}
+
 /* The medium has what the volume has. */
 static void are_carried(void) {
     static uint64_t now[WORDS];
@@ -290,6 +306,74 @@ static void failing_carriers(void) {
     are_carried();
 }
 
+/* A file changes and leaves; its snapshot stays, and gives its blocks back at its end. */
+static void snapshots(void) {
+    static uint8_t bytes[4096];
+    bpfs_found found;
+    bpfs_blocks before, kept, after;
+    size_t count = 99, length;
+    bool is_dir;
+    make(1);
+    IS(BPFS_OLD_VERSION, bpfs_snap(&fs));
+    IS(BPFS_NO_SNAP, bpfs_unsnap(&fs));
+    IS(BPFS_NO_SNAP, bpfs_snap_read(&fs, PATH("/a"), 0, bytes, 1, &count));
+    IS(BPFS_NO_SNAP, bpfs_snap_stat(&fs, PATH("/a"), &found));
+    IS(BPFS_NO_SNAP, bpfs_snap_list(&fs, PATH("/"), &count));
+    IS(99, count);
+    IS(BPFS_OK, bpfs_upgrade(&fs));
+    IS(BPFS_OK, bpfs_create(&fs, PATH("/a"), &lack));
+    IS(BPFS_OK, bpfs_write(&fs, PATH("/a"), 0, PATH("hi"), &lack));
+    IS(BPFS_OK, bpfs_space(&fs, &before));
+    IS(BPFS_OK, bpfs_snap(&fs));
+    IS(BPFS_HAS_SNAP, bpfs_snap(&fs));
+    IS(BPFS_OK, bpfs_space(&fs, &kept));
+    IS(before.free, kept.free);
+    IS(BPFS_OK, bpfs_write(&fs, PATH("/a"), 0, PATH("y"), &lack));
+    IS(BPFS_OK, bpfs_space(&fs, &kept));
+    IS(before.free - 2, kept.free); /* copies of the file's block, and of the block of inodes that leads to it */
+    IS(BPFS_OK, bpfs_create(&fs, PATH("/b"), &lack));
+    IS(BPFS_OK, bpfs_unlink(&fs, PATH("/a"), &lack));
+    IS(BPFS_OK, bpfs_snap_read(&fs, PATH("/a"), 0, bytes, sizeof bytes, &count));
+    IS(true, count == 2 && memcmp(bytes, "hi", 2) == 0);
+    IS(BPFS_OK, bpfs_snap_stat(&fs, PATH("/a"), &found));
+    IS(true, found.size == 2 && !found.is_dir);
+    IS(BPFS_NOT_FOUND, bpfs_snap_stat(&fs, PATH("/b"), &found));
+    IS(BPFS_BAD_PATH, bpfs_snap_stat(&fs, PATH("a"), &found));
+    IS(BPFS_NOT_DIR, bpfs_snap_stat(&fs, PATH("/a/b"), &found));
+    IS(BPFS_IS_DIR, bpfs_snap_read(&fs, PATH("/"), 0, bytes, 1, &count));
+    IS(BPFS_NOT_DIR, bpfs_snap_list(&fs, PATH("/a"), &count));
+    IS(BPFS_OK, bpfs_snap_list(&fs, PATH("/"), &count));
+    IS(1, count);
+    IS(BPFS_OK, bpfs_listed(&fs, 0, bytes, sizeof bytes, &length, &is_dir));
+    IS(true, length == 1 && bytes[0] == 'a' && !is_dir);
+    IS(0, bpfs_carry(&fs, &carrier));
+    IS(BPFS_OK, bpfs_close(&fs));
+    IS(BPFS_OK, bpfs_mount(&fs, words, WORDS, &fault)); /* it stays */
+    IS(BPFS_OK, bpfs_snap_stat(&fs, PATH("/"), &found));
+    IS(BPFS_OK, bpfs_unsnap(&fs));
+    IS(BPFS_NO_SNAP, bpfs_snap_stat(&fs, PATH("/"), &found));
+    IS(BPFS_OK, bpfs_space(&fs, &after));
+    IS(before.free + 1, after.free); /* the file's block is free too */
+}
+
+/* Where no block is free, a snapshot leaves none to a write below the size, and none to a removal. */
+static void full_snapshots(void) {
+    static uint8_t bytes[BPFS_MAX_WRITE];
+    bpfs_blocks blocks;
+    uint64_t size = 0;
+    for (size_t count = sizeof bytes; count; count /= 2)
+        while (bpfs_write(&fs, PATH("/b"), size, bytes, count, &lack) == BPFS_OK) size += count;
+    IS(BPFS_OK, bpfs_space(&fs, &blocks));
+    IS(0, blocks.free);
+    IS(BPFS_OK, bpfs_snap(&fs));
+    IS(BPFS_NO_SPACE, bpfs_write(&fs, PATH("/b"), 0, PATH("y"), &lack));
+    IS(true, lack.free == 0 && 0 < lack.need);
+    IS(BPFS_NO_SPACE, bpfs_unlink(&fs, PATH("/b"), &lack));
+    IS(BPFS_OK, bpfs_unsnap(&fs));
+    IS(BPFS_OK, bpfs_unlink(&fs, PATH("/b"), &lack));
+    IS(BPFS_OK, bpfs_close(&fs));
+}
+
 static void full_logs(void) {
     static uint8_t bytes[BPFS_MAX_WRITE];
     uint32_t code = BPFS_OK;
@@ -301,6 +385,9 @@ static void full_logs(void) {
     IS(BPFS_LOG_FULL, bpfs_read(&fs, PATH("/d/a"), 0, bytes, 1, &count));
     IS(BPFS_LOG_FULL, bpfs_unlink(&fs, PATH("/none"), &lack));
     IS(BPFS_LOG_FULL, bpfs_list(&fs, PATH("/"), &count));
+    IS(BPFS_LOG_FULL, bpfs_snap(&fs));
+    IS(BPFS_LOG_FULL, bpfs_unsnap(&fs));
+    IS(BPFS_LOG_FULL, bpfs_snap_read(&fs, PATH("/d/a"), 0, bytes, 1, &count));
     IS(events, bpfs_event_count(&fs));
     IS(0, bpfs_carry(&fs, &carrier));
     IS(BPFS_OK, bpfs_write(&fs, PATH("/d/a"), 0, bytes, sizeof bytes, &lack));
@@ -317,9 +404,12 @@ int main(void) {
     batches();
     reads();
     lists();
+    tells_words();
     runs();
     failing_carriers();
     full_logs();
+    snapshots();
+    full_snapshots();
     printf("%d answers\n", checks);
     return wrong;
 }

@@ -2,3 +2,4 @@ pub mod Handles
 mod Keeping
 mod Telling
 mod PatchLaws
+mod WordLaws

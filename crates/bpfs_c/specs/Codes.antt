@@ -21,6 +21,12 @@ IsEndedAs done old code new = (code ≡ 0) × (new ≡ old)
 IsEndedAs (refused why) old code new = (code ≡ refusal_number why) × HasLack why old new
 IsEndedAs answer old code new = ⊥
 
+-- .. and can't be refused for want of space
+abbrev pub IsEndedBy : Answer → ℕ → Type 0
+IsEndedBy done code = code ≡ 0
+IsEndedBy (refused why) code = code ≡ refusal_number why
+IsEndedBy answer code = ⊥
+
 -- a number is told, or a refusal
 abbrev pub IsCounted : Result ℕ FsError → ℕ → ℕ → ℕ → Type 0
 IsCounted (Ok count) old code new = (code ≡ 0) × (new ≡ count)

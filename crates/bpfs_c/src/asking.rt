@@ -22,7 +22,7 @@ pub struct Found {
 }
 
 /// Tells how many bytes were read.
-fn tell_count(ending: Result<usize, FsError>, count: &mut usize) -> u32
+pub(crate) fn tell_count(ending: Result<usize, FsError>, count: &mut usize) -> u32
     ensures { IsCounted ending count.old result count.new }
 {
     match ending {
@@ -61,7 +61,7 @@ pub extern "C" fn bpfs_read(
 }
 
 /// Tells what stands at a path.
-fn tell_found(ending: Result<Stat, FsError>, found: &mut Found) -> u32
+pub(crate) fn tell_found(ending: Result<Stat, FsError>, found: &mut Found) -> u32
     ensures { IsFound (stat_answer_of ending) found.old result found.new }
 {
     match ending {

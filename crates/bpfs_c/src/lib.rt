@@ -13,4 +13,5 @@ pub mod logging;
 pub mod mounted;
 pub mod opening;
 pub mod running;
+pub mod snapshot;
 pub mod space;

@@ -15,7 +15,11 @@ use bp_plain::FsError;
 use std::alloc::Global;
 
 /// Keeps a listing, and tells how many names it has.
-fn keep(kept: &mut Option<Listing>, ending: Result<Listing, FsError>, count: &mut usize) -> u32
+pub(crate) fn keep(
+    kept: &mut Option<Listing>,
+    ending: Result<Listing, FsError>,
+    count: &mut usize,
+) -> u32
     ensures told { IsListed (list_answer_of ending) count.old result count.new }
     ensures kept { kept.new ≡ listing_after (list_answer_of ending) kept.old }
 {

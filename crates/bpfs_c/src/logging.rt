@@ -1,6 +1,6 @@
 //! The log, which is the caller's to carry, event by event; and the words.
 
-ghost use Rattle.std.specs.Prelude.{◌≡◌, length};
+ghost use Rattle.std.specs.Prelude.{◌≡◌, ◌≤◌, ◌<◌, ◌+◌, ◌^◌, length, slice_range};
 ghost use Rattle.pm_region.specs.Memory.{current_words};
 ghost use Rattle.bpfs_c.specs.Events.{HasEvents, IsDrained, events_of, seen_event};
 ghost use Rattle.bpfs_c.specs.Serves.{Looked};
@@ -10,7 +10,7 @@ use crate::codes::{CLOSED, OK, OUT_OF_RANGE};
 use crate::handle::Handle;
 use pm_epochs::Event;
 use pm_raw::RawRegion;
-use pm_region::Region;
+use pm_region::{HEAD_WORDS, Region};
 use std::alloc::Global;
 
 /// The kind of a store of a word.
@@ -111,6 +111,31 @@ pub extern "C" fn bpfs_drain(alloc: Global, handle: &mut Handle) -> u32
     OK
 }
 
+/// Copies a region's words from this one on, one by one.
+fn copy_by_word(region: &RawRegion, first: u32, into: &mut [u64])
+    requires in_range { first + length into.old ≤ length region.now.base }
+    requires fits { first + length into.old < 2 ^ 32 }
+    ensures { into.new ≡ slice_range (current_words region.now) first (first + length into.old) }
+{
+    for i in 0..into.len() {
+        into[i] = region.load(first + i as u32);
+    }
+}
+
+/// Copies a region's words from this one on, which stand behind its head.
+fn copy_run(region: &RawRegion, first: u32, into: &mut [u64])
+    requires in_range { first + length into.old ≤ length region.now.base }
+    requires fits { first + length into.old < 2 ^ 32 }
+    requires behind_head { 0 < length into.old → HEAD_WORDS ≤ first }
+    ensures { into.new ≡ slice_range (current_words region.now) first (first + length into.old) }
+{
+    if into.is_empty() {
+        return;
+    }
+    let count = into.len() as u32;
+    into.copy_from_slice(region.load_words(first, count));
+}
+
 /// Copies a region's words from this one on, where there are so many.
 fn copy_words(region: &RawRegion, first: u32, into: &mut [u64]) -> u32
     ensures { TellsWords (current_words region.now) first into.old result into.new }
@@ -119,8 +144,11 @@ fn copy_words(region: &RawRegion, first: u32, into: &mut [u64]) -> u32
     if words < first || ((words - first) as usize) < into.len() {
         return OUT_OF_RANGE;
     }
-    let count = into.len() as u32;
-    into.copy_from_slice(region.load_words(first, count));
+    // The words of the head are read one by one.
+    let head = (HEAD_WORDS.saturating_sub(first) as usize).min(into.len());
+    let (front, rest) = into.split_at_mut(head);
+    copy_by_word(region, first, front);
+    copy_run(region, first + head as u32, rest);
     OK
 }
 

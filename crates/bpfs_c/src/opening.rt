@@ -10,8 +10,7 @@ use crate::handle::Handle;
 use crate::mounted::Mounted;
 use bp_limits::{BLOCK_WORDS, LOG_EVENTS, MAX_BLOCKS, MIN_BLOCKS};
 use bp_volume::{MountFault, Volume};
-use pm_raw::RawRegion;
-use pm_region::Region;
+use pm_raw::{RawArray, RawRegion};
 use std::alloc::{AllocError, Global};
 
 /// Why words are no image: the check that fails and the word at which it does, or the bytes that there are and those that
@@ -54,6 +53,16 @@ fn is_sized(words: &[u64]) -> bool
     words.len() == block * blocks && MIN_BLOCKS as usize <= blocks && blocks <= MAX_BLOCKS as usize
 }
 
+/// An array of these words.
+fn array_of(alloc: Global, words: &[u64]) -> Result<RawArray<u64>, AllocError>
+    requires { IsSized words.now }
+    ensures { IfOk result (λ array. array ≡ words.now) }
+{
+    let mut array = RawArray::new(alloc, words.len(), 0)?;
+    array.as_mut_slice().copy_from_slice(words);
+    Ok(array)
+}
+
 /// A region of these words.
 fn copy(alloc: Global, words: &[u64]) -> Result<RawRegion, AllocError>
     requires { IsSized words.now }
@@ -64,8 +73,8 @@ fn copy(alloc: Global, words: &[u64]) -> Result<RawRegion, AllocError>
       drains = 0;
     }) }
 {
-    let mut region = RawRegion::new(alloc, words.len() as u32, LOG_EVENTS)?;
-    region.adopt_words(0, words);
+    let mut region = RawRegion::new(alloc, 0, LOG_EVENTS)?;
+    region.adopt_all(array_of(alloc, words)?);
     Ok(region)
 }
 

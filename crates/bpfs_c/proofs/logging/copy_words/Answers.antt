@@ -1,7 +1,8 @@
-use Rattle.std.proofs.Common.{◌≡◌, ◌<◌, ◌≤◌, ◌+◌, ◌-◌, ◌∙◌, ap, arith, drop, inl, inr, length, length-drop, refl, sym}
-use Rattle.std.proofs.lemmas.List.{length-take-le}
+use Rattle.std.proofs.Common.{◌≡◌, ◌<◌, ◌+◌, ◌++◌, ◌∙◌, ap, ap₂, arith, inl, inr, length, refl, sym}
+use Rattle.std.specs.Prelude.{slice_range}
 use Rattle.pm_region.specs.Memory.{current_words}
 use Rattle.pm_region.proofs.MemoryLaws.{length-current_words}
+use Rattle.bpfs_c.proofs.WordLaws.{slices_join}
 use Rattle.bpfs_c.proofs.logging.copy_words.Goals as goal
 use Rattle.bpfs_c.proofs.logging.copy_words.Goals.{then-words-first-via-then-words-first, then-words-first-via-else-words-first+then-words-first-2}
 
@@ -14,14 +15,16 @@ returns-then-words-first c =
     ] in
     inr (short, refl, refl)
 
-pub copy_from_slice-requires : goal.copy_from_slice-requires
-copy_from_slice-requires c =
+pub returns : goal.returns
+returns c =
     let words = current_words c.args.region.now in
     let first = c.args.first in
     let count = length c.args.into.now in
-    let exact : (first + count) - first ≡ count = omega arith in
-    let room : (first + count) - first ≤ length (drop first words) = omega (arith, length-drop first words, length-current_words c.args.region.now) in
-    sym (ap length c.load_words.ensures ∙ length-take-le ((first + count) - first) (drop first words) room ∙ exact)
-
-pub returns : goal.returns
-returns c = inl (omega (arith, length-current_words c.args.region.now), refl, c.copy_from_slice.ensures.after ∙ c.load_words.ensures)
+    let head = length c.split_at_mut-front.result.0.now in
+    let rest = length c.split_at_mut-front.result.1.now in
+    let is_head : c.min-head.result ≡ head = sym c.split_at_mut-front.ensures.front_len in
+    let whole : head + rest ≡ count = omega (arith, c.split_at_mut-front.ensures.front_len, c.split_at_mut-front.ensures.back_len) in
+    let behind = ap (λ n. slice_range words (first + n) ((first + n) + rest)) is_head in
+    let all : slice_range words first (first + head) ++ slice_range words (first + head) ((first + head) + rest) ≡ slice_range words first (first + count) =
+    slices_join words first head rest ∙ ap (λ n. slice_range words first (first + n)) whole in
+    inl (omega (arith, length-current_words c.args.region.now), refl, ap₂ (λ left right. left ++ right) c.copy_by_word.ensures (c.copy_run.ensures ∙ behind) ∙ all)

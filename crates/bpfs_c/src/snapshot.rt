@@ -1,0 +1,132 @@
+//! The calls on a snapshot.
+
+ghost use Rattle.std.specs.Prelude.{◌≡◌, length};
+ghost use Rattle.bp_plain.specs.Calls.Call.{snap, snap_list, snap_read, snap_stat, unsnap};
+ghost use Rattle.bp_volume.specs.Seen.{unit_answer};
+ghost use Rattle.bpfs_c.specs.Codes.{IsEndedBy, IsFound, IsListed, IsRead};
+ghost use Rattle.bpfs_c.specs.Serves.{Exported};
+
+use crate::asking::{Found, tell_count, tell_found};
+use crate::codes::{CLOSED, LOG_FULL, OK, number_of};
+use crate::handle::Handle;
+use crate::listing::keep;
+use crate::mounted::has_room;
+use bp_plain::FsError;
+use std::alloc::Global;
+
+/// The number of the end of a call that can't be refused for want of space.
+fn ended_by(ending: Result<(), FsError>) -> u32
+    ensures { IsEndedBy (unit_answer ending) result }
+{
+    match ending {
+        Ok(()) => OK,
+        Err(error) => number_of(error),
+    }
+}
+
+/// Makes a snapshot.
+#[unsafe(no_mangle)]
+pub extern "C" fn bpfs_snap(alloc: Global, handle: &mut Handle) -> u32
+    ensures { Exported handle.old.held snap (λ answer. IsEndedBy answer result) (Unit {0}) result handle.new.held }
+{
+    let Some(mut mounted) = handle.take(alloc) else {
+        return CLOSED;
+    };
+    let code = if has_room(&mounted) {
+        ended_by(mounted.volume.snap())
+    } else {
+        LOG_FULL
+    };
+    handle.put(alloc, mounted);
+    code
+}
+
+/// Gives the snapshot up.
+#[unsafe(no_mangle)]
+pub extern "C" fn bpfs_unsnap(alloc: Global, handle: &mut Handle) -> u32
+    ensures { Exported handle.old.held unsnap (λ answer. IsEndedBy answer result) (Unit {0}) result handle.new.held }
+{
+    let Some(mut mounted) = handle.take(alloc) else {
+        return CLOSED;
+    };
+    let code = if has_room(&mounted) {
+        ended_by(mounted.volume.unsnap())
+    } else {
+        LOG_FULL
+    };
+    handle.put(alloc, mounted);
+    code
+}
+
+/// Reads bytes of a file of the snapshot.
+#[unsafe(no_mangle)]
+pub extern "C" fn bpfs_snap_read(
+    alloc: Global,
+    handle: &mut Handle,
+    path: &[u8],
+    off: u64,
+    into: &mut [u8],
+    count: &mut usize,
+) -> u32
+    ensures { Exported handle.old.held (snap_read path.now off (length into.old))
+        (λ answer. IsRead answer into.old count.old result into.new count.new)
+        ((into.new ≡ into.old) × (count.new ≡ count.old)) result handle.new.held }
+{
+    let Some(mut mounted) = handle.take(alloc) else {
+        return CLOSED;
+    };
+    let code = if has_room(&mounted) {
+        tell_count(mounted.volume.snap_read(path, off, into), count)
+    } else {
+        LOG_FULL
+    };
+    handle.put(alloc, mounted);
+    code
+}
+
+/// Says what stands at a path of the snapshot.
+#[unsafe(no_mangle)]
+pub extern "C" fn bpfs_snap_stat(
+    alloc: Global,
+    handle: &mut Handle,
+    path: &[u8],
+    found: &mut Found,
+) -> u32
+    ensures { Exported handle.old.held (snap_stat path.now) (λ answer. IsFound answer found.old result found.new)
+        (found.new ≡ found.old) result handle.new.held }
+{
+    let Some(mut mounted) = handle.take(alloc) else {
+        return CLOSED;
+    };
+    let code = if has_room(&mounted) {
+        tell_found(mounted.volume.snap_stat(path), found)
+    } else {
+        LOG_FULL
+    };
+    handle.put(alloc, mounted);
+    code
+}
+
+/// Lists the names in a directory of the snapshot. The handle keeps them until the next listing.
+#[unsafe(no_mangle)]
+pub extern "C" fn bpfs_snap_list(
+    alloc: Global,
+    handle: &mut Handle,
+    path: &[u8],
+    count: &mut usize,
+) -> u32
+    ensures { Exported handle.old.held (snap_list path.now) (λ answer. IsListed answer count.old result count.new)
+        (count.new ≡ count.old) result handle.new.held }
+{
+    let Some(mut mounted) = handle.take(alloc) else {
+        return CLOSED;
+    };
+    let code = if has_room(&mounted) {
+        let ending = mounted.volume.snap_list(alloc, path);
+        keep(&mut mounted.listing, ending, count)
+    } else {
+        LOG_FULL
+    };
+    handle.put(alloc, mounted);
+    code
+}

@@ -5,7 +5,7 @@ ghost use Rattle.bp_calls.specs.TouchedBelow.{IsRunFor};
 ghost use Rattle.bp_cow.specs.CanCommit.{CanCommit};
 ghost use Rattle.bp_cow.specs.Commit.{CommitsTouched, HasLooseCover, HasRoom};
 ghost use Rattle.bp_cow.specs.Cover.{copied_count};
-ghost use Rattle.bp_cow.specs.Found.{IsCoverIn};
+ghost use Rattle.bp_cow.specs.Found.{AreWaysIn};
 ghost use Rattle.bp_free.specs.Set.{has, members};
 ghost use Rattle.bp_layout.specs.Inode.{root_of, size_of};
 ghost use Rattle.bp_layout.specs.WellFormed.{IsWellFormed};
@@ -13,7 +13,7 @@ ghost use Rattle.bp_layout.specs.Words.{block_count};
 ghost use Rattle.bp_shapes.specs.Sets.{kept_of};
 ghost use Rattle.pm_region.specs.Memory.{current_words};
 
-use bp_cow::{FoundCover, Run, Touched, commit_at, copies_below, find_cover};
+use bp_cow::{FoundWays, Run, Touched, commit_at, copies_below, find_ways};
 use bp_free::{NoSpace, Parts};
 use bp_inodes::root_path;
 use bp_tree::Tree;
@@ -54,7 +54,7 @@ pub fn touched_by<'a>(runs: &'a [Run<'a>]) -> Touched<'a>
     }
 }
 
-/// Commits what is touched below the sizes of files, given its cover, where enough blocks are free.
+/// Commits what is touched below the sizes of files, given its ways, where enough blocks are free.
 ///
 /// # Errors
 ///
@@ -62,7 +62,7 @@ pub fn touched_by<'a>(runs: &'a [Run<'a>]) -> Touched<'a>
 pub(crate) fn commit_found<R: Region>(
     parts: &mut Parts<R>,
     touched: &Touched<'_>,
-    cover: FoundCover,
+    found: &FoundWays,
 ) -> Result<(), NoSpace>
     requires well_formed { IsWellFormed (current_words (R.memory parts.old.region)) }
     requires can { CanCommit (current_words (R.memory parts.old.region))
@@ -72,7 +72,7 @@ pub(crate) fn commit_found<R: Region>(
     requires fits { block_count (current_words (R.memory parts.old.region)) ≤ length parts.old.blocks }
     requires room { copied_count (current_words (R.memory parts.old.region)) touched.now ≤ length (members parts.old.blocks)
         → HasRoom (R.memory parts.old.region) touched.now }
-    requires cover { IsCoverIn (current_words (R.memory parts.old.region)) touched.now cover }
+    requires found { AreWaysIn (current_words (R.memory parts.old.region)) touched.now found.now }
     ensures commits { OnOk result (CommitsTouched (size_of (current_words (R.memory parts.old.region)))
         (kept_of parts.old) touched.now (R.memory parts.old.region) (R.memory parts.new.region) parts.old.blocks parts.new.blocks) }
     ensures size { length parts.new.blocks ≡ length parts.old.blocks }
@@ -85,12 +85,12 @@ pub(crate) fn commit_found<R: Region>(
     ensures fewer { IfErr result (λ lacks. lacks.free < lacks.need) }
     ensures same { OnErr result (parts.new ≡ parts.old) }
 {
-    let copies = copies_below(touched, cover);
+    let copies = copies_below(touched, found);
     let free = parts.blocks.count();
     if free < copies {
         return Err(NoSpace { need: copies, free });
     }
-    commit_at(parts, touched, cover);
+    commit_at(parts, touched, found);
     Ok(())
 }
 
@@ -123,6 +123,6 @@ pub(crate) fn commit_below<R: Region>(
     ensures fewer { IfErr result (λ lacks. lacks.free < lacks.need) }
     ensures same { OnErr result (parts.new ≡ parts.old) }
 {
-    let cover = find_cover(&parts.region, touched);
-    commit_found(parts, touched, cover)
+    let found = find_ways(&parts.region, touched);
+    commit_found(parts, touched, &found)
 }

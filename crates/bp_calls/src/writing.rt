@@ -23,7 +23,7 @@ use crate::targets::{content_path, writing};
 use crate::thawing::{enough_free, thaw_before};
 use crate::writing::across::{need_across, write_across};
 use bp_append::{need_prep, prep};
-use bp_cow::{Run, find_cover, need_cover};
+use bp_cow::{Run, find_ways, need_cover};
 use bp_free::{NoSpace, Parts};
 use bp_inodes::{place, root_path, tree_of};
 use bp_inplace::commit_word;
@@ -330,9 +330,9 @@ fn write_within<R: Region>(
 {
     let runs = [run_for(&parts.region, i, tree, off, bytes)];
     let touched = touched_by(&runs);
-    let cover = find_cover(&parts.region, &touched);
-    if is_clear_below(parts, i, tree, &runs[0], cover.len) {
-        return commit_found(parts, &touched, cover);
+    let found = find_ways(&parts.region, &touched);
+    if is_clear_below(parts, i, tree, &runs[0], found.cover.len) {
+        return commit_found(parts, &touched, &found);
     }
     thaw_and_write(parts, i, off, bytes)
 }

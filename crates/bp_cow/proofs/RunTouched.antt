@@ -5,7 +5,7 @@ use Rattle.std.specs.List.{range_with_len}
 use Rattle.std.proofs.lemmas.Bool.{lt-ltb, ltb-true}
 use Rattle.std.proofs.lemmas.List.{append-nil}
 use Rattle.bp_layout.specs.Inode.{root_of, size_of}
-use Rattle.bp_layout.specs.Need.{Change, Beyond, beyond, new_inodes, preparation, growth, height_after, content_path, inode_word_path, copied, need, is_there_after, common_all, cover_of, prefixes_of}
+use Rattle.bp_layout.specs.Need.{Change, height_after, content_path, inode_word_path, copied, need, is_there_after, common_all, cover_of, prefixes_of}
 use Rattle.bp_layout.specs.Need.Change.{writes}
 use Rattle.bp_layout.specs.Need as layout
 use Rattle.bp_layout.specs.WordPaths.{WordPath, digits, inode_path, tree_path, is_pointed}

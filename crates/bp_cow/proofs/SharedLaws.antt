@@ -1,9 +1,12 @@
 -- How much of a path some ways share.
-use Rattle.std.proofs.Common.{◌≡◌, ◌≢◌, ◌⊎◌, ℕ, suc, ◌+◌, ◌-◌, ◌*◌, ◌/◌, ◌%◌, ◌^◌, ◌<◌, ◌≤◌, List, ◌∷◌, length, min, max, refl, sym, ◌∙◌, ap, subst, arith, inl, inr, le_trans}
+use Rattle.std.proofs.Common.{◌≡◌, ◌≢◌, ◌⊎◌, ℕ, suc, ◌+◌, ◌-◌, ◌*◌, ◌/◌, ◌%◌, ◌^◌, ◌<◌, ◌≤◌, List, [], ◌∷◌, ◌++◌, length, min, max, refl, sym, ◌∙◌, ap, subst, arith, inl, inr, le_trans}
 use Rattle.std.specs.List.{slice_index}
 use Rattle.std.specs.Prelude.{◌↔◌}
 use Rattle.std.proofs.Math.Nat.{div-mul-le_self, le-div_iff_mul-le, mul-div_left, one-le-pow}
+use Rattle.std.proofs.Math.ListN.{get_or-append}
+use Rattle.std.proofs.Math.Seq.{get_or-append_seam}
 use Rattle.std.proofs.lemmas.Bool.{cases_eq, cases_lt}
+use Rattle.std.proofs.lemmas.List.{length-append}
 use Rattle.bp_layout.specs.WordPaths.{WordPath, digits}
 use Rattle.bp_shapes.specs.Forest.{along}
 use Rattle.bp_shapes.specs.Trail.{Trail, trail_of}
@@ -13,10 +16,10 @@ use Rattle.bp_cow.specs.declared.touched.Run.{Run}
 use Rattle.bp_cow.specs.declared.touched.Touched.{Touched}
 use Rattle.bp_cow.specs.Job.{ways}
 use Rattle.bp_cow.specs.Touched.{IsRun, IsTouched, job_of, path_of, run_leaves, run_way, way_of, word_paths}
-use Rattle.bp_cow.specs.Ways.{IsShared}
+use Rattle.bp_cow.specs.Ways.{AreShared, IsShared}
 use Rattle.bp_cow.proofs.CoverLaws.{run-slots}
 use Rattle.bp_cow.proofs.RunLaws.{length-run_path, length-run_way, slot-run_way}
-use Rattle.bp_cow.proofs.RunsLaws.{length-above, slot-above, way-behind, way-leaf, ways-by}
+use Rattle.bp_cow.proofs.RunsLaws.{length-above, slot-above, way-behind, way-leaf, way-short, ways-by}
 use Rattle.bp_cow.proofs.RunFronts.{front-digits, short-over, short-power, trail_of-append}
 
 -- ---- any ways
@@ -348,3 +351,27 @@ way-slots touched is i d here = ways-by touched (λ p. d < length p → slice_in
     (run-slots run (512 * (run.off / 4096 + leaf)) d (is.runs run has) (omega (arith, inside, length-run_way run leaf, length-run_path run (512 * (run.off / 4096 + leaf))))))
     (λ k few inside. subst (λ n. n < 512) (sym (slot-above (path_of (word_paths touched) k) d inside)) (is.slots k d few (omega (arith, inside, length-above (path_of (word_paths touched) k)))))
     i here
+
+-- ---- a list of how much the first ways share
+
+-- with the next way's behind it, it is right of one way more
+pub listed-next : (touched : Touched) (shared : List ℕ) (fronts : ℕ) → AreShared touched shared
+    → ((d : ℕ) → (d < fronts) ↔ IsShared (job_of touched).way (length shared) ((job_of touched).way (length shared)) d)
+    → AreShared touched (shared ++ fronts ∷ [])
+listed-next touched shared fronts right last i d low = at (cases_lt i (length shared))
+  where
+    at : (i < length shared) ⊎ (length shared ≤ i) → (d < slice_index (shared ++ fronts ∷ []) i) ↔ IsShared (job_of touched).way i ((job_of touched).way i) d
+    at (inl here) = subst (λ n. (d < n) ↔ IsShared (job_of touched).way i ((job_of touched).way i) d) (sym (get_or-append shared (fronts ∷ []) 0 i here)) (right i d here)
+    at (inr past) =
+        let end : length shared ≡ i = omega (arith, past, low, length-append shared (fronts ∷ [])) in
+        subst (λ k. (d < slice_index (shared ++ fronts ∷ []) k) ↔ IsShared (job_of touched).way k ((job_of touched).way k) d) end
+        (subst (λ n. (d < n) ↔ IsShared (job_of touched).way (length shared) ((job_of touched).way (length shared)) d) (sym (get_or-append_seam shared fronts [] 0)) (last d))
+
+-- no way shares more fronts than it has
+pub shared-small : (touched : Touched) → IsTouched touched → (i fronts : ℕ) → i < ways (job_of touched)
+    → ((d : ℕ) → (d < fronts) ↔ IsShared (job_of touched).way i ((job_of touched).way i) d) → fronts ≤ 12
+shared-small touched is i fronts here right = at (cases_lt 12 fronts)
+  where
+    at : (12 < fronts) ⊎ (fronts ≤ 12) → fronts ≤ 12
+    at (inl more) = let shared = (right 12).0 more in absurd (omega (arith, shared.here, way-short touched is i here))
+    at (inr few) = few

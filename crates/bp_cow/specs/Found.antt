@@ -1,10 +1,12 @@
--- A front with which all touched paths begin, and the place of its word.
+-- A front with which all touched paths begin, and the place of its word; and what was found of all ways.
 use Rattle.std.specs.Prelude.{◌≡◌, ◌≢◌, ℕ, ◌<◌, length}
 use Rattle.bp_layout.specs.Words.{Image}
 use Rattle.bp_shapes.specs.Trail.{block_on, place_on, trail_of, IsPlaced}
 use Rattle.bp_cow.specs.Cover.{end_path, BeginAlike, CoverHas}
 use Rattle.bp_cow.specs.declared.touched.Touched.{Touched}
+use Rattle.bp_cow.specs.Ways.{AreShared}
 use Rattle.bp_cow.specs.declared.covering.FoundCover.{FoundCover}
+use Rattle.bp_cow.specs.declared.covering.FoundWays.{FoundWays}
 
 pub record IsAt (image : Image) (touched : Touched) (found : FoundCover) : Type 0 where
   pub alike : BeginAlike touched found.len
@@ -17,3 +19,8 @@ pub record IsAt (image : Image) (touched : Touched) (found : FoundCover) : Type 
 pub record IsCoverIn (image : Image) (touched : Touched) (cover : FoundCover) : Type 0 where
   pub at : IsAt image touched cover
   pub has : CoverHas image touched cover.len
+
+-- the cover, and how many fronts of the first ways begin an earlier one
+pub record AreWaysIn (image : Image) (touched : Touched) (found : FoundWays) : Type 0 where
+  pub cover : IsCoverIn image touched found.cover
+  pub shared : AreShared touched found.shared.items

@@ -1,5 +1,5 @@
 -- A way as code holds it, and how much of it earlier ways share.
-use Rattle.std.specs.Prelude.{◌≡◌, ℕ, ◌<◌, ◌≤◌, ◌↔◌, IfSome, None, length}
+use Rattle.std.specs.Prelude.{◌≡◌, ℕ, ◌<◌, ◌≤◌, ◌↔◌, List, IfSome, None, length, slice_index}
 use Rattle.bp_layout.specs.WordPaths.{WordPath}
 use Rattle.bp_shapes.specs.Trail.{trail_of}
 use Rattle.bp_cow.specs.Job.{ways}
@@ -15,6 +15,11 @@ pub record IsShared (way : ℕ → WordPath) (count : ℕ) (path : WordPath) (de
   pub here : depth ≤ length path
   pub there : depth ≤ length (way which)
   pub same : trail_of path depth ≡ trail_of (way which) depth
+
+-- how many fronts of each of the first ways begin an earlier way
+abbrev pub AreShared : Touched → List ℕ → Type 0
+AreShared touched shared =
+    (i d : ℕ) → i < length shared → (d < slice_index shared i) ↔ IsShared (job_of touched).way i ((job_of touched).way i) d
 
 -- A way of touched words, with its length, the leaf to which it leads, and how many of its fronts begin an earlier way.
 pub record IsWay (touched : Touched) (way : Way) : Type 0 where

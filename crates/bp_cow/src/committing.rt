@@ -9,16 +9,18 @@ ghost use Rattle.pm_epochs.specs.Crash.{commit};
 ghost use Rattle.pm_region.specs.Memory.{current_words, room_in, Adds};
 ghost use Rattle.bp_cow.specs.CanCommit.{TellsKept};
 ghost use Rattle.bp_cow.specs.Commit.{CanCommitIn, CommitsTouched};
-ghost use Rattle.bp_cow.specs.Found.{IsCoverIn};
+ghost use Rattle.bp_cow.specs.Found.{AreWaysIn};
 ghost use Rattle.bp_cow.specs.Plan.{Plan};
 ghost use Rattle.bp_cow.specs.Touched.{IsTouched, only_value};
 ghost use Rattle.bp_cow.specs.Turned.{CanTurn, IsTurnedOver};
+ghost use Rattle.bp_cow.specs.Ways.{AreShared};
 ghost use Rattle.bp_shapes.specs.Sets.{kept_of};
 
 use crate::build::make;
-use crate::covering::{FoundCover, find_cover};
+use crate::covering::{FoundWays, find_ways};
 use crate::giving::give_back;
 use crate::touched::Touched;
+use crate::ways::Shared;
 use bp_free::{Blocks, Parts};
 use bp_inplace::commit_word;
 use bp_limits::BLOCK_SIZE;
@@ -30,12 +32,14 @@ fn turn_over<R: Region>(
     region: &mut R,
     blocks: &mut Blocks,
     touched: &Touched<'_>,
+    shared: &Shared,
     from: usize,
     place: u32,
 )
     ghost plan: { Plan }
     requires touched { IsTouched touched.now }
     requires can { CanTurn plan touched.now from place blocks.old (R.memory region.old) }
+    requires shared { AreShared touched.now shared.now.items }
     ensures done { IsTurnedOver plan touched.now from place blocks.old blocks.new
         (R.memory region.old) (R.memory region.new) }
     ensures others { (w : ℕ) → w ≢ place → plan.free (w / block_words) ≡ false →
@@ -43,18 +47,25 @@ fn turn_over<R: Region>(
     ensures base { length (R.memory region.new).base ≡ length (R.memory region.old).base }
 {
     let pointer = region.load(place);
-    let top = make(region, blocks, touched, from, place);
+    let top = make(region, blocks, touched, shared, from, place);
     let turned = bp_layout::pointer_word(top as u64) + pointer % BLOCK_SIZE;
     commit_word(region, place, turned);
 }
 
 /// The same, and the blocks that were left are given back, but for those that are kept.
-fn commit_copies<R: Region>(parts: &mut Parts<R>, touched: &Touched<'_>, from: usize, place: u32)
+fn commit_copies<R: Region>(
+    parts: &mut Parts<R>,
+    touched: &Touched<'_>,
+    shared: &Shared,
+    from: usize,
+    place: u32,
+)
     ghost plan: { Plan }
     requires touched { IsTouched touched.now }
     requires can { CanTurn plan touched.now from place parts.old.blocks (R.memory parts.old.region) }
     requires fits { block_count plan.old ≤ length parts.old.blocks }
     requires kept { TellsKept plan.kept plan.old parts.old.frozen }
+    requires shared { AreShared touched.now shared.now.items }
     ensures done { (taken : Set) × IsTurnedOver plan touched.now from place parts.old.blocks taken
         (R.memory parts.old.region) (R.memory parts.new.region) }
     ensures exact { IsExactSet (current_words (R.memory parts.new.region))
@@ -67,12 +78,20 @@ fn commit_copies<R: Region>(parts: &mut Parts<R>, touched: &Touched<'_>, from: u
     let _words = parts.region.words();
     let pointer = parts.region.load(place);
     let top = pm_words::block_of(pointer) as u32;
-    turn_over(&mut parts.region, &mut parts.blocks, touched, from, place);
+    turn_over(
+        &mut parts.region,
+        &mut parts.blocks,
+        touched,
+        shared,
+        from,
+        place,
+    );
     give_back(
         &parts.region,
         &mut parts.blocks,
         &parts.frozen,
         touched,
+        shared,
         from,
         top,
     );
@@ -90,11 +109,11 @@ fn commit_one<R: Region>(region: &mut R, touched: &Touched<'_>, place: u32)
     commit_word(region, place, touched.only_value(old));
 }
 
-/// What [`commit`] does, for a caller that has found the cover of the touched words.
-pub fn commit_at<R: Region>(parts: &mut Parts<R>, touched: &Touched<'_>, cover: FoundCover)
+/// What [`commit`] does, for a caller that has found the ways to the touched words.
+pub fn commit_at<R: Region>(parts: &mut Parts<R>, touched: &Touched<'_>, found: &FoundWays)
     ghost bound: { ℕ → ℕ }
     requires can { CanCommitIn bound (kept_of parts.old) (R.memory parts.old.region) touched.now parts.old.blocks }
-    requires cover { IsCoverIn (current_words (R.memory parts.old.region)) touched.now cover }
+    requires found { AreWaysIn (current_words (R.memory parts.old.region)) touched.now found.now }
     requires kept { TellsKept (kept_of parts.old) (current_words (R.memory parts.old.region)) parts.old.frozen }
     ensures commits { CommitsTouched bound (kept_of parts.old) touched.now
         (R.memory parts.old.region) (R.memory parts.new.region) parts.old.blocks parts.new.blocks }
@@ -103,10 +122,11 @@ pub fn commit_at<R: Region>(parts: &mut Parts<R>, touched: &Touched<'_>, cover: 
     ensures counts { parts.new.counts ≡ parts.old.counts }
     ensures frozen { parts.new.frozen ≡ parts.old.frozen }
 {
+    let cover = found.cover;
     if touched.way_len(0) < cover.len {
         commit_one(&mut parts.region, touched, cover.place);
     } else {
-        commit_copies(parts, touched, cover.len, cover.place);
+        commit_copies(parts, touched, &found.shared, cover.len, cover.place);
     }
 }
 
@@ -125,6 +145,6 @@ pub fn commit<R: Region>(parts: &mut Parts<R>, touched: &Touched<'_>)
     ensures counts { parts.new.counts ≡ parts.old.counts }
     ensures frozen { parts.new.frozen ≡ parts.old.frozen }
 {
-    let cover = find_cover(&parts.region, touched);
-    commit_at(parts, touched, cover);
+    let found = find_ways(&parts.region, touched);
+    commit_at(parts, touched, &found);
 }

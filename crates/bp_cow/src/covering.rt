@@ -1,14 +1,15 @@
 //! The cover: the longest path that exists and with which all touched paths begin.
 
-ghost use Rattle.std.specs.Prelude.{◌≡◌, ◌≢◌, ℕ, ◌+◌, ◌<◌, ◌≤◌, length, slice_index, true, false};
+ghost use Rattle.std.specs.Prelude.{◌≡◌, ◌≢◌, ◌+◌, ◌<◌, ◌≤◌, length, slice_index, true, false};
 ghost use Rattle.bp_limits.specs.Limits.{block_words};
-ghost use Rattle.bp_shapes.specs.Trail.{block_on, place_on, trail_of};
+ghost use Rattle.bp_shapes.specs.Trail.{block_on, trail_of};
 ghost use Rattle.pm_region.specs.Memory.{current_words};
 ghost use Rattle.bp_cow.specs.Cover.{end_path, ends, BeginAlike, LeadsInside, commit_cover};
 ghost use Rattle.bp_cow.specs.Touched.{IsTouched};
-ghost use Rattle.bp_cow.specs.Found.{IsAt, IsCoverIn};
+ghost use Rattle.bp_cow.specs.Found.{AreWaysIn, IsAt, IsCoverIn};
 
 use crate::touched::Touched;
+use crate::ways::Shared;
 use bp_limits::{BLOCK_WORDS, SUPER_ROOT};
 use bp_tree::Slots;
 use pm_region::Region;
@@ -82,6 +83,15 @@ pub struct FoundCover {
     pub place: u32,
 }
 
+/// What was found of the ways to touched words.
+#[derive(Drop)]
+pub struct FoundWays {
+    /// Their cover.
+    pub cover: FoundCover,
+    /// How many fronts of each of the first ways begin an earlier one.
+    pub shared: Shared,
+}
+
 /// The block to which the word at the end of a front points with which all touched paths begin, 0 where no longer
 /// front is one.
 fn below<R: Region>(region: &R, touched: &Touched<'_>, found: FoundCover) -> u64
@@ -102,7 +112,7 @@ fn below<R: Region>(region: &R, touched: &Touched<'_>, found: FoundCover) -> u64
 
 /// Follows the path with which all touched paths begin as far as it exists: there the cover is. No block has to be free
 /// for it.
-pub fn find_cover<R: Region>(region: &R, touched: &Touched<'_>) -> FoundCover
+fn find_cover<R: Region>(region: &R, touched: &Touched<'_>) -> FoundCover
     requires touched { IsTouched touched.now }
     requires some { block_words ≤ length (current_words (R.memory region.now)) }
     requires in_range { LeadsInside (current_words (R.memory region.now)) touched.now }
@@ -123,6 +133,19 @@ pub fn find_cover<R: Region>(region: &R, touched: &Touched<'_>) -> FoundCover
         block = below(region, touched, found);
     }
     found
+}
+
+/// Finds the cover of the touched words, and how much their ways share. No block has to be free for it.
+pub fn find_ways<R: Region>(region: &R, touched: &Touched<'_>) -> FoundWays
+    requires touched { IsTouched touched.now }
+    requires some { block_words ≤ length (current_words (R.memory region.now)) }
+    requires in_range { LeadsInside (current_words (R.memory region.now)) touched.now }
+    ensures { AreWaysIn (current_words (R.memory region.now)) touched.now result }
+{
+    FoundWays {
+        cover: find_cover(region, touched),
+        shared: touched.all_shared(),
+    }
 }
 
 /// The cover of the touched words: the longest path that exists and begins each of their paths. No block has to be

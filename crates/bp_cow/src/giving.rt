@@ -1,6 +1,6 @@
 //! The blocks that a commit left are given back, but for those that are kept.
 
-ghost use Rattle.std.specs.Prelude.{◌≡◌, ℕ, ◌+◌, ◌<◌, ◌≤◌, length, true, false};
+ghost use Rattle.std.specs.Prelude.{◌≡◌, ◌+◌, ◌<◌, ◌≤◌, length, true, false};
 ghost use Rattle.bp_free.specs.Set.{TakesNumber, has};
 ghost use Rattle.bp_shapes.specs.Trail.{block_on};
 ghost use Rattle.bp_layout.specs.Words.{block_count};
@@ -10,11 +10,11 @@ ghost use Rattle.bp_cow.specs.Job.{ways, front};
 ghost use Rattle.bp_cow.specs.Plan.{Plan, planned};
 ghost use Rattle.bp_cow.specs.Return.{IsLeft, IsBack, CanGive};
 ghost use Rattle.bp_cow.specs.Touched.{IsTouched, job_of};
-ghost use Rattle.bp_cow.specs.Ways.{IsWay};
+ghost use Rattle.bp_cow.specs.Ways.{AreShared, IsWay};
 
 use crate::copies::give;
 use crate::touched::Touched;
-use crate::ways::{Way, is_new};
+use crate::ways::{Shared, Way, is_new};
 use bp_free::Blocks;
 use bp_tree::load_slot;
 use pm_region::Region;
@@ -107,6 +107,7 @@ pub(crate) fn give_back<R: Region>(
     blocks: &mut Blocks,
     frozen: &Blocks,
     touched: &Touched<'_>,
+    shared: &Shared,
     from: usize,
     top: u32,
 )
@@ -117,6 +118,7 @@ pub(crate) fn give_back<R: Region>(
     requires top { top ≡ block_on plan.old (front (job_of touched.now) 0 from) }
     requires fits { block_count plan.old ≤ length blocks.old }
     requires kept { TellsKept plan.kept plan.old frozen.now }
+    requires shared { AreShared touched.now shared.now.items }
     ensures back { IsBack (planned plan touched.now) from (ways (job_of touched.now)) from plan.free_after (has blocks.new) }
     ensures size { length blocks.new ≡ length blocks.old }
 {
@@ -125,6 +127,14 @@ pub(crate) fn give_back<R: Region>(
         give_loose(blocks, frozen, top);
     }
     for i in 0..ways {
-        give_way(region, blocks, frozen, touched, &touched.way(i), from, top);
+        give_way(
+            region,
+            blocks,
+            frozen,
+            touched,
+            &touched.way(i, shared),
+            from,
+            top,
+        );
     }
 }

@@ -1,14 +1,14 @@
 //! How many blocks a commit copies.
 
-ghost use Rattle.std.specs.Prelude.{◌≡◌, ℕ, ◌+◌, ◌*◌, ◌<◌, ◌≤◌, length};
+ghost use Rattle.std.specs.Prelude.{◌≡◌, ◌+◌, ◌<◌, ◌≤◌, length};
 ghost use Rattle.bp_limits.specs.Limits.{block_words};
 ghost use Rattle.pm_region.specs.Memory.{current_words};
 ghost use Rattle.bp_cow.specs.Cover.{LeadsInside, copied_count};
 ghost use Rattle.bp_cow.specs.Job.{ways, turned_for, copies_at};
 ghost use Rattle.bp_cow.specs.Touched.{IsTouched, NoneBegins, all_paths, job_of};
-ghost use Rattle.bp_cow.specs.Ways.{IsWay};
+ghost use Rattle.bp_cow.specs.Ways.{AreShared, IsWay};
 
-use crate::covering::{FoundCover, find_cover};
+use crate::covering::{FoundWays, find_ways};
 use crate::touched::Touched;
 use crate::ways::{Way, is_new};
 use pm_region::Region;
@@ -34,19 +34,20 @@ fn turned_for(touched: &Touched<'_>, way: &Way<'_>, from: usize) -> u32
     count
 }
 
-/// How many blocks a commit of the touched words copies, and takes, given their cover.
-pub fn copies_below(touched: &Touched<'_>, cover: FoundCover) -> u32
-    requires { IsTouched touched.now }
-    ensures { result ≡ copies_at (job_of touched.now) cover.len }
+/// How many blocks a commit of the touched words copies, and takes, given what was found of their ways.
+pub fn copies_below(touched: &Touched<'_>, found: &FoundWays) -> u32
+    requires touched { IsTouched touched.now }
+    requires shared { AreShared touched.now found.now.shared.items }
+    ensures { result ≡ copies_at (job_of touched.now) found.now.cover.len }
 {
-    let from = cover.len;
+    let from = found.cover.len;
     if touched.way_len(0) < from {
         return 0;
     }
     let ways = touched.ways();
     let mut count = 1;
     for i in 0..ways {
-        count += turned_for(touched, &touched.way(i), from);
+        count += turned_for(touched, &touched.way(i, &found.shared), from);
     }
     count
 }
@@ -60,5 +61,5 @@ pub fn need_cover<R: Region>(region: &R, touched: &Touched<'_>) -> u32
     requires apart { NoneBegins (all_paths touched.now) }
     ensures { result ≡ copied_count (current_words (R.memory region.now)) touched.now }
 {
-    copies_below(touched, find_cover(region, touched))
+    copies_below(touched, &find_ways(region, touched))
 }

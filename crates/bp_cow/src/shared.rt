@@ -1,7 +1,6 @@
 //! How far a path goes along the ways to some leaves of a run.
 
 ghost use Rattle.std.specs.Prelude.{◌≡◌, ◌≢◌, ◌↔◌, ℕ, ◌+◌, ◌-◌, ◌*◌, ◌/◌, ◌^◌, ◌<◌, ◌≤◌, length, slice_index, IsTrue};
-ghost use Rattle.bp_limits.specs.Limits.{block_size};
 ghost use Rattle.bp_shapes.specs.Trail.{trail_of};
 ghost use Rattle.bp_cow.specs.Touched.{IsRun, run_leaves, run_way};
 ghost use Rattle.bp_cow.specs.Ways.{IsShared};

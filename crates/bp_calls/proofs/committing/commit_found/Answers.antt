@@ -9,24 +9,23 @@ use Rattle.bp_cow.specs.CanCommit.{CanCommit}
 use Rattle.bp_cow.specs.Cover.{CoverHas, copied_count}
 use Rattle.bp_cow.specs.Job.{copies_at}
 use Rattle.bp_cow.specs.Touched.{job_of}
-use Rattle.bp_cow.specs.declared.covering.FoundCover.{FoundCover}
 use Rattle.bp_cow.specs.declared.touched.Touched.{Touched}
 use Rattle.bp_cow.proofs.CopiesNeed.{none-begins}
 use Rattle.bp_cow.proofs.CoverOf.{count_is}
 use Rattle.bp_calls.proofs.committing.commit_found.Goals as goal
 
 -- so many blocks are copied
-counted : (image : Image) (kept free : ℕ → Bool) (touched : Touched) (cover : FoundCover) (copies : ℕ) → IsWellFormed image → CanCommit image (size_of image) kept touched free → CoverHas image touched cover.len →
-    copies ≡ copies_at (job_of touched) cover.len → copies ≡ copied_count image touched
-counted image kept free touched cover copies wf can has is = is ∙ count_is touched can.shape image (none-begins image (size_of image) touched free wf can) cover.len has
+counted : (image : Image) (kept free : ℕ → Bool) (touched : Touched) (from copies : ℕ) → IsWellFormed image → CanCommit image (size_of image) kept touched free → CoverHas image touched from →
+    copies ≡ copies_at (job_of touched) from → copies ≡ copied_count image touched
+counted image kept free touched from copies wf can has is = is ∙ count_is touched can.shape image (none-begins image (size_of image) touched free wf can) from has
 
 pub returns-then-free-copies-clause-need : goal.returns-then-free-copies-clause-need
 returns-then-free-copies-clause-need g c =
-    counted _ (kept_of c.args.parts.now) (has c.args.parts.now.blocks) c.args.touched.now c.args.cover c.copies_below-copies.result c.requires.well_formed c.requires.can c.requires.cover.has c.copies_below-copies.ensures
+    counted _ (kept_of c.args.parts.now) (has c.args.parts.now.blocks) c.args.touched.now c.args.found.now.cover.len c.copies_below-copies.result c.requires.well_formed c.requires.can c.requires.found.cover.has c.copies_below-copies.ensures
 
 pub commit_at-requires : goal.commit_at-requires
 commit_at-requires g c κs within =
     let image = current_words (g.R.Region.memory c.args.parts.now.region) in
-    let count = counted image (kept_of c.args.parts.now) (has c.args.parts.now.blocks) c.args.touched.now c.args.cover c.copies_below-copies.result c.requires.well_formed c.requires.can c.requires.cover.has c.copies_below-copies.ensures in
+    let count = counted image (kept_of c.args.parts.now) (has c.args.parts.now.blocks) c.args.touched.now c.args.found.now.cover.len c.copies_below-copies.result c.requires.well_formed c.requires.can c.requires.found.cover.has c.copies_below-copies.ensures in
     let some : copied_count image c.args.touched.now ≤ length (members c.args.parts.now.blocks) = omega (arith, count, c.count-free.ensures, c.if-free-copies.false) in
-    (within, (record { well_formed = c.requires.well_formed; can = c.requires.can; loose = c.requires.loose; fits = c.requires.fits; some = some; room = c.requires.room some }, (c.requires.cover, record { room = c.requires.known; same = λ b. refl })))
+    (within, (record { well_formed = c.requires.well_formed; can = c.requires.can; loose = c.requires.loose; fits = c.requires.fits; some = some; room = c.requires.room some }, (c.requires.found, record { room = c.requires.known; same = λ b. refl })))

@@ -28,8 +28,8 @@ from_run image i off bytes run is P there = subst (λ o. P o bytes) is.from (sub
 
 -- ---- the cover
 
-pub find_cover-cover-requires-clause-touched : goal.find_cover-cover-requires-clause-touched
-find_cover-cover-requires-clause-touched g c =
+pub find_ways-found-requires-clause-touched : goal.find_ways-found-requires-clause-touched
+find_ways-found-requires-clause-touched g c =
     let write : WritesBelow (kept_of c.args.parts.now) (g.R.Region.memory c.args.parts.now.region) c.args.parts.now.blocks c.args.parts.now.inodes c.args.i c.args.off c.args.bytes.now c.touched_by-touched.result = record {
       can = write_mounted (current_words (g.R.Region.memory c.args.parts.now.region)) c.args.parts.now c.args.i c.args.off c.args.bytes.now c.requires.mounted c.requires.can;
       below = c.requires.below;
@@ -37,8 +37,8 @@ find_cover-cover-requires-clause-touched g c =
     } in
     (write_can (g.R.Region.memory c.args.parts.now.region) c.args.parts.now.blocks c.args.parts.now.inodes c.args.i c.args.off c.args.bytes.now c.touched_by-touched.result write).shape
 
-pub find_cover-cover-requires-clause-in_range : goal.find_cover-cover-requires-clause-in_range
-find_cover-cover-requires-clause-in_range g c =
+pub find_ways-found-requires-clause-in_range : goal.find_ways-found-requires-clause-in_range
+find_ways-found-requires-clause-in_range g c =
     let write : WritesBelow (kept_of c.args.parts.now) (g.R.Region.memory c.args.parts.now.region) c.args.parts.now.blocks c.args.parts.now.inodes c.args.i c.args.off c.args.bytes.now c.touched_by-touched.result = record {
       can = write_mounted (current_words (g.R.Region.memory c.args.parts.now.region)) c.args.parts.now c.args.i c.args.off c.args.bytes.now c.requires.mounted c.requires.can;
       below = c.requires.below;
@@ -54,8 +54,8 @@ is_clear_below-requires-clause-cover g c =
       touches = record { run = c.run_for.result; one = c.touched_by-touched.ensures.runs; no_words = c.touched_by-touched.ensures.words; no_trees = c.touched_by-touched.ensures.trees; is = c.run_for.ensures };
     } in
     let image = current_words (g.R.Region.memory c.args.parts.now.region) in
-    of_run (current_words (g.R.Region.memory c.args.parts.now.region)) c.args.i c.args.off c.args.bytes.now c.run_for.result c.run_for.ensures (λ o (bs : List ℕ). c.find_cover-cover.result.len ≡ length (cover_now (current_words (g.R.Region.memory c.args.parts.now.region)) (writes c.args.i o (length bs))))
-    (cover_length c.touched_by-touched.result (write_can (g.R.Region.memory c.args.parts.now.region) c.args.parts.now.blocks c.args.parts.now.inodes c.args.i c.args.off c.args.bytes.now c.touched_by-touched.result write).shape image c.find_cover-cover.result.len c.find_cover-cover.ensures.has
+    of_run (current_words (g.R.Region.memory c.args.parts.now.region)) c.args.i c.args.off c.args.bytes.now c.run_for.result c.run_for.ensures (λ o (bs : List ℕ). c.find_ways-found.result.cover.len ≡ length (cover_now (current_words (g.R.Region.memory c.args.parts.now.region)) (writes c.args.i o (length bs))))
+    (cover_length c.touched_by-touched.result (write_can (g.R.Region.memory c.args.parts.now.region) c.args.parts.now.blocks c.args.parts.now.inodes c.args.i c.args.off c.args.bytes.now c.touched_by-touched.result write).shape image c.find_ways-found.result.cover.len c.find_ways-found.ensures.cover.has
     ∙ ap (λ (p : List ℕ). length p) (write_cover (g.R.Region.memory c.args.parts.now.region) c.args.parts.now.blocks c.args.parts.now.inodes c.args.i c.args.off c.args.bytes.now c.touched_by-touched.result write))
 
 pub is_clear_below-requires-clause-can : goal.is_clear_below-requires-clause-can

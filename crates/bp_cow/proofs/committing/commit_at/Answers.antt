@@ -25,7 +25,7 @@ commit_one-requires-clause-touched g c =
 
 pub commit_one-requires-clause-place : goal.commit_one-requires-clause-place
 commit_one-requires-clause-place g c =
-    c.requires.1.1.0.at.low
+    c.requires.1.1.0.cover.at.low
 
 pub commit_one-requires-clause-room : goal.commit_one-requires-clause-room
 commit_one-requires-clause-room g c =
@@ -34,17 +34,17 @@ commit_one-requires-clause-room g c =
 pub commit_copies-requires : goal.commit_copies-requires
 commit_copies-requires g c κs within =
     let image = (current_words (g.R.Region.memory c.args.parts.now.region)) in
-    let from = c.args.cover.len in
+    let from = c.args.found.now.cover.len in
     let short : from ≤ length ((job_of c.args.touched.now).way 0) = omega (arith, c.way_len.ensures, c.if-way_len-cover.false) in
     let count : copies (job_of c.args.touched.now) from ≡ copied_count image c.args.touched.now =
     sym (copied-some (job_of c.args.touched.now) from short)
-    ∙ count_is c.args.touched.now c.requires.1.0.can.shape image (none-begins image g.bound c.args.touched.now (has c.args.parts.now.blocks) c.requires.1.0.well_formed c.requires.1.0.can) from c.requires.1.1.0.has in (
+    ∙ count_is c.args.touched.now c.requires.1.0.can.shape image (none-begins image g.bound c.args.touched.now (has c.args.parts.now.blocks) c.requires.1.0.well_formed c.requires.1.0.can) from c.requires.1.1.0.cover.has in (
       within,
       (
         c.requires.1.0.can.shape,
         (
           record {
-            can = can_build image g.bound c.args.touched.now (has c.args.parts.now.blocks) c.requires.1.0.well_formed c.requires.1.0.can from c.requires.1.1.0.at.alike short c.args.cover.place c.requires.1.1.0.at.exists c.requires.1.1.0.at.place;
+            can = can_build image g.bound c.args.touched.now (has c.args.parts.now.blocks) c.requires.1.0.well_formed c.requires.1.0.can from c.requires.1.1.0.cover.at.alike short c.args.found.now.cover.place c.requires.1.1.0.cover.at.exists c.requires.1.1.0.cover.at.place;
             old = refl;
             free = refl;
             at = refl;
@@ -53,7 +53,7 @@ commit_copies-requires g c κs within =
             some = rw count c.requires.1.0.some;
             room = rw count (omega (arith, c.requires.1.0.room));
           },
-          (c.requires.1.0.fits, c.requires.1.1.1),
+          (c.requires.1.0.fits, (c.requires.1.1.1, c.requires.1.1.0.shared)),
         ),
       ),
     )
@@ -61,10 +61,10 @@ commit_copies-requires g c κs within =
 pub returns-then-way_len-cover-clause-commits : goal.returns-then-way_len-cover-clause-commits
 returns-then-way_len-cover-clause-commits g c =
     commits_touched g.bound c.args.touched.now (g.R.Region.memory c.args.parts.now.region) (g.R.Region.memory c.commit_one.new.region) c.args.parts.now.blocks c.args.parts.now.blocks c.requires.1.0.well_formed c.requires.1.0.can c.requires.1.0.loose c.requires.1.0.fits
-    (commits_one g.bound c.args.touched.now (g.R.Region.memory c.args.parts.now.region) (g.R.Region.memory c.commit_one.new.region) c.args.parts.now.blocks c.requires.1.0.well_formed c.requires.1.0.can c.args.cover c.requires.1.1.0.at c.requires.1.1.0.has (subst (λ n. n < c.args.cover.len) c.way_len.ensures c.if-way_len-cover.true) c.commit_one.ensures)
+    (commits_one g.bound c.args.touched.now (g.R.Region.memory c.args.parts.now.region) (g.R.Region.memory c.commit_one.new.region) c.args.parts.now.blocks c.requires.1.0.well_formed c.requires.1.0.can c.args.found.now.cover c.requires.1.1.0.cover.at c.requires.1.1.0.cover.has (subst (λ n. n < c.args.found.now.cover.len) c.way_len.ensures c.if-way_len-cover.true) c.commit_one.ensures)
 
 pub returns-else-way_len-cover-clause-commits : goal.returns-else-way_len-cover-clause-commits
 returns-else-way_len-cover-clause-commits g c =
     commits_touched g.bound c.args.touched.now (g.R.Region.memory c.args.parts.now.region) (g.R.Region.memory c.commit_copies.new.parts.region) c.args.parts.now.blocks c.commit_copies.new.parts.blocks c.requires.1.0.well_formed c.requires.1.0.can c.requires.1.0.loose c.requires.1.0.fits
-    (commits_turned g.bound c.args.touched.now (g.R.Region.memory c.args.parts.now.region) (g.R.Region.memory c.commit_copies.new.parts.region) c.args.parts.now.blocks c.requires.1.0.well_formed c.requires.1.0.can c.args.cover c.requires.1.1.0.at c.requires.1.1.0.has
+    (commits_turned g.bound c.args.touched.now (g.R.Region.memory c.args.parts.now.region) (g.R.Region.memory c.commit_copies.new.parts.region) c.args.parts.now.blocks c.requires.1.0.well_formed c.requires.1.0.can c.args.found.now.cover c.requires.1.1.0.cover.at c.requires.1.1.0.cover.has
     (omega (arith, c.way_len.ensures, c.if-way_len-cover.false)) 0 (has c.args.parts.now.blocks) c.commit_copies.new.parts.blocks c.commit_copies.ensures.done.0 c.commit_copies.ensures.done.1 c.commit_copies.ensures.exact)

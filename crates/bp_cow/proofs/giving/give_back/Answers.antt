@@ -23,7 +23,7 @@ pub give_loose-requires-clause-known : goal.give_loose-requires-clause-known
 give_loose-requires-clause-known g c =
     let bones : IsSkeleton g.plan.old (IsTreePointer g.plan.old g.plan.bound) = skeleton g.plan.old g.plan.bound c.requires.1.1.0.can.forest c.requires.1.1.0.can.whole in
     let range : block_on g.plan.old (front (job_of c.args.touched.now) 0 c.args.from) < block_count g.plan.old = bones.in_range (front (job_of c.args.touched.now) 0 c.args.from) (c.requires.1.1.0.can.pointers 0 c.args.from c.requires.1.1.0.can.some (c.requires.1.1.0.can.below 0 c.requires.1.1.0.can.some)) in
-    omega (arith, c.requires.1.1.1.1.0, range, c.requires.1.1.1.1.1.1.room)
+    omega (arith, c.requires.1.1.1.1.0, range, c.requires.1.1.1.1.1.1.0.room)
 
 pub give_loose-requires-clause-used : goal.give_loose-requires-clause-used
 give_loose-requires-clause-used g c =
@@ -38,8 +38,8 @@ loop-i-init g c =
             (back_cover (planned g.plan c.args.touched.now) c.args.from g.plan.free_after (current_words (g.R.Region.memory c.args.region.now)) c.requires.1.1.0 (λ null. w.if-top-ne0.true (c.requires.1.1.1.1.0 ∙ null)) (has w.give_loose.new.blocks)
             (λ loose.
             subst (TakesNumber (has w.give_loose.new.blocks) g.plan.free_after) c.requires.1.1.1.1.0
-            (subst (λ (f : ℕ → Bool). TakesNumber (has w.give_loose.new.blocks) f c.args.top) (sym taken) (w.give_loose.ensures.given (c.requires.1.1.1.1.1.1.same c.args.top ∙ ap g.plan.kept c.requires.1.1.1.1.0 ∙ loose))))
-            (λ is. ap has (w.give_loose.ensures.stays (c.requires.1.1.1.1.1.1.same c.args.top ∙ ap g.plan.kept c.requires.1.1.1.1.0 ∙ is)) ∙ sym taken));
+            (subst (λ (f : ℕ → Bool). TakesNumber (has w.give_loose.new.blocks) f c.args.top) (sym taken) (w.give_loose.ensures.given (c.requires.1.1.1.1.1.1.0.same c.args.top ∙ ap g.plan.kept c.requires.1.1.1.1.0 ∙ loose))))
+            (λ is. ap has (w.give_loose.ensures.stays (c.requires.1.1.1.1.1.1.0.same c.args.top ∙ ap g.plan.kept c.requires.1.1.1.1.0 ∙ is)) ∙ sym taken));
         size = ap (λ (bs : List Bool). length bs) w.blocks-is ∙ w.give_loose.ensures.size;
       }
       | else-top-ne0 w ↦ record {
@@ -52,6 +52,9 @@ loop-i-init g c =
 pub way-requires-clause-i : goal.way-requires-clause-i
 way-requires-clause-i g c = subst (λ n. c.loop-i.i < n) c.ways-ways.ensures c.loop-i-test.true
 
+pub way-requires-clause-shared : goal.way-requires-clause-shared
+way-requires-clause-shared g c = c.requires.1.1.1.1.1.1.1
+
 pub give_way-requires : goal.give_way-requires
 give_way-requires g c κs within =
     let here : c.loop-i.i < ways (job_of c.args.touched.now) = subst (λ n. c.loop-i.i < n) c.ways-ways.ensures c.loop-i-test.true in
@@ -61,7 +64,7 @@ give_way-requires g c κs within =
       back = c.loop-i.invariant.back;
       fits = omega (arith, c.requires.1.1.1.1.1.0, c.loop-i.invariant.size);
     } in
-    (within, (c.requires.1.0, (c.way.ensures.way, (subst (λ n. CanGive (planned g.plan c.args.touched.now) c.args.from n c.args.from c.loop-i.blocks (current_words (g.R.Region.memory c.args.region.now))) (sym c.way.ensures.index) can, (c.requires.1.1.1.1.0, c.requires.1.1.1.1.1.1)))))
+    (within, (c.requires.1.0, (c.way.ensures.way, (subst (λ n. CanGive (planned g.plan c.args.touched.now) c.args.from n c.args.from c.loop-i.blocks (current_words (g.R.Region.memory c.args.region.now))) (sym c.way.ensures.index) can, (c.requires.1.1.1.1.0, c.requires.1.1.1.1.1.1.0)))))
 
 pub loop-i-preserved : goal.loop-i-preserved
 loop-i-preserved g c =

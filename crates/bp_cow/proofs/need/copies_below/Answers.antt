@@ -7,27 +7,27 @@ use Rattle.bp_cow.proofs.RunsLaws.{leaves-few}
 use Rattle.bp_cow.proofs.need.copies_below.Goals as goal
 
 pub way_len-requires-clause-i : goal.way_len-requires-clause-i
-way_len-requires-clause-i c = c.requires.some
+way_len-requires-clause-i c = c.requires.touched.some
 
 pub returns-then-way_len-from : goal.returns-then-way_len-from
-returns-then-way_len-from c = sym (copied-none (job_of c.args.touched.now) c.args.cover.len (omega (arith, c.way_len.ensures, c.if-way_len-from.true)))
+returns-then-way_len-from c = sym (copied-none (job_of c.args.touched.now) c.args.found.now.cover.len (omega (arith, c.way_len.ensures, c.if-way_len-from.true)))
 
 pub way-requires-clause-i : goal.way-requires-clause-i
 way-requires-clause-i c = subst (λ n. c.loop-i.i < n) c.ways-ways.ensures c.loop-i-test.true
 
 pub overflow_add-count : goal.overflow_add-count
 overflow_add-count c =
-    omega (arith, c.loop-i.invariant.few, c.turned_for-count.ensures.few, c.loop-i-test.true, c.ways-ways.ensures, leaves-few c.args.touched.now.runs.now c.requires.runs, c.requires.few_runs, c.requires.few)
+    omega (arith, c.loop-i.invariant.few, c.turned_for-count.ensures.few, c.loop-i-test.true, c.ways-ways.ensures, leaves-few c.args.touched.now.runs.now c.requires.touched.runs, c.requires.touched.few_runs, c.requires.touched.few)
 
 pub loop-i-preserved : goal.loop-i-preserved
 loop-i-preserved c = record {
-  count = omega (arith, c.loop-i.invariant.count, c.turned_for-count.ensures.result ∙ ap (λ n. turned_for (job_of c.args.touched.now) c.args.cover.len n (length ((job_of c.args.touched.now).way n))) c.way.ensures.index, upto-next (job_of c.args.touched.now) c.args.cover.len c.loop-i.i);
+  count = omega (arith, c.loop-i.invariant.count, c.turned_for-count.ensures.result ∙ ap (λ n. turned_for (job_of c.args.touched.now) c.args.found.now.cover.len n (length ((job_of c.args.touched.now).way n))) c.way.ensures.index, upto-next (job_of c.args.touched.now) c.args.found.now.cover.len c.loop-i.i);
   few = omega (arith, c.loop-i.invariant.few, c.turned_for-count.ensures.few);
 }
 
 pub returns : goal.returns
 returns c =
     let job = job_of c.args.touched.now in
-    let short : c.args.cover.len ≤ length (job.way 0) = omega (arith, c.way_len.ensures, c.if-way_len-from.false) in
+    let short : c.args.found.now.cover.len ≤ length (job.way 0) = omega (arith, c.way_len.ensures, c.if-way_len-from.false) in
     let end : c.loop-i.i ≡ ways job = omega (arith, c.loop-i-test.false, c.loop-i.auto.i-end, c.ways-ways.ensures) in
-    c.loop-i.invariant.count ∙ ap (λ n. 1 + turned_upto job c.args.cover.len n) end ∙ omega arith ∙ sym (copied-some job c.args.cover.len short)
+    c.loop-i.invariant.count ∙ ap (λ n. 1 + turned_upto job c.args.found.now.cover.len n) end ∙ omega arith ∙ sym (copied-some job c.args.found.now.cover.len short)

@@ -28,4 +28,4 @@ pub use length::image_length;
 pub use pending::Pending;
 pub use scanning::scan;
 pub use totals::Totals;
-pub use whole::scan_whole;
+pub use whole::{fill_others, has_second, scan_whole};

@@ -26,7 +26,7 @@ use bp_tree::version;
 use pm_region::Region;
 
 /// Whether an image has a second tree.
-fn has_second<R: Region>(region: &R) -> bool
+pub fn has_second<R: Region>(region: &R) -> bool
     requires { IsSized (current_words (R.memory region.now)) }
     ensures { result ≡ has_snapshot (current_words (R.memory region.now)) }
 {
@@ -37,7 +37,7 @@ fn has_second<R: Region>(region: &R) -> bool
 }
 
 /// Puts all blocks but the first that a set lacks into another one, whatever it had.
-fn fill_others(set: &Blocks, others: &mut Blocks)
+pub fn fill_others(set: &Blocks, others: &mut Blocks)
     requires some { 0 < length set.now }
     requires room { length others.old ≡ length set.now }
     ensures { HasOthers set.now others.new }

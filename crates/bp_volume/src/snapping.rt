@@ -1,6 +1,6 @@
 //! The snapshot: it is made and let go by words of the superblock alone, and read as the first tree is.
 
-ghost use Rattle.std.specs.Prelude.{◌*◌, ◌≡◌, ◌<◌, ◌≤◌, IfErr, IfOk, OnErr, OnOk, Some, drop, false, length};
+ghost use Rattle.std.specs.Prelude.{◌*◌, ◌≡◌, ◌≤◌, IfErr, IfOk, OnErr, OnOk, Some, drop, false, length};
 ghost use Rattle.bp_layout.specs.Formatted.{IsSized, version_of};
 ghost use Rattle.bp_layout.specs.Trees.{AreFrozen, has_snapshot};
 ghost use Rattle.bp_layout.specs.Whole.{IsFileSystem};
@@ -12,7 +12,6 @@ ghost use Rattle.bp_plain.specs.Calls.Call.{snap, snap_list, snap_read, snap_sta
 ghost use Rattle.bp_plain.specs.Calls.Refusal.{no_snap};
 ghost use Rattle.bp_plain.specs.Plain.{on_path};
 ghost use Rattle.bp_plain.specs.Seen.{refusal_of};
-ghost use Rattle.bp_scan.specs.Others.{HasOthers};
 ghost use Rattle.bp_shapes.specs.Sets.{IsExact, kept_of};
 ghost use Rattle.bp_volume.specs.Ready.{IsReady};
 ghost use Rattle.bp_volume.specs.Seen.{list_answer_of, read_answer, stat_answer_of, unit_answer};
@@ -23,27 +22,16 @@ ghost use Rattle.pm_region.specs.Memory.{Adds, current_words, room_in};
 use crate::asking::{list_at, read_at, stat_at};
 use crate::rescanning::rescan;
 use bp_dirs::Scan;
-use bp_free::{Blocks, Parts};
+use bp_free::Parts;
 use bp_layout::{Listing, Stat};
 use bp_limits::{SUPER_ROOT, SUPER_SECOND_ROOT, SUPER_SECOND_SIZE, SUPER_SIZE, Version};
 use bp_path::parse;
 use bp_plain::FsError;
-use bp_scan::Pending;
+use bp_scan::{Pending, fill_others, has_second};
 use bp_second::Shown;
 use bp_tree::version;
 use pm_region::Region;
 use std::alloc::Global;
-
-/// Whether there is a snapshot.
-fn has_second<R: Region>(region: &R) -> bool
-    requires { IsSized (current_words (R.memory region.now)) }
-    ensures { result ≡ has_snapshot (current_words (R.memory region.now)) }
-{
-    match version(region) {
-        Version::One => false,
-        Version::Two => region.load(SUPER_SECOND_SIZE) != 0,
-    }
-}
 
 /// Why no snapshot is made, where none is.
 fn may_snap<R: Region>(region: &R) -> Result<(), FsError>
@@ -91,20 +79,6 @@ fn drop_second<R: Region>(region: &mut R)
     region.barrier();
 }
 
-/// Puts all blocks but the first that are not free into a set, whatever it had.
-fn freeze(free: &Blocks, frozen: &mut Blocks)
-    requires some { 0 < length free.now }
-    requires room { length frozen.old ≡ length free.now }
-    ensures { HasOthers free.now frozen.new }
-{
-    frozen.clear();
-    for block in 1..free.room() {
-        if !free.is_free(block) {
-            frozen.give(block);
-        }
-    }
-}
-
 /// What `snap` does before its mark. No block is read or copied: those of the first tree are kept from then on.
 pub(crate) fn snap_at<R: Region>(parts: &mut Parts<R>) -> Result<(), FsError>
     requires ready { IsReady (R.memory parts.old.region) parts.old }
@@ -114,7 +88,7 @@ pub(crate) fn snap_at<R: Region>(parts: &mut Parts<R>) -> Result<(), FsError>
 {
     may_snap(&parts.region)?;
     store_second(&mut parts.region);
-    freeze(&parts.blocks, &mut parts.frozen);
+    fill_others(&parts.blocks, &mut parts.frozen);
     Ok(())
 }
 

@@ -34,7 +34,7 @@ use Rattle.bp_calls.proofs.TakenBlocks.{members_free, usable_members}
 use Rattle.bp_layout.specs.Thaw.{end_path_now, root_path_now, targets, thawed}
 use Rattle.bp_layout.proofs.ThawLaws.{loose-on}
 use Rattle.bp_layout.specs.Members.{Has}
-use Rattle.bp_calls.proofs.Unthawed.{across_room}
+use Rattle.bp_calls.proofs.PreparedRoom.{across_room}
 use Rattle.bp_calls.proofs.WriteTargets.{across_targets}
 
 parted : (taken rest : List ℕ) {all : List ℕ} → all ≡ taken ++ rest → length all ≡ length taken + length rest

@@ -25,7 +25,7 @@ use Rattle.bp_calls.specs.Growth.{AddsInodes, CanGrowInodes, GrowsInodes, growth
 use Rattle.bp_calls.proofs.GrowthMemory.{grown, grows, growth_need_is}
 use Rattle.bp_calls.proofs.GrowthSets.{exact_grown}
 use Rattle.bp_calls.proofs.TakenBlocks.{members_free, usable_members}
-use Rattle.bp_calls.proofs.Unthawed.{prepared_room_thawed}
+use Rattle.bp_calls.proofs.PreparedRoom.{preparation_room}
 
 module _ (image : Image) (wf : IsWellFormed image) where
   -- its leaves are different blocks, and block 0 is none of them
@@ -58,7 +58,7 @@ can_prepare old blocks inodes can = record {
   are_free = members_free (current_words old) blocks inodes can.exact;
   loose = can.loose;
   enough = omega (arith, can.enough, growth_need_is (current_words old));
-  room = prepared_room_thawed _ _ _ _ (growth_need_is (current_words old))
+  room = preparation_room _ _ _ _ (growth_need_is (current_words old))
       (room_behind_whole (size_of (current_words old) 0) (size_of (current_words old) 0) (size_of (current_words old) 0 + block_size) max_height) can.room;
 }
 

@@ -46,7 +46,7 @@ pub mod GrowthSets
 pub mod GrowthNodes
 pub mod GrowthNeed
 pub mod GrowthCover
-pub mod Unthawed
+pub mod PreparedRoom
 pub mod CountLaws
 pub mod ThawedParts
 pub mod TargetPaths

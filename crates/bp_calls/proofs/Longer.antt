@@ -32,7 +32,7 @@ use Rattle.pm_epochs.specs.Crash.{commit}
 use Rattle.pm_region.specs.Memory.{Memory, Adds, current_words, room_in}
 use Rattle.pm_region.proofs.MemoryLaws.{base-adds, room_in-piece}
 use Rattle.bp_layout.specs.Thaw.{end_path_now, root_path_now, targets}
-use Rattle.bp_calls.proofs.Unthawed.{prepared_room_thawed}
+use Rattle.bp_calls.proofs.PreparedRoom.{preparation_room}
 
 only_grows : (image : Image) (i size : ℕ) → size_of image i < size → OnlyGrows image (resizes i size) i size size
 only_grows image i size longer = record { prepares = rw (lt-ltb (size_of image i) size longer) refl; no_inodes = refl; touches = refl }
@@ -83,7 +83,7 @@ module _ {kept : ℕ → Bool} (old : Memory) (blocks inodes : Set) (n size : �
     loose = end_loose;
     enough = omega (arith, enough, needs);
     room = let room = can.room enough in
-        prepared_room_thawed _ _ _ _ needs (room_behind_whole (size_of image (suc n)) size size max_height) room;
+        preparation_room _ _ _ _ needs (room_behind_whole (size_of image (suc n)) size size max_height) room;
   }
 
   -- behind the preparation there is room for the store

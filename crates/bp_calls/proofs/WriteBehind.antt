@@ -33,7 +33,7 @@ use Rattle.bp_calls.proofs.TakenBlocks.{exact_taken, members_free, usable_member
 use Rattle.bp_layout.specs.Thaw.{cover_now, end_path_now, root_path_now, targets}
 use Rattle.bp_layout.specs.Members.{Has}
 use Rattle.bp_layout.proofs.ThawLaws.{loose-on}
-use Rattle.bp_calls.proofs.Unthawed.{prepared_room_thawed}
+use Rattle.bp_calls.proofs.PreparedRoom.{preparation_room}
 
 -- ---- one byte
 
@@ -113,7 +113,7 @@ module _ {kept : ℕ → Bool} (old : Memory) (blocks inodes : Set) (n off : ℕ
     loose = end_loose;
     enough = enough;
     room = let room = can.room (omega (arith, behind_need, enough)) in
-        prepared_room_thawed _ _ _ _ behind_need (room_behind_whole (size_of image (suc n)) off end max_height) room;
+        preparation_room _ _ _ _ behind_need (room_behind_whole (size_of image (suc n)) off end max_height) room;
   }
 
   module _ (middle new : Memory) (after : Set) (path : WordPath) (place : ℕ) (prepares : CanPrepare kept old (members blocks) (suc n) path off end) (stands : ContentStandsAt image 0 (8 * suc n + 2) place)

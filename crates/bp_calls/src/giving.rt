@@ -1,6 +1,6 @@
 //! The blocks of a tree that lie behind a smaller size are given back.
 
-ghost use Rattle.std.specs.Prelude.{◌≡◌, ℕ, ◌-◌, ◌*◌, ◌<◌, ◌≤◌, false, length};
+ghost use Rattle.std.specs.Prelude.{◌≡◌, ℕ, ◌-◌, ◌*◌, ◌<◌, false, length};
 ghost use Rattle.bp_calls.specs.GivenUp.{IsTopGivenUp};
 ghost use Rattle.bp_calls.specs.GivenBack.{GivesBack};
 ghost use Rattle.bp_free.specs.Set.{has};

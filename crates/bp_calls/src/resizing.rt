@@ -9,7 +9,7 @@ ghost use Rattle.bp_layout.specs.Thaw.{targets, thawed};
 ghost use Rattle.bp_calls.specs.CanGrow.{CanGrowFile};
 ghost use Rattle.bp_calls.specs.Resized.{ResizesFile};
 ghost use Rattle.bp_free.specs.Set.{members};
-ghost use Rattle.bp_layout.specs.Inode.{IsFile, root_of, size_of};
+ghost use Rattle.bp_layout.specs.Inode.{IsFile, size_of};
 ghost use Rattle.bp_layout.specs.Need.{need};
 ghost use Rattle.bp_layout.specs.Need.Change.{resizes};
 ghost use Rattle.bp_layout.specs.Reached.{IsReached};

@@ -1,6 +1,6 @@
 -- The entries of a directory are told one after the other.
-use Rattle.std.proofs.Common.{◌≡◌, ℕ, ◌+◌, ◌≤◌, List, [], ◌∷◌, ◌++◌, length, take, flat_map, Option, None, Some, refl, sym, ◌∙◌, ap, subst, append_assoc, append-nil}
-use Rattle.std.specs.Prelude.{Result, Ok, Err, OnOk, slice_get}
+use Rattle.std.proofs.Common.{◌≡◌, ℕ, ◌+◌, ◌≤◌, List, ◌++◌, length, flat_map, Option, Some, sym, ◌∙◌, ap, subst, append_assoc, append-nil}
+use Rattle.std.specs.Prelude.{Ok, Err, slice_get}
 use Rattle.bp_layout.specs.Directory.{Name}
 use Rattle.bp_layout.specs.Inode.{IsDirectory, IsFile}
 use Rattle.bp_layout.specs.Lookup.{node_of}
@@ -15,7 +15,7 @@ use Rattle.bp_export.specs.declared.fault.Fault.{Fault}
 use Rattle.bp_export.specs.declared.fault.Fault.TheVariants.{Memory}
 use Rattle.bp_export.specs.declared.firsts.Firsts.{Firsts}
 use Rattle.bp_export.proofs.GoingLaws.{goes_before, goes_nothing, goes_nowhere, goes_stop, goes_then}
-use Rattle.bp_export.proofs.Places.{behind, below_node, calls-append, child, child_place, entries_all, inner_place, is_dir, next_directory, next_file, told_directory, told_file, told_to, whole}
+use Rattle.bp_export.proofs.Places.{behind, below_node, calls-append, child_place, entries_all, inner_place, is_dir, next_directory, next_file, told_directory, told_file, whole}
 
 -- another answer after the same
 pub tours_as : {S T : Type 0} (image : Image) (counts : List ℕ) (i : ℕ) (place : Place) (v : S) (w : T) (after : Firsts) (a b : List ℕ) (t u : Option (List ℕ)) (f g : ℕ) →

@@ -1,18 +1,16 @@
 -- How an export ends by how its walk does.
-use Rattle.std.proofs.Common.{◌≡◌, ℕ, List, [], ◌++◌, Option, refl, sym, ◌∙◌, ap, subst, append_assoc, append-nil}
-use Rattle.std.specs.Prelude.{Result, Ok, Err, OnErr, OnOk, IsErrOf}
+use Rattle.std.proofs.Common.{◌≡◌, ℕ, List, [], ◌++◌, Option, refl, sym, ◌∙◌, ap, subst, append_assoc}
+use Rattle.std.specs.Prelude.{Result, Ok, Err}
 use Rattle.std.specs.Io.KnownBytes.{Appends}
 use Rattle.std.proofs.KnownBytes.{Appends-trans}
-use Rattle.bp_io.specs.Causes.{HasCause, Rose}
-use Rattle.bp_io.specs.declared.faults.Failed.{Failed}
+use Rattle.bp_io.specs.Causes.{Rose}
 use Rattle.bp_plain.specs.Calls.{Call}
 use Rattle.bp_plain.specs.Export.{HasShortPaths, export_calls}
 use Rattle.bp_plain.specs.PlainTree.{FileTree}
-use Rattle.bp_replies.specs.Gathering.{PassesOn}
 use Rattle.bp_replies.specs.Taking.{TakesPart}
 use Rattle.bp_replies.proofs.PassingLaws.{passed_part}
-use Rattle.bp_script.specs.Export.{call_lines, export_text}
-use Rattle.bp_export.specs.Exports.{EndsExport, Goes, PassesFront, TakesFront}
+use Rattle.bp_script.specs.Export.{export_text}
+use Rattle.bp_export.specs.Exports.{EndsExport, Goes, PassesFront}
 use Rattle.bp_export.specs.declared.fault.Fault.{Fault}
 use Rattle.bp_export.specs.declared.fault.Fault.TheVariants.{Deep, Memory, Sink}
 

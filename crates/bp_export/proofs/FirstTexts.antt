@@ -1,5 +1,5 @@
 -- The first paths that a walk remembers, and the calls of an entry by them.
-use Rattle.std.proofs.Common.{◌≡◌, ◌≢◌, ℕ, ◌<◌, ◌≤◌, ◌==◌, T, List, [], ◌∷◌, ◌++◌, length, map, find, slice_index, Bool, true, false, cond, Option, None, Some, if◌then◌else◌, refl, sym, ◌∙◌, ap, ap₂, subst, arith, true≢false}
+use Rattle.std.proofs.Common.{◌≡◌, ◌≢◌, ℕ, ◌<◌, ◌≤◌, ◌==◌, T, List, [], ◌∷◌, ◌++◌, length, find, slice_index, Bool, true, false, cond, Option, None, Some, if◌then◌else◌, refl, sym, ◌∙◌, ap, ap₂, subst, arith, true≢false}
 use Rattle.std.specs.Option.{is_some, option_map, unwrap_or}
 use Rattle.std.proofs.lemmas.Bool.{eqb-false, eqb-true}
 use Rattle.std.specs.FinMap.{entries, entries_sorted, keys}
@@ -8,18 +8,18 @@ use Rattle.bp_layout.specs.Below.{same_path}
 use Rattle.bp_layout.specs.Inode.{IsDirectory, IsFile, kind_of}
 use Rattle.bp_layout.specs.Lookup.{Node, Path, are_one, file_at, lookup}
 use Rattle.bp_layout.specs.Lookup.Node.{dir}
-use Rattle.bp_layout.specs.Names.{AreCounts, HasNames}
+use Rattle.bp_layout.specs.Names.{HasNames}
 use Rattle.bp_layout.specs.Words.{Image}
 use Rattle.bp_layout.proofs.Below.{same_path-is, same_path-self}
 use Rattle.bp_plain.specs.Calls.Call.{link, mkdir}
 use Rattle.bp_plain.specs.Export.{calls_at, calls_for, first_of, path_text}
 use Rattle.bp_plain.specs.Plain.{is_root_path}
-use Rattle.bp_plain.specs.PlainTree.{IsPathMap, PathMap, is_one, path_cmp}
+use Rattle.bp_plain.specs.PlainTree.{PathMap, is_one, path_cmp}
 use Rattle.bp_plain.specs.Stands.{Shows}
 use Rattle.bp_plain.proofs.FileTrees.{OneLabel, one_label_of, shows_path_map}
 use Rattle.bp_plain.proofs.FileTrees.OneLabel.{one_label}
 use Rattle.bp_plain.proofs.FirstPaths.{first_before, first_there, has, none_passes, paths}
-use Rattle.bp_plain.proofs.Kernels.{are_one-none, are_one-self}
+use Rattle.bp_plain.proofs.Kernels.{are_one-self}
 use Rattle.bp_plain.proofs.PathWays.{Entry, new_path}
 use Rattle.bp_export.specs.Firsts.{first_text}
 use Rattle.bp_export.specs.Walking.{RemembersFirsts, finds_file, text_of_first}

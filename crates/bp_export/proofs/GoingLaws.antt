@@ -1,15 +1,13 @@
 -- One list of calls behind another, where memory may be out.
-use Rattle.std.proofs.Common.{◌≡◌, ℕ, List, [], ◌∷◌, ◌++◌, refl, sym, ◌∙◌, ap, subst, append_assoc, append-nil}
+use Rattle.std.proofs.Common.{◌≡◌, ℕ, List, [], ◌++◌, refl, sym, ◌∙◌, ap, subst, append_assoc}
 use Rattle.std.specs.Prelude.{Option, Result, Ok, Err}
 use Rattle.std.proofs.lemmas.Grind.{flat_map-append}
 use Rattle.bp_io.specs.Causes.{Rose}
 use Rattle.bp_io.specs.declared.faults.Failed.{Failed}
 use Rattle.bp_plain.specs.Calls.{Call}
-use Rattle.bp_replies.specs.Gathering.{PassesOn}
 use Rattle.bp_script.specs.Export.{call_lines}
-use Rattle.bp_replies.specs.Taking.{TakesPart}
 use Rattle.bp_export.specs.Telling.{Tells}
-use Rattle.bp_export.specs.Exports.{Goes, PassesFront}
+use Rattle.bp_export.specs.Exports.{Goes}
 use Rattle.bp_export.specs.declared.fault.Fault.{Fault}
 use Rattle.bp_export.specs.declared.fault.Fault.TheVariants.{Deep, Memory, Sink}
 use Rattle.bp_replies.proofs.PassingLaws.{part_of_front, part_then, passes_nothing, passes_then}

@@ -1,11 +1,11 @@
 -- The lines of a file at one of its paths.
-use Rattle.std.proofs.Common.{◌≡◌, ℕ, ◌*◌, ◌<◌, ◌≤◌, List, [], ◌∷◌, ◌++◌, length, slice_index, flat_map, Option, None, Some, refl, sym, ◌∙◌, ap, subst, subst₂, arith, append-nil}
+use Rattle.std.proofs.Common.{◌≡◌, ℕ, ◌*◌, ◌<◌, ◌≤◌, List, [], ◌∷◌, ◌++◌, length, slice_index, flat_map, Option, None, Some, sym, ◌∙◌, ap, subst, subst₂, append-nil}
 use Rattle.std.specs.Prelude.{All, Result, Ok, Err, OnOk}
 use Rattle.std.proofs.lemmas.List.Elements.{All-head}
 use Rattle.bp_io.specs.declared.faults.Failed.{Failed}
 use Rattle.bp_layout.specs.Inode.{IsDirectory, IsFile, root_of, size_of}
-use Rattle.bp_layout.specs.Lookup.{Node, Path, file_at, node_of}
-use Rattle.bp_layout.specs.Lookup.Node.{dir, file}
+use Rattle.bp_layout.specs.Lookup.{file_at, node_of}
+use Rattle.bp_layout.specs.Lookup.Node.{file}
 use Rattle.bp_layout.specs.Names.{AreCounts}
 use Rattle.bp_layout.specs.Tree.{IsSound, content}
 use Rattle.bp_layout.specs.WellFormed.{IsWellFormed}
@@ -13,7 +13,6 @@ use Rattle.bp_layout.specs.Words.{Image, block_count}
 use Rattle.bp_plain.specs.Calls.{Call}
 use Rattle.bp_plain.specs.Calls.Call.{link, mkdir}
 use Rattle.bp_plain.specs.Export.{calls_at, calls_for, path_text}
-use Rattle.bp_plain.specs.PlainTree.{PathMap}
 use Rattle.bp_script.specs.Export.{FitsText}
 use Rattle.bp_export.specs.Exports.{Goes}
 use Rattle.bp_export.specs.Firsts.{first_text}

@@ -1,5 +1,5 @@
 -- From a directory to an entry of it, and on to the next.
-use Rattle.std.proofs.Common.{◌≡◌, ℕ, ◌+◌, ◌<◌, ◌≤◌, List, [], ◌∷◌, ◌++◌, length, map, take, drop, get_or, flat_map, Option, None, Some, option_and_then, refl, sym, ◌∙◌, ap, ap₂, subst, arith, append_assoc, append-nil, take_all}
+use Rattle.std.proofs.Common.{◌≡◌, ℕ, ◌+◌, ◌≤◌, List, [], ◌∷◌, ◌++◌, length, map, take, drop, flat_map, None, Some, option_and_then, refl, sym, ◌∙◌, ap, subst, arith, append_assoc, append-nil, take_all}
 use Rattle.std.specs.Prelude.{All, slice_get}
 use Rattle.std.specs.Option.{option_map}
 use Rattle.std.specs.FinMap.{entries, get}

@@ -1,12 +1,7 @@
 -- The whole of a tree, and the inodes of its paths.
-use Rattle.std.proofs.Common.{◌≡◌, ℕ, zero, suc, ◌*◌, ◌/◌, ◌<◌, ◌≤◌, List, [], ◌∷◌, ◌++◌, length, flat_map, Option, None, Some, refl, sym, ◌∙◌, ap, subst, arith, append_assoc, append-nil}
-use Rattle.std.specs.Prelude.{All, Result, Ok, Err, OnErr, OnOk, IsErrOf}
-use Rattle.std.specs.Io.KnownBytes.{Appends}
-use Rattle.std.specs.FinMap.{entries}
-use Rattle.std.proofs.lemmas.List.Elements.{All-head}
-use Rattle.bp_io.specs.Causes.{HasCause, Rose}
+use Rattle.std.proofs.Common.{◌≡◌, ℕ, zero, suc, ◌*◌, ◌/◌, ◌<◌, ◌≤◌, List, [], flat_map, None, Some, refl, sym, ◌∙◌, ap, arith, append-nil}
 use Rattle.bp_layout.specs.Inode.{IsDirectory, IsFile, inode_count, root_of, size_of}
-use Rattle.bp_layout.specs.Lookup.{Node, Path, lookup, node_of}
+use Rattle.bp_layout.specs.Lookup.{Path, lookup, node_of}
 use Rattle.bp_layout.specs.Lookup.Node.{dir, file}
 use Rattle.bp_layout.specs.Reached.{IsReached}
 use Rattle.bp_layout.specs.Reached.IsReached.{inode_file, root_directory}
@@ -17,14 +12,13 @@ use Rattle.bp_layout.proofs.FewLeaves.{few_inodes}
 use Rattle.bp_layout.proofs.Paths.{ByLast, LastStep, by_last, last_step}
 use Rattle.bp_layout.proofs.Paths.ByLast.{none, more}
 use Rattle.bp_layout.proofs.View.{lookup_from-reached}
-use Rattle.bp_plain.specs.Calls.{Call}
 use Rattle.bp_plain.specs.Export.{HasShortPaths, IsExportable, IsOfBytes, calls_at, export_calls}
-use Rattle.bp_plain.specs.PlainTree.{FileTree, PathMap}
+use Rattle.bp_plain.specs.PlainTree.{FileTree}
 use Rattle.bp_plain.specs.Stands.{Stands}
 use Rattle.bp_plain.proofs.Exportable.{image_exportable}
 use Rattle.bp_script.proofs.ExportLines.{export_short}
 use Rattle.bp_export.specs.Firsts.{first_text}
-use Rattle.bp_export.specs.Walking.{CanTell, Place, StandsAt, inside}
+use Rattle.bp_export.specs.Walking.{CanTell, StandsAt, inside}
 use Rattle.bp_export.specs.declared.firsts.Firsts.{Firsts}
 use Rattle.bp_export.proofs.Places.{root_place, stands_at_root}
 

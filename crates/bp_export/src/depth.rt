@@ -1,6 +1,6 @@
 //! Whether a tree has a path that no call can spell.
 
-ghost use Rattle.std.specs.Prelude.{◌≡◌, ◌↔◌, ℕ, IsTrue};
+ghost use Rattle.std.specs.Prelude.{◌↔◌, ℕ, IsTrue};
 ghost use Rattle.bp_dirs.specs.EntryWords.{HasWords, IsRow};
 ghost use Rattle.bp_export.specs.Depth.{HasLongEntry, HasLongPath, IsLongEntry};
 ghost use Rattle.bp_export.specs.Rows.{EachEntry, NamesReached};

@@ -1,5 +1,5 @@
 -- The caches of the rows stay as many, over as many words.
-use Rattle.std.proofs.Common.{◌≡◌, ℕ, Option, Some, None, ◌∙◌}
+use Rattle.std.proofs.Common.{ℕ, Option, Some, None, ◌∙◌}
 use Rattle.pm_cores.specs.declared.entry.Owner.{Owner}
 use Rattle.pm_cores.specs.Log.{core_barriers}
 use Rattle.pm_cores.specs.Caches.{Caches, after_load, after_store, line_owner, owner_at, with_back, written_by, written_under}

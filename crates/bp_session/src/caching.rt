@@ -1,6 +1,6 @@
 //! The caches that a crash asks for.
 
-ghost use Rattle.std.specs.Prelude.{◌≡◌, ◌≤◌, IfOk, length};
+ghost use Rattle.std.specs.Prelude.{◌≡◌, ◌≤◌, IfOk};
 ghost use Rattle.bp_limits.specs.Limits.{log_events, max_mask};
 ghost use Rattle.bp_session.specs.Acting.{CrashesByCaches};
 ghost use Rattle.bp_session.specs.Caching.{AreLines, IsTwoCaches};

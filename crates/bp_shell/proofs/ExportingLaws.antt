@@ -7,7 +7,6 @@ use Rattle.bp_export.specs.Exports.{EndsExport}
 use Rattle.bp_export.specs.declared.fault.Fault.{Fault}
 use Rattle.bp_export.specs.declared.fault.Fault.TheVariants as fault
 use Rattle.bp_io.specs.Causes.{Rose}
-use Rattle.bp_io.specs.Files.{Known}
 use Rattle.bp_layout.specs.Whole.{IsFileSystem}
 use Rattle.bp_layout.specs.Words.{Image}
 use Rattle.bp_limits.specs.Limits.{max_path}

@@ -1,6 +1,6 @@
 -- Outcomes of the programs, from those of their parts.
 use Rattle.std.proofs.Common.{refl, sym, ◌∙◌, arith, ◌≡◌, ◌≢◌, ◌<◌, ◌≤◌, ℕ, List, length, take, inl, inr, true}
-use Rattle.std.specs.Prelude.{Bool, ◌⊎◌}
+use Rattle.std.specs.Prelude.{◌⊎◌}
 use Rattle.std.specs.Io.KnownBytes.{Appends}
 use Rattle.pm_region.specs.Memory.{Memory, current_words, drained}
 use Rattle.bp_io.specs.Causes.{Rose}

@@ -5,7 +5,7 @@ ghost use Rattle.bp_free.specs.Set.{members};
 ghost use Rattle.bp_limits.specs.Limits.{block_words};
 ghost use Rattle.bp_layout.specs.Members.{AreApart};
 ghost use Rattle.bp_layout.specs.Words.{word, block_count, block_of};
-ghost use Rattle.pm_region.specs.Memory.{current_words, room_in};
+ghost use Rattle.pm_region.specs.Memory.{current_words};
 ghost use Rattle.bp_cow.specs.Copies.{CanFillBlock, FillsBlock, pointing_to};
 ghost use Rattle.bp_thaw.specs.Copies.{blocks_of, copy_at, places_of, turned_to, turned_word};
 ghost use Rattle.bp_thaw.specs.Steps.{CanFillCopies, FillsCopies, TakesAll};

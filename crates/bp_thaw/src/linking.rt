@@ -1,10 +1,9 @@
 //! Pointers that are turned to copies in their places.
 
-ghost use Rattle.std.specs.Prelude.{◌≡◌, ℕ, ◌+◌, ◌/◌, ◌<◌, ◌≤◌, ◌++◌, ◌∷◌, [], length};
+ghost use Rattle.std.specs.Prelude.{◌≡◌, ◌+◌, ◌/◌, ◌<◌, ◌≤◌, ◌++◌, ◌∷◌, [], length};
 ghost use Rattle.pm_epochs.specs.declared.event.Event.TheVariants.{Barrier};
 ghost use Rattle.pm_epochs.specs.May.{links_of};
 ghost use Rattle.pm_region.specs.Memory.{Adds, current_words, room_in};
-ghost use Rattle.bp_layout.specs.Members.{Has};
 ghost use Rattle.bp_thaw.specs.Copies.{is_copied, links_among};
 ghost use Rattle.bp_thaw.specs.Steps.{ArePlacesOf};
 

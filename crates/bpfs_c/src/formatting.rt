@@ -1,6 +1,4 @@
 //! The events of a format.
-
-ghost use Rattle.std.specs.Prelude.{◌≡◌};
 ghost use Rattle.bpfs_c.specs.Formats.{TellsFormat};
 
 use crate::codes::{NO_MEMORY, OK, OUT_OF_RANGE};

@@ -1,14 +1,12 @@
-use Rattle.std.proofs.Common.{rules, ◌≡◌, ℕ, ◌≤◌, List, ◌∷◌, ◌++◌, length, take, refl, sym, ◌∙◌, ap, ap₂, subst, arith, length-append}
-use Rattle.std.specs.Prelude.{Result, Err}
+use Rattle.std.proofs.Common.{rules, ◌≡◌, ℕ, ◌≤◌, List, ◌∷◌, ◌++◌, length, take, refl, sym, ◌∙◌, ap, ap₂, arith, length-append}
 use Rattle.std.proofs.Math.Seq.{take-append_seam}
 use Rattle.std.proofs.lemmas.Result.{err_from_is_err_and}
 use Rattle.bp_layout.specs.Fields.{kind_word}
-use Rattle.bp_layout.specs.Inode.{IsDirectory, kind_of}
-use Rattle.bp_layout.specs.Words.{Image}
+use Rattle.bp_layout.specs.Inode.{IsDirectory}
 use Rattle.bp_replies.specs.Gathering.{waiting}
 use Rattle.pm_region.specs.Memory.{current_words}
 use Rattle.bp_export.specs.declared.work.Work.{Work}
-use Rattle.bp_export.specs.Walking.{Place, StandsAt, Tours, inside, itself, up_to}
+use Rattle.bp_export.specs.Walking.{StandsAt, inside, itself}
 use Rattle.bp_export.proofs.BelowLaws.{all_told, directory_fails, directory_told, ends_at_once, entry_fails, file_told, none_told, text_fails}
 use Rattle.bp_export.proofs.Places.{child_place, child_short, inner_place, stands_at_child, stands_in_child}
 use Rattle.bp_export.proofs.TreeLaws.{found_reached}

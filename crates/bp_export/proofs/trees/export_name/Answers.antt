@@ -1,4 +1,4 @@
-use Rattle.std.proofs.Common.{◌≡◌, ◌==◌, ℕ, ◌<◌, ◌≤◌, ◌++◌, List, [], ◌∷◌, slice_index, None, Some, sym, ◌∙◌, ap, subst, arith}
+use Rattle.std.proofs.Common.{◌==◌, ℕ, ◌<◌, ◌≤◌, ◌++◌, List, [], ◌∷◌, slice_index, Some, sym, ◌∙◌, ap, subst, arith}
 use Rattle.std.specs.Prelude.{if◌then◌else◌}
 use Rattle.std.proofs.lemmas.Result.{err_from_is_err_and}
 use Rattle.bp_export.specs.Firsts.{first_text}

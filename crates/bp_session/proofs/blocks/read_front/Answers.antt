@@ -1,4 +1,4 @@
-use Rattle.std.proofs.Common.{◌≡◌, ◌+◌, ◌-◌, ◌*◌, ◌/◌, ◌++◌, ◌∙◌, ap, ap₂, arith, length, drop}
+use Rattle.std.proofs.Common.{◌+◌, ◌-◌, ◌/◌, ◌++◌, ◌∙◌, ap, ap₂, arith, length, drop}
 use Rattle.std.proofs.lemmas.List.{length-drop, length-take-le}
 use Rattle.bp_layout.specs.Bytes.{image_bytes}
 use Rattle.pm_region.specs.Memory.{current_words}

@@ -1,4 +1,4 @@
-use Rattle.std.proofs.Common.{arith, ◌∙◌, ◌≡◌, ◌/◌, length}
+use Rattle.std.proofs.Common.{arith, ◌∙◌, ◌/◌, length}
 use Rattle.bp_layout.specs.Bytes.{image_bytes}
 use Rattle.bp_shell.proofs.OpeningLaws.{tells_next}
 use Rattle.bp_shell.proofs.opening.load_run.Goals as goal

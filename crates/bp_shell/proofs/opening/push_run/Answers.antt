@@ -1,4 +1,4 @@
-use Rattle.std.proofs.Common.{arith, ap, subst, sym, ◌∙◌, ◌≡◌, ℕ, ◌/◌, ◌++◌, List, length, length-append}
+use Rattle.std.proofs.Common.{arith, ap, subst, sym, ◌∙◌, ℕ, ◌/◌, List, length, length-append}
 use Rattle.pm_raw.specs.Part.{Part}
 use Rattle.pm_raw.specs.Spelled.{spelled_words}
 use Rattle.pm_raw.proofs.SpelledLaws.{length-spelled_words, spelled_fit}

@@ -9,8 +9,9 @@ of the image, in turn, N times (5). A line has the medians of the processor time
 the image included), their ratio, and the most memory of each. Replies and statuses have to be the same, but after storms,
 whose cut follows from the stores that a program makes.
 
-With --growth it times how n names are made in one directory and removed again, n from 1,000 to 64,000, without the loading and
-saving of the image, and prints by which power of n the time grows.
+With --growth it prints by which power the time grows: with the names that are made in one directory and removed again (1,000 to
+64,000, without the loading and saving of the image), with the blocks of an image that is checked, or run without a line (8 to
+65,536), and with the turns of a play (1,000 to 1,000,000).
 """
 import argparse
 import hashlib
@@ -38,9 +39,9 @@ class Bench:
     def times(self, count):
         return max(1, int(count * self.scale))
 
-    def image(self, name, blocks, lines):
+    def image(self, name, blocks, lines, version=1):
         path = f"{self.folder}/{name}.img"
-        subprocess.run([self.ours, "format", path, "--blocks", str(blocks)], check=True, stdout=subprocess.DEVNULL)
+        subprocess.run([self.ours, "format", path, "--blocks", str(blocks), "--version", str(version)], check=True, stdout=subprocess.DEVNULL)
         ran = subprocess.run([self.ours, "run", path], input="".join(f"{line}\n" for line in lines).encode(), check=True, stdout=subprocess.PIPE)
         refused = [line for line in ran.stdout.split(b"\n") if line.startswith(b"err")]
         assert not refused, refused[:3]
@@ -173,31 +174,63 @@ def rest(bench):
     bench.case("run-files", image)
 
 
-COUNTS = [1000 << k for k in range(7)]
+class Growth:
+    """What is done more and more of: its sizes, the case of each, and the case whose time is taken off, where there is one."""
+
+    def __init__(self, what, unit, sizes, base=None):
+        self.what, self.unit, self.sizes, self.base = what, unit, sizes, base
+
+    def cases(self):
+        return [f"{self.what}-{size}" for size in self.sizes]
+
+
+GROWTHS = [
+    Growth("make-remove", "names", [1000 << k for k in range(7)], "make-remove-1"),
+    Growth("check", "blocks", [8, 64, 512, 4096, 16384, 65536]),
+    Growth("run-empty", "blocks", [8, 64, 512, 4096, 16384, 65536]),
+    Growth("play", "turns", [1000, 10000, 100000, 1000000]),
+]
 
 
 def growing(bench):
-    """One case of one name, behind which the image is saved as behind the others, and one for each number of names."""
+    """A case for each size of each growth, and one of one name, behind which the image is saved as behind the others."""
+    names, blocks, same, turns = GROWTHS
     image = bench.image("growth", 16384, ["mkdir /d"])
-    bench.case("one", image, ["create /d/file", "unlink /d/file"])
-    for count in COUNTS:
+    for case, count in zip([names.base, *names.cases()], [1, *names.sizes]):
         paths = [f"/d/file-{i:06d}" for i in range(count)]
-        bench.case(f"make-remove-{count}", image, [f"{call} {path}" for call in ("create", "unlink") for path in paths])
+        bench.case(case, image, [f"{call} {path}" for call in ("create", "unlink") for path in paths])
+    for check, run, count in zip(blocks.cases(), same.cases(), blocks.sizes):
+        image = bench.image(f"blocks{count}", count, [], version=2)
+        bench.case(check, image, words=("check",))
+        bench.case(run, image)
+    image = bench.image("turns", 64, [])
+    for case, count in zip(turns.cases(), turns.sizes):
+        bench.case(case, image, words=("play", "--seed", "7", "--count", str(count)))
 
 
-def tell_growth(bench, programs, folder, repeat):
-    """Prints the time that each number of names takes, and the power of n by which it grows from the number before and in all."""
-    print("| Names | " + " | ".join(f"{name}, ms | power" for name in ("ours", "other")) + " |\n|---|" + "---|---|" * 2)
+def power(times, sizes, first, later):
+    """The power of the size by which the time grows between two sizes."""
+    return math.log(max(times[later], 1e-4) / max(times[first], 1e-4)) / math.log(sizes[later] / sizes[first])
+
+
+def tell_growth(growth, taken):
+    """Prints the time that each size takes, and the power by which it grows from the size before and in all."""
+    print(f"| {growth.what}, {growth.unit} | " + " | ".join(f"{name}, ms | power" for name in ("ours", "other")) + " |\n|---|" + "---|---|" * 2)
+    base = taken[growth.base] if growth.base else (0, 0)
+    times = [[taken[case][which] - base[which] for case in growth.cases()] for which in (0, 1)]
+    for at, size in enumerate(growth.sizes):
+        cells = [f"{1000 * it[at]:.1f} | {f'{power(it, growth.sizes, at - 1, at):.2f}' if at else ''}" for it in times]
+        print(f"| {size} | {cells[0]} | {cells[1]} |")
+    print("\nIn all the power is " + ", the other's ".join(f"{power(it, growth.sizes, 0, -1):.2f}" for it in times) + ".\n", flush=True)
+
+
+def tell_growths(bench, other, folder, repeat):
     taken = {}
     for case in bench.cases:
-        ran = [[once(program, case, folder) for program in programs] for _ in range(repeat)]
+        ran = [[once(program, case, folder) for program in (bench.ours, other)] for _ in range(repeat)]
         taken[case[0]] = [min(it[which][0] for it in ran) for which in (0, 1)]
-    times = [[taken[f"make-remove-{count}"][which] - taken["one"][which] for which in (0, 1)] for count in COUNTS]
-    power = lambda later, first, doublings: f"{math.log2(max(later, 1e-4) / max(first, 1e-4)) / doublings:.2f}"
-    for at, count in enumerate(COUNTS):
-        cells = [f"{1000 * times[at][it]:.0f} | {power(times[at][it], times[at - 1][it], 1) if at else ''}" for it in (0, 1)]
-        print(f"| {count} | {cells[0]} | {cells[1]} |")
-    print("\nIn all the power is " + ", the other's ".join(power(times[-1][it], times[0][it], len(COUNTS) - 1) for it in (0, 1)) + ".")
+    for growth in GROWTHS:
+        tell_growth(growth, taken)
 
 
 # Starts a program with its streams, and tells its processor time, its memory and its status. It is a process of its own, since a program
@@ -242,7 +275,7 @@ def main():
         bench = Bench(os.path.abspath(asked.ours), folder, asked.scale)
         if asked.growth:
             growing(bench)
-            return tell_growth(bench, [bench.ours, os.path.abspath(asked.other)], folder, asked.repeat)
+            return tell_growths(bench, os.path.abspath(asked.other), folder, asked.repeat)
         for make in (writes, names, cuts, rest):
             make(bench)
         print("| Case | ours, ms | other, ms | ratio | ours, MiB | other, MiB |\n|---|---|---|---|---|---|")

@@ -67,7 +67,7 @@ def watch(file):
 def crates():
     """The crates, lowest first, as crates.txt lists them."""
     with open(f"{TOP}/crates.txt", encoding="utf-8") as it:
-        return [line.partition(":")[0] for line in it if line.strip() and not line.startswith("#")]
+        return [line.partition(":")[0].split()[0] for line in it if line.strip() and not line.startswith("#")]
 
 
 def edits(crate):

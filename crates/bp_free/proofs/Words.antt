@@ -38,16 +38,16 @@ has_in words room hold i =
 
 -- ---- one bit
 
-word_here : (words : List ℕ) (at w k : ℕ) → at < length words → k / 64 ≡ at → word_has (set words at w) k ≡ eqb (bit_at w (k % 64)) 1
+pub word_here : (words : List ℕ) (at w k : ℕ) → at < length words → k / 64 ≡ at → word_has (set words at w) k ≡ eqb (bit_at w (k % 64)) 1
 unfolding word_has
 word_here words at w k low here =
     ap (λ v. eqb (bit_at v (k % 64)) 1) (ap (λ j. get_or (set words at w) j 0) here ∙ get_or-set_same words at w 0 low)
 
-word_there : (words : List ℕ) (at w k : ℕ) → k / 64 ≢ at → word_has (set words at w) k ≡ word_has words k
+pub word_there : (words : List ℕ) (at w k : ℕ) → k / 64 ≢ at → word_has (set words at w) k ≡ word_has words k
 unfolding word_has
 word_there words at w k other = ap (λ v. eqb (bit_at v (k % 64)) 1) (get_or-set_other words at (k / 64) w 0 other)
 
-word_is : (words : List ℕ) (at k : ℕ) → k / 64 ≡ at → word_has words k ≡ eqb (bit_at (get_or words at 0) (k % 64)) 1
+pub word_is : (words : List ℕ) (at k : ℕ) → k / 64 ≡ at → word_has words k ≡ eqb (bit_at (get_or words at 0) (k % 64)) 1
 unfolding word_has
 word_is words at k here = ap (λ j. eqb (bit_at (get_or words j 0) (k % 64)) 1) here
 
@@ -241,7 +241,7 @@ above_zero zero none = absurd (cc none)
 above_zero (suc n) none = omega arith
 
 -- the word without one of its numbers is 0 where that number is alone
-alone_by : (words : List ℕ) (room : ℕ) (left : Set) (word rest : ℕ) → HoldRoom words room → set_in words room ≡ left → rest ≡ get_or words word 0 → rest < 2 ^ 64 → (b : Bool) → eqb rest 0 ≡ b → TellsEmpty left word b
+pub alone_by : (words : List ℕ) (room : ℕ) (left : Set) (word rest : ℕ) → HoldRoom words room → set_in words room ≡ left → rest ≡ get_or words word 0 → rest < 2 ^ 64 → (b : Bool) → eqb rest 0 ≡ b → TellsEmpty left word b
 alone_by words room left word rest hold view value fits true none =
     subst (λ s. IsEmptyWord s word) view (empty_word words room word hold (sym value ∙ eqb-true _ _ none))
 alone_by words room left word rest hold view value fits false more =

@@ -1,5 +1,5 @@
 -- A set of numbers below a room: for each number, whether it is in.
-use Rattle.std.specs.Prelude.{◌≡◌, ◌≢◌, ◌∷◌, ℕ, ◌+◌, ◌-◌, ◌<◌, ◌≤◌, List, length, Bool, true, false, filter, slice_index_or, slice_set, replicate}
+use Rattle.std.specs.Prelude.{◌≡◌, ◌≢◌, ◌∷◌, ℕ, ◌+◌, ◌-◌, ◌<◌, ◌≤◌, List, length, Bool, true, false, not, filter, slice_index_or, slice_set, replicate}
 use Rattle.std.specs.List.{range_with_len}
 
 abbrev pub Set : Type 0
@@ -60,3 +60,8 @@ pub record Fills (from to : ℕ) (old new : Set) : Type 0 where
   pub inside : (k : ℕ) → from ≤ k → k < to → has new k ≡ true
   pub below : (k : ℕ) → k < from → has new k ≡ has old k
   pub above : (k : ℕ) → to ≤ k → has new k ≡ has old k
+
+-- the numbers below the room that another set lacks, and no others
+pub record IsComplement (other new : Set) : Type 0 where
+  pub room : length new ≡ length other
+  pub each : (i : ℕ) → i < length other → has new i ≡ not (has other i)

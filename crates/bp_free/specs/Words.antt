@@ -1,5 +1,5 @@
 -- A set in words of 64 bits, of which bit 0 is the least number.
-use Rattle.std.specs.Prelude.{◌≡◌, ℕ, ◌+◌, ◌*◌, ◌/◌, ◌%◌, ◌^◌, ◌<◌, ◌≤◌, List, length, map, Bool, true, false, eqb, slice_index}
+use Rattle.std.specs.Prelude.{◌≡◌, ◌≢◌, ℕ, ◌+◌, ◌-◌, ◌*◌, ◌/◌, ◌%◌, ◌^◌, ◌<◌, ◌≤◌, List, length, map, Bool, true, false, not, eqb, slice_index}
 use Rattle.std.specs.Int.{bit_at}
 use Rattle.std.specs.List.{range_with_len}
 use Rattle.bp_free.specs.Set.{Set, has, members, without}
@@ -25,6 +25,11 @@ pub record IsLowestBit (word bit : ℕ) : Type 0 where
   pub is_set : bit_at word bit ≡ 1
   pub first : (k : ℕ) → k < bit → bit_at word k ≡ 0
 
+-- the lowest bits of a word are turned over, so many, and no other bit is set
+pub record IsTurnedOver (word count new : ℕ) : Type 0 where
+  pub low : (k : ℕ) → k < count → bit_at new k ≡ 1 - bit_at word k
+  pub high : (k : ℕ) → count ≤ k → bit_at new k ≡ 0
+
 -- i is the least number of its word that is in
 pub record IsLeastInWord (set : Set) (word i : ℕ) : Type 0 where
   pub low : i < length set
@@ -44,6 +49,12 @@ TellsEmpty set word false = (k : ℕ) × (k / 64 ≡ word) × (has set k ≡ tru
 -- whether no number but i of i's word is in
 abbrev pub TellsAlone : Set → ℕ → Bool → Type 0
 TellsAlone set i alone = TellsEmpty (without set i) (i / 64) alone
+
+-- a word now has the numbers that another set lacks, and the other words are as before
+pub record ComplementsWord (other old new : Set) (word : ℕ) : Type 0 where
+  pub room : length new ≡ length old
+  pub inside : (i : ℕ) → i < length old → i / 64 ≡ word → has new i ≡ not (has other i)
+  pub others : (i : ℕ) → i / 64 ≢ word → has new i ≡ has old i
 
 -- the words that are not empty are those in used
 pub record IsSummary (set used : Set) : Type 0 where

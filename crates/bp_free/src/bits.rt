@@ -1,9 +1,9 @@
 //! A set of numbers as bits.
 
-ghost use Rattle.std.specs.Prelude.{◌≡◌, ℕ, ◌+◌, ◌-◌, ◌*◌, ◌%◌, ◌<◌, ◌≤◌, ◌↔◌, ◌^◌, false, length, IsTrue, IfOk, IfSome, MatchOption};
+ghost use Rattle.std.specs.Prelude.{◌≡◌, ℕ, ◌+◌, ◌-◌, ◌*◌, ◌/◌, ◌%◌, ◌<◌, ◌≤◌, ◌↔◌, ◌^◌, false, length, IsTrue, IfOk, IfSome, MatchOption};
 ghost use Rattle.bp_free.specs.Looks.{bit_looks};
-ghost use Rattle.bp_free.specs.Set.{Set, has, with, without, empty, IsLeast, Fills};
-ghost use Rattle.bp_free.specs.Words.{IsLowestBit, IsLeastInWord, IsEmptyWord, TellsAlone};
+ghost use Rattle.bp_free.specs.Set.{Set, has, with, without, empty, IsLeast, Fills, IsComplement};
+ghost use Rattle.bp_free.specs.Words.{IsLowestBit, IsTurnedOver, IsLeastInWord, IsEmptyWord, TellsEmpty, TellsAlone, ComplementsWord, IsSummary};
 
 use crate::steps::Looks;
 use std::alloc::{AllocError, Global};
@@ -67,6 +67,14 @@ fn ones(first: usize, count: usize) -> u64
     ensures { result ≡ 2 ^ (first + count) - 2 ^ first }
 {
     low_ones(first + count) - low_ones(first)
+}
+
+/// A word whose lowest bits, so many, are turned over, and which has no others.
+fn turned_over(word: u64, count: usize) -> u64
+    requires { count ≤ 64 }
+    ensures { IsTurnedOver word count result }
+{
+    !word & low_ones(count)
 }
 
 impl Bits {
@@ -183,5 +191,35 @@ impl Bits {
         ensures { self.new ≡ empty (length self.old) }
     {
         self.words.fill(0);
+    }
+
+    /// Gives a word the numbers that another set lacks in it, and no others. Tells whether that leaves the word empty.
+    fn complement_word(&mut self, other: &Bits, word: usize) -> bool
+        requires room { length other.now ≡ length self.old }
+        requires in_range { WORD * word < length self.old }
+        ensures numbers { ComplementsWord other.now self.old self.new word }
+        ensures empty { TellsEmpty self.new word result }
+    {
+        let count = (self.room - WORD * word).min(WORD);
+        let bits = turned_over(other.words[word], count);
+        self.words[word] = bits;
+        bits == 0
+    }
+
+    /// Puts in the numbers that another set lacks, and takes the others out. `words_in_use` then tells which words are not
+    /// empty.
+    pub fn complement(&mut self, other: &Bits, words_in_use: &mut Bits)
+        requires room { length other.now ≡ length self.old }
+        requires words { length words_in_use.old ≡ (length self.old + 63) / 64 }
+        ensures numbers { IsComplement other.now self.new }
+        ensures summary { IsSummary self.new words_in_use.new }
+    {
+        for word in 0..words_in_use.room() {
+            if self.complement_word(other, word) {
+                words_in_use.remove(word);
+            } else {
+                words_in_use.insert(word);
+            }
+        }
     }
 }

@@ -3,7 +3,7 @@
 ghost use Rattle.std.specs.Prelude.{◌≡◌, ℕ, ◌+◌, ◌*◌, ◌%◌, ◌<◌, ◌≤◌, ◌^◌, [], false, true, length, IfOk, MatchOption};
 ghost use Rattle.std.specs.Int.{div_ceil};
 ghost use Rattle.bp_free.specs.Looks.{looks};
-ghost use Rattle.bp_free.specs.Set.{Set, has, members, with, without, empty, IsLeast, TakesLeast, Fills};
+ghost use Rattle.bp_free.specs.Set.{Set, has, members, with, without, empty, IsLeast, TakesLeast, Fills, IsComplement};
 ghost use Rattle.bp_free.specs.Words.{TellsAlone};
 
 use crate::bits::{Bits, Member, WORD};
@@ -218,5 +218,14 @@ impl<Kind> Numbers<Kind> {
             self.fill_run(next, count);
             next += count;
         }
+    }
+
+    /// Puts in the numbers that another set lacks, and takes the others out, 64 at once.
+    pub fn complement(&mut self, other: &Numbers<Kind>)
+        requires { length other.now ≡ length self.old }
+        ensures { IsComplement other.now self.new }
+    {
+        self.free.complement(&other.free, &mut self.words_in_use);
+        self.count = other.room() - other.count;
     }
 }

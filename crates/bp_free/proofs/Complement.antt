@@ -1,0 +1,181 @@
+-- The numbers that a set lacks, word by word.
+use Rattle.std.proofs.Common.{◌≡◌, ℕ, zero, suc, ◌+◌, ◌-◌, ◌*◌, ◌/◌, ◌%◌, ◌^◌, ◌<◌, ◌≤◌, ◌∷◌, min, List, length, Bool, true, false, not, cond, set, get_or, refl, sym, ◌∙◌, ap, subst, arith, inl, inr}
+use Rattle.std.specs.Prelude.{eqb}
+use Rattle.std.specs.Int.{bit_at, bit_not, w64}
+use Rattle.std.specs.Int.Bits.{bit_and}
+use Rattle.std.specs.List.{filter, range_with_len}
+use Rattle.std.proofs.lemmas.Bool.{cases_eq}
+use Rattle.std.proofs.lemmas.List.{get_or-set_same, get_or-set_other, length-set}
+use Rattle.std.proofs.lemmas.Nat.Bits.{bit_at_and, bit_at_not, bit_at_ones, bit_at_ones_above, bit_at-lt}
+use Rattle.bp_free.specs.Set.{Set, has, members, IsComplement}
+use Rattle.bp_free.specs.Words.{set_in, HoldRoom, IsTurnedOver, ComplementsWord, TellsEmpty, IsSummary, IsCounted}
+use Rattle.bp_free.proofs.Words.{length_in, has_in, room_seen, word_here, word_there, word_is, alone_by}
+use Rattle.bp_free.proofs.Summary.{has_low}
+
+-- ---- a word
+
+min_with_one : (n : ℕ) → n < 2 → min (1 - n) 1 ≡ 1 - n
+min_with_one n low = omega (arith, low)
+
+min_with_none : (n : ℕ) → min n 0 ≡ 0
+min_with_none n = omega arith
+
+pub word_turned : (word count mask : ℕ) → word < 2 ^ 64 → count ≤ 64 → mask ≡ 2 ^ count - 1 → IsTurnedOver word count (bit_and (bit_not w64 word) mask)
+word_turned word count mask fits within is = rw is (record {
+  low = λ k low.
+      bit_at_and (bit_not w64 word) (2 ^ count - 1) k
+      ∙ ap (λ b. min (bit_at (bit_not w64 word) k) b) (bit_at_ones count k low)
+      ∙ ap (λ b. min b 1) (bit_at_not w64 word k fits (omega (arith, low, within)))
+      ∙ min_with_one (bit_at word k) (bit_at-lt word k);
+  high = λ k high.
+      bit_at_and (bit_not w64 word) (2 ^ count - 1) k
+      ∙ ap (λ b. min (bit_at (bit_not w64 word) k) b) (bit_at_ones_above count k high)
+      ∙ min_with_none (bit_at (bit_not w64 word) k);
+})
+
+turned_bit : (n : ℕ) → n < 2 → eqb (1 - n) 1 ≡ not (eqb n 1)
+turned_bit zero low = refl
+turned_bit (suc zero) low = refl
+turned_bit (suc (suc n)) low = absurd (omega (arith, low))
+
+pub turned_holds : (words : List ℕ) (room word old count bits : ℕ) → HoldRoom words room → 64 * word < room → count ≡ min (room - 64 * word) 64 → IsTurnedOver old count bits → HoldRoom (set words word bits) room
+turned_holds words room word old count bits hold low size_is turned =
+    let size = length-set words word bits in
+    let at : word < length words = omega (arith, low, hold.long) in
+    record {
+      fits = hold.fits;
+      long = omega (arith, hold.long, size);
+      short = omega (arith, hold.short, size);
+      behind = λ k high. elim (cases_eq (k / 64) word) [
+        | inl here ↦
+            let behind : count ≤ k % 64 = omega (arith, high, here, size_is) in
+            word_here words word bits k at here ∙ ap (λ n. eqb n 1) (turned.high (k % 64) behind)
+        | inr there ↦ word_there words word bits k there ∙ hold.behind k high
+      ];
+    }
+
+pub turned_seen : (words others : List ℕ) (room room_other word old count bits : ℕ) (seen other : Set) → HoldRoom words room → set_in words room ≡ seen → HoldRoom others room_other → set_in others room_other ≡ other →
+    64 * word < room → old ≡ get_or others word 0 → count ≡ min (room - 64 * word) 64 → IsTurnedOver old count bits → ComplementsWord other seen (set_in (set words word bits) room) word
+turned_seen words others room room_other word old count bits seen other hold view hold_other view_other low read size_is turned =
+    let new : List ℕ = set words word bits in
+    let holds = turned_holds words room word old count bits hold low size_is turned in
+    let at : word < length words = omega (arith, low, hold.long) in
+    let size = room_seen words room seen view in
+    record {
+      room = length_in new room ∙ size;
+      inside = λ k within here.
+          let before : k % 64 < count = omega (arith, within, here, size, size_is) in
+          has_in new room holds k
+          ∙ word_here words word bits k at here
+          ∙ ap (λ n. eqb n 1) (turned.low (k % 64) before)
+          ∙ turned_bit (bit_at old (k % 64)) (bit_at-lt old (k % 64))
+          ∙ ap (λ v. not (eqb (bit_at v (k % 64)) 1)) read
+          ∙ ap not (sym (word_is others word k here))
+          ∙ ap not (sym (has_in others room_other hold_other k))
+          ∙ ap (λ s. not (has s k)) view_other;
+      others = λ k there.
+          has_in new room holds k ∙ word_there words word bits k there ∙ sym (has_in words room hold k) ∙ ap (λ s. has s k) view;
+    }
+
+-- a word that is 0 is empty, and another one is not
+pub turned_tells : (words : List ℕ) (room word old count bits : ℕ) → HoldRoom words room → 64 * word < room → bits < 2 ^ 64 → count ≡ min (room - 64 * word) 64 → IsTurnedOver old count bits → TellsEmpty (set_in (set words word bits) room) word (eqb bits 0)
+turned_tells words room word old count bits hold low fits size_is turned =
+    let at : word < length words = omega (arith, low, hold.long) in
+    alone_by (set words word bits) room (set_in (set words word bits) room) word bits
+    (turned_holds words room word old count bits hold low size_is turned) refl
+    (sym (get_or-set_same words word bits 0 at)) fits (eqb bits 0) refl
+
+-- ---- word by word
+
+-- the words below one have the numbers that another set lacks, and used tells which of these words are not empty
+pub record IsMidway (other now used : Set) (word : ℕ) : Type 0 where
+  pub room : length now ≡ length other
+  pub words : length used ≡ (length other + 63) / 64
+  pub each : (i : ℕ) → i / 64 < word → i < length other → has now i ≡ not (has other i)
+  pub told : (at : ℕ) → at < word → TellsEmpty now at (not (has used at))
+
+pub midway_none : (other now used : Set) → length other ≡ length now → length used ≡ (length now + 63) / 64 → IsMidway other now used 0
+midway_none other now used room words = record {
+  room = sym room;
+  words = omega (arith, words, room);
+  each = λ i low. absurd (omega (arith, low));
+  told = λ at low. absurd (omega (arith, low));
+}
+
+tells_kept : (old new : Set) (word : ℕ) (b : Bool) → ((i : ℕ) → i / 64 ≡ word → has new i ≡ has old i) → TellsEmpty old word b → TellsEmpty new word b
+tells_kept old new word true same tells = λ i here. same i here ∙ tells i here
+tells_kept old new word false same tells = (tells.0, tells.1, same tells.0 tells.1 ∙ tells.2)
+
+twice : (b : Bool) → not (not b) ≡ b
+twice true = refl
+twice false = refl
+
+pub midway_more : (other old new used : Set) (word : ℕ) (b : Bool) → IsMidway other old used word → word < length used → ComplementsWord other old new word → TellsEmpty new word b → IsMidway other new (set used word (not b)) (word + 1)
+midway_more other old new used word b midway low change tells = record {
+  room = change.room ∙ midway.room;
+  words = length-set used word (not b) ∙ midway.words;
+  each = λ i before within. elim (cases_eq (i / 64) word) [
+    | inl here ↦ change.inside i (omega (arith, within, midway.room)) here
+    | inr there ↦ change.others i there ∙ midway.each i (omega (arith, before, there)) within
+  ];
+  told = λ at before. elim (cases_eq at word) [
+    | inl here ↦
+        let mark : not (has (set used word (not b)) at) ≡ b =
+        ap (λ j. not (has (set used word (not b)) j)) here ∙ ap not (get_or-set_same used word (not b) false low) ∙ twice b in
+        subst (λ c. TellsEmpty new at c) (sym mark) (subst (λ j. TellsEmpty new j b) (sym here) tells)
+    | inr there ↦
+        let mark : has (set used word (not b)) at ≡ has used at = get_or-set_other used word at (not b) false there in
+        subst (λ c. TellsEmpty new at (not c)) (sym mark)
+        (tells_kept old new at (not (has used at)) (λ i here. change.others i (λ same. there (sym here ∙ same))) (midway.told at (omega (arith, before, there))))
+  ];
+}
+
+pub midway_complement : (other new used : Set) (word : ℕ) → IsMidway other new used word → length used ≤ word → IsComplement other new
+midway_complement other new used word midway all = record {
+  room = midway.room;
+  each = λ i low. midway.each i (omega (arith, low, all, midway.words)) low;
+}
+
+in_use : (s : Set) (word i : ℕ) (b : Bool) → TellsEmpty s word (not b) → i / 64 ≡ word → has s i ≡ true → b ≡ true
+in_use s word i true tells here there = refl
+in_use s word i false tells here there = absurd (cc (there, tells i here))
+
+pub midway_summary : (other new used : Set) (word : ℕ) → IsMidway other new used word → length used ≤ word → IsSummary new used
+midway_summary other new used word midway all = record {
+  room = omega (arith, midway.words, midway.room);
+  all = λ i there.
+      let low = has_low new i there in
+      in_use new (i / 64) i (has used (i / 64)) (midway.told (i / 64) (omega (arith, low, all, midway.words, midway.room))) refl there;
+  some = λ at there.
+      let low = has_low used at there in
+      subst (λ b. TellsEmpty new at (not b)) there (midway.told at (omega (arith, low, all)));
+}
+
+-- ---- how many
+
+one_of_two : (b c : Bool) (i n : ℕ) (xs ys : List ℕ) → b ≡ not c → length xs + length ys ≡ n → length (cond b (i ∷ xs) xs) + length (cond c (i ∷ ys) ys) ≡ suc n
+one_of_two true true i n xs ys other sum = absurd (cc other)
+one_of_two true false i n xs ys other sum = omega (arith, sum)
+one_of_two false true i n xs ys other sum = omega (arith, sum)
+one_of_two false false i n xs ys other sum = absurd (cc other)
+
+filter_both : (p q : ℕ → Bool) (a n : ℕ) → ((k : ℕ) → a ≤ k → k < a + n → q k ≡ not (p k)) → length (filter q (range_with_len a n)) + length (filter p (range_with_len a n)) ≡ n
+filter_both p q a zero other = refl
+filter_both p q a (suc n) other =
+    one_of_two (q a) (p a) a n (filter q (range_with_len (a + 1) n)) (filter p (range_with_len (a + 1) n))
+    (other a (omega arith) (omega arith))
+    (filter_both p q (a + 1) n (λ k low high. other k (omega (arith, low)) (omega (arith, high))))
+
+pub count_complement : (other new : Set) → IsComplement other new → length (members new) + length (members other) ≡ length other
+count_complement other new complement =
+    ap (λ n. length (filter (has new) (range_with_len 0 n)) + length (members other)) complement.room
+    ∙ filter_both (has other) (has new) 0 (length other) (λ k low high. complement.each k (omega (arith, high)))
+
+pub counted_complement : (other used_other new used : Set) (count : ℕ) → IsCounted other used_other count → IsComplement other new → IsSummary new used → IsCounted new used (length other - count)
+counted_complement other used_other new used count counted complement summary =
+    let both = count_complement other new complement in
+    record {
+      number = omega (arith, both, counted.number);
+      fits = omega (arith, counted.fits, complement.room);
+      summary = summary;
+    }

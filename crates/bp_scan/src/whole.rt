@@ -42,16 +42,11 @@ pub fn fill_others(set: &Blocks, others: &mut Blocks)
     requires room { length others.old ≡ length set.now }
     ensures { HasOthers set.now others.new }
 {
-    others.clear();
-    // Blocks that the set lacks often stand side by side: they are put in at once, behind the last that it has.
-    let mut from = 1;
-    for block in 1..set.room() {
-        if set.is_free(block) {
-            others.fill(from, block);
-            from = block + 1;
-        }
+    others.complement(set);
+    // The first block holds the superblock: it is in no set.
+    if others.is_free(0) {
+        others.claim(0);
     }
-    others.fill(from, set.room());
 }
 
 /// Takes the blocks of a set out of another one.

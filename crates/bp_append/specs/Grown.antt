@@ -1,8 +1,9 @@
--- A tree is prepared in two epochs: stores that nobody sees, and then the links.
-use Rattle.std.specs.Prelude.{◌≡◌, ◌⊎◌, ℕ, ◌+◌, ◌*◌, ◌/◌, ◌%◌, ◌<◌, ◌≤◌, List, [], ◌∷◌, ◌++◌, length}
+-- A tree is prepared in two epochs: stores that nobody sees, and then the links, where one of them changes a word.
+use Rattle.std.specs.Prelude.{◌≡◌, ◌⊎◌, ℕ, ◌+◌, ◌*◌, ◌/◌, ◌%◌, ◌<◌, ◌≤◌, ◌==◌, if◌then◌else◌, List, [], ◌∷◌, ◌++◌, length, slice_set}
+use Rattle.pm_epochs.specs.declared.event.Event.{Event}
 use Rattle.pm_epochs.specs.declared.event.Event.TheVariants.{Barrier}
 use Rattle.pm_epochs.specs.May.{links_of}
-use Rattle.bp_layout.specs.Words.{height_of}
+use Rattle.bp_layout.specs.Words.{Image, word, height_of}
 use Rattle.bp_layout.specs.Tree.{HasBlock, IsSound, IsFull}
 use Rattle.bp_limits.specs.Limits.{block_size, block_words, max_height, max_size}
 use Rattle.bp_layout.specs.Nodes.{nodes_for, height_with}
@@ -31,9 +32,20 @@ pub record CanGrow (memory : Memory) (free : List ℕ) (root size from to : ℕ)
   pub room : block_words * length (nodes_for (current_words memory) root size from to)
       + room_behind size from to max_height + 4 ≤ room_in memory
 
--- the links in an epoch of their own
+-- those of the stores, done one after the other, that change a word
+abbrev pub changed : Image → List (ℕ × ℕ) → List (ℕ × ℕ)
+changed image [] = []
+changed image (link ∷ links) = if word image link.0 == link.1 then changed image links
+    else link ∷ changed (slice_set image link.0 link.1) links
+
+-- the links and a barrier behind them; nothing where there are none
+abbrev pub epoch_of : List (ℕ × ℕ) → List Event
+epoch_of [] = []
+epoch_of (link ∷ links) = links_of (link ∷ links) ++ Barrier ∷ []
+
+-- The links that change a word, in an epoch of their own. Where each of them stands already, there is no such epoch.
 abbrev pub Links : Memory → Memory → List (ℕ × ℕ) → Type 0
-Links old new links = Adds old new (Barrier ∷ links_of links ++ Barrier ∷ [])
+Links old new links = Adds old new (Barrier ∷ epoch_of (changed (current_words old) links))
 
 -- A tree with blocks was prepared. Once the links are done, the higher tree holds the old bytes and behind them the
 -- given ones.

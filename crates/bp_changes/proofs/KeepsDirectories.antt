@@ -1,10 +1,10 @@
 -- Two images that differ in the bytes of files: the theorem behind every write, truncate and batch.
-use Rattle.std.proofs.Common.{◌≡◌, ◌≢◌, ◌==◌, Bool, true, false, Option, None, Some, ℕ, suc, ◌+◌, ◌*◌, ◌/◌, ◌%◌, ◌<◌, ◌≤◌, refl, sym, ◌∙◌, ap, arith}
+use Rattle.std.proofs.Common.{◌≡◌, ℕ, suc, ◌+◌, ◌*◌, ◌/◌, ◌%◌, ◌<◌, ◌≤◌, sym, ◌∙◌, ap, arith}
 use Rattle.std.proofs.lemmas.List.FromFn.{length-map-range_with_len}
 use Rattle.bp_limits.specs.Limits.{max_name}
 use Rattle.bp_layout.specs.Words.{Image, byte_of}
 use Rattle.bp_layout.specs.Tree.{byte}
-use Rattle.bp_layout.specs.Inode.{kind_of, root_of, size_of}
+use Rattle.bp_layout.specs.Inode.{kind_of, root_of}
 use Rattle.bp_layout.specs.Directory.{EntryNames, IsName, name_at, entry_word, entry_count}
 use Rattle.bp_layout.specs.Reached.{IsReached}
 use Rattle.bp_layout.specs.Reached.IsReached.{inode_file, root_directory, named}

@@ -1,13 +1,13 @@
 -- How many names inodes have after a change of one entry.
-use Rattle.std.proofs.Common.{◌≡◌, ◌≢◌, ◌⊎◌, ℕ, zero, suc, ◌+◌, ◌*◌, ◌/◌, ◌<◌, ◌≤◌, List, [], ◌∷◌, length, filter, Bool, true, false, true≢false, not, ◌&&◌, ◌==◌, set, refl, sym, ◌∙◌, ap, subst, subst₂, arith, inl, inr, get_or-set_same, get_or-set_other}
+use Rattle.std.proofs.Common.{◌≡◌, ◌≢◌, ◌⊎◌, ℕ, zero, suc, ◌+◌, ◌/◌, ◌<◌, ◌≤◌, List, [], ◌∷◌, length, filter, Bool, true, false, true≢false, not, ◌&&◌, ◌==◌, set, refl, sym, ◌∙◌, ap, subst, subst₂, arith, inl, inr, get_or-set_same, get_or-set_other}
 use Rattle.std.proofs.lemmas.Bool.{cases_eq, eqb-true, eqb-false}
 use Rattle.std.proofs.lemmas.List.{length-set}
 use Rattle.std.specs.List.{slice_index}
 use Rattle.bp_layout.specs.Words.{Image}
-use Rattle.bp_layout.specs.Directory.{EntryNames, entry_count, inumber_at, name_at}
+use Rattle.bp_layout.specs.Directory.{EntryNames, entry_count, inumber_at}
 use Rattle.bp_layout.specs.Inode.{kind_of, size_of}
-use Rattle.bp_layout.specs.Members.{AreApart, Each, Has}
-use Rattle.bp_layout.specs.Names.{AreCounts, AreNamed, HasNames, IsNamed}
+use Rattle.bp_layout.specs.Members.{AreApart, Has}
+use Rattle.bp_layout.specs.Names.{AreCounts, HasNames, IsNamed}
 use Rattle.bp_layout.specs.Reached.{IsReached}
 use Rattle.bp_layout.specs.Reached.IsReached.{named}
 use Rattle.bp_layout.specs.WellFormed.{IsWellFormed}

@@ -1,5 +1,5 @@
 -- Two images of which the second has bytes laid into files: what it shows.
-use Rattle.std.proofs.Common.{◌≡◌, ◌==◌, Bool, true, false, Option, None, Some, List, ℕ, ◌<◌, ◌≤◌, refl, ap, arith}
+use Rattle.std.proofs.Common.{◌≡◌, ◌==◌, Bool, true, false, Option, None, Some, List, ℕ, refl, ap, arith}
 use Rattle.std.specs.List.{range_with_len}
 use Rattle.std.specs.Prelude.{map, if◌then◌else◌}
 use Rattle.std.specs.Option.{option_map}

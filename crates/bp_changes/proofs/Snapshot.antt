@@ -1,14 +1,12 @@
 -- The second tree of an image stays as it is where no store goes to its blocks, nor to its words of the superblock.
-use Rattle.std.proofs.Common.{◌≡◌, ◌≢◌, ◌⊎◌, ℕ, suc, ◌+◌, ◌*◌, ◌/◌, ◌%◌, ◌<◌, ◌≤◌, Bool, true, false, ◌==◌, ◌&&◌, nat_lt, if◌then◌else◌, length, refl, sym, ◌∙◌, ap, subst, arith, inl, inr, true≢false}
+use Rattle.std.proofs.Common.{◌≡◌, ◌≢◌, ◌⊎◌, ℕ, ◌+◌, ◌*◌, ◌/◌, ◌%◌, ◌<◌, ◌≤◌, Bool, true, false, ◌&&◌, nat_lt, length, refl, sym, ◌∙◌, subst, arith, inl, inr, true≢false}
 use Rattle.std.proofs.lemmas.Bool.{cases_eq, cases_lt}
 use Rattle.bp_limits.specs.Limits.{is_two, version_at}
-use Rattle.bp_layout.specs.Words.{Image, word, block_count}
-use Rattle.bp_layout.specs.Inode.{root_of, size_of}
+use Rattle.bp_layout.specs.Words.{Image, word}
 use Rattle.bp_layout.specs.Reached.{IsLiveBlock}
 use Rattle.bp_layout.specs.Same.{Same}
-use Rattle.bp_layout.specs.Trees.{AreFrozen, IsFrozen, has_snapshot, snapshot_of}
+use Rattle.bp_layout.specs.Trees.{AreFrozen, has_snapshot, snapshot_of}
 use Rattle.bp_layout.specs.WellFormed.{IsWellFormed}
-use Rattle.bp_layout.specs.Whole.{SameSnapshot}
 use Rattle.bp_layout.proofs.TreeImages.{length-snapshot, snapshot-root, snapshot-size, snapshot-word}
 use Rattle.bp_changes.specs.Harmless.{IsHarmless, Agrees}
 use Rattle.bp_changes.proofs.Frame.{has_block-back, has_block-on, meaning-same, same-by_agreement}

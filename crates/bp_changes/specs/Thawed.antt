@@ -1,6 +1,6 @@
 -- An effect that is told of an image with the same meaning, whose trees may stand in other blocks: what a call makes of
 -- an image once blocks that are kept were copied.
-use Rattle.std.specs.Prelude.{◌≡◌, ℕ, Bool}
+use Rattle.std.specs.Prelude.{◌≡◌, ℕ}
 use Rattle.bp_layout.specs.Words.{Image, height_of}
 use Rattle.bp_layout.specs.Inode.{root_of, size_of}
 use Rattle.bp_layout.specs.Nodes.{TreeNode, is_present}

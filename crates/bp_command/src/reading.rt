@@ -1,6 +1,6 @@
 //! What the words ask for.
 
-ghost use Rattle.std.specs.Prelude.{◌≡◌, ◌≤◌, IfErr, IfOk, IsSome, OnOk, codes, map, ℕ};
+ghost use Rattle.std.specs.Prelude.{◌≡◌, IfErr, IfOk, IsSome, OnOk, codes, map, ℕ};
 ghost use Rattle.bp_command.specs.Commands.{HasMet, IsRight, IsTaken};
 ghost use Rattle.bp_command.specs.Programs.{AsksForVersion, GivesNumber, HasNumber, HasValues, HasNumbersInRange, Names, Requests, first_version, last_version, program_of};
 ghost use Rattle.clap.specs.Words.{first_of, found_of, rows_of};

@@ -1,5 +1,5 @@
 // Faults of the outside, and how they are counted.
-ghost use Rattle.std.specs.Prelude.{◌≡◌, ◌≤◌, ◌↔◌, IsErr, Contains};
+ghost use Rattle.std.specs.Prelude.{◌≡◌, ◌≤◌, ◌↔◌, IsErr};
 ghost use Rattle.bp_io.specs.Causes.{HasCause, Rose};
 
 use std::io;

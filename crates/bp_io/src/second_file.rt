@@ -1,5 +1,5 @@
 // A second file, which takes the place of the first once it is whole.
-ghost use Rattle.std.specs.Prelude.{◌<◌, ◌≤◌, ◌+◌, ◌^◌, length};
+ghost use Rattle.std.specs.Prelude.{◌<◌, ◌+◌, ◌^◌, length};
 
 use crate::Access;
 use crate::held::{Held, HeldBlocks, TOLD_APART};

@@ -2,9 +2,9 @@
 use Rattle.std.proofs.Common.{◌≡◌, ℕ, zero, suc, ◌+◌, ◌*◌, ◌/◌, ◌%◌, ◌<◌, ◌≤◌, length, refl, sym, ◌∙◌, ap, subst, subst₂, arith, le_trans}
 use Rattle.bp_limits.specs.Limits.{greatest_height}
 use Rattle.bp_layout.specs.Words.{Image, word, block_of, height_of, slot_word, byte_of}
-use Rattle.bp_layout.specs.Tree.{word_at, content_word, content, byte, HasBlock, IsSound, IsFull}
-use Rattle.bp_layout.specs.Inode.{inode_word, kind_of, root_of, size_of, inode_count}
-use Rattle.bp_layout.specs.Directory.{EntryNames, IsName, name_at, inumber_at, entry_count}
+use Rattle.bp_layout.specs.Tree.{word_at, content_word, byte, HasBlock, IsSound, IsFull}
+use Rattle.bp_layout.specs.Inode.{inode_word, kind_of, root_of, size_of}
+use Rattle.bp_layout.specs.Directory.{EntryNames, IsName, name_at}
 use Rattle.bp_layout.specs.Reached.{IsReached}
 use Rattle.bp_layout.specs.Reached.IsReached.{inode_file, root_directory, named}
 use Rattle.bp_layout.specs.Lookup.{Path, find_one, shown}

@@ -1,13 +1,13 @@
 -- Where no block is kept there is nothing to thaw. And where a thaw left nothing to thaw, all ways are loose.
-use Rattle.std.proofs.Common.{◌≡◌, ◌⊎◌, ℕ, zero, suc, ◌+◌, ◌-◌, ◌<◌, ◌≤◌, List, [], ◌∷◌, ◌++◌, length, take, map, filter, Bool, true, false, not, ◌&&◌, ◌||◌, nat_lt, refl, sym, ◌∙◌, ap, subst, arith, inl, inr}
+use Rattle.std.proofs.Common.{◌≡◌, ◌⊎◌, ℕ, zero, suc, ◌+◌, ◌-◌, ◌<◌, ◌≤◌, List, [], ◌∷◌, length, take, map, filter, Bool, true, false, not, ◌&&◌, ◌||◌, nat_lt, refl, sym, ◌∙◌, ap, subst, arith, inl, inr}
 use Rattle.std.specs.List.{list_any, range_with_len}
 use Rattle.std.specs.Str.{bytes_eq}
-use Rattle.std.proofs.lemmas.Bool.{cases_lt, le-ltb, lt-ltb}
+use Rattle.std.proofs.lemmas.Bool.{cases_lt, le-ltb}
 use Rattle.std.proofs.lemmas.Slice.Eq.{bytes_eq-Decides}
 use Rattle.bp_layout.specs.Members.{Has}
 use Rattle.bp_layout.proofs.MemberLaws.{has-behind, has-filter, has-front, has-map, has-range}
 use Rattle.bp_layout.specs.Words.{Image}
-use Rattle.bp_layout.specs.Need.{Change, is_prefix, need, prefixes_from}
+use Rattle.bp_layout.specs.Need.{Change, need, prefixes_from}
 use Rattle.bp_layout.specs.Thaw.{IsLoose, fronts_of, full_need, is_front, is_kept_at, is_there_now, none_kept, targets, thawed, thawed_on}
 use Rattle.bp_layout.specs.WordPaths.{WordPath}
 

@@ -1,8 +1,7 @@
 -- The pointers of a change that lead to blocks that are kept: those of a snapshot, to which no call stores. Copies are
 -- put in place of these blocks before anything else is done, and what the change then stores to is not kept.
-use Rattle.std.specs.Prelude.{◌≡◌, ℕ, suc, ◌+◌, ◌*◌, ◌/◌, List, [], ◌∷◌, ◌++◌, length, filter, flat_map, Bool, false, not, ◌&&◌, nat_lt, Option, None, Some, if◌then◌else◌}
+use Rattle.std.specs.Prelude.{◌≡◌, ℕ, suc, ◌+◌, ◌/◌, List, [], ◌∷◌, ◌++◌, length, filter, flat_map, Bool, false, not, ◌&&◌, nat_lt, Option, None, Some, if◌then◌else◌}
 use Rattle.std.specs.List.{list_any}
-use Rattle.bp_limits.specs.Limits.{entry_words}
 use Rattle.bp_layout.specs.Words.{Image, word, block_of, height_of}
 use Rattle.bp_layout.specs.Tree.{span}
 use Rattle.bp_layout.specs.Nodes.{is_present}

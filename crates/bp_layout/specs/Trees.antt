@@ -1,7 +1,7 @@
 -- The trees of an image: the first at words 2 and 3 of the superblock, and in version 2 perhaps a second at words 4 and
 -- 5, which is the snapshot. What is said of an image is said of its first tree; to say it of the second, say it of the
 -- image in which that is the first.
-use Rattle.std.specs.Prelude.{◌≡◌, ◌↔◌, ℕ, ◌+◌, ◌==◌, ◌&&◌, nat_lt, Bool, true, false, slice_set, if◌then◌else◌}
+use Rattle.std.specs.Prelude.{◌≡◌, ℕ, ◌+◌, ◌==◌, ◌&&◌, nat_lt, Bool, true, slice_set, if◌then◌else◌}
 use Rattle.bp_limits.specs.Limits.{is_two, super_root, super_second_root, super_second_size, super_size}
 use Rattle.bp_layout.specs.Formatted.{version_of}
 use Rattle.bp_layout.specs.Words.{Image, word}

@@ -2,7 +2,7 @@
 
 ghost use Rattle.std.specs.Prelude.{Ok, ◌<◌, ◌^◌, ◌≡◌, ◌≤◌, slice_index};
 ghost use Rattle.bp_layout.specs.Fields.{IsPointerWord, IsRootWord, pointer_word, root_word};
-ghost use Rattle.bp_limits.specs.Limits.{max_height, max_name};
+ghost use Rattle.bp_limits.specs.Limits.{max_height};
 ghost use Rattle.bp_layout.specs.Words.{block_of, height_of};
 ghost use Rattle.arrayvec.specs.ArrayVec.{array_vec_len};
 

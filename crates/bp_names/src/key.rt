@@ -1,6 +1,6 @@
 //! Names as keys.
 
-ghost use Rattle.std.specs.Prelude.{◌≡◌, ◌≤◌, ◌∷◌, [], length};
+ghost use Rattle.std.specs.Prelude.{◌≡◌, ◌≤◌, [], length};
 
 use bp_limits::MAX_NAME;
 use std::hash::{Hash, Hasher};

@@ -1,7 +1,7 @@
 //! The cache of names.
 
 ghost use Rattle.std.specs.Prelude.{◌≡◌, ◌≤◌, [], IfOk, IsSome, length, true, false};
-ghost use Rattle.std.specs.FinMap.{from_entries, get};
+ghost use Rattle.std.specs.FinMap.{get};
 ghost use Rattle.bp_layout.specs.Hints.{Learns};
 ghost use Rattle.bp_limits.specs.Limits.{max_name};
 ghost use Rattle.bp_names.specs.Forgets.{Forgets};

@@ -1,6 +1,6 @@
 //! The names in the text of a path.
 
-ghost use Rattle.std.specs.Prelude.{◌≡◌, ◌≢◌, ◌+◌, ◌-◌, ◌==◌, ◌&&◌, ◌<◌, ◌≤◌, ◌++◌, ◌∷◌, [], true, length, drop, take, slice_index, is_some, not, position};
+ghost use Rattle.std.specs.Prelude.{◌≡◌, ◌+◌, ◌-◌, ◌==◌, ◌&&◌, ◌<◌, ◌≤◌, ◌++◌, ◌∷◌, [], true, length, drop, slice_index, is_some, not};
 ghost use Rattle.std.specs.List.{list_all};
 ghost use Rattle.bp_layout.specs.Below.{rest_below, same_path};
 ghost use Rattle.bp_layout.specs.PathText.{is_name, parts};

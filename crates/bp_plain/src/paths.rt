@@ -2,12 +2,11 @@
 
 ghost use Rattle.bp_layout.specs.Below.{same_path};
 ghost use Rattle.bp_layout.specs.PathText.{is_name, parse, parts};
-ghost use Rattle.bp_plain.specs.Calls.{Refusal};
 ghost use Rattle.bp_plain.specs.Plain as plain;
 ghost use Rattle.bp_plain.specs.Seen.{refusal_of};
 ghost use Rattle.bp_plain.specs.SeenTree.{all_names, names_of};
 ghost use Rattle.std.specs.List.{list_all};
-ghost use Rattle.std.specs.Prelude.{IfOk, None, OnOk, Some, [], ◌&&◌, ◌++◌, ◌<◌, ◌==◌, ◌≡◌, if◌then◌else◌, length, map, not, option_map, position};
+ghost use Rattle.std.specs.Prelude.{IfOk, None, OnOk, Some, [], ◌&&◌, ◌++◌, ◌<◌, ◌==◌, ◌≡◌, if◌then◌else◌, map, not, option_map, position};
 
 use crate::errors::FsError;
 use bp_layout::Name;

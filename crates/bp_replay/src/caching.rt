@@ -1,12 +1,11 @@
 //! Crashes of a run with two cores' caches.
 
-ghost use Rattle.std.specs.Prelude.{◌≡◌, ℕ, ◌+◌, ◌*◌, ◌<◌, ◌≤◌, length};
-ghost use Rattle.pm_region.specs.Memory.{Memory};
+ghost use Rattle.std.specs.Prelude.{◌≡◌, ℕ, ◌*◌, ◌<◌, ◌≤◌, length};
 ghost use Rattle.pm_epochs.specs.declared.event.Event.TheVariants.{Store};
 ghost use Rattle.pm_epochs.specs.May.{StoresMay};
 ghost use Rattle.pm_epochs.specs.Replay.{IsRight};
-ghost use Rattle.pm_cores.specs.Caches.{Caches, caches_over};
-ghost use Rattle.bp_replay.specs.Generator.{next_state, drawn};
+ghost use Rattle.pm_cores.specs.Caches.{caches_over};
+ghost use Rattle.bp_replay.specs.Generator.{drawn};
 ghost use Rattle.bp_replay.specs.Cache.{after_back, after_event, last_word, by_draw, after_draw, cache_cut, IsLike, IsWordBelow};
 
 use super::generator::Generator;

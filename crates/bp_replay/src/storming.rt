@@ -1,7 +1,6 @@
 //! Crashes that are drawn by lot.
 
 ghost use Rattle.std.specs.Prelude.{◌≡◌, ◌<◌, ◌≤◌, [], length, take};
-ghost use Rattle.pm_region.specs.Memory.{Memory};
 ghost use Rattle.pm_region.specs.Epochs.{epoch_start};
 ghost use Rattle.pm_epochs.specs.Log.{barriers};
 ghost use Rattle.pm_epochs.specs.Replay.{IsRight};

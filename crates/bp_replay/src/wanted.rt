@@ -1,7 +1,6 @@
 //! Choices that a script writes out.
 
-ghost use Rattle.std.specs.Prelude.{◌≡◌, ◌+◌, ◌*◌, ◌<◌, ◌≤◌, ◌↔◌, ◌++◌, Bool, true, IsOk, OnOk, Some, length, take, replicate, slice_get, ◌^◌, []};
-ghost use Rattle.pm_region.specs.Memory.{Memory};
+ghost use Rattle.std.specs.Prelude.{◌≡◌, ◌+◌, ◌*◌, ◌<◌, ◌≤◌, ◌↔◌, ◌++◌, true, IsOk, OnOk, Some, length, take, replicate, slice_get, ◌^◌, []};
 ghost use Rattle.pm_epochs.specs.Log.{barriers, epoch_stores};
 ghost use Rattle.pm_epochs.specs.Replay.{IsRight};
 ghost use Rattle.bp_replay.specs.Wanted.{wanted_by, bits, trimmed, cut_for, mask_places};

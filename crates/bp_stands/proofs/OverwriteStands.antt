@@ -1,15 +1,14 @@
 -- The plain tree of an image into whose files the pieces of a batch were laid, one after the other.
-use Rattle.std.proofs.Common.{◌≡◌, ◌≢◌, ◌⊎◌, ℕ, ◌+◌, ◌-◌, ◌<◌, ◌≤◌, ◌&&◌, ◌==◌, cond, Bool, true, false, List, [], ◌∷◌, length, map, get_or, nat_le, nat_lt, Option, None, Some, refl, sym, ◌∙◌, ap, ap₂, inl, inr, arith, lt-ltb, le-ltb, le-leb}
+use Rattle.std.proofs.Common.{◌≡◌, ◌≢◌, ◌⊎◌, ℕ, ◌+◌, ◌-◌, ◌<◌, ◌≤◌, ◌&&◌, ◌==◌, cond, Bool, true, false, List, length, map, get_or, nat_le, nat_lt, Option, None, Some, refl, sym, ◌∙◌, ap, inl, inr, arith, lt-ltb, le-ltb, le-leb}
 use Rattle.std.specs.Prelude.{slice_index}
 use Rattle.std.specs.List.{range_with_len}
 use Rattle.std.specs.FinMap.{get}
 use Rattle.std.specs.Option.{option_map}
-use Rattle.std.proofs.lemmas.Bool.{cases_eq, cases_lt, ne_eqb, lt-leb}
+use Rattle.std.proofs.lemmas.Bool.{cases_lt, ne_eqb, lt-leb}
 use Rattle.std.proofs.lemmas.List.FromFn.{get_or-map-range_with_len, length-map-range_with_len}
 use Rattle.bp_layout.specs.Inode.{kind_of, size_of}
-use Rattle.bp_layout.specs.Lookup.{Node, Path, find_one, lookup, shown}
+use Rattle.bp_layout.specs.Lookup.{Path, find_one, lookup}
 use Rattle.bp_layout.specs.Lookup.Node.{dir, file}
-use Rattle.bp_layout.specs.PathText.{parse}
 use Rattle.bp_layout.specs.WellFormed.{IsWellFormed}
 use Rattle.bp_layout.specs.Words.{Image}
 use Rattle.bp_layout.proofs.Finding.{map-same}
@@ -19,7 +18,7 @@ use Rattle.bp_changes.specs.Overwrites.{OverwritesFiles, Patch, patched, patched
 use Rattle.bp_changes.proofs.KeepsDirectories.{directories-same, well_formed-same}
 use Rattle.bp_changes.proofs.Overwrites.{bytes_in, keeps, node_with, shown_patched}
 use Rattle.bp_plain.specs.Calls.{Piece}
-use Rattle.bp_plain.specs.Plain.{bytes_at, path_named, with_content, with_piece, with_pieces, written}
+use Rattle.bp_plain.specs.Plain.{bytes_at, path_named, with_piece, with_pieces, written}
 use Rattle.bp_plain.specs.Plain as plain
 use Rattle.bp_plain.specs.PlainTree.{PathMap, is_one}
 use Rattle.bp_plain.specs.Stands.{Shows}

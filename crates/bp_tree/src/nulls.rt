@@ -1,6 +1,6 @@
 //! The first null of a tree.
 
-ghost use Rattle.std.specs.Prelude.{ℕ, IfSome, IfNone};
+ghost use Rattle.std.specs.Prelude.{IfSome, IfNone};
 ghost use Rattle.bp_layout.specs.Tree.{IsSound};
 ghost use Rattle.pm_region.specs.Memory.{current_words};
 ghost use Rattle.bp_tree.specs.Nulls.{HasNoNullLeaf, IsFirstNullLeaf};

@@ -1,6 +1,6 @@
 //! The trees below the slots of a tree's topmost block.
 
-ghost use Rattle.std.specs.Prelude.{◌≡◌, ◌≢◌, ℕ, ◌+◌, ◌-◌, ◌*◌, ◌/◌, ◌%◌, ◌<◌, ◌≤◌};
+ghost use Rattle.std.specs.Prelude.{◌≡◌, ◌≢◌, ℕ, ◌+◌, ◌-◌, ◌*◌, ◌/◌, ◌<◌, ◌≤◌};
 ghost use Rattle.bp_layout.specs.Words.{block_of, height_of};
 ghost use Rattle.bp_layout.specs.Tree.{span, IsSound};
 ghost use Rattle.bp_layout.specs.Pieces.{piece, child};

@@ -1,7 +1,6 @@
 //! The cores, their caches and the memory.
 
 ghost use Rattle.std.specs.Prelude.{◌≡◌, ◌≢◌, ◌<◌, ◌≤◌, ◌+◌, ◌*◌, ◌^◌, ℕ, List, ◌-◌, ◌==◌, ◌&&◌, nat_le, [], ◌∷◌, ◌++◌, vec_len, vec_capacity, length, replicate, slice_index, IsOk, IfOk, OnOk, IfErr, OnErr, IfSome, MatchOption, ◌↔◌, true, Some, is_some};
-ghost use Rattle.pm_region.specs.Memory.{Memory};
 ghost use Rattle.pm_cores.specs.declared.entry.Entry.TheVariants.{Load};
 ghost use Rattle.pm_cores.specs.declared.entry.Owner.{Owner as TheOwner};
 ghost use Rattle.pm_cores.specs.Log.{core_barriers, line_at};
@@ -9,7 +8,6 @@ ghost use Rattle.pm_cores.specs.Caches.{Caches, caches_over, memory_over, value_
 ghost use Rattle.pm_cores.specs.Order.{IsCoherent, words_up_to, BacksTo};
 ghost use Rattle.pm_cores.specs.Choice.{dirty_epoch, cut_at};
 ghost use Rattle.pm_cores.specs.Inside.{told_by};
-ghost use Rattle.pm_epochs.specs.Replay.{Chosen};
 
 use super::entry::{Entry, Owner};
 use super::search::{

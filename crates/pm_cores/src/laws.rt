@@ -1,6 +1,6 @@
 //! What holds of all caches, each law as a function that does nothing.
 
-ghost use Rattle.std.specs.Prelude.{◌≡◌, ◌<◌, ◌≤◌, ℕ, List, length, take, slice_set};
+ghost use Rattle.std.specs.Prelude.{◌≡◌, ◌≤◌, ℕ, List, length, take, slice_set};
 ghost use Rattle.pm_epochs.specs.declared.event.Event.{Event};
 ghost use Rattle.pm_epochs.specs.Replay.{IsRight, replay};
 ghost use Rattle.pm_cores.specs.Choice.{cut_at};

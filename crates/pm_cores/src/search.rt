@@ -1,13 +1,11 @@
 //! Searches in the log, and writing back by it.
 
-ghost use Rattle.std.specs.Prelude.{◌≡◌, ℕ, List, ◌+◌, ◌*◌, ◌<◌, ◌≤◌, ◌^◌, ◌-◌, ◌==◌, ◌&&◌, nat_lt, if◌then◌else◌, length, take, drop, slice_index, replicate, Some, [], ◌∷◌, ◌++◌, not};
+ghost use Rattle.std.specs.Prelude.{◌≡◌, ℕ, ◌+◌, ◌*◌, ◌<◌, ◌≤◌, ◌^◌, ◌-◌, ◌==◌, ◌&&◌, nat_lt, if◌then◌else◌, length, take, drop, slice_index, replicate, Some, [], ◌∷◌, ◌++◌, not};
 ghost use Rattle.std.proofs.Common.{suc};
 ghost use Rattle.pm_cores.specs.declared.entry.Entry.TheVariants.{Store};
 ghost use Rattle.pm_cores.specs.Log.{line_at, IsStore};
 ghost use Rattle.pm_cores.specs.Caches.{first_owner, owner_is_up_to};
 ghost use Rattle.pm_cores.specs.Choice.{mask_to};
-ghost use Rattle.pm_epochs.specs.Replay.{Chosen};
-ghost use Rattle.pm_region.specs.Memory.{Memory};
 ghost use Rattle.pm_cores.specs.Inside.{waits_at, owner_since, owners_of, flags_of, AreSound, AreCounted, IsLow, Waits, told_by};
 
 use super::entry::{Entry, Owner};

@@ -1,6 +1,6 @@
 //! Choices of what a crash keeps.
 
-ghost use Rattle.std.specs.Prelude.{◌≡◌, ℕ, ◌<◌, [], ◌∷◌, ◌++◌, IfOk, length};
+ghost use Rattle.std.specs.Prelude.{◌≡◌, ◌<◌, [], ◌∷◌, ◌++◌, IfOk, length};
 
 use std::alloc::{AllocError, Global};
 use std::marker::Model;

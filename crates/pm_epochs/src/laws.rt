@@ -2,7 +2,7 @@
 
 ghost use Rattle.std.specs.Prelude.{◌≡◌, ℕ, ◌⊎◌, Bool, IsTrue, List, [], ◌∷◌, ◌++◌};
 ghost use Rattle.pm_epochs.specs.declared.event.Event.{Event};
-ghost use Rattle.pm_epochs.specs.declared.event.Event.TheVariants.{Store, Barrier, Mark};
+ghost use Rattle.pm_epochs.specs.declared.event.Event.TheVariants.{Barrier, Mark};
 ghost use Rattle.pm_epochs.specs.Log.{words_after, marks, IsClosed};
 ghost use Rattle.pm_epochs.specs.Replay.{PowerCut, IsRight, IsReplay, kept_calls, kept_stores, kept_indices, events_at, IsGreatestKept};
 ghost use Rattle.pm_epochs.specs.Crash.{CrashRight, IsQuiet, commit};

@@ -1,6 +1,6 @@
 //! A region in ordinary memory.
 
-ghost use Rattle.std.specs.Prelude.{◌≡◌, ℕ, ◌^◌, ◌<◌, [], ◌∷◌, ◌++◌, IfOk, length, vec_len};
+ghost use Rattle.std.specs.Prelude.{◌≡◌, ◌^◌, ◌<◌, [], ◌∷◌, ◌++◌, IfOk, length, vec_len};
 
 use super::region::Region;
 use super::words::{apply, apply_event, apply_kept, put_back};

@@ -1,6 +1,6 @@
 //! What a region can do.
 
-ghost use Rattle.std.specs.Prelude.{◌≡◌, ℕ, ◌+◌, ◌<◌, ◌≤◌, ◌↔◌, [], ◌∷◌, ◌++◌, length, take, slice_get, slice_index, slice_index_or, slice_range, Some, IsOk, IfOk, OnOk, OnErr};
+ghost use Rattle.std.specs.Prelude.{◌≡◌, ◌+◌, ◌<◌, ◌≤◌, ◌↔◌, [], ◌∷◌, length, take, slice_get, slice_index, slice_index_or, slice_range, Some, IsOk, IfOk, OnOk, OnErr};
 ghost use Rattle.pm_epochs.specs.declared.event.Event.TheVariants.{Store, Barrier, Mark};
 ghost use Rattle.pm_epochs.specs.Log.{barriers, marks};
 ghost use Rattle.pm_epochs.specs.Replay.{IsRight, kept_calls};

@@ -1,7 +1,6 @@
 //! The processor and the engine that writes back, over a region's log.
 
 ghost use Rattle.std.specs.Prelude.{◌≡◌, ℕ, ◌<◌, ◌≤◌, ◌↔◌, [], ◌∷◌, ◌++◌, IsOk, OnOk, IfErr, OnErr, MatchOption, length, slice_get, slice_index, slice_set, Some, true, false};
-ghost use Rattle.pm_region.specs.Memory.{Memory};
 ghost use Rattle.pm_epochs.specs.Log.{marks};
 ghost use Rattle.pm_epochs.specs.Replay.{IsRight, epoch_of, replay, kept_calls};
 ghost use Rattle.pm_steps.specs.Machine.{IsInOrder, MayGoBack, IsFirstMissing, IsBackBelow, IsWaiting, AllToBack, IsFirstTo, ComesFirst, is_some_store, cut_of, open_epoch, epoch_flags, waiting_marks};

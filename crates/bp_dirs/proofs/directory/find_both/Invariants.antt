@@ -1,7 +1,6 @@
-use Rattle.std.proofs.Common.{◌≡◌, ◌*◌, ◌-◌, ◌/◌, ◌==◌, find}
-use Rattle.std.specs.List.{range_with_len}
-use Rattle.std.specs.Prelude.{IfSome, IfNone}
-use Rattle.bp_layout.specs.Directory.{inumber_in, is_named_in, empty_slot_in, slot_named_in}
+use Rattle.std.proofs.Common.{◌≡◌, ◌-◌, ◌/◌, ◌==◌}
+use Rattle.std.specs.Prelude.{IfSome}
+use Rattle.bp_layout.specs.Directory.{inumber_in, is_named_in}
 use Rattle.pm_region.specs.Memory.{current_words}
 use Rattle.bp_dirs.specs.Spots.{found_slot}
 use Rattle.bp_dirs.proofs.Leaves.{IsFirstFrom}

@@ -1,4 +1,5 @@
 pub mod StageLaws
+pub mod AlikeEnds
 pub mod BuildingLaws
 pub mod BuildFacts
 pub mod NeedLaws

@@ -26,6 +26,12 @@ end_path touched i = end_path_of touched.runs.now (word_paths touched) i
 abbrev pub ends : Touched → ℕ
 ends touched = ends_of touched.runs.now (length touched.words.now)
 
+-- two paths begin with the same slots, so many
+pub record BothBegin (path other : WordPath) (count : ℕ) : Type 0 where
+  pub here : count ≤ length path
+  pub there : count ≤ length other
+  pub same : trail_of path count ≡ trail_of other count
+
 -- all of them begin with the same slots, so many
 pub record BeginAlike (touched : Touched) (count : ℕ) : Type 0 where
   pub long : (i : ℕ) → i < ends touched → count ≤ length (end_path touched i)

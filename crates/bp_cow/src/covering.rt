@@ -1,18 +1,35 @@
 //! The cover: the longest path that exists and with which all touched paths begin.
 
-ghost use Rattle.std.specs.Prelude.{◌≡◌, ◌≢◌, ◌+◌, ◌<◌, ◌≤◌, length, slice_index, true, false};
+ghost use Rattle.std.specs.Prelude.{◌≡◌, ◌↔◌, ℕ, ◌-◌, ◌/◌, ◌<◌, ◌≤◌, length, slice_index};
 ghost use Rattle.bp_limits.specs.Limits.{block_words};
 ghost use Rattle.bp_shapes.specs.Trail.{block_on, trail_of};
 ghost use Rattle.pm_region.specs.Memory.{current_words};
-ghost use Rattle.bp_cow.specs.Cover.{end_path, ends, BeginAlike, LeadsInside, commit_cover};
-ghost use Rattle.bp_cow.specs.Touched.{IsTouched};
+ghost use Rattle.bp_cow.specs.Cover.{end_path, ends, BeginAlike, BothBegin, LeadsInside, commit_cover};
+ghost use Rattle.bp_cow.specs.Touched.{IsRun, IsTouched, run_end, run_path};
 ghost use Rattle.bp_cow.specs.Found.{AreWaysIn, IsAt, IsCoverIn};
 
-use crate::touched::Touched;
+use crate::touched::{Run, Touched};
 use crate::ways::Shared;
 use bp_limits::{BLOCK_WORDS, SUPER_ROOT};
 use bp_tree::Slots;
 use pm_region::Region;
+
+impl Run<'_> {
+    /// How many slots the paths of its first and of its last word have alike at their beginning.
+    fn alike(&self) -> usize
+        requires { IsRun self.now }
+        ensures { (n : ℕ) → (n ≤ result) ↔ BothBegin (run_path self.now (self.now.off / 8))
+            (run_path self.now ((run_end self.now - 1) / 8)) n }
+    {
+        let (first, last) = (self.end_word(true), self.end_word(false));
+        for level in 0..self.height + 1 {
+            if first >> (9 * level) == last >> (9 * level) {
+                return self.root.len() + (self.height + 1 - level) as usize;
+            }
+        }
+        self.root.len()
+    }
+}
 
 impl Touched<'_> {
     /// How many paths tell with what all touched paths begin: of each run those of its first and of its last word, and
@@ -53,24 +70,37 @@ impl Touched<'_> {
         self.path_slot(i - of_runs, depth)
     }
 
-    /// Whether all touched paths, which begin alike so far, have one more slot alike.
-    fn goes_on(&self, depth: usize) -> bool
+    /// How many slots, of so many at most, such a path has alike with the first one at their beginning. The path before it has
+    /// all of them alike with that.
+    fn alike_at(&self, i: usize, most: usize) -> usize
         requires touched { IsTouched self.now }
-        requires alike { BeginAlike self.now depth }
-        ensures yes { result ≡ true → BeginAlike self.now (depth + 1) }
-        ensures no { result ≡ false → BeginAlike self.now (depth + 1) → ⊥ }
+        requires later { 0 < i }
+        requires i { i < ends self.now }
+        requires before { BothBegin (end_path self.now (i - 1)) (end_path self.now 0) most }
+        ensures { (n : ℕ) → (n ≤ result) ↔ (n ≤ most) × BothBegin (end_path self.now i) (end_path self.now 0) n }
     {
-        let ends = self.ends();
-        if self.end_len(0) <= depth {
-            return false;
+        if i % 2 == 1 && i < 2 * self.runs.len() {
+            return most.min(self.runs[i / 2].alike());
         }
-        let slot = self.end_slot(0, depth);
-        for i in 1..ends {
-            if self.end_len(i) <= depth || self.end_slot(i, depth) != slot {
-                return false;
+        let end = most.min(self.end_len(i));
+        for depth in 0..end {
+            if self.end_slot(i, depth) != self.end_slot(0, depth) {
+                return depth;
             }
         }
-        true
+        end
+    }
+
+    /// How many slots all touched paths have alike at their beginning.
+    fn alike(&self) -> usize
+        requires touched { IsTouched self.now }
+        ensures { (n : ℕ) → (n ≤ result) ↔ BeginAlike self.now n }
+    {
+        let mut alike = self.end_len(0);
+        for i in 1..self.ends() {
+            alike = self.alike_at(i, alike);
+        }
+        alike
     }
 }
 
@@ -92,24 +122,6 @@ pub struct FoundWays {
     pub shared: Shared,
 }
 
-/// The block to which the word at the end of a front points with which all touched paths begin, 0 where no longer
-/// front is one.
-fn below<R: Region>(region: &R, touched: &Touched<'_>, found: FoundCover) -> u64
-    requires touched { IsTouched touched.now }
-    requires at { IsAt (current_words (R.memory region.now)) touched.now found }
-    ensures none { result ≡ 0 → BeginAlike touched.now (found.len + 1) →
-        block_on (current_words (R.memory region.now)) (trail_of (end_path touched.now 0) found.len) ≡ 0 }
-    ensures some { result ≢ 0 → BeginAlike touched.now (found.len + 1) }
-    ensures block { result ≢ 0 →
-        result ≡ block_on (current_words (R.memory region.now)) (trail_of (end_path touched.now 0) found.len) }
-{
-    if touched.goes_on(found.len) {
-        pm_words::block_of(region.load(found.place))
-    } else {
-        0
-    }
-}
-
 /// Follows the path with which all touched paths begin as far as it exists: there the cover is. No block has to be free
 /// for it.
 fn find_cover<R: Region>(region: &R, touched: &Touched<'_>) -> FoundCover
@@ -119,18 +131,21 @@ fn find_cover<R: Region>(region: &R, touched: &Touched<'_>) -> FoundCover
     ensures { IsCoverIn (current_words (R.memory region.now)) touched.now result }
 {
     let _words = region.words();
+    let alike = touched.alike();
     let mut found = FoundCover {
         len: 0,
         place: SUPER_ROOT,
     };
-    let mut block = below(region, touched, found);
-    while block != 0 {
+    while found.len < alike {
+        let block = pm_words::block_of(region.load(found.place));
+        if block == 0 {
+            return found;
+        }
         let slot = touched.end_slot(0, found.len);
         found = FoundCover {
             len: found.len + 1,
             place: BLOCK_WORDS * block as u32 + slot,
         };
-        block = below(region, touched, found);
     }
     found
 }

@@ -1,4 +1,4 @@
-use Rattle.std.proofs.Common.{◌≡◌, ◌+◌, ◌-◌, ◌*◌, ◌/◌, ◌≤◌, [], ◌∷◌, refl, arith}
+use Rattle.std.proofs.Common.{◌≡◌, ◌+◌, ◌-◌, ◌*◌, ◌/◌, ◌≤◌, [], ◌∷◌, refl, ◌∙◌, arith}
 use Rattle.pm_region.specs.Memory.{current_words}
 use Rattle.bp_append.specs.Given.{LaysIn}
 use Rattle.bp_append.proofs.IntoLaws.{into_none, into_more}
@@ -25,11 +25,11 @@ loop-index-init g c =
 pub loop-index-preserved : goal.loop-index-preserved
 loop-index-preserved g c =
     let place : c.args.block * 512 + c.loop-index.index ≡ 512 * c.args.block + c.loop-index.index = omega arith in
-    let most : c.loop-index.index + c.min-count.result ≤ (c.args.high - c.args.start + 7) / 8 = omega (arith, c.min-count.ensures, c.loop-index-test.true) in
+    let most : c.loop-index.index + c.lay_some-index.result ≤ (c.args.high - c.args.start + 7) / 8 = omega (arith, c.lay_some-index.ensures.most, c.loop-index-test.true) in
     record {
       most = omega (arith, most, c.requires.in_leaf);
-      laid = next_laid (g.R.Region.memory c.args.region.now) (g.R.Region.memory c.loop-index.region) (g.R.Region.memory c.lay_run.new.region) c.args.block c.args.start c.args.low c.args.high c.args.from c.args.bytes.now c.loop-index.index c.min-count.result
-          c.loop-index.invariant.laid (rw place at c.lay_run.ensures) c.requires.order (omega (arith, c.min-count.ensures, c.loop-index-test.true)) (omega (arith, most, c.requires.in_leaf)) (omega (arith, most))
+      laid = next_laid (g.R.Region.memory c.args.region.now) (g.R.Region.memory c.loop-index.region) (g.R.Region.memory c.lay_some-index.new.region) c.args.block c.args.start c.args.low c.args.high c.args.from c.bytes_before-given.result.now c.loop-index.index c.lay_some-index.result
+          c.loop-index.invariant.laid (rw place at c.lay_some-index.ensures.lays) c.requires.order c.lay_some-index.ensures.any (omega (arith, most, c.requires.in_leaf)) (omega (arith, most))
           (omega (arith, c.requires.in_range)) c.requires.room;
     }
 
@@ -46,6 +46,6 @@ returns g c =
         into = λ less.
             into_more (c.args.block ∷ []) (c.args.block ∷ []) May May (c.loop-index.index - (c.args.low - c.args.start) / 8) 512 old new (λ b m. m) (λ w v m. m) few
             (inv.into (omega (arith, less, c.loop-index-test.false, c.requires.order)));
-        bytes_are = λ i low high. inv.bytes_are i low high (omega (arith, low, high, c.loop-index-test.false));
+        bytes_are = λ i low high. inv.bytes_are i low high (omega (arith, low, high, c.loop-index-test.false)) ∙ c.bytes_before-given.ensures.before (c.args.start + i) high;
       };
     }

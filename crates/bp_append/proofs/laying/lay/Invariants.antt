@@ -7,7 +7,7 @@ invariant-loop-index g l =
     let memory = g.R.Region.memory in
     record {
       most : l.index ≤ 512;
-      laid : LaidTo (memory l.fn.region) (memory l.region) l.block l.start l.low l.high l.from l.bytes l.index;
+      laid : LaidTo (memory l.fn.region) (memory l.region) l.block l.start l.low l.high l.from l.layer.bytes.now l.index;
     }
 
 abbrev pub decreases-loop-index : goal.decreases-loop-index

@@ -1,11 +1,22 @@
 -- Words that given bytes begin or end in.
-use Rattle.std.proofs.Common.{◌≡◌, ℕ, ◌+◌, ◌-◌, ◌*◌, ◌/◌, ◌%◌, ◌^◌, ◌<◌, ◌≤◌, List, length, get_or, sym, ◌∙◌, ap, arith, inl, inr}
+use Rattle.std.proofs.Common.{◌≡◌, ℕ, ◌+◌, ◌-◌, ◌*◌, ◌/◌, ◌%◌, ◌^◌, ◌<◌, ◌≤◌, List, length, get_or, replicate, sym, ◌∙◌, ap, arith, inl, inr}
+use Rattle.std.proofs.Math.Nat.{zero-div}
 use Rattle.std.proofs.lemmas.Bool.{cases_lt}
-use Rattle.std.proofs.lemmas.List.{get_or_past}
+use Rattle.std.proofs.lemmas.List.{get_or_past, get_or-replicate}
 use Rattle.bp_layout.specs.Words.{byte_of}
-use Rattle.bp_append.specs.Given.{given}
+use Rattle.bp_append.specs.Given.{given, run_words}
 use Rattle.bp_append.proofs.LaidLaws.{given-before, given-there}
 use Rattle.bp_append.proofs.ShiftLaws.{left-byte, past-byte, right-byte, zero-byte}
+
+bare-word : (k c : ℕ) → k < run_words → byte_of (get_or (replicate run_words 0) k 0) c ≡ 0
+bare-word k c low = ap (λ w. byte_of w c) (get_or-replicate run_words k 0 0 low) ∙ ap (λ n. n % 256) (zero-div (256 ^ c))
+
+-- words of 0 before the given bytes, and behind them
+pub early-word : (k c offset from : ℕ) (bytes : List ℕ) → k < run_words → offset < from → byte_of (get_or (replicate run_words 0) k 0) c ≡ given from bytes offset
+early-word k c offset from bytes low before = bare-word k c low ∙ sym (given-before from bytes offset before)
+
+pub late-word : (k c offset from : ℕ) (bytes : List ℕ) → k < run_words → from ≤ offset → length bytes ≤ offset - from → byte_of (get_or (replicate run_words 0) k 0) c ≡ given from bytes offset
+late-word k c offset from bytes low behind past = bare-word k c low ∙ sym (given-there from bytes offset behind ∙ get_or_past bytes (offset - from) 0 past)
 
 -- the last eight bytes, shifted down to a place among them
 pub last-there : (word at c : ℕ) (bytes : List ℕ) → word < 18446744073709551616 → 8 ≤ length bytes → at < length bytes → length bytes < at + 8 →

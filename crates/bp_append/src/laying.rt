@@ -1,6 +1,6 @@
 //! Bytes that are laid into a leaf, by runs of words.
 
-ghost use Rattle.std.specs.Prelude.{◌≡◌, ℕ, true, ◌+◌, ◌-◌, ◌*◌, ◌/◌, ◌^◌, ◌<◌, ◌≤◌, length, slice_index};
+ghost use Rattle.std.specs.Prelude.{◌≡◌, ℕ, ◌+◌, ◌*◌, ◌/◌, ◌^◌, ◌<◌, ◌≤◌, length, slice_index};
 ghost use Rattle.bp_layout.specs.Words.{byte_of};
 ghost use Rattle.bp_limits.specs.Limits.{block_size, block_words};
 ghost use Rattle.pm_region.specs.Memory.{current_words, room_in};
@@ -56,22 +56,36 @@ fn new_run(start: u64, layer: &Layer<'_>) -> [u64; RUN]
     words
 }
 
-/// Whether a run of words, the first byte of which is at `start`, lies whole in the given bytes.
-fn is_given(start: u64, layer: &Layer<'_>) -> bool
+/// The values of the words of a run, the first byte of which is at `start`: 0, where it ends before the first given byte.
+fn early_run(start: u64, layer: &Layer<'_>) -> [u64; RUN]
     requires few { start + 8 * run_words < 2 ^ 64 }
-    ensures { result ≡ true → (layer.now.from ≤ start) × (start - layer.now.from + 8 * run_words ≤ length layer.now.bytes.now) }
+    ensures { (k c : ℕ) → k < run_words → c < 8 → byte_of (slice_index result k) c ≡
+        given layer.now.from layer.now.bytes.now (start + 8 * k + c) }
 {
-    layer.from <= start && start - layer.from + 8 * RUN as u64 <= layer.bytes.len() as u64
+    let end = start + 8 * RUN as u64;
+    if end <= layer.from {
+        return [0; RUN];
+    }
+    new_run(start, layer)
 }
 
-/// The values of the words of a run behind the bytes that stay. The first byte of it is at `start`.
+/// The values of the words of a run behind the bytes that stay. The first byte of it is at `start`. A run that lies whole in the
+/// given bytes is read as it stands there, and one that has none of them is 0.
 fn laid_run(start: u64, layer: &Layer<'_>) -> [u64; RUN]
     requires few { start + 8 * run_words < 2 ^ 64 }
     ensures { (k c : ℕ) → k < run_words → c < 8 → byte_of (slice_index result k) c ≡
         given layer.now.from layer.now.bytes.now (start + 8 * k + c) }
 {
-    if is_given(start, layer) {
-        return given_run(layer.bytes, (start - layer.from) as usize);
+    let count = layer.bytes.len();
+    if start < layer.from {
+        return early_run(start, layer);
+    }
+    let at = (start - layer.from) as usize;
+    if at + 8 * RUN <= count {
+        return given_run(layer.bytes, at);
+    }
+    if count <= at {
+        return [0; RUN];
     }
     new_run(start, layer)
 }

@@ -24,11 +24,10 @@ use Rattle.bp_changes.proofs.Separation.{stands_in_block, free-harmless}
 use Rattle.bp_changes.proofs.ReachedOn.{reached_on}
 use Rattle.pm_epochs.specs.declared.event.Event.{Event}
 use Rattle.pm_epochs.specs.declared.event.Event.TheVariants.{Barrier}
-use Rattle.pm_epochs.specs.Log.{words_after, StoresTo, IsClosed}
+use Rattle.pm_epochs.specs.Log.{words_after, StoresTo}
 use Rattle.pm_epochs.specs.May.{AnyAt, StoresMay, EachMay, AnyOf, links_of}
-use Rattle.pm_epochs.proofs.MayLaws.{quiet_prepared, StoresMay-append, StoresMay-weaker}
-use Rattle.pm_epochs.proofs.CrashLaws.{IsClosed-barrier}
-use Rattle.pm_epochs.proofs.PieceLaws.{IsPiece-append, IsPiece-more, IsPiece-links_of, IsPiece-barrier, StoresTo-front}
+use Rattle.pm_epochs.proofs.MayLaws.{StoresMay-append, StoresMay-weaker}
+use Rattle.pm_epochs.proofs.PieceLaws.{IsPiece-append, IsPiece-more, IsPiece-barrier, StoresTo-front}
 use Rattle.pm_region.specs.Memory.{Memory, current_words, Adds}
 use Rattle.pm_region.proofs.MemoryLaws.{adds_both, current_words-adds}
 use Rattle.bp_commit.specs.Performs.{InBlock, IsOpen, AddsTaking}

@@ -26,6 +26,7 @@ use Rattle.bp_cow.specs.declared.touched.Run.{Run}
 use Rattle.bp_cow.specs.declared.touched.Touched.{Touched}
 use Rattle.bp_cow.specs.CanCommit.{CanCommit}
 use Rattle.bp_cow.specs.Committed.{IsCommitted, after_commit, changes_of}
+use Rattle.bp_cow.specs.Counting.{IsTreeWord}
 use Rattle.bp_cow.specs.Touched.{job_of, laid_word, run_end, run_path, run_word}
 use Rattle.bp_cow.proofs.CommitLaws.{committed_commits, size_after}
 use Rattle.bp_cow.proofs.RunLaws.{byte-run_word, length-run_path, run_word-outside}
@@ -137,7 +138,7 @@ module _ (image : Image) (wf : IsWellFormed image) (i : ℕ) (reached : IsReache
 -- ---- the words
 
 module _ {kept : ℕ → Bool} (old new : Image) (wf : IsWellFormed old) (touched : Touched) (free : ℕ → Bool) (can : CanCommit old (size_of old) kept touched free) (no_word : length touched.words.now ≡ 0)
-    (at : (run : Run) → Has touched.runs.now run → IsInFile old run) (turned : Trail → Type 0) (stage : IsCommitted old new (IsTreePointer old (size_of old)) turned (after_commit old (job_of touched))) where
+    (at : (run : Run) → Has touched.runs.now run → IsInFile old run) (turned : Trail → Type 0) (stage : IsCommitted old new (IsTreePointer old (size_of old)) (IsTreeWord old (size_of old)) turned (after_commit old (job_of touched))) where
   -- the trail of a word by the run's path is that of the content word
   run_trail : (run : Run) (has : Has touched.runs.now run) (k : ℕ) → trail_of (run_path run k) (length (run_path run k)) ≡ word_trail old (suc (at run has).inode) k
   run_trail run has k =

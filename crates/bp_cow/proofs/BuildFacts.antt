@@ -13,9 +13,9 @@ use Rattle.bp_cow.specs.Job.IsAnew.{is_cover, is_begun, is_front}
 use Rattle.bp_cow.proofs.BuildingLaws.{word-loaded}
 
 -- the same pointers under another name
-pub building_same : {kept : ℕ → Bool} (old words : Image) (place pointer : ℕ) (cover : Trail) (Pointer : Trail → Type 0) (anew other : Trail → Type 0) (value : Trail → Option ℕ) (laid : Trail → ℕ) (free : ℕ → Bool) →
+pub building_same : {kept : ℕ → Bool} {Counts : Trail → Type 0} (old words : Image) (place pointer : ℕ) (cover : Trail) (Pointer : Trail → Type 0) (anew other : Trail → Type 0) (value : Trail → Option ℕ) (laid : Trail → ℕ) (free : ℕ → Bool) →
     ((q : Trail) → anew q → other q) → ((q : Trail) → other q → anew q) →
-    IsBuilding old words place pointer cover Pointer anew value laid kept free → IsBuilding old words place pointer cover Pointer other value laid kept free
+    IsBuilding old words place pointer cover Pointer Counts anew value laid kept free → IsBuilding old words place pointer cover Pointer Counts other value laid kept free
 building_same old words place pointer cover Pointer anew other value laid free to from building =
     let stage = building.stage in
     record {
@@ -25,7 +25,7 @@ building_same old words place pointer cover Pointer anew other value laid free t
         skeleton = stage.skeleton;
         superblock = stage.superblock;
         same = λ p live n. stage.same p live (λ a. n (to p a));
-        words = λ p slot live n low m content. stage.words p slot live (from p n) low (λ a. m (to (slot ∷ p) a)) content;
+        words = λ p slot live n low m counts. stage.words p slot live (from p n) low (λ a. m (to (slot ∷ p) a)) counts;
         still = λ p slot live n low m. stage.still p slot live (λ a. n (to p a)) low (λ a. m (to (slot ∷ p) a));
         bits = stage.bits;
         fresh = λ p live n. stage.fresh p live (from p n);
@@ -42,8 +42,8 @@ building_same old words place pointer cover Pointer anew other value laid free t
       below = λ p n. building.below p (from p n);
     }
 
-module _ {kept : ℕ → Bool} (old words : Image) (place pointer : ℕ) (cover : Trail) (Pointer : Trail → Type 0) (pointers : ArePointers Pointer) (anew : Trail → Type 0) (value : Trail → Option ℕ) (laid : Trail → ℕ) (free : ℕ → Bool)
-    (building : IsBuilding old words place pointer cover Pointer anew value laid kept free) where
+module _ {kept : ℕ → Bool} {Counts : Trail → Type 0} (old words : Image) (place pointer : ℕ) (cover : Trail) (Pointer : Trail → Type 0) (pointers : ArePointers Pointer) (anew : Trail → Type 0) (value : Trail → Option ℕ) (laid : Trail → ℕ) (free : ℕ → Bool)
+    (building : IsBuilding old words place pointer cover Pointer Counts anew value laid kept free) where
   same_count : block_count (set words place pointer) ≡ block_count old
   same_count = ap (λ n. n / 512) building.stage.whole
 

@@ -34,8 +34,8 @@ placed-turned old new Pointer pointers here value turns _ long (in_block slot p 
     let same : block_on new p ≡ block_on old p = ap block_of (pointer-turned old new Pointer pointers here value turns p live other) in
     (in_block slot p live (λ null. present (sym same ∙ null)) low, ap (λ b. 512 * b + slot) same)
 
-module _ {kept : ℕ → Bool} (old words : Image) (place pointer : ℕ) (cover : Trail) (Pointer : Trail → Type 0) (pointers : ArePointers Pointer) (anew : Trail → Type 0) (value : Trail → Option ℕ) (laid : Trail → ℕ) (free : ℕ → Bool)
-    (building : IsBuilding old words place pointer cover Pointer anew value laid kept free) where
+module _ {kept : ℕ → Bool} {Counts : Trail → Type 0} (old words : Image) (place pointer : ℕ) (cover : Trail) (Pointer : Trail → Type 0) (pointers : ArePointers Pointer) (anew : Trail → Type 0) (value : Trail → Option ℕ) (laid : Trail → ℕ) (free : ℕ → Bool)
+    (building : IsBuilding old words place pointer cover Pointer Counts anew value laid kept free) where
   some_seen : 0 < block_count (set words place pointer)
   some_seen = rw (ap (λ n. n / 512) building.stage.whole) building.some
 
@@ -61,7 +61,7 @@ module _ {kept : ℕ → Bool} (old words : Image) (place pointer : ℕ) (cover 
         ∙ word-placed (set words place pointer) Pointer (slot ∷ p) (in_block slot p live present low)
 
     module _ (after : Image) (copy : ℕ) (free_after : ℕ → Bool) (patch : Patch) (pointed : Pointer (slot ∷ p)) (first : anew (slot ∷ p) → ⊥)
-        (count : ℕ) (counts : (s : ℕ) → s < 512 → Pointer (s ∷ slot ∷ p) ⊎ (Pointer (0 ∷ slot ∷ p) → ⊥) → s < count) (plain : (s w : ℕ) → Pointer (s ∷ slot ∷ p) → patch s w ≡ w) (lays : (s : ℕ) → s < 512 → patch s (word_on old (s ∷ slot ∷ p)) ≡ laid (s ∷ slot ∷ p))
+        (count : ℕ) (counts : (s : ℕ) → s < 512 → Pointer (s ∷ slot ∷ p) ⊎ Counts (s ∷ slot ∷ p) → s < count) (plain : (s w : ℕ) → Pointer (s ∷ slot ∷ p) → patch s w ≡ w) (lays : (s : ℕ) → s < 512 → patch s (word_on old (s ∷ slot ∷ p)) ≡ laid (s ∷ slot ∷ p))
         (turned : TurnsTo patch count words after (512 * block_on (set words place pointer) p + slot) copy) (takes : TakesNumber free free_after copy) where
       clash : (b : ℕ) → free b ≡ true → free b ≡ false → ⊥
       clash b one two = absurd (cc)
@@ -137,7 +137,7 @@ module _ {kept : ℕ → Bool} (old words : Image) (place pointer : ℕ) (cover 
       pub building_block : block_on (set after place pointer) (slot ∷ p) ≡ copy
       building_block = ap block_of turns_after.turned ∙ leads
 
-      pub building_turn : IsBuilding old after place pointer cover Pointer (λ q. anew q ⊎ (q ≡ slot ∷ p)) value laid kept free_after
+      pub building_turn : IsBuilding old after place pointer cover Pointer Counts (λ q. anew q ⊎ (q ≡ slot ∷ p)) value laid kept free_after
       building_turn =
           let longer : length cover ≤ length (slot ∷ p) = omega (arith, building.below p made) in
           let still = placed-turned (set words place pointer) (set after place pointer) Pointer pointers (slot ∷ p) (pointing_to (word_on (set words place pointer) (slot ∷ p)) copy) turns_after cover longer building.placed in
@@ -145,8 +145,8 @@ module _ {kept : ℕ → Bool} (old words : Image) (place pointer : ℕ) (cover 
             some = building.some;
             stage = stage_copy old (set words place pointer) (set after place pointer) Pointer pointers anew value laid free building.stage (slot ∷ p) (pointing_to (word_on (set words place pointer) (slot ∷ p)) copy) copy free_after
                 pointed first turns_after (omega arith) leads takes.was takes.gone takes.others
-                (λ s few unturned content.
-                ap (λ ws. slot_word ws copy s) after_is ∙ stored_slot s few (counts s few (inr content)) ∙ ap (patch s) (building.stage.still (slot ∷ p) s pointed first few unturned) ∙ lays s few);
+                (λ s few unturned counted.
+                ap (λ ws. slot_word ws copy s) after_is ∙ stored_slot s few (counts s few (inr counted)) ∙ ap (patch s) (building.stage.still (slot ∷ p) s pointed first few unturned) ∙ lays s few);
             placed = still.0;
             at = still.1 ∙ building.at;
             below = λ q n. below q n;
@@ -169,7 +169,7 @@ module _ {kept : ℕ → Bool} (old words : Image) (place pointer : ℕ) (cover 
           (store_turns (set words place pointer) (set words place pointer) Pointer pointers building.stage.skeleton some_seen (block_count (set words place pointer))
           (record { whole = refl; others = λ at other. refl }) (λ e. absurd (omega (arith, some_seen, e))) none_past (slot ∷ p) given (in_block slot p live present low) (λ l. absurd (content l)))
 
-      pub building_store : IsBuilding old (set words (512 * block_on (set words place pointer) p + slot) given) place pointer cover Pointer anew value_after laid kept free
+      pub building_store : IsBuilding old (set words (512 * block_on (set words place pointer) p + slot) given) place pointer cover Pointer Counts anew value_after laid kept free
       building_store =
           let longer : length cover ≤ length (slot ∷ p) = omega (arith, building.below p made) in
           let still = placed-turned (set words place pointer) (set (set words (512 * block_on (set words place pointer) p + slot) given) place pointer) Pointer pointers (slot ∷ p) given turns_store cover longer building.placed in
@@ -184,8 +184,8 @@ module _ {kept : ℕ → Bool} (old words : Image) (place pointer : ℕ) (cover 
 -- ---- the first copy
 
 -- the cover's pointer, and a copy of its block that holds its words
-module _ {kept : ℕ → Bool} (old mid : Image) (cover : Trail) (Pointer : Trail → Type 0) (pointers : ArePointers Pointer) (value : Trail → Option ℕ) (laid : Trail → ℕ) (free free_after : ℕ → Bool) (copy : ℕ) (patch : Patch)
-    (count : ℕ) (counts : (s : ℕ) → s < 512 → Pointer (s ∷ cover) ⊎ (Pointer (0 ∷ cover) → ⊥) → s < count) (plain : (s w : ℕ) → Pointer (s ∷ cover) → patch s w ≡ w) (lays : (s : ℕ) → s < 512 → patch s (word_on old (s ∷ cover)) ≡ laid (s ∷ cover))
+module _ {kept : ℕ → Bool} (Counts : Trail → Type 0) (old mid : Image) (cover : Trail) (Pointer : Trail → Type 0) (pointers : ArePointers Pointer) (value : Trail → Option ℕ) (laid : Trail → ℕ) (free free_after : ℕ → Bool) (copy : ℕ) (patch : Patch)
+    (count : ℕ) (counts : (s : ℕ) → s < 512 → Pointer (s ∷ cover) ⊎ Counts (s ∷ cover) → s < count) (plain : (s w : ℕ) → Pointer (s ∷ cover) → patch s w ≡ w) (lays : (s : ℕ) → s < 512 → patch s (word_on old (s ∷ cover)) ≡ laid (s ∷ cover))
     (some : 0 < block_count old) (skeleton : IsSkeleton old Pointer) (exact : IsExactSet old Pointer kept free) (no_value : (p : Trail) → value p ≡ None)
     (pointed : Pointer cover) (placed : IsPlaced old Pointer cover) (takes : TakesNumber free free_after copy) (equal : EqualBut copy old mid)
     (copied : (slot : ℕ) → slot < 512 → slot < count → slot_word mid copy slot ≡ patch slot (slot_word old (block_on old cover) slot)) where
@@ -212,7 +212,7 @@ module _ {kept : ℕ → Bool} (old mid : Image) (cover : Trail) (Pointer : Trai
       store_turns old mid Pointer pointers skeleton some copy equal first_not_null first_unnamed cover (pointing_to (word_on old cover) copy) placed
       (λ _ s l. ap (λ b. slot_word (set mid (place_on old cover) (pointing_to (word_on old cover) copy)) b s) first_leads ∙ first_stored_slot s (pointers.slots s cover l) (counts s (pointers.slots s cover l) (inl l)) ∙ plain s (word_on old (s ∷ cover)) l)
 
-  pub building_start : IsBuilding old mid (place_on old cover) (pointing_to (word_on old cover) copy) cover Pointer (λ q. ⊥ ⊎ (q ≡ cover)) value laid kept free_after
+  pub building_start : IsBuilding old mid (place_on old cover) (pointing_to (word_on old cover) copy) cover Pointer Counts (λ q. ⊥ ⊎ (q ≡ cover)) value laid kept free_after
   building_start =
       let still = placed-turned old (set mid (place_on old cover) (pointing_to (word_on old cover) copy)) Pointer pointers cover (pointing_to (word_on old cover) copy) turns_first cover (omega arith) placed in
       record {
@@ -220,7 +220,7 @@ module _ {kept : ℕ → Bool} (old mid : Image) (cover : Trail) (Pointer : Trai
         stage = stage_copy old old (set mid (place_on old cover) (pointing_to (word_on old cover) copy)) Pointer pointers (λ q. ⊥) value laid free
             (stage_start old Pointer (λ q. ⊥) value laid free skeleton exact (λ p n. n) no_value)
             cover (pointing_to (word_on old cover) copy) copy free_after pointed (λ n. n) turns_first (omega arith) first_leads takes.was takes.gone takes.others
-            (λ s few unturned content. first_stored_slot s few (counts s few (inr content)) ∙ lays s few);
+            (λ s few unturned counted. first_stored_slot s few (counts s few (inr counted)) ∙ lays s few);
         placed = still.0;
         at = still.1;
         below = λ q n. below q n;

@@ -16,6 +16,7 @@ use Rattle.bp_shapes.specs.Forest.{IsExactSet, IsTreePointer}
 use Rattle.bp_shapes.specs.Trail.{Trail, word_on, block_on, place_on, trail_of}
 use Rattle.bp_layout.proofs.SameLaws.{same_self}
 use Rattle.bp_shapes.proofs.ExactSets.{unheld_exact}
+use Rattle.bp_cow.specs.Counting.{IsTreeWord}
 use Rattle.bp_cow.specs.declared.touched.Touched.{Touched}
 use Rattle.bp_cow.specs.declared.covering.FoundCover.{FoundCover}
 use Rattle.bp_cow.specs.Adds.{AddsCopyCommit}
@@ -39,20 +40,20 @@ pub record CommitsCopies (bound : ℕ → ℕ) (kept : ℕ → Bool) (touched : 
   pub count : length (members blocks) ≡ length (members taken) + copies_at (job_of touched) cover
   pub size : length taken ≡ length blocks
   pub commit : AddsCopyCommit (has blocks) (has taken) (place_on (current_words old) (trail_of (end_path touched 0) cover)) (513 * copies_at (job_of touched) cover + length touched.words.now + 1) old new
-  pub words : IsCommitted (current_words old) (current_words new) (IsTreePointer (current_words old) bound) (IsTurned (job_of touched) cover) (after_commit (current_words old) (job_of touched))
+  pub words : IsCommitted (current_words old) (current_words new) (IsTreePointer (current_words old) bound) (IsTreeWord (current_words old) bound) (IsTurned (job_of touched) cover) (after_commit (current_words old) (job_of touched))
   pub exact : IsExactSet (current_words new) (IsTreePointer (current_words old) bound) kept (has blocks_after)
 
 -- the same pointers under another name
-pub committed_same : (old new : Image) (Pointer turned other : Trail → Type 0) (after : Trail → ℕ) → ((q : Trail) → turned q → other q) → ((q : Trail) → other q → turned q) →
-    IsCommitted old new Pointer turned after → IsCommitted old new Pointer other after
-committed_same old new Pointer turned other after to from stage = record {
+pub committed_same : (old new : Image) (Pointer Counts turned other : Trail → Type 0) (after : Trail → ℕ) → ((q : Trail) → turned q → other q) → ((q : Trail) → other q → turned q) →
+    IsCommitted old new Pointer Counts turned after → IsCommitted old new Pointer Counts other after
+committed_same old new Pointer Counts turned other after to from stage = record {
   whole = stage.whole;
   superblock = stage.superblock;
   skeleton = stage.skeleton;
   kept = λ p l none. stage.kept p l (λ t. none (to p t));
   bits = stage.bits;
   fresh = λ p l t. stage.fresh p l (from p t);
-  words = λ p slot l low none content. stage.words p slot l low (λ t. none (to (slot ∷ p) t)) content;
+  words = λ p slot l low none counts. stage.words p slot l low (λ t. none (to (slot ∷ p) t)) counts;
   decide = λ p. decide p (stage.decide p);
   pointers = λ p t. stage.pointers p (from p t);
 }
@@ -114,9 +115,9 @@ module _ {kept : ℕ → Bool} (bound : ℕ → ℕ) (touched : Touched) (first 
   last-is : set old found.place (only_value touched (word old found.place)) ≡ current_words last
   last-is = sym (current_words-adds first last _ adds)
 
-  committed : IsCommitted old (current_words last) (IsTreePointer old bound) (λ q. ⊥) (after_commit old (job_of touched))
+  committed : IsCommitted old (current_words last) (IsTreePointer old bound) (IsTreeWord old bound) (λ q. ⊥) (after_commit old (job_of touched))
   committed =
-      subst (λ (ws : Image). IsCommitted old ws (IsTreePointer old bound) (λ q. ⊥) (after_commit old (job_of touched))) (ap (λ p. set old p (only_value touched (word old found.place))) place-is ∙ last-is)
+      subst (λ (ws : Image). IsCommitted old ws (IsTreePointer old bound) (IsTreeWord old bound) (λ q. ⊥) (after_commit old (job_of touched))) (ap (λ p. set old p (only_value touched (word old found.place))) place-is ∙ last-is)
       (in_place old bound touched (has blocks) wf can m (subst (BeginAlike touched) (sym up-is) at.alike) way-is (λ k low. at.exists k (subst (λ n. k < n) up-is low)) (only_value touched (word old found.place)) value-is)
 
   same-block : (p : Trail) → IsTreePointer old bound p → block_on (current_words last) p ≡ block_on old p
@@ -152,7 +153,7 @@ module _ {kept : ℕ → Bool} (bound : ℕ → ℕ) (touched : Touched) (first 
       each = λ b was gone. absurd (clash (has blocks b) was gone);
       fewer = λ b is. is;
     };
-    words = committed_same old (current_words last) (IsTreePointer old bound) (λ q. ⊥) (IsTurned (job_of touched) found.len) _ (λ q none. absurd none)
+    words = committed_same old (current_words last) (IsTreePointer old bound) (IsTreeWord old bound) (λ q. ⊥) (IsTurned (job_of touched) found.len) _ (λ q none. absurd none)
         (λ q t. let low = t.copies in absurd (omega (arith, low, past))) committed;
     exact = exact-still;
   }
@@ -180,7 +181,7 @@ module _ {kept : ℕ → Bool} (bound : ℕ → ℕ) (touched : Touched) (first 
         size = done.size;
         commit = subst (λ p. AddsCopyCommit (has blocks) (has taken) p (513 * copies_at (job_of touched) found.len + length touched.words.now + 1) first last) (sym at.place)
             (looser (has blocks) (has taken) found.place _ _ first last (omega (arith, same)) done.commit);
-        words = committed_same (current_words first) (current_words last) (IsTreePointer (current_words first) bound) (IsAnew (job_of touched) found.len (ways (job_of touched)) found.len) (IsTurned (job_of touched) found.len) _
+        words = committed_same (current_words first) (current_words last) (IsTreePointer (current_words first) bound) (IsTreeWord (current_words first) bound) (IsAnew (job_of touched) found.len (ways (job_of touched)) found.len) (IsTurned (job_of touched) found.len) _
             (λ q n. record { copies = short; anew = n }) (λ q t. t.anew)
             (stage_committed plan found.len (current_words last) (has taken) (can_build (current_words first) bound touched (has blocks) wf can found.len at.alike short found.place at.exists at.place) done.stage);
         exact = exact;

@@ -13,6 +13,7 @@ use Rattle.bp_changes.proofs.Formatted.{version_stays}
 use Rattle.bp_layout.proofs.TreeLaws.{live_above, live_content}
 use Rattle.bp_shapes.specs.Trail.{Trail, word_on, block_on, LeadsTo}
 use Rattle.bp_shapes.specs.Forest.{root_trail, tree_trail, IsForest, IsTreePointer}
+use Rattle.bp_cow.specs.Counting.{IsTreeWord}
 use Rattle.bp_cow.specs.Job.{Job}
 use Rattle.bp_cow.specs.Committed.{after_commit, changes_of, IsCommitted}
 use Rattle.bp_shapes.proofs.TrailLaws.{word_on-top}
@@ -38,22 +39,9 @@ module _ (old : Image) (bound : ℕ → ℕ) (forest : IsForest old bound) (t k 
       let height : height_of (root_of old one.tree) ≡ height_of (root_of old t) = ap (λ (x : ℕ). height_of (root_of old x)) all.0 in
       omega (arith, deep, all.1, height)
 
-  -- so the first one is none
-  pub first_plain : IsTreePointer old bound (0 ∷ tree_trail (height_of (word old 2)) t (height_of (root_of old t)) (k / 512)) → ⊥
-  first_plain one = no_pointer (512 * (k / 512)) (omega arith) (λ _ e. omega (arith, e)) (subst (IsTreePointer old bound) (first_word (k / 512)) one)
-    where
-      first_word : (leaf : ℕ) → 0 ∷ tree_trail (height_of (word old 2)) t (height_of (root_of old t)) leaf ≡ tree_trail (height_of (word old 2)) t (suc (height_of (root_of old t))) (512 * leaf)
-      first_word leaf =
-          let slot : 0 ≡ 512 * leaf % 512 = omega arith in
-          let up : leaf ≡ 512 * leaf / 512 = omega arith in
-          cons slot (ap (tree_trail (height_of (word old 2)) t (height_of (root_of old t))) up)
-        where
-          cons : {s u : ℕ} {p q : Trail} → s ≡ u → p ≡ q → s ∷ p ≡ u ∷ q
-          cons e f = cc
-
 -- ---- a commit
 
-module _ (old now : Image) (bound : ℕ → ℕ) (forest : IsForest old bound) (turned : Trail → Type 0) (job : Job) (stage : IsCommitted old now (IsTreePointer old bound) turned (after_commit old job)) where
+module _ (old now : Image) (bound : ℕ → ℕ) (forest : IsForest old bound) (turned : Trail → Type 0) (job : Job) (stage : IsCommitted old now (IsTreePointer old bound) (IsTreeWord old bound) turned (after_commit old job)) where
   low_bits : (t d k : ℕ) → IsReached old t → IsLivePointer (root_of old t) (bound t) d k →
       word_on now (tree_trail (height_of (word old 2)) t d k) % 4096 ≡ word_on old (tree_trail (height_of (word old 2)) t d k) % 4096
   low_bits t d k r live = stage.bits _ (record { tree = t; depth = d; index = k; reached = r; live = live; named = refl })
@@ -89,7 +77,7 @@ module _ (old now : Image) (bound : ℕ → ℕ) (forest : IsForest old bound) (
       ap (λ h. word_at now (root_of now t) (suc h) k) (root_height t r some)
       ∙ sym (word-now t (suc (height_of (root_of old t))) k)
       ∙ stage.words (tree_trail (height_of (word old 2)) t (height_of (root_of old t)) (k / 512)) (k % 512) (leaf_pointer old bound forest t k r low) (omega arith)
-      (λ n. no_pointer old bound forest t k r low k refl no_root (stage.pointers _ n)) (first_plain old bound forest t k r low)
+      (λ n. no_pointer old bound forest t k r low k refl no_root (stage.pointers _ n)) (record { tree = t; number = k; reached = r; below = low; named = refl })
 
   -- the size of an inode is the value of its word
   pub size_after : (i : ℕ) → IsReached old (suc i) → size_of now (suc i) ≡ after_commit old job (tree_trail (height_of (word old 2)) 0 (suc (height_of (word old 2))) (8 * suc i + 2))

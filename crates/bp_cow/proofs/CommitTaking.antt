@@ -25,6 +25,7 @@ use Rattle.bp_shapes.proofs.PathTrails.{address-on, length-trail_of}
 use Rattle.bp_commit.specs.Performs.{IsOpen, AddsTaking, PerformsThawed, most_stores_thawed}
 use Rattle.bp_commit.specs.Performs.IsOpen.{in_live, at_root}
 use Rattle.bp_commit.proofs.PerformsLaws.{performs_committed, performs_twice}
+use Rattle.bp_cow.specs.Counting.{IsTreeWord}
 use Rattle.bp_cow.specs.declared.touched.Touched.{Touched}
 use Rattle.bp_cow.specs.CanCommit.{CanCommit}
 use Rattle.bp_cow.specs.Commit.{CommitsTouched, HasLooseCover, commit_stores, cover_word}
@@ -166,7 +167,7 @@ module _ {kept : ℕ → Bool} (bound : ℕ → ℕ) (touched : Touched) (old ne
         (λ b one. (of_copy (has blocks) (has done.taken) (place_on image (trail_of first done.cover)) (513 * copies_at (job_of touched) done.cover + length touched.words.now + 1) old new done.commit was_free b one).0);
     stays = stays-is;
     loose = loose;
-    words = subst (λ k. IsCommitted image (current_words new) (IsTreePointer image bound) (IsTurned (job_of touched) k) (after_commit image (job_of touched))) cover-is done.words;
+    words = subst (λ k. IsCommitted image (current_words new) (IsTreePointer image bound) (IsTreeWord image bound) (IsTurned (job_of touched) k) (after_commit image (job_of touched))) cover-is done.words;
     exact = exact-unheld (current_words new) (IsTreePointer image bound) (IsReached image) bound kept (has after)
         (λ b one. has_led image (current_words new) bound can.forest (IsTurned (job_of touched) done.cover) (job_of touched) done.words b one.tree one.reached one.has)
         (λ b one. let tree = led_has image (current_words new) bound can.forest (IsTurned (job_of touched) done.cover) (job_of touched) done.words b one in record { tree = tree.0; reached = tree.1; has = tree.2 }) done.exact;

@@ -8,6 +8,7 @@ use Rattle.bp_shapes.specs.Forest.{IsExactSet, IsTreePointer}
 use Rattle.bp_shapes.proofs.ForestLaws.{pointers, skeleton}
 use Rattle.bp_shapes.proofs.TrailLaws.{cases_trail}
 use Rattle.bp_shapes.proofs.PathTrails.{length-trail_of}
+use Rattle.bp_cow.specs.Counting.{IsTreeWord}
 use Rattle.bp_cow.specs.Stage.{IsStage}
 use Rattle.bp_cow.specs.Job.{Job, ways, front, value_upto, laid_on, IsBegun, IsAnew}
 use Rattle.bp_cow.specs.Job.IsAnew.{is_cover, is_begun, is_front}
@@ -61,7 +62,7 @@ anew_pointer plan from can q (is_begun b) = subst (IsTreePointer plan.old plan.b
 anew_pointer plan from can q (is_front k low high e) = absurd (omega (arith, low, high))
 
 module _ (plan : Plan) (from : ℕ) (now : Image) (free : ℕ → Bool) (can : CanMake plan from)
-    (stage : IsStage plan.old now (IsTreePointer plan.old plan.bound) (IsAnew plan.job from (ways plan.job) from) (value_upto plan.job plan.job.words) (laid_on plan.old plan.job) plan.kept free) where
+    (stage : IsStage plan.old now (IsTreePointer plan.old plan.bound) (IsTreeWord plan.old plan.bound) (IsAnew plan.job from (ways plan.job) from) (value_upto plan.job plan.job.words) (laid_on plan.old plan.job) plan.kept free) where
   pub left_of : ((w : ℕ) → w ≢ plan.place → plan.free (w / 512) ≡ false → word now w ≡ word plan.old w) → IsLeft plan from free now
   left_of others = record {
     can = can;

@@ -27,6 +27,7 @@ use Rattle.bp_shapes.proofs.TrailLaws.{Turns, cases_trail, pointer-turned, word-
 use Rattle.bp_shapes.proofs.StoreLaws.{store_turns}
 use Rattle.bp_cow.proofs.BuildFacts.{value-here, value-none, laid-leaf, laid-other}
 use Rattle.bp_cow.specs.Cover.{end_path, end_path_of, ends, ends_of, BeginAlike}
+use Rattle.bp_cow.specs.Counting.{IsTreeWord}
 use Rattle.bp_cow.specs.CanCommit.{IsRunIn, CanCommit}
 use Rattle.bp_cow.specs.Plan.{IsFeasible}
 use Rattle.bp_cow.proofs.Distinct.{same-take}
@@ -68,7 +69,7 @@ module _ (old : Image) (bound : ℕ → ℕ) (forest : IsForest old bound) (run 
       omega (arith, all.2)
 
   -- the words that count
-  pub leaf-counts : (j depth slot : ℕ) → j < run_leaves run → slot < 512 → IsTreePointer old bound (slot ∷ trail_of (run_way run j) depth) ⊎ (IsTreePointer old bound (0 ∷ trail_of (run_way run j) depth) → ⊥) →
+  pub leaf-counts : (j depth slot : ℕ) → j < run_leaves run → slot < 512 → IsTreePointer old bound (slot ∷ trail_of (run_way run j) depth) ⊎ IsTreeWord old bound (slot ∷ trail_of (run_way run j) depth) →
       slot < run_live run j depth
   leaf-counts j depth slot low small any =
       let below : run_end run ≤ bound t = at.below in
@@ -194,7 +195,7 @@ module _ {kept : ℕ → Bool} (old : Image) (bound : ℕ → ℕ) (touched : To
 
   -- the words of blocks on the ways that count
   ways-count : (i depth slot : ℕ) → i < ways (job_of touched) → depth ≤ length ((job_of touched).way i) → slot < 512 →
-      IsTreePointer old bound (slot ∷ trail_of ((job_of touched).way i) depth) ⊎ (IsTreePointer old bound (0 ∷ trail_of ((job_of touched).way i) depth) → ⊥) → slot < (job_of touched).live i depth
+      IsTreePointer old bound (slot ∷ trail_of ((job_of touched).way i) depth) ⊎ IsTreeWord old bound (slot ∷ trail_of ((job_of touched).way i) depth) → slot < (job_of touched).live i depth
   ways-count i depth slot here short small any = go (cases_lt i (leaves_of touched.runs.now))
     where
       go : (i < leaves_of touched.runs.now) ⊎ (leaves_of touched.runs.now ≤ i) → slot < live_of touched.runs.now touched.trees.now paths i depth
@@ -206,7 +207,7 @@ module _ {kept : ℕ → Bool} (old : Image) (bound : ℕ → ℕ) (touched : To
           let one = leaf-at i low in
           rw (one.is.live touched.trees.now depth)
           (leaf-counts old bound can.forest one.run (is-run one.run one.is.has) (run-in one.run one.is.has) one.leaf depth slot one.is.low small
-          (subst (λ (p : List ℕ). IsTreePointer old bound (slot ∷ trail_of p depth) ⊎ (IsTreePointer old bound (0 ∷ trail_of p depth) → ⊥)) one.is.way any))
+          (subst (λ (p : List ℕ). IsTreePointer old bound (slot ∷ trail_of p depth) ⊎ IsTreeWord old bound (slot ∷ trail_of p depth)) one.is.way any))
 
   -- the leaves have no pointers
   leaves-bare : (i slot : ℕ) → i < (job_of touched).leaves → IsTreePointer old bound (slot ∷ end_of (job_of touched) i) → ⊥
@@ -656,7 +657,7 @@ module _ {kept : ℕ → Bool} (old : Image) (bound : ℕ → ℕ) (touched : To
           none-past here value (in_block slot up up-pointer (exists m (omega arith)) slot-low) (λ l. absurd (content-here l))
 
       pub in_place : (value : ℕ) → value ≡ only_value touched (word_on old here) →
-          IsCommitted old (set old (512 * block_on old up + slot) value) (IsTreePointer old bound) (λ q. ⊥) (after_commit old (job_of touched))
+          IsCommitted old (set old (512 * block_on old up + slot) value) (IsTreePointer old bound) (IsTreeWord old bound) (λ q. ⊥) (after_commit old (job_of touched))
       in_place value is =
           let now : Image = set old (512 * block_on old up + slot) value in
           let turns : Turns old now (IsTreePointer old bound) here value = turned-here value in

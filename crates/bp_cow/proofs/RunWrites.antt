@@ -17,6 +17,7 @@ use Rattle.bp_shapes.specs.Forest.{along, root_trail, tree_trail, IsTreePointer}
 use Rattle.bp_shapes.specs.Trail.{Trail, trail_of, word_on}
 use Rattle.bp_shapes.proofs.ForestLaws.{HasFewDigits, same_along, same_trail, short, word-tree}
 use Rattle.bp_tree.proofs.Digits.{length-digits}
+use Rattle.bp_cow.specs.Counting.{IsTreeWord}
 use Rattle.bp_cow.specs.declared.touched.Run.{Run}
 use Rattle.bp_cow.specs.declared.touched.Touched.{Touched}
 use Rattle.bp_cow.specs.CanCommit.{CanCommit}
@@ -59,7 +60,7 @@ long_along base zero index = omega arith
 long_along base (suc depth) index = omega (arith, long_along base depth (index / 512))
 
 module _ {kept : ℕ → Bool} (old new : Image) (bound : ℕ → ℕ) (wf : IsWellFormed old) (touched : Touched) (free : ℕ → Bool) (can : CanCommit old bound kept touched free) (run : Run) (n : ℕ) (is : IsFileRun old bound touched run n)
-    (turned : Trail → Type 0) (stage : IsCommitted old new (IsTreePointer old bound) turned (after_commit old (job_of touched))) where
+    (turned : Trail → Type 0) (stage : IsCommitted old new (IsTreePointer old bound) (IsTreeWord old bound) turned (after_commit old (job_of touched))) where
   -- where the size is touched it is the one that is given
   pub sized_size : (i : ℕ) → i < length touched.words.now → size_of new (suc n) ≡ (job_of touched).value i
   sized_size i here =
@@ -217,7 +218,7 @@ module _ {kept : ℕ → Bool} (old new : Image) (bound : ℕ → ℕ) (wf : IsW
 module _ {kept : ℕ → Bool} (old new : Image) (wf : IsWellFormed old) (touched : Touched) (free : ℕ → Bool) (can : CanCommit old (size_of old) kept touched free) (run : Run) (n : ℕ) (one : touched.runs.now ≡ run ∷ []) (none : length touched.words.now ≡ 0)
     (reached : IsReached old (suc n)) (is_file : kind_of old (suc n) ≡ 1) (root : run.root.items ≡ inode_path (height_of (root_of old 0)) (suc n) 1) (height : run.height ≡ height_of (root_of old (suc n))) (some : 0 < length run.bytes.now)
     (below : run_end run ≤ size_of old (suc n)) (small : (i : ℕ) → slice_index run.bytes.now i < 256) (turned : Trail → Type 0)
-    (stage : IsCommitted old new (IsTreePointer old (size_of old)) turned (after_commit old (job_of touched))) where
+    (stage : IsCommitted old new (IsTreePointer old (size_of old)) (IsTreeWord old (size_of old)) turned (after_commit old (job_of touched))) where
   alone : IsFileRun old (size_of old) touched run n
   alone = record {
     one = one;

@@ -7,13 +7,14 @@ use Rattle.bp_cow.specs.Job.{ways, end_of, value_upto, laid_on, IsAnew}
 use Rattle.bp_cow.specs.Job.IsAnew.{is_begun}
 use Rattle.bp_cow.specs.Stage.{IsStage}
 use Rattle.bp_cow.specs.Plan.{Plan, CanMake}
+use Rattle.bp_cow.specs.Counting.{IsTreeWord}
 use Rattle.bp_cow.specs.Committed.{IsCommitted, after_commit}
 use Rattle.bp_cow.proofs.BuildFacts.{laid-other}
 use Rattle.bp_cow.proofs.EndLaws.{decide_anew, anew_pointer}
 
 pub stage_committed : (plan : Plan) (from : ℕ) (now : Image) (free : ℕ → Bool) → CanMake plan from →
-    IsStage plan.old now (IsTreePointer plan.old plan.bound) (IsAnew plan.job from (ways plan.job) from) (value_upto plan.job plan.job.words) (laid_on plan.old plan.job) plan.kept free →
-    IsCommitted plan.old now (IsTreePointer plan.old plan.bound) (IsAnew plan.job from (ways plan.job) from) (after_commit plan.old plan.job)
+    IsStage plan.old now (IsTreePointer plan.old plan.bound) (IsTreeWord plan.old plan.bound) (IsAnew plan.job from (ways plan.job) from) (value_upto plan.job plan.job.words) (laid_on plan.old plan.job) plan.kept free →
+    IsCommitted plan.old now (IsTreePointer plan.old plan.bound) (IsTreeWord plan.old plan.bound) (IsAnew plan.job from (ways plan.job) from) (after_commit plan.old plan.job)
 stage_committed plan from now free can stage = record {
   whole = stage.whole;
   superblock = stage.superblock;
@@ -21,7 +22,7 @@ stage_committed plan from now free can stage = record {
   kept = stage.same;
   bits = stage.bits;
   fresh = stage.fresh;
-  words = λ p slot live low none content. words p slot live low none content (decide_anew plan.job from (ways plan.job) p);
+  words = λ p slot live low none counts. words p slot live low none counts (decide_anew plan.job from (ways plan.job) p);
   decide = decide_anew plan.job from (ways plan.job);
   pointers = anew_pointer plan from can;
 }
@@ -30,10 +31,10 @@ stage_committed plan from now free can stage = record {
     no_leaf : (p : Trail) → (IsAnew plan.job from (ways plan.job) from p → ⊥) → (j : ℕ) → j < plan.job.leaves → p ≢ end_of plan.job j
     no_leaf p still j low e = still (is_begun (record { which = j; depth = length (plan.job.way j); early = omega (arith, low); low = can.below j (omega (arith, low)); high = omega arith; same = e }))
 
-    words : (p : Trail) (slot : ℕ) → IsTreePointer plan.old plan.bound p → slot < 512 → (IsAnew plan.job from (ways plan.job) from (slot ∷ p) → ⊥) → (IsTreePointer plan.old plan.bound (0 ∷ p) → ⊥) →
+    words : (p : Trail) (slot : ℕ) → IsTreePointer plan.old plan.bound p → slot < 512 → (IsAnew plan.job from (ways plan.job) from (slot ∷ p) → ⊥) → IsTreeWord plan.old plan.bound (slot ∷ p) →
         IsAnew plan.job from (ways plan.job) from p ⊎ (IsAnew plan.job from (ways plan.job) from p → ⊥) → word_on now (slot ∷ p) ≡ after_commit plan.old plan.job (slot ∷ p)
-    words p slot live low none content (inl copied) = stage.words p slot live copied low none content
-    words p slot live low none content (inr still) =
+    words p slot live low none counts (inl copied) = stage.words p slot live copied low none counts
+    words p slot live low none counts (inr still) =
         stage.still p slot live still low none
         ∙ sym (laid-other plan.old plan.job slot p (no_leaf p still))
         ∙ ap (λ v. unwrap_or v (laid_on plan.old plan.job (slot ∷ p))) (sym (stage.early p slot live still))

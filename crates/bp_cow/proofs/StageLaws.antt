@@ -9,9 +9,9 @@ use Rattle.bp_cow.specs.Stage.{IsStage}
 use Rattle.bp_shapes.proofs.TrailLaws.{cases_trail, Turns, pointer-turned, word-turned, slot-turned, skeleton-turned}
 
 -- nothing is done
-pub stage_start : {kept : ℕ → Bool} (old : Image) (Pointer : Trail → Type 0) (anew : Trail → Type 0) (value : Trail → Option ℕ) (laid : Trail → ℕ) (free : ℕ → Bool) →
+pub stage_start : {kept : ℕ → Bool} {Counts : Trail → Type 0} (old : Image) (Pointer : Trail → Type 0) (anew : Trail → Type 0) (value : Trail → Option ℕ) (laid : Trail → ℕ) (free : ℕ → Bool) →
     IsSkeleton old Pointer → IsExactSet old Pointer kept free → ((p : Trail) → anew p → ⊥) → ((p : Trail) → value p ≡ None) →
-    IsStage old old Pointer anew value laid kept free
+    IsStage old old Pointer Counts anew value laid kept free
 stage_start old Pointer anew value laid free skeleton exact none no_value = record {
   whole = refl;
   skeleton = skeleton;
@@ -37,7 +37,7 @@ stage_start old Pointer anew value laid free skeleton exact none no_value = reco
     other : (b : ℕ) → free b ≡ true → free b ≡ false → ⊥
     other b one two = absurd (cc)
 
-module _ {kept : ℕ → Bool} (old now next : Image) (Pointer : Trail → Type 0) (pointers : ArePointers Pointer) (anew : Trail → Type 0) (value : Trail → Option ℕ) (laid : Trail → ℕ) (free : ℕ → Bool) (stage : IsStage old now Pointer anew value laid kept free) where
+module _ {kept : ℕ → Bool} {Counts : Trail → Type 0} (old now next : Image) (Pointer : Trail → Type 0) (pointers : ArePointers Pointer) (anew : Trail → Type 0) (value : Trail → Option ℕ) (laid : Trail → ℕ) (free : ℕ → Bool) (stage : IsStage old now Pointer Counts anew value laid kept free) where
   same_count : block_count now ≡ block_count old
   same_count = ap (λ n. n / 512) stage.whole
 
@@ -50,14 +50,14 @@ module _ {kept : ℕ → Bool} (old now next : Image) (Pointer : Trail → Type 
       free copy ≡ true →
       free_after copy ≡ false →
       ((b : ℕ) → b ≢ copy → free_after b ≡ free b) →
-      ((slot : ℕ) → slot < 512 → (anew (slot ∷ here) → ⊥) → (Pointer (0 ∷ here) → ⊥) → slot_word next copy slot ≡ laid (slot ∷ here)) →
-      IsStage old next Pointer (λ p. anew p ⊎ (p ≡ here)) value laid kept free_after
+      ((slot : ℕ) → slot < 512 → (anew (slot ∷ here) → ⊥) → Counts (slot ∷ here) → slot_word next copy slot ≡ laid (slot ∷ here)) →
+      IsStage old next Pointer Counts (λ p. anew p ⊎ (p ≡ here)) value laid kept free_after
   stage_copy here pointer copy free_after live first turns bits leads was_free not_free others slots = record {
     whole = turns.whole ∙ stage.whole;
     skeleton = skeleton-turned now next Pointer pointers here pointer turns stage.skeleton (λ l. (rw leads in_range, unnamed));
     superblock = λ place low other. turns.superblock place low other ∙ stage.superblock place low other;
     same = λ p l none. pointer-turned now next Pointer pointers here pointer turns p l (λ e. none (inr e)) ∙ stage.same p l (λ n. none (inl n));
-    words = λ p slot l made low none content. words p slot l made low none content (cases_trail p here);
+    words = λ p slot l made low none counts. words p slot l made low none counts (cases_trail p here);
     still = λ p slot l unmade low none.
         word-turned now next Pointer pointers here pointer turns p slot l low (λ e. unmade (inr e)) (λ e. none (inr e))
         ∙ stage.still p slot l (λ n. unmade (inl n)) low (λ n. none (inl n));
@@ -89,18 +89,18 @@ module _ {kept : ℕ → Bool} (old now next : Image) (Pointer : Trail → Type 
       not_old : LeadsTo old Pointer copy → ⊥
       not_old has = clash copy was_free (stage.taken copy (inl has))
 
-      words : (p : Trail) (slot : ℕ) → Pointer p → anew p ⊎ (p ≡ here) → slot < 512 → (anew (slot ∷ p) ⊎ (slot ∷ p ≡ here) → ⊥) → (Pointer (0 ∷ p) → ⊥) → (p ≡ here) ⊎ (p ≢ here) →
+      words : (p : Trail) (slot : ℕ) → Pointer p → anew p ⊎ (p ≡ here) → slot < 512 → (anew (slot ∷ p) ⊎ (slot ∷ p ≡ here) → ⊥) → Counts (slot ∷ p) → (p ≡ here) ⊎ (p ≢ here) →
           word_on next (slot ∷ p) ≡ unwrap_or (value (slot ∷ p)) (laid (slot ∷ p))
-      words p slot l made low none content (inl e) =
+      words p slot l made low none counts (inl e) =
           subst (λ x. word_on next (slot ∷ x) ≡ unwrap_or (value (slot ∷ x)) (laid (slot ∷ x))) (sym e)
           (slot-turned now next Pointer pointers here pointer turns slot
           ∙ ap (λ b. slot_word next b slot) leads
-          ∙ slots slot low (λ n. none (inl (subst (λ x. anew (slot ∷ x)) (sym e) n))) (λ one. content (subst (λ x. Pointer (0 ∷ x)) (sym e) one))
+          ∙ slots slot low (λ n. none (inl (subst (λ x. anew (slot ∷ x)) (sym e) n))) (subst (λ x. Counts (slot ∷ x)) e counts)
           ∙ ap (λ v. unwrap_or v (laid (slot ∷ here))) (sym (stage.early here slot live first)))
-      words p slot l (inr e) low none content (inr apart) = absurd (apart e)
-      words p slot l (inl made) low none content (inr apart) =
+      words p slot l (inr e) low none counts (inr apart) = absurd (apart e)
+      words p slot l (inl made) low none counts (inr apart) =
           word-turned now next Pointer pointers here pointer turns p slot l low apart (λ e. none (inr e))
-          ∙ stage.words p slot l made low (λ n. none (inl n)) content
+          ∙ stage.words p slot l made low (λ n. none (inl n)) counts
 
       low_bits : (p : Trail) → Pointer p → (p ≡ here) ⊎ (p ≢ here) → word_on next p % 4096 ≡ word_on old p % 4096
       low_bits p l (inl e) = ap (λ x. word_on next x % 4096) e ∙ ap (λ w. w % 4096) turns.turned ∙ bits ∙ stage.bits here live ∙ ap (λ x. word_on old x % 4096) (sym e)
@@ -173,13 +173,13 @@ module _ {kept : ℕ → Bool} (old now next : Image) (Pointer : Trail → Type 
       Turns now next Pointer (slot ∷ p) given →
       value_after (slot ∷ p) ≡ Some given →
       ((q : Trail) → q ≢ slot ∷ p → value_after q ≡ value q) →
-      IsStage old next Pointer anew value_after laid kept free
+      IsStage old next Pointer Counts anew value_after laid kept free
   stage_word p slot given value_after live made low content turns here values = record {
     whole = turns.whole ∙ stage.whole;
     skeleton = skeleton-turned now next Pointer pointers (slot ∷ p) given turns stage.skeleton (λ l. absurd (content l));
     superblock = λ place low other. turns.superblock place low other ∙ stage.superblock place low other;
     same = λ q l none. same q l ∙ stage.same q l none;
-    words = λ q s l one small none plain. words q s l one small none plain (cases_trail (s ∷ q) (slot ∷ p));
+    words = λ q s l one small none counts. words q s l one small none counts (cases_trail (s ∷ q) (slot ∷ p));
     still = λ q s l unmade small none.
         word-turned now next Pointer pointers (slot ∷ p) given turns q s l small (λ e. content (subst Pointer e l)) (λ e. unmade (subst anew (sym (tail_same e)) made))
         ∙ stage.still q s l unmade small none;
@@ -207,13 +207,13 @@ module _ {kept : ℕ → Bool} (old now next : Image) (Pointer : Trail → Type 
       block_same : (q : Trail) → Pointer q → block_on next q ≡ block_on now q
       block_same q l = ap block_of (same q l)
 
-      words : (q : Trail) (s : ℕ) → Pointer q → anew q → s < 512 → (anew (s ∷ q) → ⊥) → (Pointer (0 ∷ q) → ⊥) → (s ∷ q ≡ slot ∷ p) ⊎ (s ∷ q ≢ slot ∷ p) →
+      words : (q : Trail) (s : ℕ) → Pointer q → anew q → s < 512 → (anew (s ∷ q) → ⊥) → Counts (s ∷ q) → (s ∷ q ≡ slot ∷ p) ⊎ (s ∷ q ≢ slot ∷ p) →
           word_on next (s ∷ q) ≡ unwrap_or (value_after (s ∷ q)) (laid (s ∷ q))
-      words q s l one small none plain (inl e) =
+      words q s l one small none counts (inl e) =
           ap (word_on next) e ∙ turns.turned ∙ ap (λ v. unwrap_or v (laid (s ∷ q))) (sym (ap value_after e ∙ here))
-      words q s l one small none plain (inr apart) =
+      words q s l one small none counts (inr apart) =
           word-turned now next Pointer pointers (slot ∷ p) given turns q s l small (λ e. content (subst Pointer e l)) apart
-          ∙ stage.words q s l one small none plain
+          ∙ stage.words q s l one small none counts
           ∙ ap (λ v. unwrap_or v (laid (s ∷ q))) (sym (values (s ∷ q) apart))
 
       taken : (b : ℕ) → LeadsTo old Pointer b ⊎ LeadsTo next Pointer b → free b ≡ false
@@ -222,7 +222,7 @@ module _ {kept : ℕ → Bool} (old now next : Image) (Pointer : Trail → Type 
 
 -- ---- at the end
 
-module _ {kept : ℕ → Bool} (old now : Image) (Pointer : Trail → Type 0) (pointers : ArePointers Pointer) (anew : Trail → Type 0) (value : Trail → Option ℕ) (laid : Trail → ℕ) (free : ℕ → Bool) (stage : IsStage old now Pointer anew value laid kept free) (before : IsSkeleton old Pointer) where
+module _ {kept : ℕ → Bool} {Counts : Trail → Type 0} (old now : Image) (Pointer : Trail → Type 0) (pointers : ArePointers Pointer) (anew : Trail → Type 0) (value : Trail → Option ℕ) (laid : Trail → ℕ) (free : ℕ → Bool) (stage : IsStage old now Pointer Counts anew value laid kept free) (before : IsSkeleton old Pointer) where
   -- the block to which a pointer led that was turned is not in the new image
   pub left : (p : Trail) → Pointer p → anew p → (q : Trail) → Pointer q → (anew q ⊎ (anew q → ⊥)) → block_on old p ≢ 0 → block_on now q ≡ block_on old p → ⊥
   left p live new q also (inl made) some same = (stage.fresh q also made).1 (record { trail = p; pointer = live; named = sym same; not_null = λ null. some (sym same ∙ null) })

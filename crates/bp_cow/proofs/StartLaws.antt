@@ -6,6 +6,7 @@ use Rattle.bp_layout.specs.Stores.{EqualBut}
 use Rattle.bp_shapes.specs.Forest.{IsTreePointer}
 use Rattle.bp_shapes.proofs.ForestLaws.{pointers, skeleton}
 use Rattle.bp_shapes.proofs.PathTrails.{word-placed, low-placed}
+use Rattle.bp_cow.specs.Counting.{IsTreeWord}
 use Rattle.bp_cow.specs.Adds.{IsTakenWord}
 use Rattle.bp_free.specs.Set.{TakesNumber}
 use Rattle.bp_cow.specs.Copies.{pointing_to}
@@ -49,7 +50,7 @@ module _ (plan : Plan) (from : ℕ) (can : CanMake plan from) where
     pub start_made : (mid : Image) → EqualBut copy plan.old mid → ((slot : ℕ) → slot < 512 → slot < plan.job.live 0 from → slot_word mid copy slot ≡ patch_at plan.job 0 from slot (slot_word plan.old (block_of (word plan.old plan.place)) slot)) →
         IsMade (record plan { top = copy }) from 0 from mid free_after
     start_made mid equal copied =
-        let begun = building_start plan.old mid cover Pointer (pointers plan.old plan.bound can.forest) (value_upto plan.job 0) (laid_on plan.old plan.job) plan.free free_after copy (patch_at plan.job 0 from)
+        let begun = building_start (IsTreeWord plan.old plan.bound) plan.old mid cover Pointer (pointers plan.old plan.bound can.forest) (value_upto plan.job 0) (laid_on plan.old plan.job) plan.free free_after copy (patch_at plan.job 0 from)
         (plan.job.live 0 from) (λ s few any. can.live 0 from s can.some (can.below 0 can.some) few any)
         (λ s w l. lay_plain plan from 0 from can can.some (omega arith) (can.below 0 can.some) s w l)
         (λ s few. lay_laid plan from 0 from can can.some (omega arith) (can.below 0 can.some) (λ b. absurd (omega (arith, b.early))) s)

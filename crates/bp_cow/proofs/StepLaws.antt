@@ -8,6 +8,7 @@ use Rattle.bp_shapes.specs.Forest.{IsTreePointer}
 use Rattle.bp_shapes.proofs.ForestLaws.{pointers}
 use Rattle.bp_shapes.proofs.PathTrails.{trail_of-next}
 use Rattle.bp_free.specs.Set.{TakesNumber}
+use Rattle.bp_cow.specs.Counting.{IsTreeWord}
 use Rattle.bp_cow.specs.Copies.{TurnsTo, pointing_to}
 use Rattle.bp_cow.specs.Job.{ways, front, end_of, word_trail, value_upto, laid_on, patch_at, IsBegun, IsAnew}
 use Rattle.bp_cow.specs.Job.IsAnew.{is_cover, is_begun, is_front}
@@ -97,10 +98,10 @@ module _ (plan : Plan) (from i depth : ℕ) (now : Image) (free : ℕ → Bool) 
         first : IsAnew plan.job from i depth (slot ∷ way) → ⊥
         first n = not_anew plan.job from i depth low none (subst (IsAnew plan.job from i depth) (sym (trail_of-next (plan.job.way i) depth)) n)
 
-        counts : (s : ℕ) → s < 512 → Pointer (s ∷ slot ∷ way) ⊎ (Pointer (0 ∷ slot ∷ way) → ⊥) → s < plan.job.live i (depth + 1)
+        counts : (s : ℕ) → s < 512 → Pointer (s ∷ slot ∷ way) ⊎ IsTreeWord plan.old plan.bound (s ∷ slot ∷ way) → s < plan.job.live i (depth + 1)
         counts s few any =
             can.live i (depth + 1) s here (omega (arith, more)) few
-            (subst (λ (q : Trail). IsTreePointer plan.old plan.bound (s ∷ q) ⊎ (IsTreePointer plan.old plan.bound (0 ∷ q) → ⊥)) (sym (trail_of-next (plan.job.way i) depth)) any)
+            (subst (λ (q : Trail). IsTreePointer plan.old plan.bound (s ∷ q) ⊎ IsTreeWord plan.old plan.bound (s ∷ q)) (sym (trail_of-next (plan.job.way i) depth)) any)
 
         plain : (s w : ℕ) → Pointer (s ∷ slot ∷ way) → patch_at plan.job i (depth + 1) s w ≡ w
         plain s w l = lay_plain plan from i (depth + 1) can here (omega (arith, low)) (omega (arith, more)) s w (subst (λ (q : Trail). Pointer (s ∷ q)) (sym (trail_of-next (plan.job.way i) depth)) l)
@@ -146,7 +147,7 @@ module _ (plan : Plan) (from i depth : ℕ) (now : Image) (free : ℕ → Bool) 
         let same : (i + 1) - plan.job.leaves ≡ i - plan.job.leaves = omega (arith, leaf) in
         building_same plan.old _ plan.place _ _ Pointer (IsAnew plan.job from i depth) (IsAnew plan.job from (i + 1) from) _ _ free
         (λ q n. anew_next plan.job from i depth last low (can.cover i here) q n) (λ q n. anew_next_back plan.job from i depth last low (can.cover i here) q n)
-        (subst (λ n. IsBuilding plan.old now plan.place (pointing_to (word plan.old plan.place) plan.top) (front plan.job 0 from) Pointer (IsAnew plan.job from i depth) (value_upto plan.job n) (laid_on plan.old plan.job) plan.kept free) (sym same) made)
+        (subst (λ n. IsBuilding plan.old now plan.place (pointing_to (word plan.old plan.place) plan.top) (front plan.job 0 from) Pointer (IsTreeWord plan.old plan.bound) (IsAnew plan.job from i depth) (value_upto plan.job n) (laid_on plan.old plan.job) plan.kept free) (sym same) made)
 
     -- and the word at its end is given its value
     pub made_word : (w : ℕ) → plan.job.leaves + w ≡ i → (block : ℕ) → block ≡ reached plan i depth now → IsMade plan from (i + 1) from (set now (512 * block + plan.job.slot w) (plan.job.value w)) free
@@ -155,12 +156,12 @@ module _ (plan : Plan) (from i depth : ℕ) (now : Image) (free : ℕ → Bool) 
         let here_now : i - plan.job.leaves ≡ w = omega (arith, at) in
         let next : (i + 1) - plan.job.leaves ≡ w + 1 = omega (arith, at) in
         let end : word_trail plan.job w ≡ plan.job.slot w ∷ way = ap (λ k. plan.job.slot w ∷ end_of plan.job k) at ∙ ap (λ d. plan.job.slot w ∷ front plan.job i d) (sym last) in
-        let before : IsBuilding plan.old now plan.place (pointing_to (word plan.old plan.place) plan.top) (front plan.job 0 from) Pointer (IsAnew plan.job from i depth) (value_upto plan.job w) (laid_on plan.old plan.job) plan.kept free =
-        subst (λ n. IsBuilding plan.old now plan.place (pointing_to (word plan.old plan.place) plan.top) (front plan.job 0 from) Pointer (IsAnew plan.job from i depth) (value_upto plan.job n) (laid_on plan.old plan.job) plan.kept free) here_now made in
+        let before : IsBuilding plan.old now plan.place (pointing_to (word plan.old plan.place) plan.top) (front plan.job 0 from) Pointer (IsTreeWord plan.old plan.bound) (IsAnew plan.job from i depth) (value_upto plan.job w) (laid_on plan.old plan.job) plan.kept free =
+        subst (λ n. IsBuilding plan.old now plan.place (pointing_to (word plan.old plan.place) plan.top) (front plan.job 0 from) Pointer (IsTreeWord plan.old plan.bound) (IsAnew plan.job from i depth) (value_upto plan.job n) (laid_on plan.old plan.job) plan.kept free) here_now made in
         rw is
         (building_same plan.old _ plan.place _ _ Pointer (IsAnew plan.job from i depth) (IsAnew plan.job from (i + 1) from) _ _ free
         (λ q n. anew_next plan.job from i depth last low (can.cover i here) q n) (λ q n. anew_next_back plan.job from i depth last low (can.cover i here) q n)
-        (subst (λ n. IsBuilding plan.old (set now (512 * reached plan i depth now + plan.job.slot w) (plan.job.value w)) plan.place (pointing_to (word plan.old plan.place) plan.top) (front plan.job 0 from) Pointer (IsAnew plan.job from i depth) (value_upto plan.job n) (laid_on plan.old plan.job) plan.kept free) (sym next)
+        (subst (λ n. IsBuilding plan.old (set now (512 * reached plan i depth now + plan.job.slot w) (plan.job.value w)) plan.place (pointing_to (word plan.old plan.place) plan.top) (front plan.job 0 from) Pointer (IsTreeWord plan.old plan.bound) (IsAnew plan.job from i depth) (value_upto plan.job n) (laid_on plan.old plan.job) plan.kept free) (sym next)
         (building_store plan.old now plan.place _ _ Pointer (pointers plan.old plan.bound can.forest) (IsAnew plan.job from i depth) (value_upto plan.job w) _ free before way (plan.job.slot w) live anew_here (can.word_slots w few)
         (plan.job.value w) (value_upto plan.job (w + 1))
         (λ p. can.contents w few (subst Pointer (sym end) p))

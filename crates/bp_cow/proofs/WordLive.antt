@@ -4,7 +4,7 @@ use Rattle.std.specs.Prelude.{slice_index, nat_eq}
 use Rattle.std.proofs.Math.Nat.{pow-le-pow_right}
 use Rattle.std.specs.Bool.{Decides}
 use Rattle.std.proofs.lemmas.Bool.Decides.{Decides-and}
-use Rattle.std.proofs.lemmas.Bool.{leb-true, le-leb, lt-ltb, ltb-true, eq-eqb, eqb-true}
+use Rattle.std.proofs.lemmas.Bool.{leb-true, le-leb, eq-eqb, eqb-true}
 use Rattle.std.proofs.lemmas.Slice.Eq.{bytes_eq-Decides}
 use Rattle.bp_layout.specs.Members.{Has}
 use Rattle.bp_layout.specs.WordPaths.{WordPath}
@@ -14,9 +14,10 @@ use Rattle.bp_shapes.specs.Trail.{Trail, trail_of}
 use Rattle.bp_shapes.proofs.ForestLaws.{HasFewDigits}
 use Rattle.bp_cow.specs.declared.touched.TreeSize.{TreeSize}
 use Rattle.bp_cow.specs.CanCommit.{IsTreeIn}
-use Rattle.bp_cow.specs.Touched.{has_node, node_pointers, slots_number, tree_live, word_live}
+use Rattle.bp_cow.specs.Counting.{IsTreeWord}
+use Rattle.bp_cow.specs.Touched.{has_block, slots_number, tree_live, word_live}
 use Rattle.bp_cow.proofs.SharedLaws.{AreAlike, alike-most}
-use Rattle.bp_cow.proofs.NodeLive.{node-counts, trail-live}
+use Rattle.bp_cow.proofs.NodeLive.{block-counts, trail-live}
 
 cons : {s u : ℕ} {p q : Trail} → s ≡ u → p ≡ q → s ∷ p ≡ u ∷ q
 cons e f = cc
@@ -43,36 +44,36 @@ module _ (path : WordPath) (from : ℕ) where
       let up : (512 * slots_number path from count + slice_index path (from + count)) / 512 ≡ slots_number path from count = omega (arith, low) in
       subst (HasFewDigits count) (sym up) (slots-few count (λ d less. small d (omega (arith, less))))
 
--- where a block is a node of a tree
-pub record IsNodeAt (tree : TreeSize) (path : WordPath) (depth : ℕ) : Type 0 where
+-- where a block is one of a tree
+pub record IsBlockAt (tree : TreeSize) (path : WordPath) (depth : ℕ) : Type 0 where
   pub past : length tree.root.items ≤ depth
-  pub under : depth < length tree.root.items + tree.height
+  pub under : depth ≤ length tree.root.items + tree.height
   pub root : trail_of path (length tree.root.items) ≡ trail_of tree.root.items (length tree.root.items)
 
 module _ (tree : TreeSize) (path : WordPath) (depth : ℕ) where
   abbrev above : ℕ
   above = length tree.root.items
 
-  decided : Decides (has_node tree path depth) (((above ≤ depth) × (depth < above + tree.height)) × (trail_of path above ≡ trail_of tree.root.items above))
+  decided : Decides (has_block tree path depth) (((above ≤ depth) × (depth ≤ above + tree.height)) × (trail_of path above ≡ trail_of tree.root.items above))
   decided =
       Decides-and _ _
-      (Decides-and _ _ (leb-true above depth, le-leb above depth) (ltb-true depth (above + tree.height), lt-ltb depth (above + tree.height)))
+      (Decides-and _ _ (leb-true above depth, le-leb above depth) (leb-true depth (above + tree.height), le-leb depth (above + tree.height)))
       (bytes_eq-Decides (trail_of path above) (trail_of tree.root.items above))
 
-  pub node-at : has_node tree path depth ≡ true → IsNodeAt tree path depth
-  node-at is = let all = decided.0 is in record { past = all.0.0; under = all.0.1; root = all.1 }
+  pub block-at : has_block tree path depth ≡ true → IsBlockAt tree path depth
+  block-at is = let all = decided.0 is in record { past = all.0.0; under = all.0.1; root = all.1 }
 
-  pub at-node : IsNodeAt tree path depth → has_node tree path depth ≡ true
-  at-node is = decided.1 ((is.past, is.under), is.root)
+  pub at-block : IsBlockAt tree path depth → has_block tree path depth ≡ true
+  at-block is = decided.1 ((is.past, is.under), is.root)
 
 -- whether it is one there, by how many slots the way and the path of the tree's root word have alike
-pub node-by-alike : (tree : TreeSize) (path : WordPath) (depth n : ℕ) → depth ≤ length path → length tree.root.items ≤ depth → depth < length tree.root.items + tree.height → AreAlike path tree.root.items n →
-    nat_eq n (length tree.root.items) ≡ has_node tree path depth
-node-by-alike tree path depth n low past under is = go (has_node tree path depth) refl
+pub block-by-alike : (tree : TreeSize) (path : WordPath) (depth n : ℕ) → depth ≤ length path → length tree.root.items ≤ depth → depth ≤ length tree.root.items + tree.height → AreAlike path tree.root.items n →
+    nat_eq n (length tree.root.items) ≡ has_block tree path depth
+block-by-alike tree path depth n low past under is = go (has_block tree path depth) refl
   where
-    go : (x : Bool) → has_node tree path depth ≡ x → nat_eq n (length tree.root.items) ≡ has_node tree path depth
+    go : (x : Bool) → has_block tree path depth ≡ x → nat_eq n (length tree.root.items) ≡ has_block tree path depth
     go true e =
-        let most : length tree.root.items ≤ n = alike-most path tree.root.items n (length tree.root.items) is (omega (arith, low, past)) (omega arith) (node-at tree path depth e).root in
+        let most : length tree.root.items ≤ n = alike-most path tree.root.items n (length tree.root.items) is (omega (arith, low, past)) (omega arith) (block-at tree path depth e).root in
         let there : n ≤ length tree.root.items = is.there in
         eq-eqb n (length tree.root.items) (omega (arith, most, there)) ∙ sym e
     go false e = other (nat_eq n (length tree.root.items)) refl ∙ sym e
@@ -81,17 +82,16 @@ node-by-alike tree path depth n low past under is = go (has_node tree path depth
         other false f = f
         other true f =
             let same : n ≡ length tree.root.items = eqb-true n (length tree.root.items) f in
-            let is_node = at-node tree path depth (record { past = past; under = under; root = subst (λ m. trail_of path m ≡ trail_of tree.root.items m) same is.same }) in
+            let is_node = at-block tree path depth (record { past = past; under = under; root = subst (λ m. trail_of path m ≡ trail_of tree.root.items m) same is.same }) in
             absurd (cc)
 
 module _ (old : Image) (bound : ℕ → ℕ) (forest : IsForest old bound) (path : WordPath) (depth : ℕ) (slots : (d : ℕ) → d < depth → slice_index path d < 512) (here : IsTreePointer old bound (trail_of path depth)) (slot : ℕ) (small : slot < 512)
-    (any : IsTreePointer old bound (slot ∷ trail_of path depth) ⊎ (IsTreePointer old bound (0 ∷ trail_of path depth) → ⊥)) where
-  tree-counts : (tree : TreeSize) → IsTreeIn old bound tree → IsNodeAt tree path depth → slot < tree_live tree path depth
+    (any : IsTreePointer old bound (slot ∷ trail_of path depth) ⊎ IsTreeWord old bound (slot ∷ trail_of path depth)) where
+  tree-counts : (tree : TreeSize) → IsTreeIn old bound tree → IsBlockAt tree path depth → slot < tree_live tree path depth
   tree-counts tree at is =
-      subst (λ l. slot < node_pointers tree.size l node) above
-      (node-counts old bound forest at.number at.reached down node (level - 1) tree.size (omega (arith, is.past, is.under, at.height))
-      (trail-live old bound forest at.number at.reached down node (slots-few path (length tree.root.items) down few) (omega (arith, is.past, is.under, at.height)) (subst (IsTreePointer old bound) trail here))
-      at.counts slot small (subst (λ q. IsTreePointer old bound (slot ∷ q) ⊎ (IsTreePointer old bound (0 ∷ q) → ⊥)) trail any))
+      block-counts old bound forest at.number at.reached down block level tree.size (omega (arith, is.past, is.under, at.height))
+      (trail-live old bound forest at.number at.reached down block (slots-few path (length tree.root.items) down few) (omega (arith, is.past, is.under, at.height)) (subst (IsTreePointer old bound) trail here))
+      at.counts slot (subst (λ q. IsTreePointer old bound (slot ∷ q) ⊎ IsTreeWord old bound (slot ∷ q)) trail any)
     where
       down : ℕ
       down = depth - length tree.root.items
@@ -99,11 +99,8 @@ module _ (old : Image) (bound : ℕ → ℕ) (forest : IsForest old bound) (path
       level : ℕ
       level = length tree.root.items + tree.height - depth
 
-      node : ℕ
-      node = slots_number path (length tree.root.items) down
-
-      above : suc (level - 1) ≡ level
-      above = omega (arith, is.past, is.under)
+      block : ℕ
+      block = slots_number path (length tree.root.items) down
 
       whole : depth ≡ length tree.root.items + down
       whole = omega (arith, is.past)
@@ -111,13 +108,13 @@ module _ (old : Image) (bound : ℕ → ℕ) (forest : IsForest old bound) (path
       few : (d : ℕ) → d < length tree.root.items + down → slice_index path d < 512
       few d less = slots d (omega (arith, less, whole))
 
-      trail : trail_of path depth ≡ tree_trail (height_of (word old 2)) at.number down node
-      trail = ap (trail_of path) whole ∙ slots-along path (length tree.root.items) down few ∙ ap (λ b. along b down node) (is.root ∙ at.root)
+      trail : trail_of path depth ≡ tree_trail (height_of (word old 2)) at.number down block
+      trail = ap (trail_of path) whole ∙ slots-along path (length tree.root.items) down few ∙ ap (λ b. along b down block) (is.root ∙ at.root)
 
   pub word-counts : (trees : List TreeSize) → ((tree : TreeSize) → Has trees tree → IsTreeIn old bound tree) → slot < word_live trees path depth
   word-counts [] at = small
-  word-counts (tree ∷ trees) at = go (has_node tree path depth) refl (word-counts trees (λ t has. at t (inr has)))
+  word-counts (tree ∷ trees) at = go (has_block tree path depth) refl (word-counts trees (λ t has. at t (inr has)))
     where
-      go : (x : Bool) → has_node tree path depth ≡ x → slot < word_live trees path depth → slot < word_live (tree ∷ trees) path depth
+      go : (x : Bool) → has_block tree path depth ≡ x → slot < word_live trees path depth → slot < word_live (tree ∷ trees) path depth
       go false e rest = rw e rest
-      go true e rest = rw e (tree-counts tree (at tree (inl refl)) (node-at tree path depth e))
+      go true e rest = rw e (tree-counts tree (at tree (inl refl)) (block-at tree path depth e))

@@ -15,6 +15,7 @@ use Rattle.bp_shapes.specs.Forest.{IsTreePointer}
 use Rattle.bp_commit.specs.Performs.{TakesBlocks}
 use Rattle.bp_cow.specs.CanCommit.{CanCommit}
 use Rattle.bp_cow.specs.Committed.{IsCommitted, after_commit}
+use Rattle.bp_cow.specs.Counting.{IsTreeWord}
 use Rattle.bp_cow.specs.Cover.{commit_cover, copied_count}
 use Rattle.bp_cow.specs.Job.{IsTurned}
 use Rattle.bp_cow.specs.Touched.{job_of}
@@ -55,7 +56,8 @@ pub record CanCommitIn (bound : ℕ → ℕ) (kept : ℕ → Bool) (memory : Mem
 -- what a commit makes of the words whose cover has so many slots
 abbrev pub IsCommittedBy : (ℕ → ℕ) → Touched → ℕ → Image → Image → Type 0
 IsCommittedBy bound touched cover old new =
-    IsCommitted old new (IsTreePointer old bound) (IsTurned (job_of touched) cover) (after_commit old (job_of touched))
+    IsCommitted old new (IsTreePointer old bound) (IsTreeWord old bound) (IsTurned (job_of touched) cover)
+    (after_commit old (job_of touched))
 
 -- By one store at the word of the cover, alone in its epoch after a quiet preparation, each touched word has its
 -- value. Before it there are stores to the blocks that are taken for the copies, to each of them, and nowhere else.

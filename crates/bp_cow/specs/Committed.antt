@@ -16,18 +16,17 @@ abbrev pub changes_of : Image → Job → ℕ → ℕ → Option ℕ
 changes_of old job t k =
     Some (after_commit old job (tree_trail (height_of (word old 2)) t (suc (height_of (root_of old t))) k))
 
--- What a commit makes of the words. `Pointer`: the pointers of the image; `turned`: those that lead to copies, in
--- blocks to which none led before; `after`: the value of a word that is not such a pointer, in a block of content: one
--- whose first word is no pointer. A word that is newly made under a null had the value 0. Words of nodes that are no
--- pointers count for nothing.
-pub record IsCommitted (old new : Image) (Pointer turned : Trail → Type 0) (after : Trail → ℕ) : Type 0 where
+-- What a commit makes of the words. `Pointer`: the pointers of the image; `Counts`: the content words that count;
+-- `turned`: the pointers that lead to copies, in blocks to which none led before; `after`: the value of a word that
+-- counts and is not such a pointer. A word that is newly made under a null had the value 0.
+pub record IsCommitted (old new : Image) (Pointer Counts turned : Trail → Type 0) (after : Trail → ℕ) : Type 0 where
   pub whole : length new ≡ length old
   pub superblock : (place : ℕ) → place < block_words → place ≢ super_root → word new place ≡ word old place
   pub skeleton : IsSkeleton new Pointer
   pub kept : (p : Trail) → Pointer p → (turned p → ⊥) → word_on new p ≡ word_on old p
   pub bits : (p : Trail) → Pointer p → word_on new p % block_size ≡ word_on old p % block_size
   pub fresh : (p : Trail) → Pointer p → turned p → (block_on new p ≢ 0) × (LeadsTo old Pointer (block_on new p) → ⊥)
-  pub words : (p : Trail) (slot : ℕ) → Pointer p → slot < block_words → (turned (slot ∷ p) → ⊥) → ¬ Pointer (0 ∷ p)
-      → word_on new (slot ∷ p) ≡ after (slot ∷ p)
+  pub words : (p : Trail) (slot : ℕ) → Pointer p → slot < block_words → (turned (slot ∷ p) → ⊥)
+      → Counts (slot ∷ p) → word_on new (slot ∷ p) ≡ after (slot ∷ p)
   pub decide : (p : Trail) → turned p ⊎ (turned p → ⊥)
   pub pointers : (p : Trail) → turned p → Pointer p

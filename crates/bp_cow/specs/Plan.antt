@@ -7,6 +7,7 @@ use Rattle.bp_layout.specs.Words.{Image, word, block_count}
 use Rattle.bp_shapes.specs.Trail.{block_on, place_on, IsPlaced}
 use Rattle.bp_shapes.specs.Forest.{IsExactSet, IsForest, IsTreePointer}
 use Rattle.bp_cow.specs.Copies.{pointing_to}
+use Rattle.bp_cow.specs.Counting.{IsTreeWord}
 use Rattle.bp_cow.specs.Job.{Job, ways, front, end_of, word_trail, IsAnew, value_upto, laid_on, turned_for, turned_upto}
 use Rattle.bp_cow.specs.Stage.{IsBuilding}
 use Rattle.bp_cow.specs.Touched.{job_of}
@@ -32,9 +33,9 @@ pub record IsFeasible (old : Image) (bound : ℕ → ℕ) (job : Job) (from plac
   -- the same is laid over one leaf, whichever way leads there
   pub agree : (j l : ℕ) → j < job.leaves → l < job.leaves → end_of job j ≡ end_of job l
       → (slot old_word : ℕ) → job.patch j slot old_word ≡ job.patch l slot old_word
-  -- of a block on a way the words that count are the pointers, and where it is no node all words
+  -- of a block on a way the words that count are the pointers, and the content words of trees
   pub live : (i d slot : ℕ) → i < ways job → d ≤ length (job.way i) → slot < block_words
-      → IsTreePointer old bound (slot ∷ front job i d) ⊎ ¬ IsTreePointer old bound (0 ∷ front job i d)
+      → IsTreePointer old bound (slot ∷ front job i d) ⊎ IsTreeWord old bound (slot ∷ front job i d)
       → slot < job.live i d
   -- the cover exists
   pub placed : IsPlaced old (IsTreePointer old bound) (front job 0 from)
@@ -65,8 +66,8 @@ seen plan now = slice_set now plan.place (pointing_to (word plan.old plan.place)
 abbrev pub IsMade : Plan → ℕ → ℕ → ℕ → Image → (ℕ → Bool) → Type 0
 IsMade plan from i depth now free =
     IsBuilding plan.old now plan.place (pointing_to (word plan.old plan.place) plan.top) (front plan.job 0 from)
-    (IsTreePointer plan.old plan.bound) (IsAnew plan.job from i depth) (value_upto plan.job (i - plan.job.leaves))
-    (laid_on plan.old plan.job) plan.kept free
+    (IsTreePointer plan.old plan.bound) (IsTreeWord plan.old plan.bound) (IsAnew plan.job from i depth)
+    (value_upto plan.job (i - plan.job.leaves)) (laid_on plan.old plan.job) plan.kept free
 
 abbrev pub CanMake : Plan → ℕ → Type 0
 CanMake plan from = IsFeasible plan.old plan.bound plan.job from plan.place plan.kept plan.free

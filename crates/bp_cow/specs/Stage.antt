@@ -4,18 +4,18 @@ use Rattle.bp_limits.specs.Limits.{block_size, block_words, super_root}
 use Rattle.bp_layout.specs.Words.{Image, word, block_count}
 use Rattle.bp_shapes.specs.Trail.{Trail, word_on, block_on, place_on, IsSkeleton, IsPlaced, LeadsTo}
 
--- `anew`: the pointers that lead to a block taken by this commit; `value`: the words that were given anew; `laid`: a
--- word of a copied block before that; `kept`: the blocks that are never free
-pub record IsStage (old now : Image) (Pointer anew : Trail → Type 0) (value : Trail → Option ℕ) (laid : Trail → ℕ)
-    (kept free : ℕ → Bool) : Type 0 where
+-- `Counts`: the content words that count; `anew`: the pointers that lead to a block taken by this commit; `value`: the
+-- words that were given anew; `laid`: a word of a copied block before that; `kept`: the blocks that are never free
+pub record IsStage (old now : Image) (Pointer Counts anew : Trail → Type 0) (value : Trail → Option ℕ)
+    (laid : Trail → ℕ) (kept free : ℕ → Bool) : Type 0 where
   pub whole : length now ≡ length old
   pub skeleton : IsSkeleton now Pointer
   pub superblock : (place : ℕ) → place < block_words → place ≢ super_root → word now place ≡ word old place
   -- a pointer that was not turned
   pub same : (p : Trail) → Pointer p → (anew p → ⊥) → word_on now p ≡ word_on old p
-  -- the other words of a copied block of content, whose first word is no pointer, and of one that was not copied
+  -- the other words of a copied block that count, and all of one that was not copied
   pub words : (p : Trail) (slot : ℕ) → Pointer p → anew p → slot < block_words → (anew (slot ∷ p) → ⊥)
-      → ¬ Pointer (0 ∷ p) → word_on now (slot ∷ p) ≡ unwrap_or (value (slot ∷ p)) (laid (slot ∷ p))
+      → Counts (slot ∷ p) → word_on now (slot ∷ p) ≡ unwrap_or (value (slot ∷ p)) (laid (slot ∷ p))
   pub still : (p : Trail) (slot : ℕ) → Pointer p → (anew p → ⊥) → slot < block_words → (anew (slot ∷ p) → ⊥)
       → word_on now (slot ∷ p) ≡ word_on old (slot ∷ p)
   pub bits : (p : Trail) → Pointer p → word_on now p % block_size ≡ word_on old p % block_size
@@ -30,10 +30,10 @@ pub record IsStage (old now : Image) (Pointer anew : Trail → Type 0) (value : 
   pub loose : (b : ℕ) → free b ≡ true → kept b ≡ false
 
 -- The words while copies are made. The last store, of a pointer at the cover's place, is still to come.
-pub record IsBuilding (old words : Image) (place pointer : ℕ) (cover : Trail) (Pointer anew : Trail → Type 0)
+pub record IsBuilding (old words : Image) (place pointer : ℕ) (cover : Trail) (Pointer Counts anew : Trail → Type 0)
     (value : Trail → Option ℕ) (laid : Trail → ℕ) (kept free : ℕ → Bool) : Type 0 where
   pub some : 0 < block_count old
-  pub stage : IsStage old (slice_set words place pointer) Pointer anew value laid kept free
+  pub stage : IsStage old (slice_set words place pointer) Pointer Counts anew value laid kept free
   pub placed : IsPlaced (slice_set words place pointer) Pointer cover
   pub at : place_on (slice_set words place pointer) cover ≡ place
   pub below : (p : Trail) → anew p → length cover ≤ length p

@@ -7,6 +7,7 @@ use Rattle.bp_layout.specs.Reached.{IsReached}
 use Rattle.bp_layout.specs.WellFormed.{IsWellFormed}
 use Rattle.bp_shapes.specs.Forest.{IsTreePointer}
 use Rattle.bp_cow.specs.Adds.{AddsCopyCommit}
+use Rattle.bp_cow.specs.Counting.{IsTreeWord}
 use Rattle.bp_cow.specs.Job.{ways, copies, value_upto, laid_on, IsAnew}
 use Rattle.bp_cow.specs.Plan.{Plan, planned, CanMake}
 use Rattle.bp_cow.specs.Stage.{IsStage}
@@ -32,7 +33,7 @@ pub record IsTurnedOver (plan : Plan) (touched : Touched) (from place : ℕ) (bl
   pub size : length left ≡ length blocks
   pub commit : AddsCopyCommit (has blocks) (has left) place (513 * copies (job_of touched) from
       + (job_of touched).words) old new
-  pub stage : IsStage plan.old (current_words new) (IsTreePointer plan.old plan.bound)
+  pub stage : IsStage plan.old (current_words new) (IsTreePointer plan.old plan.bound) (IsTreeWord plan.old plan.bound)
       (IsAnew (job_of touched) from (ways (job_of touched)) from)
       (value_upto (job_of touched) (job_of touched).words) (laid_on plan.old (job_of touched)) plan.kept
       (has left)

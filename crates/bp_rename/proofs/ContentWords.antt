@@ -22,6 +22,7 @@ use Rattle.bp_tree.proofs.Digits.{length-digits}
 use Rattle.bp_tree.proofs.PathLaws.{small_digits}
 use Rattle.bp_cow.specs.CanCommit.{CanCommit, IsTreeIn}
 use Rattle.bp_cow.specs.Committed.{IsCommitted, after_commit, changes_of}
+use Rattle.bp_cow.specs.Counting.{IsTreeWord}
 use Rattle.bp_cow.specs.Cover.{LeadsInside, end_path, end_path_of}
 use Rattle.bp_cow.specs.Touched.{IsTouched, NoneBegins, all_paths, job_of, path_of, touched_trail, word_paths}
 use Rattle.bp_cow.specs.declared.touched.Run.{Run}
@@ -190,7 +191,7 @@ module _ (image : Image) (bound : ℕ → ℕ) (forest : IsForest image bound) (
         ∙ word-tree image t (suc (height_of (root_of image t))) k
 
     -- Where no size grows past what counts, the commit is told on content words.
-    module _ (new : Image) (turned : Trail → Type 0) (stage : IsCommitted image new (IsTreePointer image bound) turned (after_commit image (job_of touched))) where
+    module _ (new : Image) (turned : Trail → Type 0) (stage : IsCommitted image new (IsTreePointer image bound) (IsTreeWord image bound) turned (after_commit image (job_of touched))) where
       -- a size that is not touched stays
       pub size_kept : (t : ℕ) → IsReached image t → ((i : ℕ) → i < length touched.words.now → tree i ≡ 0 → number i ≡ 8 * t + 2 → ⊥) → size_of new t ≡ size_of image t
       size_kept zero reached other = stage.superblock 3 (omega arith) (λ e. omega (arith, e))

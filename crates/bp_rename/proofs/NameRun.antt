@@ -17,6 +17,7 @@ use Rattle.bp_shapes.proofs.ForestLaws.{skeleton, word-tree}
 use Rattle.bp_shapes.proofs.FreeSets.{wf_forest}
 use Rattle.bp_cow.specs.CanCommit.{CanCommit, IsTreeIn}
 use Rattle.bp_cow.specs.Committed.{IsCommitted, after_commit, changes_of}
+use Rattle.bp_cow.specs.Counting.{IsTreeWord}
 use Rattle.bp_cow.specs.Cover.{LeadsInside, end_path, end_path_of}
 use Rattle.bp_cow.specs.Touched.{IsRun, IsTouched, NoneBegins, all_paths, job_of, laid_word, leaves_of, run_byte, run_end, run_leaves, run_path, run_way, run_word, word_paths}
 use Rattle.bp_cow.specs.declared.touched.Run.{Run}
@@ -102,7 +103,7 @@ module _ (image : Image) (wf : IsWellFormed image) (n : ℕ) (reached : IsReache
       ∙ ap (λ h. along (root_trail (height_of (word image 2)) (suc n)) (suc h) k) of.height
 
   module _ {kept : ℕ → Bool} (free : ℕ → Bool) (exact : AreFreeBlocks image kept free) (directory : kind_of image (suc n) ≡ 2) (new : Image) (turned : Trail → Type 0)
-      (stage : IsCommitted image new (IsTreePointer image (size_of image)) turned (after_commit image (job_of touched))) where
+      (stage : IsCommitted image new (IsTreePointer image (size_of image)) (IsTreeWord image (size_of image)) turned (after_commit image (job_of touched))) where
     can : CanCommit image (size_of image) kept touched free
     can = run_commit free exact
 

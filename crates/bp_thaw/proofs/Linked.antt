@@ -117,8 +117,8 @@ module _ (old now : Image) (Pointer : Trail → Type 0) (copy : Trail → Option
           turned has.0 has.1 t (ap block_of (new ∙ (λ i. new_word (t i) (has.1 i) (word_on old p))) ∙ block_of_pointing (word_on old p) has.0)
       go false t = same (λ f. true≢false (sym f ∙ t)) (new ∙ ap (λ b. new_word b (copy p) (word_on old p)) t)
 
-  pub thawed_words : IsCommitted old now Pointer Turned (word_on old)
-  thawed_words = record {
+  pub thawed_words : (Counts : Trail → Type 0) → IsCommitted old now Pointer Counts Turned (word_on old)
+  thawed_words Counts = record {
     whole = thawing.whole;
     superblock = thawing.superblock;
     skeleton = record {

@@ -37,6 +37,7 @@ use Rattle.bp_commit.specs.Performs.{AddsTaking, InBlock, IsOpen}
 use Rattle.bp_commit.specs.Performs.IsOpen.{in_taken, in_live, at_root}
 use Rattle.bp_commit.proofs.PerformsLaws.{same_equivalence}
 use Rattle.bp_cow.specs.Committed.{IsCommitted, after_commit}
+use Rattle.bp_cow.specs.Counting.{IsTreeWord}
 use Rattle.bp_cow.specs.Copies.{pointing_to}
 use Rattle.bp_thaw.specs.Linked.{AreThawing, is_turned}
 use Rattle.bp_cow.proofs.CommitLaws.{has_led, led_has}
@@ -197,8 +198,8 @@ module _ (kept : ℕ → Bool) (first : Memory) (before after : Set) (wf : IsWel
 
     -- ---- whichever pointers are stored
 
-    committed : (now : Image) (stored : Trail → Bool) → AreThawing old now Pointer (copy_on marks) stored → IsCommitted old now Pointer (λ p. is_turned (copy_on marks) stored p ≡ true) (word_on old)
-    committed now stored thawing = thawed_words old now Pointer (copy_on marks) stored are bones (are_copies old Pointer are bones marks all) thawing
+    committed : (now : Image) (stored : Trail → Bool) → AreThawing old now Pointer (copy_on marks) stored → IsCommitted old now Pointer (IsTreeWord old (size_of old)) (λ p. is_turned (copy_on marks) stored p ≡ true) (word_on old)
+    committed now stored thawing = thawed_words old now Pointer (copy_on marks) stored are bones (are_copies old Pointer are bones marks all) thawing (IsTreeWord old (size_of old))
 
     not_turned : (stored : Trail → Bool) (p : Trail) → copy_on marks p ≡ None → is_turned (copy_on marks) stored p ≡ true → ⊥
     not_turned stored [] none is = true≢false (sym is ∙ rw none refl)
@@ -269,7 +270,7 @@ module _ (kept : ℕ → Bool) (first : Memory) (before after : Set) (wf : IsWel
       abbrev turned : Trail → Type 0
       turned p = is_turned (copy_on marks) all_are p ≡ true
 
-      stage : IsCommitted old new Pointer turned (word_on old)
+      stage : IsCommitted old new Pointer (IsTreeWord old (size_of old)) turned (word_on old)
       stage = committed new all_are thawing
 
       -- ---- the log
@@ -347,7 +348,7 @@ module _ (kept : ℕ → Bool) (first : Memory) (before after : Set) (wf : IsWel
           let has = (mark-from trails copies (p, copy.0) (has-copy_on marks p copy.0 copy.1)).0 in
           bool_clash (kept (block_on old p)) (found.each p has).is_kept loose)
 
-      job : IsCommitted old new Pointer turned (after_commit old empty_job)
+      job : IsCommitted old new Pointer (IsTreeWord old (size_of old)) turned (after_commit old empty_job)
       job = as_job old new wf turned stage (turned-present all_are)
 
       led_live : (b : ℕ) → LeadsTo new Pointer b → IsLiveBlock new b

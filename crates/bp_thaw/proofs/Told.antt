@@ -21,8 +21,9 @@ use Rattle.bp_shapes.specs.Forest.{IsForest, IsTreePointer, along, root_trail, t
 use Rattle.bp_shapes.proofs.ForestLaws.{pointers, word-root, word-tree}
 use Rattle.bp_shapes.proofs.FreeSets.{wf_forest}
 use Rattle.bp_cow.specs.Committed.{IsCommitted, after_commit, changes_of}
+use Rattle.bp_cow.specs.Counting.{IsTreeWord}
 use Rattle.bp_cow.specs.Job.{Job}
-use Rattle.bp_cow.proofs.CommitLaws.{committed_commits, content_after, first_plain, root-now, size_after, word-now}
+use Rattle.bp_cow.proofs.CommitLaws.{committed_commits, content_after, root-now, size_after, word-now}
 
 -- nothing is to be done
 abbrev pub empty_job : Job
@@ -32,12 +33,12 @@ same_null : (a b : ℕ) → (a ≡ b) ⊎ ((a ≢ 0) × (b ≢ 0)) → not (a ==
 same_null a b (inl e) = ap (λ n. not (n == 0)) e
 same_null a b (inr some) = rw (ne_eqb a 0 some.0, ne_eqb b 0 some.1) refl
 
-module _ (old new : Image) (wf : IsWellFormed old) (turned : Trail → Type 0) (stage : IsCommitted old new (IsTreePointer old (size_of old)) turned (word_on old))
+module _ (old new : Image) (wf : IsWellFormed old) (turned : Trail → Type 0) (stage : IsCommitted old new (IsTreePointer old (size_of old)) (IsTreeWord old (size_of old)) turned (word_on old))
     (led : (p : Trail) → turned p → block_on old p ≢ 0) where
   forest : IsForest old (size_of old)
   forest = wf_forest old wf
 
-  pub as_job : IsCommitted old new (IsTreePointer old (size_of old)) turned (after_commit old empty_job)
+  pub as_job : IsCommitted old new (IsTreePointer old (size_of old)) (IsTreeWord old (size_of old)) turned (after_commit old empty_job)
   as_job = record {
     whole = stage.whole;
     superblock = stage.superblock;
@@ -45,7 +46,7 @@ module _ (old new : Image) (wf : IsWellFormed old) (turned : Trail → Type 0) (
     kept = stage.kept;
     bits = stage.bits;
     fresh = stage.fresh;
-    words = λ p slot pointer low none content. stage.words p slot pointer low none content;
+    words = λ p slot pointer low none counts. stage.words p slot pointer low none counts;
     decide = stage.decide;
     pointers = stage.pointers;
   }
@@ -110,7 +111,7 @@ module _ (old new : Image) (wf : IsWellFormed old) (turned : Trail → Type 0) (
           word_on new (root_trail (height_of (word old 2)) (suc i)) % 4096 ≡ word_on old (root_trail (height_of (word old 2)) (suc i)) % 4096
       go (inl is) = stage.bits _ (stage.pointers _ is)
       go (inr none) = ap (λ w. w % 4096) (stage.words (along [] (height_of (word old 2)) ((8 * suc i + 1) / 512)) ((8 * suc i + 1) % 512) leaf (omega arith) none
-          (first_plain old (size_of old) forest 0 (8 * suc i + 1) inode_file (omega (arith, inside i r))))
+          (record { tree = 0; number = 8 * suc i + 1; reached = inode_file; below = omega (arith, inside i r); named = refl }))
 
   pub heights-same : (t : ℕ) → IsReached old t → height_of (root_of new t) ≡ height_of (root_of old t)
   heights-same t r =

@@ -21,6 +21,7 @@ use Rattle.bp_shapes.proofs.ForestLaws.{skeleton}
 use Rattle.bp_shapes.proofs.FreeSets.{wf_forest}
 use Rattle.bp_commit.proofs.PerformsLaws.{takes_none}
 use Rattle.bp_cow.specs.Committed.{IsCommitted}
+use Rattle.bp_cow.specs.Counting.{IsTreeWord}
 use Rattle.bp_thaw.specs.Copies.{Copies, blocks_of, is_copied, links_among, places_of}
 use Rattle.bp_layout.specs.Thaw.{thawed_on}
 use Rattle.bp_thaw.specs.Steps.{AreKept, ArePlacesOf, CanFillCopies, FillsCopies, InBlocks, TakesAll}
@@ -47,7 +48,7 @@ module _ (kept : ℕ → Bool) (paths : List WordPath) (memory : Memory) (blocks
   abbrev image : Image
   image = current_words memory
 
-  stays : IsCommitted image image (IsTreePointer image (size_of image)) (λ p. ⊥) (word_on image)
+  stays : IsCommitted image image (IsTreePointer image (size_of image)) (IsTreeWord image (size_of image)) (λ p. ⊥) (word_on image)
   stays = record {
     whole = refl;
     superblock = λ place low other. refl;

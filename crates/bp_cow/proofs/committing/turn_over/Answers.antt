@@ -6,6 +6,7 @@ use Rattle.pm_region.proofs.MemoryLaws.{current_words-adds, base-adds, length-cu
 use Rattle.pm_region.proofs.MayLaws.{may_frame}
 use Rattle.bp_shapes.specs.Forest.{IsExactSet, IsTreePointer}
 use Rattle.bp_layout.specs.Words.{word}
+use Rattle.bp_cow.specs.Counting.{IsTreeWord}
 use Rattle.bp_cow.specs.Adds.{IsTakenWord, AddsCopies}
 use Rattle.bp_cow.specs.Copies.{pointing_to}
 use Rattle.bp_cow.specs.Job.{ways, turned_upto, copies, value_upto, laid_on, IsAnew}
@@ -46,8 +47,8 @@ returns-clause-done g c = record {
       let now : set (current_words (g.R.Region.memory c.make-top.new.region)) g.plan.place (pointing_to (word g.plan.old g.plan.place) c.make-top.result) ≡ current_words (g.R.Region.memory c.commit_word.new.region) =
       ap (set (current_words (g.R.Region.memory c.make-top.new.region)) g.plan.place) value ∙ ap (λ p. set (current_words (g.R.Region.memory c.make-top.new.region)) p (c.pointer_word.result + c.load-pointer.result % 4096)) (sym place) ∙ sym (current_words-adds (g.R.Region.memory c.make-top.new.region) (g.R.Region.memory c.commit_word.new.region) _ c.commit_word.ensures) in
       let words : ways (job_of c.args.touched.now) - (job_of c.args.touched.now).leaves ≡ (job_of c.args.touched.now).words = omega arith in
-      subst (λ n. IsStage g.plan.old (current_words (g.R.Region.memory c.commit_word.new.region)) (IsTreePointer g.plan.old g.plan.bound) (IsAnew (job_of c.args.touched.now) c.args.from (ways (job_of c.args.touched.now)) c.args.from) (value_upto (job_of c.args.touched.now) n) (laid_on g.plan.old (job_of c.args.touched.now)) g.plan.kept (has c.make-top.new.blocks)) words
-      (subst (λ (ws : List ℕ). IsStage g.plan.old ws (IsTreePointer g.plan.old g.plan.bound) (IsAnew (job_of c.args.touched.now) c.args.from (ways (job_of c.args.touched.now)) c.args.from) (value_upto (job_of c.args.touched.now) (ways (job_of c.args.touched.now) - (job_of c.args.touched.now).leaves)) (laid_on g.plan.old (job_of c.args.touched.now)) g.plan.kept (has c.make-top.new.blocks)) now
+      subst (λ n. IsStage g.plan.old (current_words (g.R.Region.memory c.commit_word.new.region)) (IsTreePointer g.plan.old g.plan.bound) (IsTreeWord g.plan.old g.plan.bound) (IsAnew (job_of c.args.touched.now) c.args.from (ways (job_of c.args.touched.now)) c.args.from) (value_upto (job_of c.args.touched.now) n) (laid_on g.plan.old (job_of c.args.touched.now)) g.plan.kept (has c.make-top.new.blocks)) words
+      (subst (λ (ws : List ℕ). IsStage g.plan.old ws (IsTreePointer g.plan.old g.plan.bound) (IsTreeWord g.plan.old g.plan.bound) (IsAnew (job_of c.args.touched.now) c.args.from (ways (job_of c.args.touched.now)) c.args.from) (value_upto (job_of c.args.touched.now) (ways (job_of c.args.touched.now) - (job_of c.args.touched.now).leaves)) (laid_on g.plan.old (job_of c.args.touched.now)) g.plan.kept (has c.make-top.new.blocks)) now
       c.make-top.ensures.made.stage);
 }
 

@@ -10,18 +10,19 @@ pub loop-piece-init : goal.loop-piece-init
 loop-piece-init g c = record { front = front_none c.args.to (λ slot. get_or c.args.words.now slot 0) (g.R.Region.memory c.args.region.now) }
 
 pub overflow_mul-to : goal.overflow_mul-to
-overflow_mul-to g c = omega (arith, c.requires.inside, length-current_words (g.R.Region.memory c.args.region.now), c.words-words.ensures, c.words-words.type_inv)
+overflow_mul-to g c = omega (arith, c.requires.to.inside, length-current_words (g.R.Region.memory c.args.region.now), c.words-words.ensures, c.words-words.type_inv)
 
 pub overflow_add-to : goal.overflow_add-to
-overflow_add-to g c = omega (arith, c.requires.inside, length-current_words (g.R.Region.memory c.args.region.now), c.words-words.ensures, c.words-words.type_inv, c.loop-piece-test.true)
+overflow_add-to g c = omega (arith, c.requires.to.inside, length-current_words (g.R.Region.memory c.args.region.now), c.words-words.ensures, c.words-words.type_inv, c.requires.few, c.loop-piece-test.true)
 
 pub set_words-requires-clause-in_range : goal.set_words-requires-clause-in_range
 set_words-requires-clause-in_range g c =
     omega (
       arith,
-      c.requires.inside,
+      c.requires.to.inside,
+      c.requires.few,
       c.loop-piece-test.true,
-      length-loaded c.args.words.now _ (8 * c.loop-piece.piece) 8 refl (omega (arith, c.loop-piece-test.true)),
+      length-loaded c.args.words.now _ (8 * c.loop-piece.piece) 8 refl (omega (arith, c.requires.few, c.loop-piece-test.true)),
       front_long c.args.to _ (8 * c.loop-piece.piece) (g.R.Region.memory c.args.region.now) (g.R.Region.memory c.loop-piece.region) c.loop-piece.invariant.front,
     )
 
@@ -29,14 +30,15 @@ pub set_words-requires-clause-room : goal.set_words-requires-clause-room
 set_words-requires-clause-room g c =
     omega (
       arith,
-      c.requires.room,
+      c.requires.to.room,
+      c.requires.few,
       c.loop-piece-test.true,
-      length-loaded c.args.words.now _ (8 * c.loop-piece.piece) 8 refl (omega (arith, c.loop-piece-test.true)),
+      length-loaded c.args.words.now _ (8 * c.loop-piece.piece) 8 refl (omega (arith, c.requires.few, c.loop-piece-test.true)),
       front_room c.args.to _ (8 * c.loop-piece.piece) (g.R.Region.memory c.args.region.now) (g.R.Region.memory c.loop-piece.region) c.loop-piece.invariant.front,
     )
 
 pub set_words-requires-clause-few : goal.set_words-requires-clause-few
-set_words-requires-clause-few g c = omega (arith, length-loaded c.args.words.now _ (8 * c.loop-piece.piece) 8 refl (omega (arith, c.loop-piece-test.true)))
+set_words-requires-clause-few g c = omega (arith, length-loaded c.args.words.now _ (8 * c.loop-piece.piece) 8 refl (omega (arith, c.requires.few, c.loop-piece-test.true)))
 
 pub loop-piece-preserved : goal.loop-piece-preserved
 loop-piece-preserved g c =
@@ -48,11 +50,11 @@ loop-piece-preserved g c =
     let count : ℕ = 8 * c.loop-piece.piece in
     let next : count + 8 ≡ 8 * (c.loop-piece.piece + 1) = omega arith in
     let start : count ≡ 0 → c.loop-piece.piece ≡ 0 = λ none. omega (arith, none) in
-    let inside : 512 * c.args.to + 512 ≤ length (current_words middle) = omega (arith, c.requires.inside, front_long c.args.to value count old middle front) in
+    let inside : 512 * c.args.to + 512 ≤ length (current_words middle) = omega (arith, c.requires.to.inside, front_long c.args.to value count old middle front) in
     record {
       front = subst (λ n. HoldsFront c.args.to value n old new) next
-          (front_more c.args.to count 8 value old middle front (omega (arith, c.loop-piece-test.true)) (omega arith) inside
-          (slice_range c.args.words.now count (count + 8)) (length-loaded c.args.words.now _ count 8 refl (omega (arith, c.loop-piece-test.true)))
+          (front_more c.args.to count 8 value old middle front (omega (arith, c.requires.few, c.loop-piece-test.true)) (omega arith) inside
+          (slice_range c.args.words.now count (count + 8)) (length-loaded c.args.words.now _ count 8 refl (omega (arith, c.requires.few, c.loop-piece-test.true)))
           (λ i few. loaded_word c.args.words.now _ count 8 refl i few)
           (nat_eq c.loop-piece.piece 0) new (λ none. ap (λ p. nat_eq p 0) (start none)) c.set_words.ensures);
     }
@@ -61,12 +63,12 @@ pub returns-clause-fills : goal.returns-clause-fills
 returns-clause-fills g c =
     let old = g.R.Region.memory c.args.region.now in
     let new = g.R.Region.memory c.loop-piece.region in
-    let end : 8 * c.loop-piece.piece ≡ 512 = omega (arith, c.loop-piece-test.false, c.loop-piece.auto.piece-end) in
-    filled c.args.to _ 512 old new (subst (λ n. HoldsFront c.args.to (λ slot. get_or c.args.words.now slot 0) n old new) end c.loop-piece.invariant.front) (omega arith) (omega arith)
+    let end : 8 * c.loop-piece.piece ≡ 8 * c.args.pieces = omega (arith, c.loop-piece-test.false, c.loop-piece.auto.piece-end) in
+    filled c.args.to _ (8 * c.args.pieces) old new (subst (λ n. HoldsFront c.args.to (λ slot. get_or c.args.words.now slot 0) n old new) end c.loop-piece.invariant.front) (omega (arith, c.requires.some)) (omega (arith, c.requires.few))
 
 pub returns-clause-words : goal.returns-clause-words
 returns-clause-words g c slot low =
     let old = g.R.Region.memory c.args.region.now in
     let new = g.R.Region.memory c.loop-piece.region in
-    let end : 8 * c.loop-piece.piece ≡ 512 = omega (arith, c.loop-piece-test.false, c.loop-piece.auto.piece-end) in
-    stored_words c.args.to _ 512 old new (subst (λ n. HoldsFront c.args.to (λ slot. get_or c.args.words.now slot 0) n old new) end c.loop-piece.invariant.front) c.requires.not_null slot low
+    let end : 8 * c.loop-piece.piece ≡ 8 * c.args.pieces = omega (arith, c.loop-piece-test.false, c.loop-piece.auto.piece-end) in
+    stored_words c.args.to _ (8 * c.args.pieces) old new (subst (λ n. HoldsFront c.args.to (λ slot. get_or c.args.words.now slot 0) n old new) end c.loop-piece.invariant.front) c.requires.to.not_null slot low

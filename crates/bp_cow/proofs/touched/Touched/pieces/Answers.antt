@@ -4,9 +4,9 @@ use Rattle.bp_cow.specs.declared.touched.Touched.{Touched}
 use Rattle.bp_cow.specs.declared.ways.Leaf.{Leaf}
 use Rattle.bp_cow.specs.declared.ways.Way.{Way}
 use Rattle.bp_cow.specs.Leaves.{IsLeaf}
-use Rattle.bp_cow.specs.Touched.{above, job_of, live_of, node_live, path_of, word_live, word_paths}
+use Rattle.bp_cow.specs.Touched.{above, job_of, live_of, leaf_live, path_of, word_live, word_paths}
 use Rattle.bp_cow.specs.Ways.{IsWay}
-use Rattle.bp_cow.proofs.LiveLaws.{live-node}
+use Rattle.bp_cow.proofs.LiveLaws.{live-level}
 use Rattle.bp_cow.proofs.RunLaws.{length-run_way}
 use Rattle.bp_cow.proofs.RunsLaws.{live-word, way-short, way-word}
 use Rattle.bp_cow.proofs.touched.Touched.pieces.Goals as goal
@@ -21,8 +21,8 @@ leaf_of touched way leaf is e = subst (λ (o : Option Leaf). IfSome o (λ one. I
 pub overflow_cast-end : goal.overflow_cast-end
 overflow_cast-end c = omega (arith, c.requires.way.len, way-short c.args.self.now c.requires.touched c.args.way.now.index c.requires.way.here)
 
-pub node_pieces-requires-clause-level : goal.node_pieces-requires-clause-level
-node_pieces-requires-clause-level c =
+pub block_pieces-requires-clause-level : goal.block_pieces-requires-clause-level
+block_pieces-requires-clause-level c =
     let at = leaf_of c.args.self.now c.args.way.now c.in-Some.leaf c.requires.way c.in-Some.is in
     let low = (c.requires.touched.runs c.in-Some.leaf.run.now at.has).low in
     omega (arith, low, way_long c.args.self.now c.args.way.now c.in-Some.leaf c.requires.way at, c.len.ensures.value, c.if-len-depth.true)
@@ -33,9 +33,9 @@ returns-in-Some-clause-live c slot small counted =
     let at = leaf_of c.args.self.now c.args.way.now c.in-Some.leaf c.requires.way c.in-Some.is in
     let long = way_long c.args.self.now c.args.way.now c.in-Some.leaf c.requires.way at in
     let up : length run.root.items + run.height - c.args.depth ≡ c.args.way.now.len - c.args.depth = omega (arith, long) in
-    let is = live-node run c.in-Some.leaf.index c.args.depth (omega (arith, c.len.ensures.value, c.if-len-depth.true)) (omega (arith, long, c.if-depth-end.true)) in
-    c.node_pieces.ensures.live slot small
-    (subst (λ l. slot < node_live run.size l (run.off / 4096 + c.in-Some.leaf.index)) up (subst (λ n. slot < n) (at.live c.args.self.now.trees.now c.args.depth ∙ is) counted))
+    let is = live-level run c.in-Some.leaf.index c.args.depth (omega (arith, c.len.ensures.value, c.if-len-depth.true)) (omega (arith, long, c.if-depth-end.true)) in
+    c.block_pieces.ensures.live slot small
+    (subst (λ l. slot < leaf_live run.size l (run.off / 4096 + c.in-Some.leaf.index)) up (subst (λ n. slot < n) (at.live c.args.self.now.trees.now c.args.depth ∙ is) counted))
 
 pub word_pieces-requires-clause-depth : goal.word_pieces-requires-clause-depth
 word_pieces-requires-clause-depth c =

@@ -1,18 +1,18 @@
 use Rattle.std.proofs.Common.{◌≡◌, ◌+◌, ◌-◌, ◌<◌, length, sym, ◌∙◌, ap, subst, arith}
-use Rattle.bp_cow.specs.Touched.{node_pointers, slots_number}
+use Rattle.bp_cow.specs.Touched.{level_live, slots_number}
 use Rattle.bp_cow.proofs.WordLive.{number-low}
 use Rattle.bp_cow.proofs.touched.TreeSize.pieces.Goals as goal
 
-pub node_pieces-requires-clause-node : goal.node_pieces-requires-clause-node
-node_pieces-requires-clause-node c =
-    let low = number-low c.slots_number-node.result (c.args.depth - c.len-above.result) c.slots_number-node.ensures.low (omega (arith, c.requires.below, c.requires.height, c.len-above.ensures.value)) in
+pub block_pieces-requires-clause-block : goal.block_pieces-requires-clause-block
+block_pieces-requires-clause-block c =
+    let low = number-low c.slots_number-block.result (c.args.depth - c.len-above.result) c.slots_number-block.ensures.low (omega (arith, c.requires.below, c.requires.height, c.len-above.ensures.value)) in
     omega (arith, low)
 
 pub returns-clause-live : goal.returns-clause-live
 returns-clause-live c slot small counted =
     let tree = c.args.self.now in
     let above = c.len-above.ensures.value in
-    let number : c.slots_number-node.result ≡ slots_number c.args.path.now (length tree.root.items) (c.args.depth - length tree.root.items) =
-    c.slots_number-node.ensures.number ∙ ap (λ n. slots_number c.args.path.now n (c.args.depth - n)) above in
+    let number : c.slots_number-block.result ≡ slots_number c.args.path.now (length tree.root.items) (c.args.depth - length tree.root.items) =
+    c.slots_number-block.ensures.number ∙ ap (λ n. slots_number c.args.path.now n (c.args.depth - n)) above in
     let level : length tree.root.items + tree.height - c.args.depth ≡ tree.height - (c.args.depth - c.len-above.result) = omega (arith, above, c.requires.above, c.requires.below) in
-    c.node_pieces.ensures.live slot small (subst (λ n. slot < node_pointers tree.size (tree.height - (c.args.depth - c.len-above.result)) n) (sym number) (subst (λ l. slot < node_pointers tree.size l (slots_number c.args.path.now (length tree.root.items) (c.args.depth - length tree.root.items))) level counted))
+    c.block_pieces.ensures.live slot small (subst (λ n. slot < level_live tree.size (tree.height - (c.args.depth - c.len-above.result)) n) (sym number) (subst (λ l. slot < level_live tree.size l (slots_number c.args.path.now (length tree.root.items) (c.args.depth - length tree.root.items))) level counted))

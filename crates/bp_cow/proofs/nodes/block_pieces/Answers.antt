@@ -1,7 +1,7 @@
 use Rattle.std.proofs.Common.{◌≡◌, ℕ, ◌-◌, ◌*◌, ◌/◌, ◌^◌, ◌∙◌, ap, arith}
 use Rattle.std.proofs.Math.Nat.{div-div-eq-div-mul}
 use Rattle.pm_words.proofs.Digits.{power_of_two}
-use Rattle.bp_cow.proofs.nodes.node_pieces.Goals as goal
+use Rattle.bp_cow.proofs.nodes.block_pieces.Goals as goal
 
 pub returns-clause-live : goal.returns-clause-live
 returns-clause-live c slot small below =

@@ -1,0 +1,16 @@
+-- The words of trees that count.
+use Rattle.std.specs.Prelude.{◌≡◌, ℕ, suc, ◌*◌, ◌<◌}
+use Rattle.bp_limits.specs.Limits.{super_root}
+use Rattle.bp_layout.specs.Inode.{root_of}
+use Rattle.bp_layout.specs.Reached.{IsReached}
+use Rattle.bp_layout.specs.Words.{Image, word, height_of}
+use Rattle.bp_shapes.specs.Forest.{tree_trail}
+use Rattle.bp_shapes.specs.Trail.{Trail}
+
+-- a content word of a reached tree that begins below the size that counts
+pub record IsTreeWord (image : Image) (bound : ℕ → ℕ) (q : Trail) : Type 0 where
+  pub tree : ℕ
+  pub number : ℕ
+  pub reached : IsReached image tree
+  pub below : 8 * number < bound tree
+  pub named : tree_trail (height_of (word image super_root)) tree (suc (height_of (root_of image tree))) number ≡ q

@@ -1,8 +1,10 @@
 -- The pieces of a batch, one after the other.
 use Rattle.std.proofs.Common.{◌≡◌, ℕ, ◌+◌, ◌<◌, List, [], ◌∷◌, ◌++◌, drop, get_or, length, map, take, Bool, true, false, refl, sym, ◌∙◌, ap, subst, true≢false}
-use Rattle.std.specs.Prelude.{is_none}
+use Rattle.std.specs.Prelude.{◌||◌, bytes_eq, is_err, is_none, not, Err, IfOk, Ok, Option, Result}
 use Rattle.std.specs.List.{list_any}
+use Rattle.std.proofs.lemmas.Bool.{not-false}
 use Rattle.std.proofs.lemmas.List.{drop_more, map-append, take_more}
+use Rattle.std.proofs.lemmas.Slice.Eq.{bytes_eq-Decides}
 use Rattle.bp_calls.specs.Overwritten.{patch_seen, patches_seen}
 use Rattle.bp_calls.specs.declared.batching.Patch.{Patch as GivenPatch}
 use Rattle.bp_changes.specs.Overwrites.{Patch}
@@ -25,6 +27,14 @@ patches_more : (image : Image) (pieces : List Piece) (patches : List Patch) (pie
 patches_more image _ _ piece i no_patch finds = more_patches finds no_patch
 patches_more image _ _ piece i (more_patches {piece = before} {pieces} {patches} {i = k} was rest) finds = more_patches was (patches_more image pieces patches piece i rest finds)
 
+-- a text that was parsed is a path, and so is one that equals a path
+pub parsed_good : {T E A : Type 0} {P : T → Type 0} (r : Result T E) (o : Option A) → IfOk r P → ((path : T) → P path → is_none o ≡ false) → is_err r ≡ false → is_none o ≡ false
+parsed_good (Ok path) o is some fine = some path is
+parsed_good (Err e) o is some fine = absurd (true≢false fine)
+
+pub same_good : (path good : List ℕ) → not (bytes_eq path good) ≡ false → is_none (parse good) ≡ false → is_none (parse path) ≡ false
+same_good path good same is = subst (λ text. is_none (parse text) ≡ false) (sym ((bytes_eq-Decides path good).0 (not-false _ same))) is
+
 -- the piece at this place, between those before it and those behind it
 pub record IsPieceAt (pieces : List GivenPiece) (i : ℕ) (piece : GivenPiece) : Type 0 where
   pub next : drop i pieces ≡ piece ∷ drop (i + 1) pieces
@@ -32,6 +42,13 @@ pub record IsPieceAt (pieces : List GivenPiece) (i : ℕ) (piece : GivenPiece) :
 
 pub piece_at : (pieces : List GivenPiece) (i : ℕ) (other : GivenPiece) → i < length pieces → IsPieceAt pieces i (get_or pieces i other)
 piece_at pieces i other low = record { next = drop_more pieces i other low; more = take_more pieces i other low }
+
+-- its path is one, so those behind it tell whether a path is not
+pub bad_behind : (text : List ℕ) (pieces : List GivenPiece) (i : ℕ) (piece : GivenPiece) → IsPieceAt pieces i piece → is_none (parse (piece_in text piece).path) ≡ false →
+    list_any (λ piece. is_none (parse piece.path)) (map (piece_in text) (drop (i + 1) pieces)) ≡ list_any (λ piece. is_none (parse piece.path)) (map (piece_in text) (drop i pieces))
+bad_behind text pieces i piece at good =
+    sym (ap (λ (ps : List GivenPiece). list_any (λ (p : Piece). is_none (parse p.path)) (map (piece_in text) ps)) at.next
+    ∙ ap (λ b. b || list_any (λ (p : Piece). is_none (parse p.path)) (map (piece_in text) (drop (i + 1) pieces))) good)
 
 module _ (image : Image) (text : List ℕ) (pieces : List GivenPiece) (i : ℕ) (piece : GivenPiece) (at : IsPieceAt pieces i piece) where
   -- it is refused, and so is the batch, where none before it is

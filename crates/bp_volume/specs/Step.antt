@@ -2,7 +2,7 @@
 use Rattle.std.specs.Prelude.{◌≡◌, ◌≢◌, ℕ, ◌<◌, ◌≤◌, List, [], ◌∷◌, length, Bool, true, false, Option, None, Some}
 use Rattle.bp_layout.specs.Words.{Image}
 use Rattle.bp_layout.specs.Directory.{Name, IsName, slot_named}
-use Rattle.bp_layout.specs.Inode.{IsDirectory}
+use Rattle.bp_layout.specs.Inode.{IsDirectory, IsFile, size_of}
 use Rattle.bp_layout.specs.Lookup.{Path, lookup}
 use Rattle.bp_plain.specs.PlainTree.{FileTree}
 use Rattle.bp_plain.specs.Stands.{Stands}
@@ -65,6 +65,12 @@ pub record PathFinds (image : Image) (text : List ℕ) (i : ℕ) : Type 0 where
   pub path : Path
   pub parsed : parse text ≡ Some path
   pub inode : lookup image path ≡ Some i
+
+-- the path finds this file, which has so many bytes
+pub record FindsFile (image : Image) (text : List ℕ) (i size : ℕ) : Type 0 where
+  pub found : PathFinds image text i
+  pub kind : IsFile image i
+  pub sized : size ≡ size_of image i
 
 -- the pieces of a batch by the inodes of their files
 pub data AreStretches (image : Image) : List Piece → List Stretch → Type 0 where

@@ -1,10 +1,11 @@
 //! Bytes into several files at once.
 
 ghost use Rattle.std.specs.List.{All, list_any, sum_by};
-ghost use Rattle.std.specs.Prelude.{◌≡◌, ◌+◌, ◌≤◌, IfErr, IfOk, false, is_none, length, map};
+ghost use Rattle.std.specs.Prelude.{◌≡◌, ◌+◌, ◌≤◌, IfErr, IfOk, IfSome, false, is_none, length, map};
 ghost use Rattle.bp_cache.specs.Cache.{IsCacheOf};
 ghost use Rattle.bp_cache.specs.Changes.{KeepsAllNames};
 ghost use Rattle.bp_calls.specs.Overwritten.{patch_seen, patches_seen};
+ghost use Rattle.bp_layout.specs.Inode.{IsFile, size_of};
 ghost use Rattle.bp_layout.specs.PathText.{parse};
 ghost use Rattle.bp_layout.specs.WellFormed.{IsWellFormed};
 ghost use Rattle.bp_limits.specs.Limits.{max_batch, max_pieces};
@@ -15,11 +16,12 @@ ghost use Rattle.bp_stands.specs.Pieces.{ArePatches, PieceFinds, patch_of};
 ghost use Rattle.bp_volume.specs.Carried.{CarriesOut};
 ghost use Rattle.bp_volume.specs.Ready.{IsReady};
 ghost use Rattle.bp_volume.specs.Seen.{unit_answer};
-ghost use Rattle.bp_volume.specs.Told.{RefusesPiece, RefusesPieces};
+ghost use Rattle.bp_volume.specs.Step.{FindsFile, PathFinds};
+ghost use Rattle.bp_volume.specs.Told.{RefusesPiece, RefusesPieces, StopsAtFile};
 ghost use Rattle.pm_region.specs.Memory.{current_words};
 
 use crate::refusing::no_space;
-use crate::walking::file_at;
+use crate::walking::{FoundFile, file_at};
 use arrayvec::ArrayVec;
 use bp_cache::DirectoryCache;
 use bp_calls::Patch;
@@ -38,15 +40,28 @@ fn part_of(text: &[u8], span: Span) -> &[u8]
     &text[at..at + span.len as usize]
 }
 
+/// A file, and the path at which it was found.
+#[derive(Clone, Copy)]
+struct Known<'a> {
+    /// The text of the path.
+    path: &'a [u8],
+    /// The file.
+    file: FoundFile,
+}
+
 /// Whether the path of a piece is not one.
 fn has_bad_path(text: &[u8], pieces: &[Piece]) -> bool
     requires { All (LiesIn text.now) pieces.now }
     ensures { result ≡ list_any (λ piece. is_none (parse piece.path)) (map (piece_in text.now) pieces.now) }
 {
+    // Pieces in a row are mostly for one file, so a path that is right is not parsed again in the next piece.
+    let mut good = b"/".as_slice();
     for piece in pieces {
-        if parse(part_of(text, piece.path)).is_err() {
+        let path = part_of(text, piece.path);
+        if path != good && parse(path).is_err() {
             return true;
         }
+        good = path;
     }
     false
 }
@@ -63,25 +78,60 @@ fn total(pieces: &[Piece]) -> u64
     total
 }
 
+/// The file at a path text: the one found last where it was found at this path, and else the one that a walk finds, which
+/// is the last one from then on.
+fn file_for<'a, R: Region>(
+    region: &R,
+    cache: &mut DirectoryCache,
+    path: &'a [u8],
+    last: &mut Option<Known<'a>>,
+) -> Result<FoundFile, FsError>
+    requires well_formed { IsWellFormed (current_words (R.memory region.now)) }
+    requires right { IsCacheOf (current_words (R.memory region.now)) cache.old }
+    requires last { IfSome last.old (λ last.
+        FindsFile (current_words (R.memory region.now)) last.path.now last.file.inumber last.file.size) }
+    ensures found { IfOk result (λ file. PathFinds (current_words (R.memory region.now)) path.now file.inumber) }
+    ensures kind { IfOk result (λ file. IsFile (current_words (R.memory region.now)) file.inumber) }
+    ensures size { IfOk result (λ file. file.size ≡ size_of (current_words (R.memory region.now)) file.inumber) }
+    ensures refused { IfErr result (λ e. StopsAtFile (current_words (R.memory region.now)) path.now (refusal_of e)) }
+    ensures last { IfSome last.new (λ last.
+        FindsFile (current_words (R.memory region.now)) last.path.now last.file.inumber last.file.size) }
+    ensures right { IsCacheOf (current_words (R.memory region.now)) cache.new }
+{
+    match &*last {
+        Some(known) if known.path == path => Ok(known.file),
+        _ => {
+            let file = file_at(region, cache, path)?;
+            *last = Some(Known { path, file });
+            Ok(file)
+        }
+    }
+}
+
 /// The patch of a piece whose path is one: its bytes, for the file at the path.
 fn patch_for<'a, R: Region>(
     region: &R,
     cache: &mut DirectoryCache,
     text: &'a [u8],
     piece: &Piece,
+    last: &mut Option<Known<'a>>,
 ) -> Result<Patch<'a>, FsError>
     requires well_formed { IsWellFormed (current_words (R.memory region.now)) }
     requires right { IsCacheOf (current_words (R.memory region.now)) cache.old }
     requires lies { LiesIn text.now piece.now }
     requires path { is_none (parse (spanned text.now piece.now.path)) ≡ false }
+    requires last { IfSome last.old (λ last.
+        FindsFile (current_words (R.memory region.now)) last.path.now last.file.inumber last.file.size) }
     ensures found { IfOk result (λ patch.
         PieceFinds (current_words (R.memory region.now)) (piece_in text.now piece.now) patch.inode) }
     ensures patch { IfOk result (λ patch. patch_seen patch ≡ patch_of (piece_in text.now piece.now) patch.inode) }
     ensures refused { IfErr result (λ e.
         RefusesPiece (current_words (R.memory region.now)) (piece_in text.now piece.now) (refusal_of e)) }
+    ensures last { IfSome last.new (λ last.
+        FindsFile (current_words (R.memory region.now)) last.path.now last.file.inumber last.file.size) }
     ensures right { IsCacheOf (current_words (R.memory region.now)) cache.new }
 {
-    let file = file_at(region, cache, part_of(text, piece.path))?;
+    let file = file_for(region, cache, part_of(text, piece.path), last)?;
     let bytes = part_of(text, piece.bytes);
     if file.size < piece.off || file.size - piece.off < bytes.len() as u64 {
         return Err(FsError::PastEnd);
@@ -112,8 +162,9 @@ fn patches_for<'a, R: Region>(
     ensures right { IsCacheOf (current_words (R.memory region.now)) cache.new }
 {
     let mut patches = ArrayVec::new();
+    let mut last = None;
     for piece in pieces {
-        let patch = patch_for(region, cache, text, piece)?;
+        let patch = patch_for(region, cache, text, piece, &mut last)?;
         patches.push(patch);
     }
     Ok(patches)

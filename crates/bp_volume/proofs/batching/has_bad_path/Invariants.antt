@@ -1,4 +1,4 @@
-use Rattle.std.proofs.Common.{◌≡◌, drop, map}
+use Rattle.std.proofs.Common.{◌≡◌, drop, false, map}
 use Rattle.std.specs.List.{list_any}
 use Rattle.std.specs.Option.{is_none}
 use Rattle.bp_layout.specs.PathText.{parse}
@@ -6,6 +6,8 @@ use Rattle.bp_plain.specs.Seen.{piece_in}
 use Rattle.bp_volume.proofs.batching.has_bad_path.Given as goal
 
 abbrev pub invariant-loop-piece : goal.invariant-loop-piece
-invariant-loop-piece l =
-    list_any (λ piece. is_none (parse piece.path)) (map (piece_in l.text) (drop l.piece-index l.pieces))
-    ≡ list_any (λ piece. is_none (parse piece.path)) (map (piece_in l.text) l.pieces)
+invariant-loop-piece l = record {
+  left : list_any (λ piece. is_none (parse piece.path)) (map (piece_in l.text) (drop l.piece-index l.pieces))
+      ≡ list_any (λ piece. is_none (parse piece.path)) (map (piece_in l.text) l.pieces);
+  good : is_none (parse l.good) ≡ false;
+}

@@ -13,6 +13,7 @@ loop-piece-init g c = record {
   count = search rules;
   left = λ tree stands. refl;
   paths = c.requires.paths;
+  last = search rules;
   right = c.requires.right;
 }
 
@@ -31,5 +32,6 @@ loop-piece-preserved g c =
       count = omega (arith, c.push.ensures.len, c.loop-piece.invariant.count);
       left = λ tree stands. piece_passes image c.args.text.now c.args.pieces.now c.loop-piece.piece-index _ at _ c.in_ok-patch.ensures.found tree stands ∙ c.loop-piece.invariant.left tree stands;
       paths = paths_behind image c.args.text.now c.args.pieces.now c.loop-piece.piece-index _ at c.loop-piece.invariant.paths;
+      last = c.in_ok-patch.ensures.last;
       right = c.in_ok-patch.ensures.right;
     }

@@ -46,6 +46,8 @@ use Rattle.bp_cow.specs.Committed.{after_commit, changes_of}
 use Rattle.bp_cow.specs.Cover.{commit_cover, copied_count}
 use Rattle.bp_cow.specs.Job.{IsTurned}
 use Rattle.bp_cow.specs.Touched.{job_of, path_of, word_paths}
+use Rattle.bp_cow.specs.Found.{AreWaysIn}
+use Rattle.bp_cow.specs.declared.covering.FoundWays.{FoundWays}
 use Rattle.bp_cow.specs.declared.touched.Touched.{Touched}
 use Rattle.bp_cow.proofs.CommitTaking.{commit_performs_after, cover_open}
 use Rattle.bp_cow.proofs.CopiesNeed.{has-word}
@@ -66,6 +68,7 @@ use Rattle.bp_rename.proofs.ListedTrees.{lists_stay}
 use Rattle.bp_rename.proofs.LooseCovers.{block_stays, still_loose}
 use Rattle.bp_rename.proofs.ContentWords.{AreContent, content_trail, size_given, size_kept, words_can, words_fronts, words_kept, words_only, words_value}
 use Rattle.bp_rename.proofs.Outside.{below_before}
+use Rattle.bp_rename.proofs.WaysStay.{ways_stay_on}
 use Rattle.bp_rename.proofs.TwoWords.{first_value, pick, second_value, two_count}
 
 -- a trail that is shorter than those of inodes' words is that of a pointer of the inode file
@@ -263,6 +266,10 @@ module _ {kept : ℕ → Bool} (old middle : Memory) (move : Move) (blocks inode
   same_blocks n low =
       let one = size_fronts image move can other none touched is n low in
       block_stays image mid (size_of image) (trail_of (size_path image j) n) one (ap height_of (sym root_inodes)) (size_node one.tree one.depth one.index n low one.live one.named)
+
+  -- so the ways that were found before are those of the image in the middle
+  pub behind_ways : (found : FoundWays) → AreWaysIn (current_words old) touched found → AreWaysIn (current_words middle) touched found
+  behind_ways = ways_stay_on image mid touched behind_can.shape puts.prepared.ready.meaning.trees.whole (size_path image j) (touched_size image move can other none touched is) same_blocks
 
   pub behind_loose : thawed (current_words old) kept (moves move.from_dir move.from_slot move.to_dir) ≡ [] → HasLooseCover (current_words middle) kept touched
   behind_loose clear =

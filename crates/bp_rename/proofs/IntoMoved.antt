@@ -38,8 +38,10 @@ use Rattle.bp_cow.specs.CanCommit.{CanCommit}
 use Rattle.bp_cow.specs.Commit.{CommitsTouched, HasLooseCover, HasRoom}
 use Rattle.bp_cow.specs.Committed.{after_commit, changes_of}
 use Rattle.bp_cow.specs.Cover.{commit_cover, copied_count}
+use Rattle.bp_cow.specs.Found.{AreWaysIn}
 use Rattle.bp_cow.specs.Job.{IsTurned}
 use Rattle.bp_cow.specs.Touched.{all_paths, job_of, path_of, word_paths}
+use Rattle.bp_cow.specs.declared.covering.FoundWays.{FoundWays}
 use Rattle.bp_cow.specs.declared.touched.Touched.{Touched}
 use Rattle.bp_cow.proofs.CommitTaking.{commit_performs_after, copied_few, cover_open, stores_few}
 use Rattle.bp_cow.proofs.CopiesNeed.{has-word}
@@ -53,10 +55,11 @@ use Rattle.bp_rename.specs.RenamesEntry.RenamesEntry.{across}
 use Rattle.bp_rename.specs.TouchesTwo.{AnyTree, TouchesTwo, inumber_path}
 use Rattle.bp_rename.specs.declared.moving.Move.{Move}
 use Rattle.bp_rename.proofs.ContentWords.{AreContent, size_kept, words_can, words_only, words_value}
-use Rattle.bp_rename.proofs.IntoDone.{into_count, into_cover, into_fronts, into_loose, into_paths, into_whole}
+use Rattle.bp_rename.proofs.IntoDone.{into_count, into_cover, into_fronts, into_loose, into_paths, into_shape, into_some, into_whole}
 use Rattle.bp_rename.proofs.LooseCovers.{block_stays, still_loose}
 use Rattle.bp_rename.proofs.IntoLaws.{into_can, into_taking, into_trees, mid_empty, mid_formed, mid_name, mid_outside, mid_touches}
 use Rattle.bp_rename.proofs.TwoWords.{first_value, has_first, no_leaves, pick, second_value, two_are, two_count}
+use Rattle.bp_rename.proofs.WaysStay.{ways_stay_on}
 use Rattle.bp_rename.proofs.WholePaths.{cover-whole, pointed-directory}
 
 module _ {kept : ℕ → Bool} (old third mid : Memory) (move : Move) (s entry : ℕ) (can : CanRename (current_words old) move) (new_name : move.to_slot ≡ None) (other : move.from_dir ≢ move.to_dir)
@@ -130,6 +133,12 @@ module _ {kept : ℕ → Bool} (old third mid : Memory) (move : Move) (s entry :
       (ap height_of (trees.root 0 inode_file (omega (arith, can.well_formed.some_inodes))))
       (ap (λ r. node (current_words mid) r one.depth one.index) root
       ∙ node-kept (current_words old) (current_words mid) (root_of (current_words old) one.tree) (size_of (current_words old) one.tree) (trees.keeps one.tree one.reached) one.depth one.index one.live)
+
+  -- so the ways that were found before are those of the image in the middle
+  pub into_ways : (found_ways : FoundWays) → AreWaysIn (current_words old) touched found_ways → AreWaysIn (current_words mid) touched found_ways
+  into_ways =
+      ways_stay_on (current_words old) (current_words mid) touched (into_shape (current_words old) move s can other found touched is) trees.prepared.meaning.trees.whole
+      (path_of (word_paths touched) 0) (has-word touched (into_shape (current_words old) move s can other found touched is) 0 (into_some (current_words old) move s can other found touched is)) same_blocks
 
   pub into_mid_loose : thawed (current_words old) kept (moves move.from_dir move.from_slot move.to_dir) ≡ [] → HasLooseCover (current_words mid) kept touched
   into_mid_loose clear =

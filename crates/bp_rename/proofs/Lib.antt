@@ -23,3 +23,5 @@ pub mod LooseCovers
 pub mod FewWays
 pub mod RenameTargets
 pub mod ListedTrees
+pub mod Plans
+pub mod WaysStay

@@ -21,7 +21,7 @@ use Rattle.bp_rename.proofs.Outside.{below_before}
 use Rattle.bp_rename.proofs.RenamedStands.{renamed_moves}
 
 module _ (old mid : Image) (move : Move) (can : CanRename old move) (shape : SameShape old mid) where
-  moved : inumber_at mid move.from_dir move.from_slot ≡ moved_inode old move
+  pub moved : inumber_at mid move.from_dir move.from_slot ≡ moved_inode old move
   moved = shape.meaning.inumber move.from_dir move.from_slot can.source can.entry.directory can.entry.in_size
 
   target_inode : (r : ℕ) → move.to_slot ≡ Some r → inumber_at mid move.to_dir r ≡ inumber_at old move.to_dir r

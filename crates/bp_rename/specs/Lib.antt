@@ -3,3 +3,4 @@ pub mod RenamesEntry
 pub mod TouchesTwo
 pub mod Respelled
 pub mod MovesPath
+pub mod Planned

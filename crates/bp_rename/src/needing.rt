@@ -1,19 +1,24 @@
 //! What a rename needs, and near which words it stores.
 
-ghost use Rattle.std.specs.Prelude.{◌≡◌, ◌^◌, ◌<◌};
+ghost use Rattle.std.specs.Prelude.{◌≡◌, ◌≢◌, ◌^◌, ◌<◌, ◌∷◌, [], None, true, IfErr, IfOk, OnErr};
+ghost use Rattle.bp_calls.specs.Space.{HasRoomWhereFree, LacksSpace};
+ghost use Rattle.bp_layout.specs.Directory.{empty_slot};
 ghost use Rattle.bp_layout.specs.Need.{need};
+ghost use Rattle.bp_layout.specs.Need.Change.{moves};
 ghost use Rattle.bp_rename.specs.CanRename.{CanRename, IsSlotAcross, change_of};
-ghost use Rattle.bp_layout.specs.Thaw.{targets};
+ghost use Rattle.bp_rename.specs.Planned.{IsPlanned, IsReady, Needs};
+ghost use Rattle.bp_layout.specs.Thaw.{cover_now, targets, thawed};
+ghost use Rattle.bp_shapes.specs.Sets.{IsExact, kept_of};
 ghost use Rattle.bp_thaw.specs.Thaws.{paths_in};
 ghost use Rattle.pm_region.specs.Memory.{current_words};
 
-use crate::across::{need_across, targets_across};
 use crate::moving::Move;
-use crate::onto::{need_onto, targets_onto};
-use crate::within::{need_within, targets_within};
-use bp_calls::Targets;
+use bp_calls::{Targets, entry_path, push_end, thaw_before};
+use bp_cow::{FoundWays, Touched, copies_below, cover, find_ways};
 use bp_dirs::free_slot;
-use bp_inodes::tree_of;
+use bp_free::{NoSpace, Parts};
+use bp_inodes::{root_path, tree_of};
+use bp_thaw::thaw_need;
 use pm_region::Region;
 
 /// The least empty slot of the new directory. It is sought only where the name moves across, and is new there.
@@ -28,30 +33,134 @@ pub(crate) fn slot_across<R: Region>(region: &R, to_move: &Move<'_>) -> Option<u
     }
 }
 
-/// How many blocks a rename needs once nothing is left to thaw, given what [`slot_across`] tells. No block has to be free
-/// for it.
-pub(crate) fn need_with<R: Region>(region: &R, to_move: &Move<'_>, empty: Option<u64>) -> u32
+/// Adds the words near which a name comes to another directory, given the least empty slot of that directory.
+fn push_new<R: Region>(near: &mut Targets, region: &R, to_move: &Move<'_>, empty: Option<u64>)
     requires can { CanRename (current_words (R.memory region.now)) to_move.now }
-    requires empty { IsSlotAcross (current_words (R.memory region.now)) to_move.now empty }
-    ensures need { result ≡ need (current_words (R.memory region.now)) (change_of to_move.now) }
-    ensures few { result < 2 ^ 31 }
+    requires slot { empty ≡ empty_slot (current_words (R.memory region.now)) to_move.now.to_dir }
+    requires cover { paths_in near.old ≡ cover_now (current_words (R.memory region.now))
+        (moves to_move.now.from_dir to_move.now.from_slot to_move.now.to_dir) ∷ [] }
+    ensures { paths_in near.new ≡ targets (current_words (R.memory region.now))
+        (moves to_move.now.from_dir to_move.now.from_slot to_move.now.to_dir) }
 {
-    match to_move.to_slot {
-        Some(slot) => need_onto(region, to_move, slot),
-        None if to_move.from_dir == to_move.to_dir => need_within(region, to_move),
-        None => need_across(region, to_move, empty),
+    match empty {
+        Some(slot) => near.push(entry_path(region, to_move.to_dir, slot)),
+        None => {
+            let root = root_path(region, to_move.to_dir);
+            push_end(near, &root, tree_of(region, to_move.to_dir));
+        }
     }
 }
 
-/// The words near which a rename stores, given what [`slot_across`] tells.
-pub(crate) fn targets_with<R: Region>(region: &R, to_move: &Move<'_>, empty: Option<u64>) -> Targets
+/// The words near which a rename stores, given what [`slot_across`] tells, and what it touches: that of the cover, and those
+/// of an entry that is new in another directory.
+fn targets_of<R: Region>(
+    region: &R,
+    to_move: &Move<'_>,
+    empty: Option<u64>,
+    touched: &Touched<'_>,
+) -> Targets
     requires can { CanRename (current_words (R.memory region.now)) to_move.now }
     requires empty { IsSlotAcross (current_words (R.memory region.now)) to_move.now empty }
+    requires planned { IsPlanned (current_words (R.memory region.now)) to_move.now touched.now }
     ensures { paths_in result ≡ targets (current_words (R.memory region.now)) (change_of to_move.now) }
 {
+    let mut targets = Targets::new();
+    targets.push(cover(region, touched));
     match to_move.to_slot {
-        Some(slot) => targets_onto(region, to_move, slot),
-        None if to_move.from_dir == to_move.to_dir => targets_within(region, to_move),
-        None => targets_across(region, to_move, empty),
+        Some(_) => targets,
+        None if to_move.from_dir == to_move.to_dir => targets,
+        None => {
+            push_new(&mut targets, region, to_move, empty);
+            targets
+        }
     }
+}
+
+/// Whether nothing that is kept has to be thawed before a rename.
+fn is_clear<R: Region>(
+    parts: &Parts<R>,
+    to_move: &Move<'_>,
+    empty: Option<u64>,
+    touched: &Touched<'_>,
+) -> bool
+    requires can { CanRename (current_words (R.memory parts.now.region)) to_move.now }
+    requires empty { IsSlotAcross (current_words (R.memory parts.now.region)) to_move.now empty }
+    requires exact { IsExact (current_words (R.memory parts.now.region)) parts.now }
+    requires planned { IsPlanned (current_words (R.memory parts.now.region)) to_move.now touched.now }
+    ensures { result ≡ true →
+        thawed (current_words (R.memory parts.now.region)) (kept_of parts.now) (change_of to_move.now) ≡ [] }
+{
+    if parts.frozen.count() == 0 {
+        return true;
+    }
+    let targets = targets_of(&parts.region, to_move, empty, touched);
+    thaw_need(parts, &targets) == 0
+}
+
+/// Thaws what is kept near the words of a rename that takes `more` blocks after that, and finds the ways anew.
+///
+/// # Errors
+///
+/// `NoSpace` exactly where fewer blocks are free than that takes and `more`. Nothing has changed then.
+fn thaw_ways<R: Region>(
+    parts: &mut Parts<R>,
+    to_move: &Move<'_>,
+    empty: Option<u64>,
+    touched: &Touched<'_>,
+    more: u32,
+) -> Result<FoundWays, NoSpace>
+    requires can { CanRename (current_words (R.memory parts.old.region)) to_move.now }
+    requires empty { IsSlotAcross (current_words (R.memory parts.old.region)) to_move.now empty }
+    requires exact { IsExact (current_words (R.memory parts.old.region)) parts.old }
+    requires planned { IsPlanned (current_words (R.memory parts.old.region)) to_move.now touched.now }
+    requires need { more ≡ need (current_words (R.memory parts.old.region)) (change_of to_move.now) }
+    requires few { more < 2 ^ 31 }
+    requires room { HasRoomWhereFree (R.memory parts.old.region) (kept_of parts.old) parts.old.blocks (change_of to_move.now) }
+    ensures ready { IfOk result (λ found. IsReady R.memory to_move.now touched.now parts.old parts.new found) }
+    ensures refused { IfErr result (LacksSpace (current_words (R.memory parts.old.region)) (kept_of parts.old)
+        (change_of to_move.now)) }
+    ensures same { OnErr result (parts.new ≡ parts.old) }
+{
+    let targets = targets_of(&parts.region, to_move, empty, touched);
+    match thaw_before(parts, &targets, more) {
+        Ok(()) => Ok(find_ways(&parts.region, touched)),
+        Err(lacks) => Err(lacks),
+    }
+}
+
+/// Finds the ways to what a rename touches, once nothing that is kept is left on them, given what [`slot_across`] tells, and
+/// how many blocks it takes besides those that are copied.
+///
+/// # Errors
+///
+/// `NoSpace` exactly where fewer blocks are free than the rename needs, those that are thawed among them. Nothing has
+/// changed then.
+pub(crate) fn ready_ways<R: Region>(
+    parts: &mut Parts<R>,
+    to_move: &Move<'_>,
+    empty: Option<u64>,
+    touched: &Touched<'_>,
+    besides: u32,
+) -> Result<FoundWays, NoSpace>
+    requires can { CanRename (current_words (R.memory parts.old.region)) to_move.now }
+    requires empty { IsSlotAcross (current_words (R.memory parts.old.region)) to_move.now empty }
+    requires exact { IsExact (current_words (R.memory parts.old.region)) parts.old }
+    requires planned { IsPlanned (current_words (R.memory parts.old.region)) to_move.now touched.now }
+    requires needs { Needs (current_words (R.memory parts.old.region)) to_move.now touched.now besides }
+    requires room { HasRoomWhereFree (R.memory parts.old.region) (kept_of parts.old) parts.old.blocks (change_of to_move.now) }
+    ensures ready { IfOk result (λ found. IsReady R.memory to_move.now touched.now parts.old parts.new found) }
+    ensures refused { IfErr result (LacksSpace (current_words (R.memory parts.old.region)) (kept_of parts.old)
+        (change_of to_move.now)) }
+    ensures same { OnErr result (parts.new ≡ parts.old) }
+{
+    let found = find_ways(&parts.region, touched);
+    let need = besides + copies_below(touched, &found);
+    if !is_clear(parts, to_move, empty, touched) {
+        return thaw_ways(parts, to_move, empty, touched, need);
+    }
+    let free = parts.blocks.count();
+    if free < need {
+        return Err(NoSpace { need, free });
+    }
+    Ok(found)
 }

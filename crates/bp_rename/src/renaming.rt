@@ -1,84 +1,22 @@
-//! Renames: three ways, by where the new name stands.
+//! Renames: four ways, by where the new name stands.
 
-ghost use Rattle.std.specs.Prelude.{◌≡◌, ◌+◌, ◌^◌, ◌<◌, ◌≤◌, [], IfErr, OnErr, OnOk, length};
+ghost use Rattle.std.specs.Prelude.{◌≡◌, IfErr, OnErr, OnOk};
 ghost use Rattle.bp_calls.specs.Space.{HasRoomWhereFree, LacksSpace};
-ghost use Rattle.bp_calls.specs.ThawsFor.{ThawsFor};
 ghost use Rattle.bp_changes.specs.Thawed.{AfterThaw};
-ghost use Rattle.bp_free.specs.Set.{members};
-ghost use Rattle.bp_layout.specs.Need.{need};
-ghost use Rattle.bp_layout.specs.Thaw.{targets, thawed};
 ghost use Rattle.bp_rename.specs.CanRename.{CanRename, IsSlotAcross, change_of};
 ghost use Rattle.bp_rename.specs.RenamesEntry.{RenamesEntry};
 ghost use Rattle.bp_shapes.specs.Sets.{IsExact, kept_of};
-ghost use Rattle.bp_commit.specs.Performs.{Performs, PerformsThawed, room_for};
-ghost use Rattle.pm_region.specs.Memory.{current_words, room_in};
+ghost use Rattle.bp_commit.specs.Performs.{Performs};
+ghost use Rattle.pm_region.specs.Memory.{current_words};
 
-use crate::across::rename_across;
+use crate::across::rename_into;
+use crate::behind::rename_behind;
 use crate::moving::Move;
-use crate::needing::{need_with, slot_across, targets_with};
+use crate::needing::slot_across;
 use crate::onto::rename_onto;
 use crate::within::rename_within;
-use bp_calls::thaw_before;
 use bp_free::{NoSpace, Parts};
 use pm_region::Region;
-
-/// Thaws what is kept near the words of a rename that takes `more` blocks after that, given what [`slot_across`] tells.
-///
-/// # Errors
-///
-/// `NoSpace` exactly where fewer blocks are free than that takes and `more`. Nothing has changed then.
-fn thaw_rename<R: Region>(
-    parts: &mut Parts<R>,
-    to_move: &Move<'_>,
-    empty: Option<u64>,
-    more: u32,
-) -> Result<(), NoSpace>
-    requires can { CanRename (current_words (R.memory parts.old.region)) to_move.now }
-    requires empty { IsSlotAcross (current_words (R.memory parts.old.region)) to_move.now empty }
-    requires exact { IsExact (current_words (R.memory parts.old.region)) parts.old }
-    requires need { more ≡ need (current_words (R.memory parts.old.region)) (change_of to_move.now) }
-    requires few { more < 2 ^ 31 }
-    requires room { HasRoomWhereFree (R.memory parts.old.region) (kept_of parts.old) parts.old.blocks (change_of to_move.now) }
-    ensures thaws { OnOk result (ThawsFor R.memory (targets (current_words (R.memory parts.old.region))
-        (change_of to_move.now)) parts.old parts.new) }
-    ensures enough { OnOk result (more ≤ length (members parts.new.blocks)) }
-    ensures room { OnOk result (room_for more ≤ room_in (R.memory parts.new.region) + 2) }
-    ensures refused { IfErr result (LacksSpace (current_words (R.memory parts.old.region)) (kept_of parts.old)
-        (change_of to_move.now)) }
-    ensures same { OnErr result (parts.new ≡ parts.old) }
-{
-    if parts.frozen.count() > 0 {
-        let targets = targets_with(&parts.region, to_move, empty);
-        return thaw_before(parts, &targets, more);
-    }
-    let free = parts.blocks.count();
-    if free < more {
-        return Err(NoSpace { need: more, free });
-    }
-    Ok(())
-}
-
-/// What [`rename_in`] does once nothing is left to thaw.
-fn rename_thawed<R: Region>(parts: &mut Parts<R>, to_move: &Move<'_>, empty: Option<u64>)
-    requires can { CanRename (current_words (R.memory parts.old.region)) to_move.now }
-    requires empty { IsSlotAcross (current_words (R.memory parts.old.region)) to_move.now empty }
-    requires exact { IsExact (current_words (R.memory parts.old.region)) parts.old }
-    requires clear { thawed (current_words (R.memory parts.old.region)) (kept_of parts.old) (change_of to_move.now) ≡ [] }
-    requires enough { need (current_words (R.memory parts.old.region)) (change_of to_move.now)
-        ≤ length (members parts.old.blocks) }
-    requires room { room_for (need (current_words (R.memory parts.old.region)) (change_of to_move.now))
-        ≤ room_in (R.memory parts.old.region) + 2 }
-    ensures performs { PerformsThawed (kept_of parts.old) (R.memory parts.old.region) (R.memory parts.new.region)
-        (change_of to_move.now) (RenamesEntry to_move.now) }
-    ensures frozen { parts.new.frozen ≡ parts.old.frozen }
-    ensures exact { IsExact (current_words (R.memory parts.new.region)) parts.new }
-{
-    match to_move.to_slot {
-        Some(slot) => rename_onto(parts, to_move, slot),
-        None if to_move.from_dir == to_move.to_dir => rename_within(parts, to_move),
-        None => rename_across(parts, to_move, empty),
-    }
-}
 
 /// What [`rename`] does, for a caller that has found the least empty slot of the new directory, None where no entry is
 /// empty. Where the new name is there, or the name stays in its directory, the slot is not looked at.
@@ -103,13 +41,13 @@ pub fn rename_in<R: Region>(
         (change_of to_move.now)) }
     ensures same { OnErr result (parts.new ≡ parts.old) }
 {
-    let need = need_with(&parts.region, to_move, empty);
-    match thaw_rename(parts, to_move, empty, need) {
-        Ok(()) => {
-            rename_thawed(parts, to_move, empty);
-            Ok(())
-        }
-        Err(lacks) => Err(lacks),
+    match to_move.to_slot {
+        Some(slot) => rename_onto(parts, to_move, slot),
+        None if to_move.from_dir == to_move.to_dir => rename_within(parts, to_move),
+        None => match empty {
+            Some(slot) => rename_into(parts, to_move, slot),
+            None => rename_behind(parts, to_move),
+        },
     }
 }
 

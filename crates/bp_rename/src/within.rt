@@ -1,23 +1,21 @@
 //! A name is spelled anew, within its directory.
 
-ghost use Rattle.std.specs.Prelude.{◌≡◌, ◌+◌, ◌^◌, ◌<◌, ◌≤◌, [], None, length};
-ghost use Rattle.bp_free.specs.Set.{members};
-ghost use Rattle.bp_layout.specs.Need.{need};
-ghost use Rattle.bp_layout.specs.Need.Change.{respells};
+ghost use Rattle.std.specs.Prelude.{◌≡◌, ◌≤◌, None, length, IfErr, OnErr, OnOk};
+ghost use Rattle.bp_calls.specs.Space.{HasRoomWhereFree, LacksSpace};
+ghost use Rattle.bp_changes.specs.Thawed.{AfterThaw};
 ghost use Rattle.bp_limits.specs.Limits.{max_name};
-ghost use Rattle.bp_rename.specs.CanRename.{CanRename};
+ghost use Rattle.bp_rename.specs.CanRename.{CanRename, change_of};
 ghost use Rattle.bp_rename.specs.RenamesEntry.{RenamesEntry};
 ghost use Rattle.bp_rename.specs.Respelled.{IsNameRun, IsRespelled, respelled_byte};
 ghost use Rattle.bp_shapes.specs.Sets.{IsExact, kept_of};
-ghost use Rattle.bp_commit.specs.Performs.{PerformsThawed, room_for};
-ghost use Rattle.bp_layout.specs.Thaw.{targets, thawed};
-ghost use Rattle.bp_thaw.specs.Thaws.{paths_in};
-ghost use Rattle.pm_region.specs.Memory.{current_words, room_in};
+ghost use Rattle.bp_commit.specs.Performs.{Performs};
+ghost use Rattle.pm_region.specs.Memory.{current_words};
 
 use crate::moving::Move;
-use bp_calls::{Targets, touched_by};
-use bp_cow::{Run, commit, cover, need_cover};
-use bp_free::Parts;
+use crate::needing::ready_ways;
+use bp_calls::touched_by;
+use bp_cow::{Run, commit_at};
+use bp_free::{NoSpace, Parts};
 use bp_inodes::{root_path, tree_of};
 use bp_limits::{ENTRY_SIZE, MAX_NAME};
 use pm_region::Region;
@@ -66,104 +64,36 @@ fn name_run<'a, R: Region>(region: &R, to_move: &Move<'_>, bytes: &'a [u8; MAX_N
     }
 }
 
-/// How many blocks a name needs that is spelled anew, by the bytes of its entry, once nothing is left to thaw.
-fn need_spelled<R: Region>(region: &R, to_move: &Move<'_>, bytes: &[u8; MAX_NAME + 8]) -> u32
-    requires can { CanRename (current_words (R.memory region.now)) to_move.now }
-    requires new { to_move.now.to_slot ≡ None }
-    requires here { to_move.now.from_dir ≡ to_move.now.to_dir }
-    requires bytes { IsRespelled to_move.now.name.now bytes.now }
-    ensures need { result ≡ need (current_words (R.memory region.now))
-        (respells to_move.now.from_dir to_move.now.from_slot (length to_move.now.name.now)) }
-    ensures few { result < 2 ^ 31 }
-{
-    let runs = [name_run(region, to_move, bytes)];
-    need_cover(region, &touched_by(&runs))
-}
-
-/// How many blocks a name needs that is spelled anew, once nothing is left to thaw.
-pub(crate) fn need_within<R: Region>(region: &R, to_move: &Move<'_>) -> u32
-    requires can { CanRename (current_words (R.memory region.now)) to_move.now }
-    requires new { to_move.now.to_slot ≡ None }
-    requires here { to_move.now.from_dir ≡ to_move.now.to_dir }
-    ensures need { result ≡ need (current_words (R.memory region.now))
-        (respells to_move.now.from_dir to_move.now.from_slot (length to_move.now.name.now)) }
-    ensures few { result < 2 ^ 31 }
-{
-    let bytes = respelled(to_move.name);
-    need_spelled(region, to_move, &bytes)
-}
-
-/// The word near which a name is spelled anew, by the bytes of its entry: that of the cover.
-fn targets_spelled<R: Region>(region: &R, to_move: &Move<'_>, bytes: &[u8; MAX_NAME + 8]) -> Targets
-    requires can { CanRename (current_words (R.memory region.now)) to_move.now }
-    requires new { to_move.now.to_slot ≡ None }
-    requires here { to_move.now.from_dir ≡ to_move.now.to_dir }
-    requires bytes { IsRespelled to_move.now.name.now bytes.now }
-    ensures { paths_in result ≡ targets (current_words (R.memory region.now))
-        (respells to_move.now.from_dir to_move.now.from_slot (length to_move.now.name.now)) }
-{
-    let runs = [name_run(region, to_move, bytes)];
-    let mut targets = Targets::new();
-    targets.push(cover(region, &touched_by(&runs)));
-    targets
-}
-
-/// The word near which a name is spelled anew: that of the cover.
-pub(crate) fn targets_within<R: Region>(region: &R, to_move: &Move<'_>) -> Targets
-    requires can { CanRename (current_words (R.memory region.now)) to_move.now }
-    requires new { to_move.now.to_slot ≡ None }
-    requires here { to_move.now.from_dir ≡ to_move.now.to_dir }
-    ensures { paths_in result ≡ targets (current_words (R.memory region.now))
-        (respells to_move.now.from_dir to_move.now.from_slot (length to_move.now.name.now)) }
-{
-    let bytes = respelled(to_move.name);
-    targets_spelled(region, to_move, &bytes)
-}
-
-/// Spells a name anew, by one commit of its words, given the bytes of its entry.
-fn rename_spelled<R: Region>(parts: &mut Parts<R>, to_move: &Move<'_>, bytes: &[u8; MAX_NAME + 8])
-    requires can { CanRename (current_words (R.memory parts.old.region)) to_move.now }
-    requires new { to_move.now.to_slot ≡ None }
-    requires here { to_move.now.from_dir ≡ to_move.now.to_dir }
-    requires bytes { IsRespelled to_move.now.name.now bytes.now }
-    requires exact { IsExact (current_words (R.memory parts.old.region)) parts.old }
-    requires enough { need (current_words (R.memory parts.old.region))
-        (respells to_move.now.from_dir to_move.now.from_slot (length to_move.now.name.now))
-        ≤ length (members parts.old.blocks) }
-    requires clear { thawed (current_words (R.memory parts.old.region)) (kept_of parts.old)
-        (respells to_move.now.from_dir to_move.now.from_slot (length to_move.now.name.now)) ≡ [] }
-    requires room { room_for (need (current_words (R.memory parts.old.region))
-        (respells to_move.now.from_dir to_move.now.from_slot (length to_move.now.name.now)))
-        ≤ room_in (R.memory parts.old.region) + 2 }
-    ensures performs { PerformsThawed (kept_of parts.old) (R.memory parts.old.region) (R.memory parts.new.region)
-        (respells to_move.now.from_dir to_move.now.from_slot (length to_move.now.name.now)) (RenamesEntry to_move.now) }
-    ensures frozen { parts.new.frozen ≡ parts.old.frozen }
-    ensures exact { IsExact (current_words (R.memory parts.new.region)) parts.new }
-{
-    let runs = [name_run(&parts.region, to_move, bytes)];
-    let touched = touched_by(&runs);
-    commit(parts, &touched);
-}
-
 /// Spells a name anew, by one commit of its words.
-pub(crate) fn rename_within<R: Region>(parts: &mut Parts<R>, to_move: &Move<'_>)
+///
+/// # Errors
+///
+/// As those of `rename`.
+pub(crate) fn rename_within<R: Region>(
+    parts: &mut Parts<R>,
+    to_move: &Move<'_>,
+) -> Result<(), NoSpace>
     requires can { CanRename (current_words (R.memory parts.old.region)) to_move.now }
     requires new { to_move.now.to_slot ≡ None }
     requires here { to_move.now.from_dir ≡ to_move.now.to_dir }
     requires exact { IsExact (current_words (R.memory parts.old.region)) parts.old }
-    requires enough { need (current_words (R.memory parts.old.region))
-        (respells to_move.now.from_dir to_move.now.from_slot (length to_move.now.name.now))
-        ≤ length (members parts.old.blocks) }
-    requires clear { thawed (current_words (R.memory parts.old.region)) (kept_of parts.old)
-        (respells to_move.now.from_dir to_move.now.from_slot (length to_move.now.name.now)) ≡ [] }
-    requires room { room_for (need (current_words (R.memory parts.old.region))
-        (respells to_move.now.from_dir to_move.now.from_slot (length to_move.now.name.now)))
-        ≤ room_in (R.memory parts.old.region) + 2 }
-    ensures performs { PerformsThawed (kept_of parts.old) (R.memory parts.old.region) (R.memory parts.new.region)
-        (respells to_move.now.from_dir to_move.now.from_slot (length to_move.now.name.now)) (RenamesEntry to_move.now) }
+    requires room { HasRoomWhereFree (R.memory parts.old.region) (kept_of parts.old) parts.old.blocks (change_of to_move.now) }
+    ensures performs { OnOk result (Performs (kept_of parts.old) (R.memory parts.old.region) (R.memory parts.new.region)
+        (change_of to_move.now) (AfterThaw (RenamesEntry to_move.now))) }
     ensures frozen { parts.new.frozen ≡ parts.old.frozen }
     ensures exact { IsExact (current_words (R.memory parts.new.region)) parts.new }
+    ensures refused { IfErr result (LacksSpace (current_words (R.memory parts.old.region)) (kept_of parts.old)
+        (change_of to_move.now)) }
+    ensures same { OnErr result (parts.new ≡ parts.old) }
 {
     let bytes = respelled(to_move.name);
-    rename_spelled(parts, to_move, &bytes);
+    let runs = [name_run(&parts.region, to_move, &bytes)];
+    let touched = touched_by(&runs);
+    match ready_ways(parts, to_move, None, &touched, 0) {
+        Ok(found) => {
+            commit_at(parts, &touched, &found);
+            Ok(())
+        }
+        Err(lacks) => Err(lacks),
+    }
 }

@@ -8,18 +8,16 @@ use Rattle.bp_calls.proofs.Refusals.{found_empty}
 use Rattle.bp_calls.proofs.Rooms.{room_after, row_in_range}
 use Rattle.bp_calls.proofs.TargetPaths.{directory_some}
 use Rattle.bp_rename.proofs.IntoLaws.{mid_formed, mid_whole}
-use Rattle.bp_rename.proofs.IntoMoved.{into_copies, into_counts, into_exact, into_fits, into_mid_loose, into_performs, into_ready, into_room, into_whole_image}
+use Rattle.bp_rename.proofs.IntoMoved.{into_copies, into_counts, into_exact, into_fits, into_mid_loose, into_performs, into_ready, into_room, into_ways, into_whole_image}
 use Rattle.bp_rename.proofs.KeptCounts.{exact_kept}
 use Rattle.bp_rename.proofs.RenameTargets.{slot_loose}
-use Rattle.bp_rename.specs.TouchesTwo.{AnyTree}
-use Rattle.bp_rename.proofs.TwoWords.{touches_two}
 use Rattle.bp_rename.proofs.across.move_into.Goals as goal
 
 pub entry_place-entry-requires-clause-live : goal.entry_place-entry-requires-clause-live
 entry_place-entry-requires-clause-live g c =
     let old : Memory = g.R.Region.memory c.args.parts.now.region in
     let move = c.args.to_move.now in
-    rw c.tree_of-target.ensures.size (found_empty (current_words old) move.to_dir c.args.slot c.requires.found).0
+    rw c.tree_of-target.ensures.size (found_empty (current_words old) move.to_dir c.args.slot c.requires.empty).0
 
 pub tree_of-target-requires-clause-some : goal.tree_of-target-requires-clause-some
 tree_of-target-requires-clause-some g c =
@@ -44,7 +42,7 @@ put_name-requires-clause-in_range g c =
     let old : Memory = g.R.Region.memory c.args.parts.now.region in
     let move = c.args.to_move.now in
     let stands = entry_stands (current_words old) move.to_dir c.args.slot c.entry_place-entry.result c.tree_of-target.result.root c.tree_of-target.ensures.root c.entry_place-entry.ensures.place c.entry_place-entry.ensures.present in
-    let low = (found_empty (current_words old) move.to_dir c.args.slot c.requires.found).0 in
+    let low = (found_empty (current_words old) move.to_dir c.args.slot c.requires.empty).0 in
     let first = row_in_range old c.requires.can.well_formed move.to_dir (32 * c.args.slot + 0) c.entry_place-entry.result 32 c.requires.can.target (omega (arith, low)) (omega arith) stands in
     omega (arith, first)
 
@@ -53,78 +51,66 @@ barrier-requires g c =
     let old : Memory = g.R.Region.memory c.args.parts.now.region in
     let third : Memory = g.R.Region.memory c.put_name.new.region in
     let left = room_after (AnyAt (IsWithin (c.entry_place-entry.result + 1) 31)) 31 old third c.put_name.ensures.stores in
-    omega (arith, c.requires.room, left)
+    omega (arith, c.requires.thawed.room, left)
 
-pub commit-requires : goal.commit-requires
-commit-requires g c κs inside =
-    let touches = touches_two (current_words (g.R.Region.memory c.args.parts.now.region)) AnyTree c.touched_two-touched.result c.words_into-words.result c.trees_of_both-trees.result c.touched_two-touched.ensures.words c.touched_two-touched.ensures.none c.touched_two-touched.ensures.trees c.trees_of_both-trees.ensures c.words_into-words.ensures in
+pub commit_at-requires : goal.commit_at-requires
+commit_at-requires g c κs inside =
+    let touches = c.requires.touches in
     let old : Memory = g.R.Region.memory c.args.parts.now.region in
     let third : Memory = g.R.Region.memory c.put_name.new.region in
     let mid : Memory = g.R.Region.memory c.barrier.new.self in
     let move = c.args.to_move.now in
     let stands = entry_stands (current_words old) move.to_dir c.args.slot c.entry_place-entry.result c.tree_of-target.result.root c.tree_of-target.ensures.root c.entry_place-entry.ensures.place c.entry_place-entry.ensures.present in
-    let loose = slot_loose (current_words old) move c.requires.can c.args.slot c.requires.found (kept_of c.args.parts.now) c.requires.clear c.entry_place-entry.result stands in
-    let ready = into_ready old third mid move c.args.slot c.entry_place-entry.result c.requires.can c.requires.new c.requires.other c.requires.found stands c.put_name.ensures.stores c.put_name.ensures.name c.barrier.ensures
-    c.touched_two-touched.result touches c.args.parts.now.blocks c.args.parts.now.inodes c.requires.exact.sets c.requires.room loose in
-    let room = into_room old third mid move c.args.slot c.entry_place-entry.result c.requires.can c.requires.new c.requires.other c.requires.found stands c.put_name.ensures.stores c.put_name.ensures.name c.barrier.ensures
-    c.touched_two-touched.result touches c.args.parts.now.blocks c.args.parts.now.inodes c.requires.exact.sets c.requires.room loose in
-    let unkept = into_mid_loose old third mid move c.args.slot c.entry_place-entry.result c.requires.can c.requires.new c.requires.other c.requires.found stands c.put_name.ensures.stores c.put_name.ensures.name c.barrier.ensures
-    c.touched_two-touched.result touches c.args.parts.now.blocks c.args.parts.now.inodes c.requires.exact.sets c.requires.room loose c.requires.clear in
-    let count = into_copies old third mid move c.args.slot c.entry_place-entry.result c.requires.can c.requires.new c.requires.other c.requires.found stands c.put_name.ensures.stores c.put_name.ensures.name c.barrier.ensures
-    c.touched_two-touched.result touches c.args.parts.now.blocks c.args.parts.now.inodes c.requires.exact.sets c.requires.room loose in
-    let formed = mid_formed old third mid move c.args.slot c.entry_place-entry.result c.requires.can c.requires.new c.requires.other c.requires.found stands c.put_name.ensures.stores c.put_name.ensures.name c.barrier.ensures in
-    let fits = into_fits old third mid move c.args.slot c.entry_place-entry.result c.requires.can c.requires.new c.requires.other c.requires.found stands c.put_name.ensures.stores c.put_name.ensures.name c.barrier.ensures
-    c.touched_two-touched.result touches c.args.parts.now.blocks c.args.parts.now.inodes c.requires.exact.sets c.requires.room loose in
-    let whole = mid_whole old third mid move c.args.slot c.entry_place-entry.result c.requires.can c.requires.new c.requires.other c.requires.found stands c.put_name.ensures.stores c.put_name.ensures.name c.barrier.ensures in
-    (inside, (record { well_formed = formed; can = ready; loose = unkept; fits = fits; some = omega (arith, count, c.requires.enough); room = room }, record { room = omega (arith, c.requires.exact.frozen_room, whole); same = λ b. refl }))
+    let loose = slot_loose (current_words old) move c.requires.can c.args.slot c.requires.empty (kept_of c.args.parts.now) c.requires.thawed.clear c.entry_place-entry.result stands in
+    let ready = into_ready old third mid move c.args.slot c.entry_place-entry.result c.requires.can c.requires.new c.requires.other c.requires.empty stands c.put_name.ensures.stores c.put_name.ensures.name c.barrier.ensures
+    c.args.touched.now touches c.args.parts.now.blocks c.args.parts.now.inodes c.requires.exact.sets c.requires.thawed.room loose in
+    let room = into_room old third mid move c.args.slot c.entry_place-entry.result c.requires.can c.requires.new c.requires.other c.requires.empty stands c.put_name.ensures.stores c.put_name.ensures.name c.barrier.ensures
+    c.args.touched.now touches c.args.parts.now.blocks c.args.parts.now.inodes c.requires.exact.sets c.requires.thawed.room loose in
+    let unkept = into_mid_loose old third mid move c.args.slot c.entry_place-entry.result c.requires.can c.requires.new c.requires.other c.requires.empty stands c.put_name.ensures.stores c.put_name.ensures.name c.barrier.ensures
+    c.args.touched.now touches c.args.parts.now.blocks c.args.parts.now.inodes c.requires.exact.sets c.requires.thawed.room loose c.requires.thawed.clear in
+    let count = into_copies old third mid move c.args.slot c.entry_place-entry.result c.requires.can c.requires.new c.requires.other c.requires.empty stands c.put_name.ensures.stores c.put_name.ensures.name c.barrier.ensures
+    c.args.touched.now touches c.args.parts.now.blocks c.args.parts.now.inodes c.requires.exact.sets c.requires.thawed.room loose in
+    let formed = mid_formed old third mid move c.args.slot c.entry_place-entry.result c.requires.can c.requires.new c.requires.other c.requires.empty stands c.put_name.ensures.stores c.put_name.ensures.name c.barrier.ensures in
+    let fits = into_fits old third mid move c.args.slot c.entry_place-entry.result c.requires.can c.requires.new c.requires.other c.requires.empty stands c.put_name.ensures.stores c.put_name.ensures.name c.barrier.ensures
+    c.args.touched.now touches c.args.parts.now.blocks c.args.parts.now.inodes c.requires.exact.sets c.requires.thawed.room loose in
+    let whole = mid_whole old third mid move c.args.slot c.entry_place-entry.result c.requires.can c.requires.new c.requires.other c.requires.empty stands c.put_name.ensures.stores c.put_name.ensures.name c.barrier.ensures in
+    let ways = into_ways old third mid move c.args.slot c.entry_place-entry.result c.requires.can c.requires.new c.requires.other c.requires.empty stands c.put_name.ensures.stores c.put_name.ensures.name c.barrier.ensures
+    c.args.touched.now touches c.args.parts.now.blocks c.args.parts.now.inodes c.requires.exact.sets c.requires.thawed.room loose c.args.found.now c.requires.found in
+    (inside, (record { well_formed = formed; can = ready; loose = unkept; fits = fits; some = omega (arith, count, c.requires.thawed.enough); room = room }, (ways, record { room = omega (arith, c.requires.exact.frozen_room, whole); same = λ b. refl })))
 
 pub returns-clause-performs : goal.returns-clause-performs
 returns-clause-performs g c =
-    let touches = touches_two (current_words (g.R.Region.memory c.args.parts.now.region)) AnyTree c.touched_two-touched.result c.words_into-words.result c.trees_of_both-trees.result c.touched_two-touched.ensures.words c.touched_two-touched.ensures.none c.touched_two-touched.ensures.trees c.trees_of_both-trees.ensures c.words_into-words.ensures in
+    let touches = c.requires.touches in
     let old : Memory = g.R.Region.memory c.args.parts.now.region in
     let third : Memory = g.R.Region.memory c.put_name.new.region in
     let mid : Memory = g.R.Region.memory c.barrier.new.self in
-    let new : Memory = g.R.Region.memory c.commit.new.parts.region in
+    let new : Memory = g.R.Region.memory c.commit_at.new.parts.region in
     let move = c.args.to_move.now in
     let stands = entry_stands (current_words old) move.to_dir c.args.slot c.entry_place-entry.result c.tree_of-target.result.root c.tree_of-target.ensures.root c.entry_place-entry.ensures.place c.entry_place-entry.ensures.present in
-    let loose = slot_loose (current_words old) move c.requires.can c.args.slot c.requires.found (kept_of c.args.parts.now) c.requires.clear c.entry_place-entry.result stands in
-    into_performs old third mid move c.args.slot c.entry_place-entry.result c.requires.can c.requires.new c.requires.other c.requires.found stands c.put_name.ensures.stores c.put_name.ensures.name c.barrier.ensures
-    c.touched_two-touched.result touches c.args.parts.now.blocks c.args.parts.now.inodes c.requires.exact.sets c.requires.room loose
-    new c.commit.new.parts.blocks c.commit.ensures.commits c.commit.ensures.size
+    let loose = slot_loose (current_words old) move c.requires.can c.args.slot c.requires.empty (kept_of c.args.parts.now) c.requires.thawed.clear c.entry_place-entry.result stands in
+    into_performs old third mid move c.args.slot c.entry_place-entry.result c.requires.can c.requires.new c.requires.other c.requires.empty stands c.put_name.ensures.stores c.put_name.ensures.name c.barrier.ensures
+    c.args.touched.now touches c.args.parts.now.blocks c.args.parts.now.inodes c.requires.exact.sets c.requires.thawed.room loose
+    new c.commit_at.new.parts.blocks c.commit_at.ensures.commits c.commit_at.ensures.size
 
 pub returns-clause-exact : goal.returns-clause-exact
 returns-clause-exact g c =
-    let touches = touches_two (current_words (g.R.Region.memory c.args.parts.now.region)) AnyTree c.touched_two-touched.result c.words_into-words.result c.trees_of_both-trees.result c.touched_two-touched.ensures.words c.touched_two-touched.ensures.none c.touched_two-touched.ensures.trees c.trees_of_both-trees.ensures c.words_into-words.ensures in
+    let touches = c.requires.touches in
     let old : Memory = g.R.Region.memory c.args.parts.now.region in
     let third : Memory = g.R.Region.memory c.put_name.new.region in
     let mid : Memory = g.R.Region.memory c.barrier.new.self in
-    let new : Memory = g.R.Region.memory c.commit.new.parts.region in
+    let new : Memory = g.R.Region.memory c.commit_at.new.parts.region in
     let move = c.args.to_move.now in
     let stands = entry_stands (current_words old) move.to_dir c.args.slot c.entry_place-entry.result c.tree_of-target.result.root c.tree_of-target.ensures.root c.entry_place-entry.ensures.place c.entry_place-entry.ensures.present in
-    let loose = slot_loose (current_words old) move c.requires.can c.args.slot c.requires.found (kept_of c.args.parts.now) c.requires.clear c.entry_place-entry.result stands in
+    let loose = slot_loose (current_words old) move c.requires.can c.args.slot c.requires.empty (kept_of c.args.parts.now) c.requires.thawed.clear c.entry_place-entry.result stands in
     exact_kept _ _ c.args.parts.now _ c.requires.exact
-    (rw c.commit.ensures.inodes
-    (into_exact old third mid move c.args.slot c.entry_place-entry.result c.requires.can c.requires.new c.requires.other c.requires.found stands c.put_name.ensures.stores c.put_name.ensures.name c.barrier.ensures
-    c.touched_two-touched.result touches c.args.parts.now.blocks c.args.parts.now.inodes c.requires.exact.sets c.requires.room loose
-    new c.commit.new.parts.blocks c.commit.ensures.commits c.commit.ensures.size))
-    c.commit.ensures.frozen c.commit.ensures.counts
-    (into_whole_image old third mid move c.args.slot c.entry_place-entry.result c.requires.can c.requires.new c.requires.other c.requires.found stands c.put_name.ensures.stores c.put_name.ensures.name c.barrier.ensures
-    c.touched_two-touched.result touches c.args.parts.now.blocks c.args.parts.now.inodes c.requires.exact.sets c.requires.room loose
-    new c.commit.new.parts.blocks c.commit.ensures.commits c.commit.ensures.size)
-    (into_counts old third mid move c.args.slot c.entry_place-entry.result c.requires.can c.requires.new c.requires.other c.requires.found stands c.put_name.ensures.stores c.put_name.ensures.name c.barrier.ensures
-    c.touched_two-touched.result touches c.args.parts.now.blocks c.args.parts.now.inodes c.requires.exact.sets c.requires.room loose
-    new c.commit.new.parts.blocks c.commit.ensures.commits c.commit.ensures.size c.args.parts.now.counts c.requires.exact.counts)
-
--- ---- the trees that the ways go through
-
-pub trees_of_both-trees-requires-clause-first_some : goal.trees_of_both-trees-requires-clause-first_some
-trees_of_both-trees-requires-clause-first_some g c = directory_some (current_words (g.R.Region.memory c.args.parts.now.region)) c.args.to_move.now.from_dir c.requires.can.entry.directory
-
-pub trees_of_both-trees-requires-clause-first_entries : goal.trees_of_both-trees-requires-clause-first_entries
-trees_of_both-trees-requires-clause-first_entries g c = omega (arith, c.requires.can.entry.in_size)
-
-pub trees_of_both-trees-requires-clause-second_some : goal.trees_of_both-trees-requires-clause-second_some
-trees_of_both-trees-requires-clause-second_some g c = directory_some (current_words (g.R.Region.memory c.args.parts.now.region)) c.args.to_move.now.to_dir c.requires.can.directory
-
-pub trees_of_both-trees-requires-clause-second_entries : goal.trees_of_both-trees-requires-clause-second_entries
-trees_of_both-trees-requires-clause-second_entries g c = let low = (found_empty (current_words (g.R.Region.memory c.args.parts.now.region)) c.args.to_move.now.to_dir c.args.slot c.requires.found).0 in omega (arith, low)
+    (rw c.commit_at.ensures.inodes
+    (into_exact old third mid move c.args.slot c.entry_place-entry.result c.requires.can c.requires.new c.requires.other c.requires.empty stands c.put_name.ensures.stores c.put_name.ensures.name c.barrier.ensures
+    c.args.touched.now touches c.args.parts.now.blocks c.args.parts.now.inodes c.requires.exact.sets c.requires.thawed.room loose
+    new c.commit_at.new.parts.blocks c.commit_at.ensures.commits c.commit_at.ensures.size))
+    c.commit_at.ensures.frozen c.commit_at.ensures.counts
+    (into_whole_image old third mid move c.args.slot c.entry_place-entry.result c.requires.can c.requires.new c.requires.other c.requires.empty stands c.put_name.ensures.stores c.put_name.ensures.name c.barrier.ensures
+    c.args.touched.now touches c.args.parts.now.blocks c.args.parts.now.inodes c.requires.exact.sets c.requires.thawed.room loose
+    new c.commit_at.new.parts.blocks c.commit_at.ensures.commits c.commit_at.ensures.size)
+    (into_counts old third mid move c.args.slot c.entry_place-entry.result c.requires.can c.requires.new c.requires.other c.requires.empty stands c.put_name.ensures.stores c.put_name.ensures.name c.barrier.ensures
+    c.args.touched.now touches c.args.parts.now.blocks c.args.parts.now.inodes c.requires.exact.sets c.requires.thawed.room loose
+    new c.commit_at.new.parts.blocks c.commit_at.ensures.commits c.commit_at.ensures.size c.args.parts.now.counts c.requires.exact.counts)

@@ -2,5 +2,5 @@ use Rattle.pm_region.specs.Memory.{current_words}
 use Rattle.bp_layout.specs.Inode.{size_of}
 use Rattle.bp_rename.proofs.across.move_into.Given as goal
 
-abbrev pub ghost-commit : goal.ghost-commit
-ghost-commit g a = size_of (current_words (g.R.Region.memory a.parts.now.region))
+abbrev pub ghost-commit_at : goal.ghost-commit_at
+ghost-commit_at g a = size_of (current_words (g.R.Region.memory a.parts.now.region))

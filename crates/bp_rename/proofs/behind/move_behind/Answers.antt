@@ -4,15 +4,12 @@ use Rattle.bp_layout.specs.Directory.{inumber_in}
 use Rattle.bp_shapes.specs.Sets.{kept_of}
 use Rattle.pm_region.specs.Memory.{Memory, current_words}
 use Rattle.bp_cow.specs.Commit.{CanCommitIn, CommitsTouched}
-use Rattle.bp_calls.proofs.TargetPaths.{directory_some}
 use Rattle.bp_calls.proofs.SizesWith.{sizes_with}
 use Rattle.bp_calls.specs.Entries.{PutsBehind}
 use Rattle.bp_rename.specs.CanRename.{moved_inode}
-use Rattle.bp_rename.proofs.BehindMoved.{behind_can, behind_counts, behind_exact, behind_fits, behind_formed, behind_loose, behind_performs, behind_room, behind_some, behind_whole_image, can_put, moved_few}
+use Rattle.bp_rename.proofs.BehindMoved.{behind_can, behind_counts, behind_exact, behind_fits, behind_formed, behind_loose, behind_performs, behind_room, behind_some, behind_ways, behind_whole_image, can_put, moved_few}
 use Rattle.bp_rename.proofs.KeptCounts.{exact_kept}
 use Rattle.bp_rename.proofs.RenameTargets.{end_loose}
-use Rattle.bp_rename.specs.TouchesTwo.{OtherTree}
-use Rattle.bp_rename.proofs.TwoWords.{touches_two}
 use Rattle.bp_rename.proofs.behind.move_behind.Goals as goal
 
 pub inumber-inode-requires-clause-live : goal.inumber-inode-requires-clause-live
@@ -29,85 +26,79 @@ overflow_cast-inode g c =
 
 pub put_behind-requires-clause-can : goal.put_behind-requires-clause-can
 put_behind-requires-clause-can g c =
-    let touches = touches_two (current_words (g.R.Region.memory c.args.parts.now.region)) (OtherTree c.args.to_move.now.to_dir) c.touched_two-touched.result c.words_behind-words.result c.trees_of_one-trees.result c.touched_two-touched.ensures.words c.touched_two-touched.ensures.none c.touched_two-touched.ensures.trees (c.trees_of_one-trees.ensures c.args.to_move.now.to_dir (directory_some (current_words (g.R.Region.memory c.args.parts.now.region)) c.args.to_move.now.to_dir c.requires.can.directory) c.requires.other) c.words_behind-words.ensures in
+    let touches = c.requires.touches in
     can_put (g.R.Region.memory c.args.parts.now.region) c.args.to_move.now c.args.parts.now.blocks c.args.parts.now.inodes c.requires.can c.requires.other c.requires.new c.requires.none
-    c.touched_two-touched.result touches c.requires.exact.sets c.requires.enough c.requires.room
-    (end_loose (current_words (g.R.Region.memory c.args.parts.now.region)) c.args.to_move.now c.requires.can c.requires.none (kept_of c.args.parts.now) c.requires.clear)
+    c.args.touched.now touches c.requires.exact.sets c.requires.thawed.enough c.requires.thawed.room
+    (end_loose (current_words (g.R.Region.memory c.args.parts.now.region)) c.args.to_move.now c.requires.can c.requires.none (kept_of c.args.parts.now) c.requires.thawed.clear)
 
-pub commit-requires : goal.commit-requires
-commit-requires g c κs inside =
-    let touches = touches_two (current_words (g.R.Region.memory c.args.parts.now.region)) (OtherTree c.args.to_move.now.to_dir) c.touched_two-touched.result c.words_behind-words.result c.trees_of_one-trees.result c.touched_two-touched.ensures.words c.touched_two-touched.ensures.none c.touched_two-touched.ensures.trees (c.trees_of_one-trees.ensures c.args.to_move.now.to_dir (directory_some (current_words (g.R.Region.memory c.args.parts.now.region)) c.args.to_move.now.to_dir c.requires.can.directory) c.requires.other) c.words_behind-words.ensures in
+pub commit_at-requires : goal.commit_at-requires
+commit_at-requires g c κs inside =
+    let touches = c.requires.touches in
     let old : Memory = g.R.Region.memory c.args.parts.now.region in
     let mid : Memory = g.R.Region.memory c.put_behind.new.parts.region in
     let move = c.args.to_move.now in
     let named : c.inumber-inode.result ≡ moved_inode (current_words old) move =
     c.inumber-inode.ensures ∙ ap (λ root. inumber_in (current_words old) root move.from_slot) c.tree_of-source.ensures.root in
     let puts = subst (λ x. PutsBehind (kept_of c.args.parts.now) old mid (members c.args.parts.now.blocks) (members c.put_behind.new.parts.blocks) move.to_dir x move.name.now) named c.put_behind.ensures.puts in
-    let formed = behind_formed old mid move c.args.parts.now.blocks c.args.parts.now.inodes c.put_behind.new.parts.blocks c.requires.can c.requires.new c.requires.other c.requires.none c.requires.exact.sets c.requires.room puts c.put_behind.ensures.blocks
-    c.touched_two-touched.result touches in
-    let can = behind_can old mid move c.args.parts.now.blocks c.args.parts.now.inodes c.put_behind.new.parts.blocks c.requires.can c.requires.new c.requires.other c.requires.none c.requires.exact.sets c.requires.room puts c.put_behind.ensures.blocks
-    c.touched_two-touched.result touches in
-    let loose = behind_loose old mid move c.args.parts.now.blocks c.args.parts.now.inodes c.put_behind.new.parts.blocks c.requires.can c.requires.new c.requires.other c.requires.none c.requires.exact.sets c.requires.room puts c.put_behind.ensures.blocks
-    c.touched_two-touched.result touches c.requires.clear in
-    let fits = behind_fits old mid move c.args.parts.now.blocks c.args.parts.now.inodes c.put_behind.new.parts.blocks c.requires.can c.requires.new c.requires.other c.requires.none c.requires.exact.sets c.requires.room puts c.put_behind.ensures.blocks
-    c.touched_two-touched.result touches in
-    let some = behind_some old mid move c.args.parts.now.blocks c.args.parts.now.inodes c.put_behind.new.parts.blocks c.requires.can c.requires.new c.requires.other c.requires.none c.requires.exact.sets c.requires.room puts c.put_behind.ensures.blocks
-    c.touched_two-touched.result touches c.requires.enough in
-    let room = behind_room old mid move c.args.parts.now.blocks c.args.parts.now.inodes c.put_behind.new.parts.blocks c.requires.can c.requires.new c.requires.other c.requires.none c.requires.exact.sets c.requires.room puts c.put_behind.ensures.blocks
-    c.touched_two-touched.result touches in
+    let formed = behind_formed old mid move c.args.parts.now.blocks c.args.parts.now.inodes c.put_behind.new.parts.blocks c.requires.can c.requires.new c.requires.other c.requires.none c.requires.exact.sets c.requires.thawed.room puts c.put_behind.ensures.blocks
+    c.args.touched.now touches in
+    let can = behind_can old mid move c.args.parts.now.blocks c.args.parts.now.inodes c.put_behind.new.parts.blocks c.requires.can c.requires.new c.requires.other c.requires.none c.requires.exact.sets c.requires.thawed.room puts c.put_behind.ensures.blocks
+    c.args.touched.now touches in
+    let loose = behind_loose old mid move c.args.parts.now.blocks c.args.parts.now.inodes c.put_behind.new.parts.blocks c.requires.can c.requires.new c.requires.other c.requires.none c.requires.exact.sets c.requires.thawed.room puts c.put_behind.ensures.blocks
+    c.args.touched.now touches c.requires.thawed.clear in
+    let fits = behind_fits old mid move c.args.parts.now.blocks c.args.parts.now.inodes c.put_behind.new.parts.blocks c.requires.can c.requires.new c.requires.other c.requires.none c.requires.exact.sets c.requires.thawed.room puts c.put_behind.ensures.blocks
+    c.args.touched.now touches in
+    let some = behind_some old mid move c.args.parts.now.blocks c.args.parts.now.inodes c.put_behind.new.parts.blocks c.requires.can c.requires.new c.requires.other c.requires.none c.requires.exact.sets c.requires.thawed.room puts c.put_behind.ensures.blocks
+    c.args.touched.now touches c.requires.thawed.enough in
+    let room = behind_room old mid move c.args.parts.now.blocks c.args.parts.now.inodes c.put_behind.new.parts.blocks c.requires.can c.requires.new c.requires.other c.requires.none c.requires.exact.sets c.requires.thawed.room puts c.put_behind.ensures.blocks
+    c.args.touched.now touches in
     let whole = puts.prepared.ready.meaning.trees.whole in
+    let ways = behind_ways old mid move c.args.parts.now.blocks c.args.parts.now.inodes c.put_behind.new.parts.blocks c.requires.can c.requires.new c.requires.other c.requires.none c.requires.exact.sets c.requires.thawed.room puts c.put_behind.ensures.blocks
+    c.args.touched.now touches c.args.found.now c.requires.found in
     let known = ap (λ (frozen : Set). length frozen) c.put_behind.ensures.frozen in (
       inside,
       (
-        subst (λ (frozen : Set). CanCommitIn (sizes_with (current_words mid) c.touched_two-touched.result) (has frozen) mid c.touched_two-touched.result c.put_behind.new.parts.blocks) (sym c.put_behind.ensures.frozen)
+        subst (λ (frozen : Set). CanCommitIn (sizes_with (current_words mid) c.args.touched.now) (has frozen) mid c.args.touched.now c.put_behind.new.parts.blocks) (sym c.put_behind.ensures.frozen)
             (record { well_formed = formed; can = can; loose = loose; fits = fits; some = some; room = room }),
-        record { room = omega (arith, c.requires.exact.frozen_room, whole, known); same = λ b. refl },
+        (ways, record { room = omega (arith, c.requires.exact.frozen_room, whole, known); same = λ b. refl }),
       ),
     )
 
 pub returns-clause-performs : goal.returns-clause-performs
 returns-clause-performs g c =
-    let touches = touches_two (current_words (g.R.Region.memory c.args.parts.now.region)) (OtherTree c.args.to_move.now.to_dir) c.touched_two-touched.result c.words_behind-words.result c.trees_of_one-trees.result c.touched_two-touched.ensures.words c.touched_two-touched.ensures.none c.touched_two-touched.ensures.trees (c.trees_of_one-trees.ensures c.args.to_move.now.to_dir (directory_some (current_words (g.R.Region.memory c.args.parts.now.region)) c.args.to_move.now.to_dir c.requires.can.directory) c.requires.other) c.words_behind-words.ensures in
+    let touches = c.requires.touches in
     let old : Memory = g.R.Region.memory c.args.parts.now.region in
     let mid : Memory = g.R.Region.memory c.put_behind.new.parts.region in
     let move = c.args.to_move.now in
     let named : c.inumber-inode.result ≡ moved_inode (current_words old) move =
     c.inumber-inode.ensures ∙ ap (λ root. inumber_in (current_words old) root move.from_slot) c.tree_of-source.ensures.root in
     let puts = subst (λ x. PutsBehind (kept_of c.args.parts.now) old mid (members c.args.parts.now.blocks) (members c.put_behind.new.parts.blocks) move.to_dir x move.name.now) named c.put_behind.ensures.puts in
-    let commits = subst (λ (frozen : Set). CommitsTouched (sizes_with (current_words mid) c.touched_two-touched.result) (has frozen) c.touched_two-touched.result mid (g.R.Region.memory c.commit.new.parts.region) c.put_behind.new.parts.blocks c.commit.new.parts.blocks)
-    c.put_behind.ensures.frozen c.commit.ensures.commits in
-    behind_performs old mid move c.args.parts.now.blocks c.args.parts.now.inodes c.put_behind.new.parts.blocks c.requires.can c.requires.new c.requires.other c.requires.none c.requires.exact.sets c.requires.room puts c.put_behind.ensures.blocks
-    c.touched_two-touched.result touches
-    (g.R.Region.memory c.commit.new.parts.region) c.commit.new.parts.blocks commits
+    let commits = subst (λ (frozen : Set). CommitsTouched (sizes_with (current_words mid) c.args.touched.now) (has frozen) c.args.touched.now mid (g.R.Region.memory c.commit_at.new.parts.region) c.put_behind.new.parts.blocks c.commit_at.new.parts.blocks)
+    c.put_behind.ensures.frozen c.commit_at.ensures.commits in
+    behind_performs old mid move c.args.parts.now.blocks c.args.parts.now.inodes c.put_behind.new.parts.blocks c.requires.can c.requires.new c.requires.other c.requires.none c.requires.exact.sets c.requires.thawed.room puts c.put_behind.ensures.blocks
+    c.args.touched.now touches
+    (g.R.Region.memory c.commit_at.new.parts.region) c.commit_at.new.parts.blocks commits
 
 pub returns-clause-exact : goal.returns-clause-exact
 returns-clause-exact g c =
-    let touches = touches_two (current_words (g.R.Region.memory c.args.parts.now.region)) (OtherTree c.args.to_move.now.to_dir) c.touched_two-touched.result c.words_behind-words.result c.trees_of_one-trees.result c.touched_two-touched.ensures.words c.touched_two-touched.ensures.none c.touched_two-touched.ensures.trees (c.trees_of_one-trees.ensures c.args.to_move.now.to_dir (directory_some (current_words (g.R.Region.memory c.args.parts.now.region)) c.args.to_move.now.to_dir c.requires.can.directory) c.requires.other) c.words_behind-words.ensures in
+    let touches = c.requires.touches in
     let old : Memory = g.R.Region.memory c.args.parts.now.region in
     let mid : Memory = g.R.Region.memory c.put_behind.new.parts.region in
     let move = c.args.to_move.now in
     let named : c.inumber-inode.result ≡ moved_inode (current_words old) move =
     c.inumber-inode.ensures ∙ ap (λ root. inumber_in (current_words old) root move.from_slot) c.tree_of-source.ensures.root in
     let puts = subst (λ x. PutsBehind (kept_of c.args.parts.now) old mid (members c.args.parts.now.blocks) (members c.put_behind.new.parts.blocks) move.to_dir x move.name.now) named c.put_behind.ensures.puts in
-    let commits = subst (λ (frozen : Set). CommitsTouched (sizes_with (current_words mid) c.touched_two-touched.result) (has frozen) c.touched_two-touched.result mid (g.R.Region.memory c.commit.new.parts.region) c.put_behind.new.parts.blocks c.commit.new.parts.blocks)
-    c.put_behind.ensures.frozen c.commit.ensures.commits in
+    let commits = subst (λ (frozen : Set). CommitsTouched (sizes_with (current_words mid) c.args.touched.now) (has frozen) c.args.touched.now mid (g.R.Region.memory c.commit_at.new.parts.region) c.put_behind.new.parts.blocks c.commit_at.new.parts.blocks)
+    c.put_behind.ensures.frozen c.commit_at.ensures.commits in
     exact_kept _ _ c.args.parts.now _ c.requires.exact
-    (rw (c.commit.ensures.inodes, c.put_behind.ensures.inodes)
-    (behind_exact old mid move c.args.parts.now.blocks c.args.parts.now.inodes c.put_behind.new.parts.blocks c.requires.can c.requires.new c.requires.other c.requires.none c.requires.exact.sets c.requires.room puts c.put_behind.ensures.blocks
-    c.touched_two-touched.result touches
-    (g.R.Region.memory c.commit.new.parts.region) c.commit.new.parts.blocks commits c.commit.ensures.size))
-    (c.commit.ensures.frozen ∙ c.put_behind.ensures.frozen) (c.commit.ensures.counts ∙ c.put_behind.ensures.counts)
-    (behind_whole_image old mid move c.args.parts.now.blocks c.args.parts.now.inodes c.put_behind.new.parts.blocks c.requires.can c.requires.new c.requires.other c.requires.none c.requires.exact.sets c.requires.room puts c.put_behind.ensures.blocks
-    c.touched_two-touched.result touches
-    (g.R.Region.memory c.commit.new.parts.region) c.commit.new.parts.blocks commits)
-    (behind_counts old mid move c.args.parts.now.blocks c.args.parts.now.inodes c.put_behind.new.parts.blocks c.requires.can c.requires.new c.requires.other c.requires.none c.requires.exact.sets c.requires.room puts c.put_behind.ensures.blocks
-    c.touched_two-touched.result touches
-    (g.R.Region.memory c.commit.new.parts.region) c.commit.new.parts.blocks commits c.args.parts.now.counts c.requires.exact.counts)
-
--- ---- the trees that the ways go through
-
-pub trees_of_one-trees-requires-clause-some : goal.trees_of_one-trees-requires-clause-some
-trees_of_one-trees-requires-clause-some g c = directory_some (current_words (g.R.Region.memory c.args.parts.now.region)) c.args.to_move.now.from_dir c.requires.can.entry.directory
-
-pub trees_of_one-trees-requires-clause-entries : goal.trees_of_one-trees-requires-clause-entries
-trees_of_one-trees-requires-clause-entries g c = omega (arith, c.requires.can.entry.in_size)
+    (rw (c.commit_at.ensures.inodes, c.put_behind.ensures.inodes)
+    (behind_exact old mid move c.args.parts.now.blocks c.args.parts.now.inodes c.put_behind.new.parts.blocks c.requires.can c.requires.new c.requires.other c.requires.none c.requires.exact.sets c.requires.thawed.room puts c.put_behind.ensures.blocks
+    c.args.touched.now touches
+    (g.R.Region.memory c.commit_at.new.parts.region) c.commit_at.new.parts.blocks commits c.commit_at.ensures.size))
+    (c.commit_at.ensures.frozen ∙ c.put_behind.ensures.frozen) (c.commit_at.ensures.counts ∙ c.put_behind.ensures.counts)
+    (behind_whole_image old mid move c.args.parts.now.blocks c.args.parts.now.inodes c.put_behind.new.parts.blocks c.requires.can c.requires.new c.requires.other c.requires.none c.requires.exact.sets c.requires.thawed.room puts c.put_behind.ensures.blocks
+    c.args.touched.now touches
+    (g.R.Region.memory c.commit_at.new.parts.region) c.commit_at.new.parts.blocks commits)
+    (behind_counts old mid move c.args.parts.now.blocks c.args.parts.now.inodes c.put_behind.new.parts.blocks c.requires.can c.requires.new c.requires.other c.requires.none c.requires.exact.sets c.requires.thawed.room puts c.put_behind.ensures.blocks
+    c.args.touched.now touches
+    (g.R.Region.memory c.commit_at.new.parts.region) c.commit_at.new.parts.blocks commits c.args.parts.now.counts c.requires.exact.counts)

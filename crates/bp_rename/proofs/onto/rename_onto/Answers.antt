@@ -1,225 +1,44 @@
-use Rattle.std.proofs.Common.{◌≡◌, ◌-◌, ◌/◌, length, slice_index, refl, sym, ◌∙◌, ap, arith}
-use Rattle.bp_free.specs.Set.{Set}
-use Rattle.std.proofs.lemmas.List.{length-set}
-use Rattle.bp_layout.specs.Directory.{inumber_at, inumber_in}
-use Rattle.bp_shapes.specs.Sets.{kept_of}
-use Rattle.pm_region.specs.Memory.{Memory, current_words}
-use Rattle.bp_rename.proofs.OntoDone.{has_room, inode_in_room, inode_taken, inode_there, kind_some, named_exact, onto_counts, onto_exact, onto_gives, onto_performs, onto_well_formed, onto_whole, ready}
-use Rattle.bp_rename.proofs.OntoNames.{onto_counted, onto_last, onto_named, onto_other}
-use Rattle.bp_rename.proofs.OntoLaws.{onto_loose, onto_need, replaced, replaced_few, replaced_some}
-use Rattle.bp_layout.specs.Reached.IsReached.{inode_file}
-use Rattle.bp_rename.specs.TouchesTwo.{AnyTree}
-use Rattle.bp_rename.proofs.TwoWords.{touches_two}
+use Rattle.std.proofs.Common.{◌∙◌, subst, arith}
+use Rattle.bp_calls.specs.ThawedFor.{IsThawedFor}
 use Rattle.bp_calls.proofs.TargetPaths.{directory_some}
-use Rattle.bp_calls.proofs.CountLaws.{exact_with}
+use Rattle.bp_shapes.specs.Sets.{kept_of}
+use Rattle.pm_region.specs.Memory.{current_words}
+use Rattle.bp_rename.specs.TouchesTwo.{AnyTree}
+use Rattle.bp_rename.proofs.OntoLaws.{replaced}
+use Rattle.bp_rename.proofs.Plans.{onto_needs, onto_over, onto_planned}
+use Rattle.bp_rename.proofs.Renames.{onto_change, onto_renames}
+use Rattle.bp_rename.proofs.TwoWords.{touches_two}
 use Rattle.bp_rename.proofs.onto.rename_onto.Goals as goal
 
-pub inumber-replaced-requires-clause-live : goal.inumber-replaced-requires-clause-live
-inumber-replaced-requires-clause-live g c =
-    let old : Memory = g.R.Region.memory c.args.parts.now.region in
-    rw c.tree_of-target.ensures.size (replaced (current_words old) c.args.to_move.now c.args.slot c.requires.can c.requires.onto).in_size
+pub ready_ways-requires-clause-empty : goal.ready_ways-requires-clause-empty
+ready_ways-requires-clause-empty g c = λ none other. absurd (cc)
 
-pub overflow_cast-replaced : goal.overflow_cast-replaced
-overflow_cast-replaced g c =
-    let old : Memory = g.R.Region.memory c.args.parts.now.region in
-    let named : c.inumber-replaced.result ≡ inumber_at (current_words old) c.args.to_move.now.to_dir c.args.slot =
-    c.inumber-replaced.ensures ∙ ap (λ root. inumber_in (current_words old) root c.args.slot) c.tree_of-target.ensures.root in
-    let few = replaced_few (current_words old) c.args.to_move.now c.args.slot c.requires.can c.requires.onto in
-    omega (arith, named, few)
-
-pub commit-requires : goal.commit-requires
-commit-requires g c κs within =
+pub ready_ways-requires-clause-planned : goal.ready_ways-requires-clause-planned
+ready_ways-requires-clause-planned g c =
     let touches = touches_two (current_words (g.R.Region.memory c.args.parts.now.region)) AnyTree c.touched_two-touched.result c.words_onto-words.result c.trees_of_both-trees.result c.touched_two-touched.ensures.words c.touched_two-touched.ensures.none c.touched_two-touched.ensures.trees c.trees_of_both-trees.ensures c.words_onto-words.ensures in
-    let old : Memory = g.R.Region.memory c.args.parts.now.region in
-    let can = ready old c.args.to_move.now c.args.slot c.requires.can c.requires.onto
-    c.touched_two-touched.result touches c.args.parts.now.blocks c.args.parts.now.inodes c.requires.exact.sets c.requires.room in
-    let room = has_room old c.args.to_move.now c.args.slot c.requires.can c.requires.onto
-    c.touched_two-touched.result touches c.args.parts.now.blocks c.args.parts.now.inodes c.requires.exact.sets c.requires.room in
-    let loose = onto_loose (current_words old) c.args.to_move.now c.args.slot c.requires.can c.requires.onto
-    c.touched_two-touched.result touches (kept_of c.args.parts.now) c.requires.clear in
-    let count = onto_need (current_words old) c.args.to_move.now c.args.slot c.requires.can c.requires.onto
-    c.touched_two-touched.result touches in
-    (within, (record { well_formed = c.requires.can.well_formed; can = can; loose = loose; fits = omega (arith, c.requires.exact.sets.block_room); some = omega (arith, count, c.requires.enough); room = room }, record { room = omega (arith, c.requires.exact.frozen_room); same = λ b. refl }))
+    onto_planned (current_words (g.R.Region.memory c.args.parts.now.region)) c.args.to_move.now c.requires.can c.args.slot c.requires.onto c.touched_two-touched.result touches
 
-pub get-inode-requires-clause-sound : goal.get-inode-requires-clause-sound
-get-inode-requires-clause-sound g c =
+pub ready_ways-requires-clause-needs : goal.ready_ways-requires-clause-needs
+ready_ways-requires-clause-needs g c =
     let touches = touches_two (current_words (g.R.Region.memory c.args.parts.now.region)) AnyTree c.touched_two-touched.result c.words_onto-words.result c.trees_of_both-trees.result c.touched_two-touched.ensures.words c.touched_two-touched.ensures.none c.touched_two-touched.ensures.trees c.trees_of_both-trees.ensures c.words_onto-words.ensures in
-    let old : Memory = g.R.Region.memory c.args.parts.now.region in
-    let new : Memory = g.R.Region.memory c.commit.new.parts.region in
-    let formed = onto_well_formed old new c.args.to_move.now c.args.slot c.requires.can c.requires.onto
-    c.touched_two-touched.result touches c.args.parts.now.blocks c.args.parts.now.inodes c.commit.new.parts.blocks c.requires.exact.sets c.requires.room c.commit.ensures.commits c.commit.ensures.size in
-    formed.sound 0 inode_file
+    onto_needs (current_words (g.R.Region.memory c.args.parts.now.region)) c.args.to_move.now c.requires.can c.args.slot c.requires.onto c.touched_two-touched.result touches
 
-pub get-inode-requires-clause-some : goal.get-inode-requires-clause-some
-get-inode-requires-clause-some g c =
-    let old : Memory = g.R.Region.memory c.args.parts.now.region in
-    let named : c.inumber-replaced.result ≡ inumber_at (current_words old) c.args.to_move.now.to_dir c.args.slot =
-    c.inumber-replaced.ensures ∙ ap (λ root. inumber_in (current_words old) root c.args.slot) c.tree_of-target.ensures.root in
-    let some = replaced_some (current_words old) c.args.to_move.now c.args.slot c.requires.can c.requires.onto in
-    omega (arith, named, some)
+pub move_onto-requires-clause-thawed : goal.move_onto-requires-clause-thawed
+move_onto-requires-clause-thawed g c =
+    subst (IsThawedFor (kept_of c.ready_ways.new.parts) (g.R.Region.memory c.ready_ways.new.parts.region) c.ready_ways.new.parts.blocks) (onto_change c.args.to_move.now c.args.slot c.requires.onto) c.in-Ok.ensures.ready.thawed
 
-pub get-inode-requires-clause-there : goal.get-inode-requires-clause-there
-get-inode-requires-clause-there g c =
+pub move_onto-requires-clause-touches : goal.move_onto-requires-clause-touches
+move_onto-requires-clause-touches g c =
     let touches = touches_two (current_words (g.R.Region.memory c.args.parts.now.region)) AnyTree c.touched_two-touched.result c.words_onto-words.result c.trees_of_both-trees.result c.touched_two-touched.ensures.words c.touched_two-touched.ensures.none c.touched_two-touched.ensures.trees c.trees_of_both-trees.ensures c.words_onto-words.ensures in
-    let old : Memory = g.R.Region.memory c.args.parts.now.region in
-    let new : Memory = g.R.Region.memory c.commit.new.parts.region in
-    let named : c.inumber-replaced.result ≡ inumber_at (current_words old) c.args.to_move.now.to_dir c.args.slot =
-    c.inumber-replaced.ensures ∙ ap (λ root. inumber_in (current_words old) root c.args.slot) c.tree_of-target.ensures.root in
-    rw named (inode_there old new c.args.to_move.now c.args.slot c.requires.can c.requires.onto
-    c.touched_two-touched.result touches c.args.parts.now.blocks c.args.parts.now.inodes c.commit.new.parts.blocks c.requires.exact.sets c.requires.room c.commit.ensures.commits c.commit.ensures.size)
+    onto_over (current_words (g.R.Region.memory c.args.parts.now.region)) c.args.to_move.now c.requires.can c.args.slot c.requires.onto c.touched_two-touched.result touches (current_words (g.R.Region.memory c.ready_ways.new.parts.region)) c.in-Ok.ensures.ready.shape
 
-pub get-inode-requires-clause-least : goal.get-inode-requires-clause-least
-get-inode-requires-clause-least g c =
-    let touches = touches_two (current_words (g.R.Region.memory c.args.parts.now.region)) AnyTree c.touched_two-touched.result c.words_onto-words.result c.trees_of_both-trees.result c.touched_two-touched.ensures.words c.touched_two-touched.ensures.none c.touched_two-touched.ensures.trees c.trees_of_both-trees.ensures c.words_onto-words.ensures in
-    let old : Memory = g.R.Region.memory c.args.parts.now.region in
-    let new : Memory = g.R.Region.memory c.commit.new.parts.region in
-    let named : c.inumber-replaced.result ≡ inumber_at (current_words old) c.args.to_move.now.to_dir c.args.slot =
-    c.inumber-replaced.ensures ∙ ap (λ root. inumber_in (current_words old) root c.args.slot) c.tree_of-target.ensures.root in
-    rw named (kind_some old new c.args.to_move.now c.args.slot c.requires.can c.requires.onto
-    c.touched_two-touched.result touches c.args.parts.now.blocks c.args.parts.now.inodes c.commit.new.parts.blocks c.requires.exact.sets c.requires.room c.commit.ensures.commits c.commit.ensures.size).0
+pub returns-in-Ok-clause-performs : goal.returns-in-Ok-clause-performs
+returns-in-Ok-clause-performs g c =
+    c.in-Ok.ensures.ready.performs c.move_onto.new.parts
+    (onto_renames (kept_of c.ready_ways.new.parts) (g.R.Region.memory c.ready_ways.new.parts.region) (g.R.Region.memory c.move_onto.new.parts.region) c.args.to_move.now c.args.slot c.requires.onto c.move_onto.ensures.performs)
 
-pub get-inode-requires-clause-most : goal.get-inode-requires-clause-most
-get-inode-requires-clause-most g c =
-    let touches = touches_two (current_words (g.R.Region.memory c.args.parts.now.region)) AnyTree c.touched_two-touched.result c.words_onto-words.result c.trees_of_both-trees.result c.touched_two-touched.ensures.words c.touched_two-touched.ensures.none c.touched_two-touched.ensures.trees c.trees_of_both-trees.ensures c.words_onto-words.ensures in
-    let old : Memory = g.R.Region.memory c.args.parts.now.region in
-    let new : Memory = g.R.Region.memory c.commit.new.parts.region in
-    let named : c.inumber-replaced.result ≡ inumber_at (current_words old) c.args.to_move.now.to_dir c.args.slot =
-    c.inumber-replaced.ensures ∙ ap (λ root. inumber_in (current_words old) root c.args.slot) c.tree_of-target.ensures.root in
-    rw named (kind_some old new c.args.to_move.now c.args.slot c.requires.can c.requires.onto
-    c.touched_two-touched.result touches c.args.parts.now.blocks c.args.parts.now.inodes c.commit.new.parts.blocks c.requires.exact.sets c.requires.room c.commit.ensures.commits c.commit.ensures.size).1
-
-pub give_back-requires-clause-sound : goal.give_back-requires-clause-sound
-give_back-requires-clause-sound g c =
-    let touches = touches_two (current_words (g.R.Region.memory c.args.parts.now.region)) AnyTree c.touched_two-touched.result c.words_onto-words.result c.trees_of_both-trees.result c.touched_two-touched.ensures.words c.touched_two-touched.ensures.none c.touched_two-touched.ensures.trees c.trees_of_both-trees.ensures c.words_onto-words.ensures in
-    let old : Memory = g.R.Region.memory c.args.parts.now.region in
-    let new : Memory = g.R.Region.memory c.commit.new.parts.region in
-    let named : c.inumber-replaced.result ≡ inumber_at (current_words old) c.args.to_move.now.to_dir c.args.slot =
-    c.inumber-replaced.ensures ∙ ap (λ root. inumber_in (current_words old) root c.args.slot) c.tree_of-target.ensures.root in
-    rw (c.get-inode.ensures.root, c.get-inode.ensures.size, named) (onto_gives old new c.args.to_move.now c.args.slot c.requires.can c.requires.onto
-    c.touched_two-touched.result touches c.args.parts.now.blocks c.args.parts.now.inodes c.commit.new.parts.blocks c.requires.exact.sets c.requires.room c.commit.ensures.commits c.commit.ensures.size).sound
-
-pub give_back-requires-clause-taken : goal.give_back-requires-clause-taken
-give_back-requires-clause-taken g c =
-    let touches = touches_two (current_words (g.R.Region.memory c.args.parts.now.region)) AnyTree c.touched_two-touched.result c.words_onto-words.result c.trees_of_both-trees.result c.touched_two-touched.ensures.words c.touched_two-touched.ensures.none c.touched_two-touched.ensures.trees c.trees_of_both-trees.ensures c.words_onto-words.ensures in
-    let old : Memory = g.R.Region.memory c.args.parts.now.region in
-    let new : Memory = g.R.Region.memory c.commit.new.parts.region in
-    let named : c.inumber-replaced.result ≡ inumber_at (current_words old) c.args.to_move.now.to_dir c.args.slot =
-    c.inumber-replaced.ensures ∙ ap (λ root. inumber_in (current_words old) root c.args.slot) c.tree_of-target.ensures.root in
-    rw (c.get-inode.ensures.root, c.get-inode.ensures.size, named) (onto_gives old new c.args.to_move.now c.args.slot c.requires.can c.requires.onto
-    c.touched_two-touched.result touches c.args.parts.now.blocks c.args.parts.now.inodes c.commit.new.parts.blocks c.requires.exact.sets c.requires.room c.commit.ensures.commits c.commit.ensures.size).taken
-
-pub give_back-requires-clause-known : goal.give_back-requires-clause-known
-give_back-requires-clause-known g c =
-    let touches = touches_two (current_words (g.R.Region.memory c.args.parts.now.region)) AnyTree c.touched_two-touched.result c.words_onto-words.result c.trees_of_both-trees.result c.touched_two-touched.ensures.words c.touched_two-touched.ensures.none c.touched_two-touched.ensures.trees c.trees_of_both-trees.ensures c.words_onto-words.ensures in
-    let old : Memory = g.R.Region.memory c.args.parts.now.region in
-    let new : Memory = g.R.Region.memory c.commit.new.parts.region in
-    let whole = onto_whole old new c.args.to_move.now c.args.slot c.requires.can c.requires.onto
-    c.touched_two-touched.result touches c.args.parts.now.blocks c.args.parts.now.inodes c.commit.new.parts.blocks c.requires.exact.sets c.requires.room c.commit.ensures.commits c.commit.ensures.size in
-    ap (λ (kept : Set). length kept) c.commit.ensures.frozen ∙ c.requires.exact.frozen_room ∙ sym (ap (λ n. n / 512) whole)
-
-pub give-requires-clause-in_range : goal.give-requires-clause-in_range
-give-requires-clause-in_range g c =
-    let touches = touches_two (current_words (g.R.Region.memory c.args.parts.now.region)) AnyTree c.touched_two-touched.result c.words_onto-words.result c.trees_of_both-trees.result c.touched_two-touched.ensures.words c.touched_two-touched.ensures.none c.touched_two-touched.ensures.trees c.trees_of_both-trees.ensures c.words_onto-words.ensures in
-    let old : Memory = g.R.Region.memory c.args.parts.now.region in
-    let named : c.inumber-replaced.result ≡ inumber_at (current_words old) c.args.to_move.now.to_dir c.args.slot =
-    c.inumber-replaced.ensures ∙ ap (λ root. inumber_in (current_words old) root c.args.slot) c.tree_of-target.ensures.root in
-    let new : Memory = g.R.Region.memory c.commit.new.parts.region in
-    rw (c.commit.ensures.inodes, named) (inode_in_room old new c.args.to_move.now c.args.slot c.requires.can c.requires.onto
-    c.touched_two-touched.result touches c.args.parts.now.blocks c.args.parts.now.inodes c.commit.new.parts.blocks c.requires.exact.sets c.requires.room c.commit.ensures.commits c.commit.ensures.size)
-
-pub give-requires-clause-taken : goal.give-requires-clause-taken
-give-requires-clause-taken g c =
-    let touches = touches_two (current_words (g.R.Region.memory c.args.parts.now.region)) AnyTree c.touched_two-touched.result c.words_onto-words.result c.trees_of_both-trees.result c.touched_two-touched.ensures.words c.touched_two-touched.ensures.none c.touched_two-touched.ensures.trees c.trees_of_both-trees.ensures c.words_onto-words.ensures in
-    let old : Memory = g.R.Region.memory c.args.parts.now.region in
-    let named : c.inumber-replaced.result ≡ inumber_at (current_words old) c.args.to_move.now.to_dir c.args.slot =
-    c.inumber-replaced.ensures ∙ ap (λ root. inumber_in (current_words old) root c.args.slot) c.tree_of-target.ensures.root in
-    let new : Memory = g.R.Region.memory c.commit.new.parts.region in
-    rw (c.commit.ensures.inodes, named) (inode_taken old new c.args.to_move.now c.args.slot c.requires.can c.requires.onto
-    c.touched_two-touched.result touches c.args.parts.now.blocks c.args.parts.now.inodes c.commit.new.parts.blocks c.requires.exact.sets c.requires.room c.commit.ensures.commits c.commit.ensures.size)
-
--- ---- the count of names
-
-pub names-names-requires : goal.names-names-requires
-names-names-requires g c =
-    let old : Memory = g.R.Region.memory c.args.parts.now.region in
-    let named : c.inumber-replaced.result ≡ inumber_at (current_words old) c.args.to_move.now.to_dir c.args.slot =
-    c.inumber-replaced.ensures ∙ ap (λ root. inumber_in (current_words old) root c.args.slot) c.tree_of-target.ensures.root in
-    let low = onto_counted (current_words old) c.args.to_move.now c.args.slot c.requires.can c.requires.onto c.args.parts.now c.requires.exact in
-    omega (arith, named, low)
-
-pub overflow_sub-names : goal.overflow_sub-names
-overflow_sub-names g c =
-    let old : Memory = g.R.Region.memory c.args.parts.now.region in
-    let named : c.inumber-replaced.result ≡ inumber_at (current_words old) c.args.to_move.now.to_dir c.args.slot =
-    c.inumber-replaced.ensures ∙ ap (λ root. inumber_in (current_words old) root c.args.slot) c.tree_of-target.ensures.root in
-    let read : c.names-names.result ≡ slice_index c.args.parts.now.counts (inumber_at (current_words old) c.args.to_move.now.to_dir c.args.slot) =
-    c.names-names.ensures ∙ ap (λ i. slice_index c.args.parts.now.counts i) named in
-    let some = onto_named (current_words old) c.args.to_move.now c.args.slot c.requires.can c.requires.onto c.args.parts.now c.requires.exact in
-    omega (arith, some, read)
-
-pub set-requires : goal.set-requires
-set-requires g c =
-    let old : Memory = g.R.Region.memory c.args.parts.now.region in
-    let named : c.inumber-replaced.result ≡ inumber_at (current_words old) c.args.to_move.now.to_dir c.args.slot =
-    c.inumber-replaced.ensures ∙ ap (λ root. inumber_in (current_words old) root c.args.slot) c.tree_of-target.ensures.root in
-    let low = onto_counted (current_words old) c.args.to_move.now c.args.slot c.requires.can c.requires.onto c.args.parts.now c.requires.exact in
-    omega (arith, named, low)
-
--- what had the name has another one
-pub returns-then-names-gt0 : goal.returns-then-names-gt0
-returns-then-names-gt0 g c =
-    let touches = touches_two (current_words (g.R.Region.memory c.args.parts.now.region)) AnyTree c.touched_two-touched.result c.words_onto-words.result c.trees_of_both-trees.result c.touched_two-touched.ensures.words c.touched_two-touched.ensures.none c.touched_two-touched.ensures.trees c.trees_of_both-trees.ensures c.words_onto-words.ensures in
-    let old : Memory = g.R.Region.memory c.args.parts.now.region in
-    let new : Memory = g.R.Region.memory c.commit.new.parts.region in
-    let named : c.inumber-replaced.result ≡ inumber_at (current_words old) c.args.to_move.now.to_dir c.args.slot =
-    c.inumber-replaced.ensures ∙ ap (λ root. inumber_in (current_words old) root c.args.slot) c.tree_of-target.ensures.root in
-    let low = onto_counted (current_words old) c.args.to_move.now c.args.slot c.requires.can c.requires.onto c.args.parts.now c.requires.exact in
-    let read : c.names-names.result ≡ slice_index c.args.parts.now.counts (inumber_at (current_words old) c.args.to_move.now.to_dir c.args.slot) =
-    c.names-names.ensures ∙ ap (λ i. slice_index c.args.parts.now.counts i) named in
-    let some = onto_named (current_words old) c.args.to_move.now c.args.slot c.requires.can c.requires.onto c.args.parts.now c.requires.exact in
-    let more = onto_other (current_words old) c.args.to_move.now c.args.slot c.requires.can c.requires.onto c.args.parts.now c.requires.exact (omega (arith, some, read, c.if-names-gt0.true)) in
-    record {
-      performs = onto_performs old new c.args.to_move.now c.args.slot c.requires.can c.requires.onto
-          c.touched_two-touched.result touches c.args.parts.now.blocks c.args.parts.now.inodes c.commit.new.parts.blocks c.requires.exact.sets c.requires.room c.commit.ensures.commits c.commit.ensures.size;
-      frozen = c.commit.ensures.frozen;
-      exact = exact_with _ _ c.args.parts.now _ c.requires.exact
-          (rw c.commit.ensures.inodes (named_exact old new c.args.to_move.now c.args.slot c.requires.can c.requires.onto
-          c.touched_two-touched.result touches c.args.parts.now.blocks c.args.parts.now.inodes c.commit.new.parts.blocks c.requires.exact.sets c.requires.room c.commit.ensures.commits c.commit.ensures.size more)) c.commit.ensures.frozen
-          (onto_whole old new c.args.to_move.now c.args.slot c.requires.can c.requires.onto
-          c.touched_two-touched.result touches c.args.parts.now.blocks c.args.parts.now.inodes c.commit.new.parts.blocks c.requires.exact.sets c.requires.room c.commit.ensures.commits c.commit.ensures.size)
-          (rw (c.commit.ensures.counts, c.set.ensures) (length-set _ _ _))
-          (rw (c.commit.ensures.counts, c.set.ensures, named) (onto_counts old new c.args.to_move.now c.args.slot c.requires.can c.requires.onto
-          c.touched_two-touched.result touches c.args.parts.now.blocks c.args.parts.now.inodes c.commit.new.parts.blocks c.requires.exact.sets c.requires.room c.commit.ensures.commits c.commit.ensures.size c.args.parts.now.counts c.requires.exact.counts low (c.names-names.result - 1) (omega (arith, some, read))));
-    }
-
--- the name was its last
-pub returns : goal.returns
-returns g c =
-    let touches = touches_two (current_words (g.R.Region.memory c.args.parts.now.region)) AnyTree c.touched_two-touched.result c.words_onto-words.result c.trees_of_both-trees.result c.touched_two-touched.ensures.words c.touched_two-touched.ensures.none c.touched_two-touched.ensures.trees c.trees_of_both-trees.ensures c.words_onto-words.ensures in
-    let old : Memory = g.R.Region.memory c.args.parts.now.region in
-    let new : Memory = g.R.Region.memory c.commit.new.parts.region in
-    let named : c.inumber-replaced.result ≡ inumber_at (current_words old) c.args.to_move.now.to_dir c.args.slot =
-    c.inumber-replaced.ensures ∙ ap (λ root. inumber_in (current_words old) root c.args.slot) c.tree_of-target.ensures.root in
-    let low = onto_counted (current_words old) c.args.to_move.now c.args.slot c.requires.can c.requires.onto c.args.parts.now c.requires.exact in
-    let read : c.names-names.result ≡ slice_index c.args.parts.now.counts (inumber_at (current_words old) c.args.to_move.now.to_dir c.args.slot) =
-    c.names-names.ensures ∙ ap (λ i. slice_index c.args.parts.now.counts i) named in
-    let some = onto_named (current_words old) c.args.to_move.now c.args.slot c.requires.can c.requires.onto c.args.parts.now c.requires.exact in
-    let last = onto_last (current_words old) c.args.to_move.now c.args.slot c.requires.can c.requires.onto c.args.parts.now c.requires.exact (omega (arith, some, read, c.if-names-gt0.false)) in
-    record {
-      performs = onto_performs old new c.args.to_move.now c.args.slot c.requires.can c.requires.onto
-          c.touched_two-touched.result touches c.args.parts.now.blocks c.args.parts.now.inodes c.commit.new.parts.blocks c.requires.exact.sets c.requires.room c.commit.ensures.commits c.commit.ensures.size;
-      frozen = c.commit.ensures.frozen;
-      exact = exact_with _ _ c.args.parts.now _ c.requires.exact
-          (rw (c.give.ensures, c.commit.ensures.inodes, named)
-          (onto_exact old new c.args.to_move.now c.args.slot c.requires.can c.requires.onto
-          c.touched_two-touched.result touches c.args.parts.now.blocks c.args.parts.now.inodes c.commit.new.parts.blocks c.requires.exact.sets c.requires.room c.commit.ensures.commits c.commit.ensures.size c.give_back.new.blocks
-          (rw (c.get-inode.ensures.root, c.get-inode.ensures.size, named, c.commit.ensures.frozen) at c.give_back.ensures) last)) c.commit.ensures.frozen
-          (onto_whole old new c.args.to_move.now c.args.slot c.requires.can c.requires.onto
-          c.touched_two-touched.result touches c.args.parts.now.blocks c.args.parts.now.inodes c.commit.new.parts.blocks c.requires.exact.sets c.requires.room c.commit.ensures.commits c.commit.ensures.size)
-          (rw (c.commit.ensures.counts, c.set.ensures) (length-set _ _ _))
-          (rw (c.commit.ensures.counts, c.set.ensures, named) (onto_counts old new c.args.to_move.now c.args.slot c.requires.can c.requires.onto
-          c.touched_two-touched.result touches c.args.parts.now.blocks c.args.parts.now.inodes c.commit.new.parts.blocks c.requires.exact.sets c.requires.room c.commit.ensures.commits c.commit.ensures.size c.args.parts.now.counts c.requires.exact.counts low (c.names-names.result - 1) (omega (arith, some, read))));
-    }
+pub returns-in-Ok-clause-frozen : goal.returns-in-Ok-clause-frozen
+returns-in-Ok-clause-frozen g c = c.move_onto.ensures.frozen ∙ c.in-Ok.ensures.ready.frozen
 
 -- ---- the trees that the ways go through
 

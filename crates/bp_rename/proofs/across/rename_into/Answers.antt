@@ -1,0 +1,60 @@
+use Rattle.std.proofs.Common.{sym, ◌∙◌, subst, arith}
+use Rattle.bp_calls.specs.ThawedFor.{IsThawedFor}
+use Rattle.bp_calls.proofs.Refusals.{found_empty}
+use Rattle.bp_calls.proofs.TargetPaths.{directory_some}
+use Rattle.bp_shapes.specs.Sets.{kept_of}
+use Rattle.pm_region.specs.Memory.{current_words}
+use Rattle.bp_rename.specs.TouchesTwo.{AnyTree}
+use Rattle.bp_rename.proofs.Plans.{into_empty, into_needs, into_over, into_planned}
+use Rattle.bp_rename.proofs.Renames.{across_change, across_renames}
+use Rattle.bp_rename.proofs.TwoWords.{touches_two}
+use Rattle.bp_rename.proofs.across.rename_into.Goals as goal
+
+pub ready_ways-requires-clause-empty : goal.ready_ways-requires-clause-empty
+ready_ways-requires-clause-empty g c = λ none other. sym c.requires.empty
+
+pub ready_ways-requires-clause-planned : goal.ready_ways-requires-clause-planned
+ready_ways-requires-clause-planned g c =
+    let touches = touches_two (current_words (g.R.Region.memory c.args.parts.now.region)) AnyTree c.touched_two-touched.result c.words_into-words.result c.trees_of_both-trees.result c.touched_two-touched.ensures.words c.touched_two-touched.ensures.none c.touched_two-touched.ensures.trees c.trees_of_both-trees.ensures c.words_into-words.ensures in
+    into_planned (current_words (g.R.Region.memory c.args.parts.now.region)) c.args.to_move.now c.requires.can c.requires.new c.requires.other c.args.slot c.requires.empty c.touched_two-touched.result touches
+
+pub ready_ways-requires-clause-needs : goal.ready_ways-requires-clause-needs
+ready_ways-requires-clause-needs g c =
+    let touches = touches_two (current_words (g.R.Region.memory c.args.parts.now.region)) AnyTree c.touched_two-touched.result c.words_into-words.result c.trees_of_both-trees.result c.touched_two-touched.ensures.words c.touched_two-touched.ensures.none c.touched_two-touched.ensures.trees c.trees_of_both-trees.ensures c.words_into-words.ensures in
+    into_needs (current_words (g.R.Region.memory c.args.parts.now.region)) c.args.to_move.now c.requires.can c.requires.new c.requires.other c.args.slot c.requires.empty c.touched_two-touched.result touches
+
+pub move_into-requires-clause-thawed : goal.move_into-requires-clause-thawed
+move_into-requires-clause-thawed g c =
+    subst (IsThawedFor (kept_of c.ready_ways.new.parts) (g.R.Region.memory c.ready_ways.new.parts.region) c.ready_ways.new.parts.blocks) (across_change c.args.to_move.now c.requires.new c.requires.other) c.in-Ok.ensures.ready.thawed
+
+pub move_into-requires-clause-touches : goal.move_into-requires-clause-touches
+move_into-requires-clause-touches g c =
+    let touches = touches_two (current_words (g.R.Region.memory c.args.parts.now.region)) AnyTree c.touched_two-touched.result c.words_into-words.result c.trees_of_both-trees.result c.touched_two-touched.ensures.words c.touched_two-touched.ensures.none c.touched_two-touched.ensures.trees c.trees_of_both-trees.ensures c.words_into-words.ensures in
+    into_over (current_words (g.R.Region.memory c.args.parts.now.region)) c.args.to_move.now c.requires.can c.requires.new c.requires.other c.args.slot c.requires.empty c.touched_two-touched.result touches (current_words (g.R.Region.memory c.ready_ways.new.parts.region)) c.in-Ok.ensures.ready.shape
+
+pub move_into-requires-clause-empty : goal.move_into-requires-clause-empty
+move_into-requires-clause-empty g c =
+    let touches = touches_two (current_words (g.R.Region.memory c.args.parts.now.region)) AnyTree c.touched_two-touched.result c.words_into-words.result c.trees_of_both-trees.result c.touched_two-touched.ensures.words c.touched_two-touched.ensures.none c.touched_two-touched.ensures.trees c.trees_of_both-trees.ensures c.words_into-words.ensures in
+    into_empty (current_words (g.R.Region.memory c.args.parts.now.region)) c.args.to_move.now c.requires.can c.requires.new c.requires.other c.args.slot c.requires.empty c.touched_two-touched.result touches (current_words (g.R.Region.memory c.ready_ways.new.parts.region)) c.in-Ok.ensures.ready.shape
+
+pub returns-in-Ok-clause-performs : goal.returns-in-Ok-clause-performs
+returns-in-Ok-clause-performs g c =
+    c.in-Ok.ensures.ready.performs c.move_into.new.parts
+    (across_renames (kept_of c.ready_ways.new.parts) (g.R.Region.memory c.ready_ways.new.parts.region) (g.R.Region.memory c.move_into.new.parts.region) c.args.to_move.now c.requires.new c.requires.other c.move_into.ensures.performs)
+
+pub returns-in-Ok-clause-frozen : goal.returns-in-Ok-clause-frozen
+returns-in-Ok-clause-frozen g c = c.move_into.ensures.frozen ∙ c.in-Ok.ensures.ready.frozen
+
+-- ---- the trees that the ways go through
+
+pub trees_of_both-trees-requires-clause-first_some : goal.trees_of_both-trees-requires-clause-first_some
+trees_of_both-trees-requires-clause-first_some g c = directory_some (current_words (g.R.Region.memory c.args.parts.now.region)) c.args.to_move.now.from_dir c.requires.can.entry.directory
+
+pub trees_of_both-trees-requires-clause-first_entries : goal.trees_of_both-trees-requires-clause-first_entries
+trees_of_both-trees-requires-clause-first_entries g c = omega (arith, c.requires.can.entry.in_size)
+
+pub trees_of_both-trees-requires-clause-second_some : goal.trees_of_both-trees-requires-clause-second_some
+trees_of_both-trees-requires-clause-second_some g c = directory_some (current_words (g.R.Region.memory c.args.parts.now.region)) c.args.to_move.now.to_dir c.requires.can.directory
+
+pub trees_of_both-trees-requires-clause-second_entries : goal.trees_of_both-trees-requires-clause-second_entries
+trees_of_both-trees-requires-clause-second_entries g c = let low = (found_empty (current_words (g.R.Region.memory c.args.parts.now.region)) c.args.to_move.now.to_dir c.args.slot c.requires.empty).0 in omega (arith, low)

@@ -1,0 +1,68 @@
+use Rattle.std.proofs.Common.{◌+◌, sym, ◌∙◌, subst, arith}
+use Rattle.bp_calls.specs.ThawedFor.{IsThawedFor}
+use Rattle.bp_calls.proofs.NewNames.{entry_need_is}
+use Rattle.bp_calls.proofs.PutsLaws.{small_directory}
+use Rattle.bp_calls.proofs.TargetPaths.{directory_some}
+use Rattle.bp_shapes.specs.Sets.{kept_of}
+use Rattle.pm_region.specs.Memory.{current_words}
+use Rattle.bp_rename.specs.TouchesTwo.{OtherTree}
+use Rattle.bp_rename.proofs.Plans.{behind_needs, behind_none, behind_over, behind_planned}
+use Rattle.bp_rename.proofs.Renames.{across_change, across_renames}
+use Rattle.bp_rename.proofs.TwoWords.{touches_two}
+use Rattle.bp_rename.proofs.behind.rename_behind.Goals as goal
+
+pub overflow_add-target : goal.overflow_add-target
+overflow_add-target g c =
+    let can = c.requires.can in
+    let small = small_directory (current_words (g.R.Region.memory c.args.parts.now.region)) can.well_formed c.args.to_move.now.to_dir can.target can.directory in
+    omega (arith, small, c.tree_of-target.ensures.size)
+
+pub need_prep-behind-requires-clause-fits : goal.need_prep-behind-requires-clause-fits
+need_prep-behind-requires-clause-fits g c =
+    let can = c.requires.can in
+    let small = small_directory (current_words (g.R.Region.memory c.args.parts.now.region)) can.well_formed c.args.to_move.now.to_dir can.target can.directory in
+    omega (arith, small, c.tree_of-target.ensures.size)
+
+pub ready_ways-requires-clause-empty : goal.ready_ways-requires-clause-empty
+ready_ways-requires-clause-empty g c = λ none other. sym c.requires.none
+
+pub ready_ways-requires-clause-planned : goal.ready_ways-requires-clause-planned
+ready_ways-requires-clause-planned g c =
+    let touches = touches_two (current_words (g.R.Region.memory c.args.parts.now.region)) (OtherTree c.args.to_move.now.to_dir) c.touched_two-touched.result c.words_behind-words.result c.trees_of_one-trees.result c.touched_two-touched.ensures.words c.touched_two-touched.ensures.none c.touched_two-touched.ensures.trees (c.trees_of_one-trees.ensures c.args.to_move.now.to_dir (directory_some (current_words (g.R.Region.memory c.args.parts.now.region)) c.args.to_move.now.to_dir c.requires.can.directory) c.requires.other) c.words_behind-words.ensures in
+    behind_planned (current_words (g.R.Region.memory c.args.parts.now.region)) c.args.to_move.now c.requires.can c.requires.new c.requires.other c.requires.none c.touched_two-touched.result touches
+
+pub ready_ways-requires-clause-needs : goal.ready_ways-requires-clause-needs
+ready_ways-requires-clause-needs g c =
+    let touches = touches_two (current_words (g.R.Region.memory c.args.parts.now.region)) (OtherTree c.args.to_move.now.to_dir) c.touched_two-touched.result c.words_behind-words.result c.trees_of_one-trees.result c.touched_two-touched.ensures.words c.touched_two-touched.ensures.none c.touched_two-touched.ensures.trees (c.trees_of_one-trees.ensures c.args.to_move.now.to_dir (directory_some (current_words (g.R.Region.memory c.args.parts.now.region)) c.args.to_move.now.to_dir c.requires.can.directory) c.requires.other) c.words_behind-words.ensures in
+    behind_needs (current_words (g.R.Region.memory c.args.parts.now.region)) c.args.to_move.now c.requires.can c.requires.new c.requires.other c.requires.none c.touched_two-touched.result touches c.need_prep-behind.result
+    (c.need_prep-behind.ensures ∙ entry_need_is (current_words (g.R.Region.memory c.args.parts.now.region)) c.args.to_move.now.to_dir c.tree_of-target.result.root c.tree_of-target.result.size c.tree_of-target.ensures.root c.tree_of-target.ensures.size)
+
+pub move_behind-requires-clause-thawed : goal.move_behind-requires-clause-thawed
+move_behind-requires-clause-thawed g c =
+    subst (IsThawedFor (kept_of c.ready_ways.new.parts) (g.R.Region.memory c.ready_ways.new.parts.region) c.ready_ways.new.parts.blocks) (across_change c.args.to_move.now c.requires.new c.requires.other) c.in-Ok.ensures.ready.thawed
+
+pub move_behind-requires-clause-touches : goal.move_behind-requires-clause-touches
+move_behind-requires-clause-touches g c =
+    let touches = touches_two (current_words (g.R.Region.memory c.args.parts.now.region)) (OtherTree c.args.to_move.now.to_dir) c.touched_two-touched.result c.words_behind-words.result c.trees_of_one-trees.result c.touched_two-touched.ensures.words c.touched_two-touched.ensures.none c.touched_two-touched.ensures.trees (c.trees_of_one-trees.ensures c.args.to_move.now.to_dir (directory_some (current_words (g.R.Region.memory c.args.parts.now.region)) c.args.to_move.now.to_dir c.requires.can.directory) c.requires.other) c.words_behind-words.ensures in
+    behind_over (current_words (g.R.Region.memory c.args.parts.now.region)) c.args.to_move.now c.requires.can c.requires.new c.requires.other c.requires.none c.touched_two-touched.result touches (current_words (g.R.Region.memory c.ready_ways.new.parts.region)) c.in-Ok.ensures.ready.shape
+
+pub move_behind-requires-clause-none : goal.move_behind-requires-clause-none
+move_behind-requires-clause-none g c =
+    let touches = touches_two (current_words (g.R.Region.memory c.args.parts.now.region)) (OtherTree c.args.to_move.now.to_dir) c.touched_two-touched.result c.words_behind-words.result c.trees_of_one-trees.result c.touched_two-touched.ensures.words c.touched_two-touched.ensures.none c.touched_two-touched.ensures.trees (c.trees_of_one-trees.ensures c.args.to_move.now.to_dir (directory_some (current_words (g.R.Region.memory c.args.parts.now.region)) c.args.to_move.now.to_dir c.requires.can.directory) c.requires.other) c.words_behind-words.ensures in
+    behind_none (current_words (g.R.Region.memory c.args.parts.now.region)) c.args.to_move.now c.requires.can c.requires.new c.requires.other c.requires.none c.touched_two-touched.result touches (current_words (g.R.Region.memory c.ready_ways.new.parts.region)) c.in-Ok.ensures.ready.shape
+
+pub returns-in-Ok-clause-performs : goal.returns-in-Ok-clause-performs
+returns-in-Ok-clause-performs g c =
+    c.in-Ok.ensures.ready.performs c.move_behind.new.parts
+    (across_renames (kept_of c.ready_ways.new.parts) (g.R.Region.memory c.ready_ways.new.parts.region) (g.R.Region.memory c.move_behind.new.parts.region) c.args.to_move.now c.requires.new c.requires.other c.move_behind.ensures.performs)
+
+pub returns-in-Ok-clause-frozen : goal.returns-in-Ok-clause-frozen
+returns-in-Ok-clause-frozen g c = c.move_behind.ensures.frozen ∙ c.in-Ok.ensures.ready.frozen
+
+-- ---- the trees that the ways go through
+
+pub trees_of_one-trees-requires-clause-some : goal.trees_of_one-trees-requires-clause-some
+trees_of_one-trees-requires-clause-some g c = directory_some (current_words (g.R.Region.memory c.args.parts.now.region)) c.args.to_move.now.from_dir c.requires.can.entry.directory
+
+pub trees_of_one-trees-requires-clause-entries : goal.trees_of_one-trees-requires-clause-entries
+trees_of_one-trees-requires-clause-entries g c = omega (arith, c.requires.can.entry.in_size)

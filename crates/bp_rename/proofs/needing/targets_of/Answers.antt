@@ -1,0 +1,41 @@
+use Rattle.std.proofs.Common.{ℕ, List, [], ◌∷◌, ◌++◌, map, sym, ◌∙◌, ap}
+use Rattle.arrayvec.specs.ArrayVec.{ArrayVec}
+use Rattle.bp_calls.proofs.NothingKept.{shape_self}
+use Rattle.bp_layout.specs.Thaw.{cover_now, targets}
+use Rattle.pm_region.specs.Memory.{current_words}
+use Rattle.bp_rename.proofs.Renames.{across_change, onto_change, within_change}
+use Rattle.bp_rename.proofs.needing.targets_of.Goals as goal
+
+pub cover-requires-clause-touched : goal.cover-requires-clause-touched
+cover-requires-clause-touched g c = c.requires.planned.shape
+
+pub cover-requires-clause-in_range : goal.cover-requires-clause-in_range
+cover-requires-clause-in_range g c =
+    let image = current_words (g.R.Region.memory c.args.region.now) in
+    c.requires.planned.inside image (shape_self image c.requires.can.well_formed)
+
+pub push_new-requires-clause-slot : goal.push_new-requires-clause-slot
+push_new-requires-clause-slot g c = c.requires.empty c.in-None-2.is c.if-to_move.false
+
+pub push_new-requires-clause-cover : goal.push_new-requires-clause-cover
+push_new-requires-clause-cover g c =
+    let image = current_words (g.R.Region.memory c.args.region.now) in
+    ap (λ (xs : List (ArrayVec ℕ)). map (λ path. path.items) xs) (c.push.ensures.items ∙ ap (λ (xs : List (ArrayVec ℕ)). xs ++ c.cover.result ∷ []) c.new-targets.ensures)
+    ∙ ap (λ (p : List ℕ). p ∷ []) (c.cover.ensures ∙ c.requires.planned.cover ∙ ap (cover_now image) (across_change c.args.to_move.now c.in-None-2.is c.if-to_move.false))
+
+pub returns-in-Some : goal.returns-in-Some
+returns-in-Some g c =
+    let image = current_words (g.R.Region.memory c.args.region.now) in
+    ap (λ (xs : List (ArrayVec ℕ)). map (λ path. path.items) xs) (c.push.ensures.items ∙ ap (λ (xs : List (ArrayVec ℕ)). xs ++ c.cover.result ∷ []) c.new-targets.ensures)
+    ∙ ap (λ (p : List ℕ). p ∷ []) (c.cover.ensures ∙ c.requires.planned.cover ∙ ap (cover_now image) (onto_change c.args.to_move.now _ c.in-Some.is))
+    ∙ ap (targets image) (sym (onto_change c.args.to_move.now _ c.in-Some.is))
+
+pub returns-in-None : goal.returns-in-None
+returns-in-None g c =
+    let image = current_words (g.R.Region.memory c.args.region.now) in
+    ap (λ (xs : List (ArrayVec ℕ)). map (λ path. path.items) xs) (c.push.ensures.items ∙ ap (λ (xs : List (ArrayVec ℕ)). xs ++ c.cover.result ∷ []) c.new-targets.ensures)
+    ∙ ap (λ (p : List ℕ). p ∷ []) (c.cover.ensures ∙ c.requires.planned.cover ∙ ap (cover_now image) (within_change c.args.to_move.now c.in-None.is c.if-to_move.true))
+    ∙ ap (targets image) (sym (within_change c.args.to_move.now c.in-None.is c.if-to_move.true))
+
+pub returns-in-None-2 : goal.returns-in-None-2
+returns-in-None-2 g c = c.push_new.ensures ∙ ap (targets (current_words (g.R.Region.memory c.args.region.now))) (sym (across_change c.args.to_move.now c.in-None-2.is c.if-to_move.false))

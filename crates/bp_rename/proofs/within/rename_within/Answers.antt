@@ -1,0 +1,94 @@
+use Rattle.std.proofs.Common.{◌≡◌, ◌+◌, ◌≤◌, [], length, refl, sym, ◌∙◌, ap, subst, arith}
+use Rattle.bp_free.specs.Set.{members}
+use Rattle.bp_layout.specs.Need.{need}
+use Rattle.bp_layout.specs.Thaw.{thawed}
+use Rattle.bp_commit.specs.Performs.{room_for}
+use Rattle.bp_shapes.specs.Sets.{kept_of}
+use Rattle.pm_region.specs.Memory.{Memory, current_words, room_in}
+use Rattle.bp_rename.specs.CanRename.{moved_inode}
+use Rattle.bp_rename.specs.RenamesEntry.{RenamesEntry}
+use Rattle.bp_rename.specs.RenamesEntry.RenamesEntry.{within}
+use Rattle.bp_rename.proofs.KeptCounts.{exact_kept}
+use Rattle.bp_rename.proofs.Plans.{within_needs, within_over, within_planned}
+use Rattle.bp_rename.proofs.Renames.{within_change, within_renames}
+use Rattle.bp_rename.proofs.WithinDone.{within_counts_at, within_exact_at, within_performs_at, within_ready_at, within_room_at, within_whole_at}
+use Rattle.bp_rename.proofs.WithinLaws.{respells_can, within_loose_at, within_need_at}
+use Rattle.bp_rename.proofs.within.rename_within.Goals as goal
+
+pub ready_ways-requires-clause-empty : goal.ready_ways-requires-clause-empty
+ready_ways-requires-clause-empty g c = λ none other. absurd (other c.requires.here)
+
+pub ready_ways-requires-clause-planned : goal.ready_ways-requires-clause-planned
+ready_ways-requires-clause-planned g c =
+    within_planned (current_words (g.R.Region.memory c.args.parts.now.region)) c.args.to_move.now c.requires.can c.requires.new c.requires.here c.touched_by-touched.result
+    (record { run = c.name_run.result; one = c.touched_by-touched.ensures.runs; no_words = c.touched_by-touched.ensures.words; no_trees = c.touched_by-touched.ensures.trees; is = c.name_run.ensures })
+
+pub ready_ways-requires-clause-needs : goal.ready_ways-requires-clause-needs
+ready_ways-requires-clause-needs g c =
+    within_needs (current_words (g.R.Region.memory c.args.parts.now.region)) c.args.to_move.now c.requires.can c.requires.new c.requires.here c.touched_by-touched.result
+    (record { run = c.name_run.result; one = c.touched_by-touched.ensures.runs; no_words = c.touched_by-touched.ensures.words; no_trees = c.touched_by-touched.ensures.trees; is = c.name_run.ensures })
+
+pub commit_at-requires : goal.commit_at-requires
+commit_at-requires g c κs inside =
+    let middle : Memory = g.R.Region.memory c.ready_ways.new.parts.region in
+    let move = c.args.to_move.now in
+    let ready = c.in-Ok.ensures.ready in
+    let j = moved_inode (current_words middle) move in
+    let can = respells_can (current_words middle) move ready.can c.requires.new c.requires.here in
+    let touches = within_over (current_words (g.R.Region.memory c.args.parts.now.region)) move c.requires.can (current_words middle) ready.shape c.touched_by-touched.result (record { run = c.name_run.result; one = c.touched_by-touched.ensures.runs; no_words = c.touched_by-touched.ensures.words; no_trees = c.touched_by-touched.ensures.trees; is = c.name_run.ensures }) in
+    let change = within_change move c.requires.new c.requires.here in
+    let room = subst (λ ch. room_for (need (current_words middle) ch) ≤ room_in middle + 2) change ready.thawed.room in
+    let clear = subst (λ ch. thawed (current_words middle) (kept_of c.ready_ways.new.parts) ch ≡ []) change ready.thawed.clear in
+    let enough = subst (λ ch. need (current_words middle) ch ≤ length (members c.ready_ways.new.parts.blocks)) change ready.thawed.enough in
+    let count = within_need_at (current_words middle) move.from_slot j move.name.now c.touched_by-touched.result move.from_dir can touches in (
+      inside,
+      (
+        record {
+          well_formed = ready.can.well_formed;
+          can = within_ready_at middle move.from_slot j move.name.now c.touched_by-touched.result c.ready_ways.new.parts.blocks c.ready_ways.new.parts.inodes ready.exact.sets move.from_dir room can touches;
+          loose = within_loose_at (current_words middle) move.from_slot j move.name.now c.touched_by-touched.result move.from_dir can touches (kept_of c.ready_ways.new.parts) clear;
+          fits = omega (arith, ready.exact.sets.block_room);
+          some = omega (arith, count, enough);
+          room = within_room_at middle move.from_slot j move.name.now c.touched_by-touched.result c.ready_ways.new.parts.blocks c.ready_ways.new.parts.inodes ready.exact.sets move.from_dir room can touches;
+        },
+        (ready.ways, record { room = omega (arith, ready.exact.frozen_room); same = λ b. refl }),
+      ),
+    )
+
+pub returns-in-Ok-clause-performs : goal.returns-in-Ok-clause-performs
+returns-in-Ok-clause-performs g c =
+    let middle : Memory = g.R.Region.memory c.ready_ways.new.parts.region in
+    let move = c.args.to_move.now in
+    let ready = c.in-Ok.ensures.ready in
+    let j = moved_inode (current_words middle) move in
+    let can = respells_can (current_words middle) move ready.can c.requires.new c.requires.here in
+    let touches = within_over (current_words (g.R.Region.memory c.args.parts.now.region)) move c.requires.can (current_words middle) ready.shape c.touched_by-touched.result (record { run = c.name_run.result; one = c.touched_by-touched.ensures.runs; no_words = c.touched_by-touched.ensures.words; no_trees = c.touched_by-touched.ensures.trees; is = c.name_run.ensures }) in
+    let change = within_change move c.requires.new c.requires.here in
+    let room = subst (λ ch. room_for (need (current_words middle) ch) ≤ room_in middle + 2) change ready.thawed.room in
+    let new : Memory = g.R.Region.memory c.commit_at.new.parts.region in
+    ready.performs c.commit_at.new.parts
+    (within_renames (kept_of c.ready_ways.new.parts) middle new move c.requires.new c.requires.here
+    (within_performs_at middle move.from_slot j move.name.now c.touched_by-touched.result c.ready_ways.new.parts.blocks c.ready_ways.new.parts.inodes ready.exact.sets
+    new c.commit_at.new.parts.blocks c.commit_at.ensures.commits c.commit_at.ensures.size move.from_dir room can touches (RenamesEntry move) (λ spells spelled. within c.requires.new c.requires.here spells spelled)))
+
+pub returns-in-Ok-clause-frozen : goal.returns-in-Ok-clause-frozen
+returns-in-Ok-clause-frozen g c = c.commit_at.ensures.frozen ∙ c.in-Ok.ensures.ready.frozen
+
+pub returns-in-Ok-clause-exact : goal.returns-in-Ok-clause-exact
+returns-in-Ok-clause-exact g c =
+    let middle : Memory = g.R.Region.memory c.ready_ways.new.parts.region in
+    let move = c.args.to_move.now in
+    let ready = c.in-Ok.ensures.ready in
+    let j = moved_inode (current_words middle) move in
+    let can = respells_can (current_words middle) move ready.can c.requires.new c.requires.here in
+    let touches = within_over (current_words (g.R.Region.memory c.args.parts.now.region)) move c.requires.can (current_words middle) ready.shape c.touched_by-touched.result (record { run = c.name_run.result; one = c.touched_by-touched.ensures.runs; no_words = c.touched_by-touched.ensures.words; no_trees = c.touched_by-touched.ensures.trees; is = c.name_run.ensures }) in
+    let change = within_change move c.requires.new c.requires.here in
+    let room = subst (λ ch. room_for (need (current_words middle) ch) ≤ room_in middle + 2) change ready.thawed.room in
+    let new : Memory = g.R.Region.memory c.commit_at.new.parts.region in
+    exact_kept _ _ c.ready_ways.new.parts _ ready.exact
+    (rw c.commit_at.ensures.inodes
+    (within_exact_at middle move.from_slot j move.name.now c.touched_by-touched.result c.ready_ways.new.parts.blocks c.ready_ways.new.parts.inodes ready.exact.sets new c.commit_at.new.parts.blocks c.commit_at.ensures.commits c.commit_at.ensures.size move.from_dir room can touches))
+    c.commit_at.ensures.frozen c.commit_at.ensures.counts
+    (within_whole_at middle move.from_slot j move.name.now c.touched_by-touched.result c.ready_ways.new.parts.blocks c.ready_ways.new.parts.inodes ready.exact.sets new c.commit_at.new.parts.blocks c.commit_at.ensures.commits c.commit_at.ensures.size move.from_dir room can touches)
+    (within_counts_at middle move.from_slot j move.name.now c.touched_by-touched.result c.ready_ways.new.parts.blocks c.ready_ways.new.parts.inodes ready.exact.sets new c.commit_at.new.parts.blocks c.commit_at.ensures.commits c.commit_at.ensures.size move.from_dir room can touches
+    c.ready_ways.new.parts.counts ready.exact.counts)

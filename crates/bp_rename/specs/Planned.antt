@@ -1,0 +1,68 @@
+-- What is touched for a rename, and what stands once nothing is left to thaw on the ways to it.
+use Rattle.std.specs.Prelude.{◌≡◌, ℕ, ◌+◌, ◌^◌, ◌<◌}
+use Rattle.bp_calls.specs.ThawedFor.{IsThawedFor}
+use Rattle.bp_changes.specs.Thawed.{AfterThaw, SameShape}
+use Rattle.bp_commit.specs.Performs.{Performs, PerformsThawed}
+use Rattle.bp_cow.specs.Cover.{LeadsInside, commit_cover, copied_count}
+use Rattle.bp_cow.specs.Found.{AreWaysIn}
+use Rattle.bp_cow.specs.Touched.{IsTouched, NoneBegins, all_paths}
+use Rattle.bp_cow.specs.declared.covering.FoundWays.{FoundWays}
+use Rattle.bp_cow.specs.declared.touched.Touched.{Touched}
+use Rattle.bp_free.specs.declared.parts.Parts.{Parts}
+use Rattle.bp_layout.specs.Inode.{size_of}
+use Rattle.bp_layout.specs.Need.{need}
+use Rattle.bp_layout.specs.Thaw.{cover_now}
+use Rattle.bp_layout.specs.Words.{Image}
+use Rattle.bp_limits.specs.Limits.{entry_size}
+use Rattle.bp_shapes.specs.Sets.{IsExact, kept_of}
+use Rattle.pm_region.specs.Memory.{Memory, current_words}
+use Rattle.bp_rename.specs.CanRename.{CanRename, change_of, moved_inode}
+use Rattle.bp_rename.specs.RenamesEntry.{RenamesEntry}
+use Rattle.bp_rename.specs.Respelled.{TouchesName}
+use Rattle.bp_rename.specs.TouchesTwo.{AnyTree, OtherTree, TouchesTwo, inumber_path, size_path}
+use Rattle.bp_rename.specs.declared.moving.Move.{Move}
+
+-- what is touched by each kind of a rename: the words of the new name, or two words
+abbrev pub TouchesWithin : Image → Move → Touched → Type 0
+TouchesWithin image move touched = TouchesName image move.from_dir move.from_slot move.name.now touched
+
+abbrev pub TouchesOnto : Image → Move → ℕ → Touched → Type 0
+TouchesOnto image move slot touched =
+    TouchesTwo image AnyTree touched (inumber_path image move.from_dir move.from_slot)
+    (inumber_path image move.to_dir slot) 0 (moved_inode image move)
+
+abbrev pub TouchesInto : Image → Move → ℕ → Touched → Type 0
+TouchesInto image move slot touched =
+    TouchesTwo image AnyTree touched (inumber_path image move.to_dir slot)
+    (inumber_path image move.from_dir move.from_slot) (moved_inode image move) 0
+
+abbrev pub TouchesBehind : Image → Move → Touched → Type 0
+TouchesBehind image move touched =
+    TouchesTwo image (OtherTree move.to_dir) touched (size_path image move.to_dir)
+    (inumber_path image move.from_dir move.from_slot) (size_of image move.to_dir + entry_size) 0
+
+-- The cover of what is touched is that of the rename. The ways to it lead inside the image, and still do behind a thaw.
+pub record IsPlanned (image : Image) (move : Move) (touched : Touched) : Type 0 where
+  pub shape : IsTouched touched
+  pub apart : NoneBegins (all_paths touched)
+  pub inside : (after : Image) → SameShape image after → LeadsInside after touched
+  pub cover : commit_cover image touched ≡ cover_now image (change_of move)
+
+-- with so many blocks besides, as many are copied as the rename needs
+pub record Needs (image : Image) (move : Move) (touched : Touched) (besides : ℕ) : Type 0 where
+  pub all : besides + copied_count image touched ≡ need image (change_of move)
+  pub few : besides + copied_count image touched < 2 ^ 31
+
+-- Behind the thaw the name may still move, with the blocks and the room that this needs. The ways to what is touched are
+-- found. The rename then does what it does with the thaw before it.
+pub record IsReady {R : Type 0} (memory : R → Memory) (move : Move) (touched : Touched) (old new : Parts R)
+    (found : FoundWays) : Type 0 where
+  pub shape : SameShape (current_words (memory old.region)) (current_words (memory new.region))
+  pub can : CanRename (current_words (memory new.region)) move
+  pub exact : IsExact (current_words (memory new.region)) new
+  pub frozen : new.frozen ≡ old.frozen
+  pub thawed : IsThawedFor (kept_of new) (memory new.region) new.blocks (change_of move)
+  pub ways : AreWaysIn (current_words (memory new.region)) touched found
+  pub performs : (last : Parts R) →
+      PerformsThawed (kept_of new) (memory new.region) (memory last.region) (change_of move) (RenamesEntry move) →
+      Performs (kept_of old) (memory old.region) (memory last.region) (change_of move) (AfterThaw (RenamesEntry move))

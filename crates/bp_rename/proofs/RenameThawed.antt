@@ -1,10 +1,9 @@
 -- What may be renamed may be renamed behind a thaw, and what is made of it then is made of the plain tree before it.
-use Rattle.std.proofs.Common.{◌≡◌, ℕ, ◌∷◌, ◌++◌, [], Option, None, Some, sym, ◌∙◌, subst}
+use Rattle.std.proofs.Common.{◌≡◌, ℕ, ◌∷◌, ◌++◌, [], None, Some, sym, ◌∙◌, subst}
 use Rattle.bp_changes.specs.Effects.{IsAtOrBelow}
 use Rattle.bp_changes.specs.Thawed.{AfterThaw, SameShape}
 use Rattle.bp_changes.proofs.ReachedOn.{names_on, reached_on}
 use Rattle.bp_changes.proofs.SameMeaning.{name-same, names-back, well_formed-same}
-use Rattle.bp_changes.proofs.ShapeLaws.{empty-same}
 use Rattle.bp_layout.specs.Below.{rest_below}
 use Rattle.bp_layout.specs.Directory.{EntryNames, Name, inumber_at, name_at}
 use Rattle.bp_layout.specs.Words.{Image}
@@ -12,7 +11,7 @@ use Rattle.bp_plain.specs.Plain.{with_moved}
 use Rattle.bp_plain.specs.Stands.{Shows}
 use Rattle.bp_calls.proofs.AfterLaws.{slot_named_over}
 use Rattle.bp_calls.proofs.ThawedShows.{found_thawed, shows_thawed}
-use Rattle.bp_rename.specs.CanRename.{CanRename, IsSlotAcross, moved_inode}
+use Rattle.bp_rename.specs.CanRename.{CanRename, moved_inode}
 use Rattle.bp_rename.specs.MovesPath.{MovesPath}
 use Rattle.bp_rename.specs.RenamesEntry.{RenamesEntry}
 use Rattle.bp_rename.specs.declared.moving.Move.{Move}
@@ -46,10 +45,6 @@ module _ (old mid : Image) (move : Move) (can : CanRename old move) (shape : Sam
         (names-back old mid can.well_formed shape.meaning (inumber_at old move.to_dir r) x l (replaced_reached old move r can is)
         (subst (λ u. EntryNames mid u x l) (target_inode r is) names));
   }
-
-  -- the least empty slot is the same
-  pub slot_on : (empty : Option ℕ) → IsSlotAcross old move empty → IsSlotAcross mid move empty
-  slot_on empty is none other = is none other ∙ sym (empty-same old mid shape move.to_dir can.target can.directory)
 
 pub renamed_after : (old new : Image) (move : Move) → CanRename old move → AfterThaw (RenamesEntry move) old new → MovesPath move old new
 renamed_after old new move can after map from to shows from_is to_is outside =

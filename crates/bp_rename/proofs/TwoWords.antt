@@ -32,11 +32,6 @@ touches_two image Among touched words trees e none listed lists are = record {
   values = ap (λ (ws : List (ArrayVec ℕ × ℕ)). map (λ word. word.1) ws) e ∙ are.values;
 }
 
--- with no tree
-pub touches_bare : (image : Image) (Among : ℕ → Type 0) {first second : WordPath} {one two : ℕ} → (touched : Touched) (words : List (ArrayVec ℕ × ℕ)) → touched.words.now ≡ words → touched.runs.now ≡ [] →
-    touched.trees.now ≡ [] → AreTwo words first second one two → TouchesTwo image Among touched first second one two
-touches_bare image Among touched words e none bare are = touches_two image Among touched words [] e none bare (λ tree never. absurd never) are
-
 -- the path of a content word
 abbrev pub word_path : Image → ℕ → ℕ → WordPath
 word_path image t k = tree_path (height_of (root_of image 0)) t (suc (height_of (root_of image t))) k

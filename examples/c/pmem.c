@@ -27,6 +27,7 @@ static void put_in_line(bpfs_pmem *pmem, uint64_t *to, const uint64_t *values, s
 static void put_line(bpfs_pmem *pmem, uint64_t *to, const uint64_t *values) {
 #if defined(__SSE2__) && defined(__x86_64__) && !defined(BPFS_NO_STREAM)
     if (to == pmem->line) flush_line(pmem); /* an earlier store to it stays the earlier one */
+    pmem->streamed = true;
     for (size_t i = 0; i < LINE_WORDS; i++) _mm_stream_si64((long long *)to + i, (long long)values[i]);
 #else
     put_in_line(pmem, to, values, LINE_WORDS);
@@ -53,7 +54,8 @@ static int barrier(bpfs_carrier *carrier) {
     pmem->owes = false;
     flush_line(pmem);
 #ifdef __SSE2__
-    _mm_sfence(); /* for the stores past the caches, whatever pmem_drain is on this machine */
+    if (pmem->streamed) _mm_sfence(); /* for the stores past the caches, whatever pmem_drain is on this machine */
+    pmem->streamed = false;
 #endif
     pmem_drain();
     return 0;

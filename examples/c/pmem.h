@@ -17,6 +17,7 @@ typedef struct bpfs_pmem {
     size_t count;
     const uint64_t *line; /* the cache line that was stored to last and is not flushed yet, or NULL */
     bool owes;            /* something was put since the last drain */
+    bool streamed;        /* and a whole line of it past the caches */
 } bpfs_pmem;
 
 /* Maps so many blocks of a file, which is made where there is none. 0, or -1 with errno; ENOTSUP where it is no persistent memory. */

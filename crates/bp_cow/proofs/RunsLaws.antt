@@ -33,14 +33,6 @@ has-item [] k run low is = absurd (omega (arith, low))
 has-item (first ∷ runs) zero run low is = inl (sym is)
 has-item (first ∷ runs) (suc k) run low is = inr (has-item runs k run (omega (arith, low)) is)
 
-pub item-same : {A : Type 0} (items : List A) (k : ℕ) (one two : A) → k < length items → one ≡ slice_index_or items k one → two ≡ slice_index_or items k two → one ≡ two
-item-same [] k one two low is also = absurd (omega (arith, low))
-item-same (first ∷ items) zero one two low is also = is ∙ sym also
-item-same (first ∷ items) (suc k) one two low is also = item-same items k one two (omega (arith, low)) is also
-
-pub run-leaves-few : (run : Run) → IsRun run → run_leaves run ≤ 257
-run-leaves-few run is = omega (arith, is.few, is.some)
-
 -- what holds of one run alone holds of each
 pub one_run : {runs : List Run} → (P : Run → Type 0) (run : Run) → P run → runs ≡ run ∷ [] → (r : Run) → Has runs r → P r
 one_run P run is one r has = go (subst (λ (rs : List Run). Has rs r) one has)

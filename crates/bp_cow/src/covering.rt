@@ -118,7 +118,7 @@ pub struct FoundCover {
 pub struct FoundWays {
     /// Their cover.
     pub cover: FoundCover,
-    /// What was found of the first ways.
+    /// How many fronts of each of the first ways begin an earlier one.
     pub shared: Shared,
 }
 

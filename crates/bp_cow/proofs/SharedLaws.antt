@@ -16,7 +16,7 @@ use Rattle.bp_cow.specs.declared.touched.Run.{Run}
 use Rattle.bp_cow.specs.declared.touched.Touched.{Touched}
 use Rattle.bp_cow.specs.Job.{ways}
 use Rattle.bp_cow.specs.Touched.{IsRun, IsTouched, job_of, path_of, run_leaves, run_way, way_of, word_paths}
-use Rattle.bp_cow.specs.Ways.{AreShared, IsShared}
+use Rattle.bp_cow.specs.Ways.{AreFronts, IsShared}
 use Rattle.bp_cow.proofs.CoverLaws.{run-slots}
 use Rattle.bp_cow.proofs.RunLaws.{length-run_path, length-run_way, slot-run_way}
 use Rattle.bp_cow.proofs.RunsLaws.{length-above, slot-above, way-behind, way-leaf, way-short, ways-by}
@@ -355,9 +355,9 @@ way-slots touched is i d here = ways-by touched (λ p. d < length p → slice_in
 -- ---- a list of how much the first ways share
 
 -- with the next way's behind it, it is right of one way more
-pub listed-next : (touched : Touched) (shared : List ℕ) (fronts : ℕ) → AreShared touched shared
+pub listed-next : (touched : Touched) (shared : List ℕ) (fronts : ℕ) → AreFronts touched shared
     → ((d : ℕ) → (d < fronts) ↔ IsShared (job_of touched).way (length shared) ((job_of touched).way (length shared)) d)
-    → AreShared touched (shared ++ fronts ∷ [])
+    → AreFronts touched (shared ++ fronts ∷ [])
 listed-next touched shared fronts right last i d low = at (cases_lt i (length shared))
   where
     at : (i < length shared) ⊎ (length shared ≤ i) → (d < slice_index (shared ++ fronts ∷ []) i) ↔ IsShared (job_of touched).way i ((job_of touched).way i) d

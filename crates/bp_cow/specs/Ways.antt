@@ -1,11 +1,13 @@
 -- A way as code holds it, and how much of it earlier ways share.
-use Rattle.std.specs.Prelude.{◌≡◌, ℕ, ◌<◌, ◌≤◌, ◌↔◌, List, IfSome, None, length, slice_index}
+use Rattle.std.specs.Prelude.{◌≡◌, ℕ, suc, ◌<◌, ◌≤◌, ◌↔◌, List, IfSome, None, length, slice_index, take}
 use Rattle.bp_layout.specs.WordPaths.{WordPath}
 use Rattle.bp_shapes.specs.Trail.{trail_of}
 use Rattle.bp_cow.specs.Job.{ways}
 use Rattle.bp_cow.specs.Leaves.{IsLeaf}
 use Rattle.bp_cow.specs.Touched.{job_of, leaves_of, word_paths}
+use Rattle.bp_cow.specs.declared.touched.Run.{Run}
 use Rattle.bp_cow.specs.declared.touched.Touched.{Touched}
+use Rattle.bp_cow.specs.declared.ways.Shared.{Shared}
 use Rattle.bp_cow.specs.declared.ways.Way.{Way}
 
 -- one of the first ways, so many, begins with the first slots of a path
@@ -17,9 +19,19 @@ pub record IsShared (way : ℕ → WordPath) (count : ℕ) (path : WordPath) (de
   pub same : trail_of path depth ≡ trail_of (way which) depth
 
 -- how many fronts of each of the first ways begin an earlier way
-abbrev pub AreShared : Touched → List ℕ → Type 0
-AreShared touched shared =
-    (i d : ℕ) → i < length shared → (d < slice_index shared i) ↔ IsShared (job_of touched).way i ((job_of touched).way i) d
+abbrev pub AreFronts : Touched → List ℕ → Type 0
+AreFronts touched fronts =
+    (i d : ℕ) → i < length fronts → (d < slice_index fronts i) ↔ IsShared (job_of touched).way i ((job_of touched).way i) d
+
+-- of each run how many ways there are to its leaves and to those of the runs before it
+pub record AreEnds (runs : List Run) (ends : List ℕ) : Type 0 where
+  pub each : length ends ≡ length runs
+  pub right : (k : ℕ) → k < length runs → slice_index ends k ≡ leaves_of (take (suc k) runs)
+
+-- both, where they were found
+pub record AreShared (touched : Touched) (shared : Shared) : Type 0 where
+  pub fronts : AreFronts touched shared.fronts.items
+  pub ends : 0 < length shared.ends.items → AreEnds touched.runs.now shared.ends.items
 
 -- A way of touched words, with its length, the leaf to which it leads, and how many of its fronts begin an earlier way.
 pub record IsWay (touched : Touched) (way : Way) : Type 0 where

@@ -39,7 +39,7 @@ fn turn_over<R: Region>(
     ghost plan: { Plan }
     requires touched { IsTouched touched.now }
     requires can { CanTurn plan touched.now from place blocks.old (R.memory region.old) }
-    requires shared { AreShared touched.now shared.now.items }
+    requires shared { AreShared touched.now shared.now }
     ensures done { IsTurnedOver plan touched.now from place blocks.old blocks.new
         (R.memory region.old) (R.memory region.new) }
     ensures others { (w : ℕ) → w ≢ place → plan.free (w / block_words) ≡ false →
@@ -65,7 +65,7 @@ fn commit_copies<R: Region>(
     requires can { CanTurn plan touched.now from place parts.old.blocks (R.memory parts.old.region) }
     requires fits { block_count plan.old ≤ length parts.old.blocks }
     requires kept { TellsKept plan.kept plan.old parts.old.frozen }
-    requires shared { AreShared touched.now shared.now.items }
+    requires shared { AreShared touched.now shared.now }
     ensures done { (taken : Set) × IsTurnedOver plan touched.now from place parts.old.blocks taken
         (R.memory parts.old.region) (R.memory parts.new.region) }
     ensures exact { IsExactSet (current_words (R.memory parts.new.region))

@@ -118,7 +118,7 @@ pub struct FoundCover {
 pub struct FoundWays {
     /// Their cover.
     pub cover: FoundCover,
-    /// How many fronts of each of the first ways begin an earlier one.
+    /// What was found of the ways themselves.
     pub shared: Shared,
 }
 

@@ -1,5 +1,5 @@
 -- Lists of runs: their leaves and the ways to these, the paths that tell, and the words over which they are laid.
-use Rattle.std.proofs.Common.{◌≡◌, ◌⊎◌, ℕ, zero, suc, ◌+◌, ◌-◌, ◌*◌, ◌/◌, ◌%◌, ◌<◌, ◌≤◌, List, [], ◌∷◌, length, drop, Bool, true, false, Some, refl, sym, ◌∙◌, ap, subst, arith, inl, inr}
+use Rattle.std.proofs.Common.{◌≡◌, ◌⊎◌, ℕ, zero, suc, ◌+◌, ◌-◌, ◌*◌, ◌/◌, ◌%◌, ◌<◌, ◌≤◌, List, [], ◌∷◌, length, drop, take, Bool, true, false, Some, refl, sym, ◌∙◌, ap, subst, arith, inl, inr}
 use Rattle.std.specs.List.{slice_get}
 use Rattle.std.specs.Prelude.{nat_lt, bytes_eq, slice_index, slice_index_or, ◌==◌, if◌then◌else◌}
 use Rattle.std.proofs.lemmas.Bool.{cases_lt, lt-ltb, ltb-true}
@@ -32,6 +32,17 @@ pub has-item : {A : Type 0} (runs : List A) (k : ℕ) (run : A) → k < length r
 has-item [] k run low is = absurd (omega (arith, low))
 has-item (first ∷ runs) zero run low is = inl (sym is)
 has-item (first ∷ runs) (suc k) run low is = inr (has-item runs k run (omega (arith, low)) is)
+
+-- how many ways there are to the leaves of the first runs
+pub leaves-take : (runs : List Run) (k : ℕ) (run : Run) → k < length runs → run ≡ slice_index_or runs k run → leaves_of (take (suc k) runs) ≡ leaves_of (take k runs) + run_leaves run
+leaves-take [] k run low is = absurd (omega (arith, low))
+leaves-take (first ∷ runs) zero run low is = let same : run_leaves run ≡ run_leaves first = ap (λ (r : Run). run_leaves r) is in omega (arith, same)
+leaves-take (first ∷ runs) (suc k) run low is = omega (arith, leaves-take runs k run (omega (arith, low)) is)
+
+pub leaves-part : (runs : List Run) (k : ℕ) → leaves_of (take k runs) ≤ leaves_of runs
+leaves-part runs zero = omega arith
+leaves-part [] (suc k) = omega arith
+leaves-part (run ∷ runs) (suc k) = omega (arith, leaves-part runs k)
 
 -- what holds of one run alone holds of each
 pub one_run : {runs : List Run} → (P : Run → Type 0) (run : Run) → P run → runs ≡ run ∷ [] → (r : Run) → Has runs r → P r

@@ -90,7 +90,7 @@ undone_event words (Store word value) old = set words word old
 undone_event words Barrier old = words
 undone_event words Mark old = words
 
-undone-cons : (words : List ℕ) (event : Event) (events : List Event) (old : ℕ) (replaced : List ℕ) → undone words (event ∷ events) (old ∷ replaced) ≡ undone_event (undone words events replaced) event old
+pub undone-cons : (words : List ℕ) (event : Event) (events : List Event) (old : ℕ) (replaced : List ℕ) → undone words (event ∷ events) (old ∷ replaced) ≡ undone_event (undone words events replaced) event old
 undone-cons words (Store word value) events old replaced = refl
 undone-cons words Barrier events old replaced = refl
 undone-cons words Mark events old replaced = refl

@@ -4,45 +4,62 @@ ghost use Rattle.std.specs.Prelude.{◌≡◌, ◌^◌, ◌<◌, ◌≤◌, ◌�
 ghost use Rattle.pm_epochs.specs.Log.{barriers, epoch_stores, marks, words_after};
 ghost use Rattle.pm_epochs.specs.Replay.{IsRight, kept_calls as kept_calls_of, marks_of, stores_of};
 ghost use Rattle.pm_region.specs.Epochs.{epoch_start};
+ghost use Rattle.pm_region.specs.Memory.{stores_from};
+ghost use Rattle.pm_raw.specs.Pieces.{all_kept};
 ghost use Rattle.pm_raw.specs.Places.{is_barrier, is_mark, places_where};
 
-use super::log::Log;
+use super::log::{Log, Piece};
 use super::places::Places;
-use pm_epochs::{BadChoice, Choice, Event, Keeper, Kept};
-use pm_region::words::apply_event;
+use pm_epochs::{BadChoice, Choice, Kept};
 
 /// How many stores stand before the first barrier.
-fn first_stores(log: &Log<'_>) -> usize
-    ensures { result ≡ epoch_stores 0 log.now }
+fn first_stores(log: Log<'_>) -> usize
+    ensures { result ≡ epoch_stores 0 log.entry }
 {
+    let _events = log.len();
+    let mut rest = log;
     let mut count = 0;
-    for i in 0..log.len() {
-        match log.event(i) {
-            Event::Store { .. } => count += 1,
-            Event::Barrier => return count,
-            Event::Mark => {}
+    while rest.len() > 0 {
+        match rest.take_first() {
+            Piece::Stores { values, .. } => count += values.len(),
+            Piece::Barrier => return count,
+            Piece::Mark => {}
         }
     }
     count
 }
 
-/// The marks before the first store that is not kept.
-fn calls_of(log: &Log<'_>, epoch: usize, mask: &[bool]) -> usize
-    ensures { result ≡ marks_of epoch mask.now log.now }
+/// Whether all of these stores are kept.
+fn keeps_all(mask: &[bool]) -> bool
+    ensures { result ≡ all_kept mask.now }
 {
-    let mut keeper = Keeper { epoch, mask };
+    for keep in mask {
+        if !*keep {
+            return false;
+        }
+    }
+    true
+}
+
+/// The marks before the first store that is not kept, where the mask is for the first epoch.
+fn calls_of(log: Log<'_>, mask: &[bool]) -> usize
+    ensures { result ≡ marks_of 0 mask.now log.entry }
+{
+    let _events = log.len();
+    let mut rest = log;
+    let mut mask = mask;
     let mut calls = 0;
-    for i in 0..log.len() {
-        let event = log.event(i);
-        let kept = keeper.keeps(event);
-        match event {
-            Event::Store { .. } => {
-                if !kept {
+    while rest.len() > 0 {
+        match rest.take_first() {
+            Piece::Stores { values, .. } => {
+                let stores = values.len();
+                if mask.len() < stores || !keeps_all(&mask[..stores]) {
                     return calls;
                 }
+                mask = &mask[stores..];
             }
-            Event::Barrier => {}
-            Event::Mark => calls += 1,
+            Piece::Barrier => mask = &[],
+            Piece::Mark => calls += 1,
         }
     }
     calls
@@ -75,7 +92,7 @@ pub fn start_of(log: &Log<'_>, barrier_places: &Places, choice: &Choice) -> Resu
         return Err(BadChoice);
     }
     let start = start_of_epoch(log, barrier_places, epoch);
-    if choice.mask().len() > first_stores(&log.front(moment).behind(start)) {
+    if choice.mask().len() > first_stores(log.front(moment).behind(start)) {
         return Err(BadChoice);
     }
     Ok(start)
@@ -91,24 +108,37 @@ pub fn kept_calls(log: &Log<'_>, mark_places: &Places, start: usize, choice: &Ch
     ensures of { result.n ≡ marks log.now }
 {
     Kept {
-        c: mark_places.before(start) + calls_of(&log.behind(start), 0, choice.mask()),
+        c: mark_places.before(start) + calls_of(log.behind(start), choice.mask()),
         n: mark_places.len(),
     }
 }
 
-/// Does those stores before the first barrier that the mask keeps.
-pub fn apply_first(words: &mut [u64], log: &Log<'_>, mask: &[bool])
-    ensures { words.new ≡ words_after words.old (stores_of 0 mask.now log.now) }
+/// Does those stores of these values, to the words from this one on, that the mask keeps.
+fn apply_stores(words: &mut [u64], word: u32, values: &[u64], mask: &[bool])
+    ensures { words.new ≡ words_after words.old (stores_of 0 mask.now (stores_from word values.now)) }
 {
-    let mut keeper = Keeper { epoch: 0, mask };
-    for i in 0..log.len() {
-        let event = log.event(i);
-        if let Event::Barrier = event {
-            return;
+    let first = word as usize;
+    for i in 0..values.len().min(mask.len()) {
+        if mask[i] && first + i < words.len() {
+            words[first + i] = values[i];
         }
-        let kept = keeper.keeps(event);
-        if kept {
-            apply_event(words, event);
+    }
+}
+
+/// Does those stores before the first barrier that the mask keeps.
+pub fn apply_first(words: &mut [u64], log: Log<'_>, mask: &[bool])
+    ensures { words.new ≡ words_after words.old (stores_of 0 mask.now log.entry) }
+{
+    let mut rest = log;
+    let mut mask = mask;
+    while rest.len() > 0 && mask.len() > 0 {
+        match rest.take_first() {
+            Piece::Stores { word, values } => {
+                apply_stores(words, word, values, mask);
+                mask = &mask[values.len().min(mask.len())..];
+            }
+            Piece::Barrier => return,
+            Piece::Mark => {}
         }
     }
 }

@@ -191,7 +191,7 @@ module _ (firsts starts : List ℕ) (count first n : ℕ) (runs : AreRuns firsts
         some = λ more. omega (arith, many);
         begun = elim (eqb_tells (length starts) 0) [
           | inl none ↦ elim (eqb_tells count 0) [
-            | inl zero ↦ omega (arith, get_or_push starts count 0 0 none.1, zero.1)
+            | inl nothing ↦ omega (arith, get_or_push starts count 0 0 none.1, nothing.1)
             | inr more ↦ absurd (omega (arith, runs.some (omega (arith, more.1)), none.1))
           ]
           | inr more ↦ omega (arith, get_or_append_left starts (count ∷ []) 0 0 (omega (arith, more.1)), runs.begun)

@@ -158,10 +158,12 @@ impl Region for RawRegion {
         overwrite(self.current.as_mut_slice(), place, values);
     }
 
+    #[inline(always)]
     fn barrier(&mut self) {
         self.push_signal(BARRIER);
     }
 
+    #[inline(always)]
     fn mark(&mut self) {
         self.push_signal(MARK);
     }

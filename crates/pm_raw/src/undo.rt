@@ -2,10 +2,19 @@
 
 ghost use Rattle.std.specs.Prelude.{◌≡◌, ◌+◌, ℕ, List, ◌^◌, ◌<◌, ◌≤◌, drop, length, slice_index};
 ghost use Rattle.std.specs.List.{range_with_len};
+ghost use Rattle.pm_region.specs.Memory.{with_values};
 ghost use Rattle.pm_raw.specs.Entries.{events_of};
 ghost use Rattle.pm_raw.specs.Undo.{undone};
 
 use super::log::{Log, Piece};
+
+/// Puts these values in place of the words from `first` on.
+fn put_back(words: &mut [u64], first: usize, values: &[u64])
+    requires { first + length values.now ≤ length words.old }
+    ensures { words.new ≡ with_values words.old first values.now }
+{
+    words[first..first + values.len()].copy_from_slice(values);
+}
 
 /// Puts back what events with words in a row replaced, from this word on. Behind the last word there is nothing to put back.
 fn undo_row(words: &mut [u64], word: u32, replaced: &[u64])
@@ -17,7 +26,7 @@ fn undo_row(words: &mut [u64], word: u32, replaced: &[u64])
     let first = word as usize;
     if first < words.len() {
         let count = replaced.len().min(words.len() - first);
-        words[first..first + count].copy_from_slice(&replaced[..count]);
+        put_back(words, first, &replaced[..count]);
     }
 }
 

@@ -1,4 +1,4 @@
-use Rattle.std.proofs.Common.{◌≡◌, ℕ, ◌-◌, ◌<◌, ◌≤◌, get_or, length}
+use Rattle.std.proofs.Common.{◌-◌, ◌<◌, ◌≤◌, get_or, length}
 use Rattle.pm_raw.proofs.runs.run_of.Given as goal
 
 abbrev pub invariant-loop-high : goal.invariant-loop-high

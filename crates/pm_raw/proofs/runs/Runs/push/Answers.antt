@@ -1,10 +1,70 @@
+use Rattle.std.proofs.Common.{◌≡◌, ◌+◌, ◌<◌, ◌∙◌, ◌++◌, ap, arith, length, subst, sym, take}
+use Rattle.std.specs.List.{range_with_len}
+use Rattle.pm_raw.specs.RunWords.{AreRuns, Worded, word_at, words_from}
+use Rattle.pm_raw.specs.RunsRoom.{firsts_of, starts_of}
+use Rattle.pm_raw.proofs.WordLaws.{length-words_from, next-begun, next-joined, runs-begun, runs-joined, words-begun, words-joined}
 use Rattle.pm_raw.proofs.runs.Runs.push.Goals as goal
-
-pub invariant_of-self : goal.invariant_of-self
-invariant_of-self c = ?
-
-pub returns-clause-words : goal.returns-clause-words
-returns-clause-words c = ?
+use Rattle.pm_raw.proofs.runs.Runs.push.Goals.{then-first-self, else-first-self}
 
 pub begin-requires-clause-room : goal.begin-requires-clause-room
-begin-requires-clause-room c = ?
+begin-requires-clause-room c =
+    let runs = c.self.inside in
+    let many = length-words_from (firsts_of runs) (starts_of runs) 0 runs.count in
+    (omega (arith, c.self.invariant.few, c.requires.some, c.requires.room, many, ap (λ (w : Worded). length w.words) c.self.view_is, ap (λ (w : Worded). w.room) c.self.view_is), c.self.invariant.filled)
+
+pub invariant_of-self : goal.invariant_of-self
+invariant_of-self c =
+    let runs = c.self.inside in
+    let step = c.self.invariant in
+    let many = length-words_from (firsts_of runs) (starts_of runs) 0 runs.count in
+    let size = ap (λ (w : Worded). length w.words) c.self.view_is in
+    let room = ap (λ (w : Worded). w.room) c.self.view_is in
+    elim c.if-first-self.branch [
+      | then-first-self w ↦ rw w.self-inside-is (record {
+        are =
+            subst (λ ss. AreRuns _ ss 0 (runs.count + c.args.wanted)) (sym w.begin.ensures.starts)
+            (subst (λ fs. AreRuns fs _ 0 (runs.count + c.args.wanted)) (sym w.begin.ensures.firsts)
+            (runs-begun (firsts_of runs) (starts_of runs) runs.count c.args.first c.args.wanted step.are c.requires.in_range c.requires.some));
+        next =
+            sym (ap (λ fs. word_at fs (take (runs.runs + 1) w.begin.new.starts.items) (runs.count + c.args.wanted)) w.begin.ensures.firsts
+            ∙ ap (λ ss. word_at _ ss (runs.count + c.args.wanted)) w.begin.ensures.starts
+            ∙ next-begun (firsts_of runs) (starts_of runs) runs.count c.args.first c.args.wanted step.are c.requires.in_range);
+        few = omega (arith, step.few, c.requires.some);
+        counted = omega (arith, c.requires.room, many, size, room);
+        filled = omega (arith, w.begin.ensures.filled);
+        within = w.begin.ensures.filled.1;
+        starts_places = w.begin.ensures.starts_places;
+        firsts_room = w.begin.ensures.firsts_room;
+        starts_room = w.begin.ensures.starts_room;
+      })
+      | else-first-self w ↦
+        let low : c.args.first < 4294967296 = omega (arith, c.requires.in_range, c.requires.some) in
+        rw w.self-inside-is (record {
+          are = runs-joined (firsts_of runs) (starts_of runs) runs.count c.args.first c.args.wanted step.are c.requires.in_range (w.if-first-self ∙ step.next) low;
+          next = sym (next-joined (firsts_of runs) (starts_of runs) runs.count c.args.first c.args.wanted step.are c.requires.in_range (w.if-first-self ∙ step.next) low);
+          few = omega (arith, step.few);
+          counted = omega (arith, c.requires.room, many, size, room);
+          filled = step.filled;
+          within = step.within;
+          starts_places = step.starts_places;
+          firsts_room = step.firsts_room;
+          starts_room = step.starts_room;
+        })
+    ]
+
+pub returns-clause-words : goal.returns-clause-words
+returns-clause-words c =
+    let runs = c.self.inside in
+    let step = c.self.invariant in
+    let was = ap (λ (w : Worded). w.words ++ range_with_len c.args.first c.args.wanted) c.self.view_is in
+    elim c.if-first-self.branch [
+      | then-first-self w ↦ rw w.self-inside-is
+        (ap (λ fs. words_from fs (take (runs.runs + 1) w.begin.new.starts.items) 0 (runs.count + c.args.wanted)) w.begin.ensures.firsts
+        ∙ ap (λ ss. words_from _ ss 0 (runs.count + c.args.wanted)) w.begin.ensures.starts
+        ∙ words-begun (firsts_of runs) (starts_of runs) runs.count c.args.first c.args.wanted step.are c.requires.in_range
+        ∙ was)
+      | else-first-self w ↦
+        let low : c.args.first < 4294967296 = omega (arith, c.requires.in_range, c.requires.some) in
+        rw w.self-inside-is
+        (words-joined (firsts_of runs) (starts_of runs) runs.count c.args.first c.args.wanted step.are c.requires.in_range (w.if-first-self ∙ step.next) low ∙ was)
+    ]

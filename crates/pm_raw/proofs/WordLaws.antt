@@ -1,5 +1,5 @@
 -- Words from runs of words in a row.
-use Rattle.std.proofs.Common.{◌≡◌, ℕ, zero, suc, ◌+◌, ◌-◌, ◌^◌, ◌<◌, ◌≤◌, true, false, inl, inr, List, [], ◌∷◌, ◌++◌, length, take, drop, get_or, nat_lt, if◌then◌else◌, refl, sym, ◌∙◌, ap, arith}
+use Rattle.std.proofs.Common.{◌≡◌, ℕ, zero, suc, ◌+◌, ◌-◌, ◌^◌, ◌<◌, ◌≤◌, true, false, inl, inr, List, [], ◌∷◌, ◌++◌, length, take, drop, get_or, nat_lt, if◌then◌else◌, refl, sym, ◌∙◌, ap, arith, subst}
 use Rattle.std.specs.List.{range_with_len}
 use Rattle.std.proofs.lemmas.Bool.{lt-ltb, le-ltb}
 use Rattle.std.proofs.lemmas.Bool.Decides.{eqb_tells, leb_tells}
@@ -91,6 +91,17 @@ words_from-range firsts starts at first (suc n) each =
     ap (λ w. w ∷ words_from firsts starts (suc at) n) (each at (omega arith) (omega arith) ∙ here)
     ∙ ap (λ ws. first ∷ ws) (words_from-range firsts starts (suc at) (first + 1) n (λ i low high. let there : first + (i - at) ≡ (first + 1) + (i - suc at) = omega arith in each i (omega arith) (omega arith) ∙ there))
 
+-- the same runs
+module _ (firsts starts others begins : List ℕ) (same_firsts : others ≡ firsts) (same_starts : begins ≡ starts) where
+  pub runs-same : (at end : ℕ) → AreRuns firsts starts at end → AreRuns others begins at end
+  runs-same at end runs = subst (λ fs. AreRuns fs begins at end) (sym same_firsts) (subst (λ ss. AreRuns firsts ss at end) (sym same_starts) runs)
+
+  pub word-same : (i : ℕ) → word_at others begins i ≡ word_at firsts starts i
+  word-same i = ap (λ fs. word_at fs begins i) same_firsts ∙ ap (λ ss. word_at firsts ss i) same_starts
+
+  pub words-same : (at n : ℕ) → words_from others begins at n ≡ words_from firsts starts at n
+  words-same at n = ap (λ fs. words_from fs begins at n) same_firsts ∙ ap (λ ss. words_from firsts ss at n) same_starts
+
 -- ## Parts of runs
 
 module _ (firsts starts : List ℕ) (at end : ℕ) (runs : AreRuns firsts starts at end) where
@@ -124,11 +135,11 @@ module _ (firsts starts : List ℕ) (at end : ℕ) (runs : AreRuns firsts starts
         fits = λ i low_i high_i. omega (arith, word_at-drop k firsts starts i runs.same low (λ j below. begun_by k j i below low (omega arith)), runs.fits i (omega arith) high_i);
       }
 
-  pub words-front : (k n : ℕ) → (0 < n → 0 < k) → (k < length starts → at + n ≤ get_or starts k 0) → words_from (take k firsts) (take k starts) at n ≡ words_from firsts starts at n
+  pub words-front : (k n : ℕ) → (0 < n → 0 < k) → (0 < n → k < length starts → at + n ≤ get_or starts k 0) → words_from (take k firsts) (take k starts) at n ≡ words_from firsts starts at n
   words-front k n some later =
-      words_from-same (take k firsts) (take k starts) firsts starts at n (λ i above under. word_at-take k firsts starts i (some (omega arith)) (λ more. omega (arith, later more)))
+      words_from-same (take k firsts) (take k starts) firsts starts at n (λ i above under. word_at-take k firsts starts i (some (omega arith)) (λ more. omega (arith, later (omega arith) more)))
 
-  pub runs-front : (k last : ℕ) → at ≤ last → last ≤ end → k ≤ length starts → (at < last → 0 < k) → ((i : ℕ) → i < k → get_or starts i 0 < last) → (k < length starts → last ≤ get_or starts k 0) → AreRuns (take k firsts) (take k starts) at last
+  pub runs-front : (k last : ℕ) → at ≤ last → last ≤ end → k ≤ length starts → (at < last → 0 < k) → ((i : ℕ) → i < k → get_or starts i 0 < last) → (at < last → k < length starts → last ≤ get_or starts k 0) → AreRuns (take k firsts) (take k starts) at last
   runs-front k last above under within some taken later =
       let many = length-take-le k starts within in
       record {
@@ -141,7 +152,7 @@ module _ (firsts starts : List ℕ) (at end : ℕ) (runs : AreRuns firsts starts
         first = λ more. omega (arith, get_or-take k starts 1 0 (omega (arith, many)), runs.first (omega (arith, many)));
         taken = λ i inside. omega (arith, get_or-take k starts i 0 (omega (arith, many)), taken i (omega (arith, many)));
         rises = λ i j less inside. omega (arith, get_or-take k starts i 0 (omega (arith, many)), get_or-take k starts j 0 (omega (arith, many)), runs.rises i j less (omega (arith, many)));
-        fits = λ i low_i high_i. omega (arith, word_at-take k firsts starts i (some (omega arith)) (λ more. omega (arith, later more)), runs.fits i low_i (omega arith));
+        fits = λ i low_i high_i. omega (arith, word_at-take k firsts starts i (some (omega arith)) (λ more. omega (arith, later (omega arith) more)), runs.fits i low_i (omega arith));
       }
 
 -- ## Words behind others

@@ -1,8 +1,8 @@
-use Rattle.std.proofs.Common.{◌≡◌, ◌+◌, ◌<◌, ◌∙◌, ◌++◌, ap, arith, length, subst, sym, take}
+use Rattle.std.proofs.Common.{◌≡◌, ◌+◌, ◌<◌, ◌∙◌, ◌++◌, [], ◌∷◌, ap, arith, length, sym}
 use Rattle.std.specs.List.{range_with_len}
-use Rattle.pm_raw.specs.RunWords.{AreRuns, Worded, word_at, words_from}
+use Rattle.pm_raw.specs.RunWords.{Worded}
 use Rattle.pm_raw.specs.RunsRoom.{firsts_of, starts_of}
-use Rattle.pm_raw.proofs.WordLaws.{length-words_from, next-begun, next-joined, runs-begun, runs-joined, words-begun, words-joined}
+use Rattle.pm_raw.proofs.WordLaws.{length-words_from, next-begun, next-joined, runs-begun, runs-joined, runs-same, word-same, words-begun, words-joined, words-same}
 use Rattle.pm_raw.proofs.runs.Runs.push.Goals as goal
 use Rattle.pm_raw.proofs.runs.Runs.push.Goals.{then-first-self, else-first-self}
 
@@ -22,12 +22,10 @@ invariant_of-self c =
     elim c.if-first-self.branch [
       | then-first-self w ↦ rw w.self-inside-is (record {
         are =
-            subst (λ ss. AreRuns _ ss 0 (runs.count + c.args.wanted)) (sym w.begin.ensures.starts)
-            (subst (λ fs. AreRuns fs _ 0 (runs.count + c.args.wanted)) (sym w.begin.ensures.firsts)
-            (runs-begun (firsts_of runs) (starts_of runs) runs.count c.args.first c.args.wanted step.are c.requires.in_range c.requires.some));
-        next =
-            sym (ap (λ fs. word_at fs (take (runs.runs + 1) w.begin.new.starts.items) (runs.count + c.args.wanted)) w.begin.ensures.firsts
-            ∙ ap (λ ss. word_at _ ss (runs.count + c.args.wanted)) w.begin.ensures.starts
+            runs-same (firsts_of runs ++ c.args.first ∷ []) (starts_of runs ++ runs.count ∷ []) _ _ w.begin.ensures.firsts w.begin.ensures.starts 0 (runs.count + c.args.wanted)
+            (runs-begun (firsts_of runs) (starts_of runs) runs.count c.args.first c.args.wanted step.are c.requires.in_range c.requires.some);
+        next = sym (
+            word-same (firsts_of runs ++ c.args.first ∷ []) (starts_of runs ++ runs.count ∷ []) _ _ w.begin.ensures.firsts w.begin.ensures.starts (runs.count + c.args.wanted)
             ∙ next-begun (firsts_of runs) (starts_of runs) runs.count c.args.first c.args.wanted step.are c.requires.in_range);
         few = omega (arith, step.few, c.requires.some);
         counted = omega (arith, c.requires.room, many, size, room);
@@ -40,8 +38,8 @@ invariant_of-self c =
       | else-first-self w ↦
         let low : c.args.first < 4294967296 = omega (arith, c.requires.in_range, c.requires.some) in
         rw w.self-inside-is (record {
-          are = runs-joined (firsts_of runs) (starts_of runs) runs.count c.args.first c.args.wanted step.are c.requires.in_range (w.if-first-self ∙ step.next) low;
-          next = sym (next-joined (firsts_of runs) (starts_of runs) runs.count c.args.first c.args.wanted step.are c.requires.in_range (w.if-first-self ∙ step.next) low);
+          are = runs-joined (firsts_of runs) (starts_of runs) runs.count c.args.first c.args.wanted step.are c.requires.in_range (w.if-first-self.false ∙ step.next) low;
+          next = sym (next-joined (firsts_of runs) (starts_of runs) runs.count c.args.first c.args.wanted step.are c.requires.in_range (w.if-first-self.false ∙ step.next) low);
           few = omega (arith, step.few);
           counted = omega (arith, c.requires.room, many, size, room);
           filled = step.filled;
@@ -59,12 +57,11 @@ returns-clause-words c =
     let was = ap (λ (w : Worded). w.words ++ range_with_len c.args.first c.args.wanted) c.self.view_is in
     elim c.if-first-self.branch [
       | then-first-self w ↦ rw w.self-inside-is
-        (ap (λ fs. words_from fs (take (runs.runs + 1) w.begin.new.starts.items) 0 (runs.count + c.args.wanted)) w.begin.ensures.firsts
-        ∙ ap (λ ss. words_from _ ss 0 (runs.count + c.args.wanted)) w.begin.ensures.starts
+        (words-same (firsts_of runs ++ c.args.first ∷ []) (starts_of runs ++ runs.count ∷ []) _ _ w.begin.ensures.firsts w.begin.ensures.starts 0 (runs.count + c.args.wanted)
         ∙ words-begun (firsts_of runs) (starts_of runs) runs.count c.args.first c.args.wanted step.are c.requires.in_range
         ∙ was)
       | else-first-self w ↦
         let low : c.args.first < 4294967296 = omega (arith, c.requires.in_range, c.requires.some) in
         rw w.self-inside-is
-        (words-joined (firsts_of runs) (starts_of runs) runs.count c.args.first c.args.wanted step.are c.requires.in_range (w.if-first-self ∙ step.next) low ∙ was)
+        (words-joined (firsts_of runs) (starts_of runs) runs.count c.args.first c.args.wanted step.are c.requires.in_range (w.if-first-self.false ∙ step.next) low ∙ was)
     ]

@@ -1,19 +1,23 @@
 -- Logs by pieces: stores to words in a row, and signals.
-use Rattle.std.proofs.Common.{◌≡◌, ℕ, zero, suc, ◌+◌, ◌-◌, ◌^◌, ◌<◌, ◌≤◌, min, Bool, true, false, inl, inr, List, [], ◌∷◌, ◌++◌, length, take, drop, get_or, set, refl, sym, ◌∙◌, ap, arith, true≢false}
+use Rattle.std.proofs.Common.{◌≡◌, ℕ, zero, suc, ◌+◌, ◌-◌, ◌^◌, ◌<◌, ◌≤◌, min, Bool, true, false, inl, inr, List, [], ◌∷◌, ◌++◌, length, take, drop, get_or, set, slice_get, Option, None, Some, if◌then◌else◌, refl, sym, ◌∙◌, ap, arith, take-add, true≢false}
+use Rattle.std.specs.Prelude.{◌==◌}
 use Rattle.std.specs.List.{range_with_len}
 use Rattle.std.proofs.lemmas.Bool.Decides.{eqb_tells, leb_tells}
-use Rattle.std.proofs.lemmas.List.{append_assoc, length-take-le, set-append_left, set_at, set_past, take_more}
+use Rattle.std.proofs.lemmas.List.FromFn.{length-range_with_len}
+use Rattle.std.proofs.lemmas.List.{append_assoc, drop-drop, drop_at, get_or-set_other, get_or-set_same, length-append, length-take-le, set-append_left, set_at, set_past, take_at, take_more}
 use Rattle.pm_epochs.specs.declared.event.Event.{Event}
 use Rattle.pm_epochs.specs.declared.event.Event.TheVariants.{Store, Barrier, Mark}
 use Rattle.pm_epochs.specs.Log.{epoch_stores}
 use Rattle.pm_epochs.specs.Replay.{marks_of, stores_of}
 use Rattle.pm_region.specs.Memory.{stores_from, with_values}
-use Rattle.pm_region.proofs.MemoryLaws.{with_values-none}
+use Rattle.pm_region.proofs.MemoryLaws.{length-stores_from, with_values-none}
 use Rattle.pm_raw.specs.Entries.{no_word, signal_of, event_of, events_of}
-use Rattle.pm_raw.specs.Pieces.{all_kept}
+use Rattle.pm_raw.specs.Pieces.{all_kept, goes_on, piece_end, piece_events}
+use Rattle.pm_raw.specs.declared.log.Piece.{Piece}
+use Rattle.pm_raw.specs.declared.log.Piece.TheVariants.{Stores, Barrier as Fence, Mark as End}
 use Rattle.pm_raw.specs.Undo.{undone}
-use Rattle.pm_raw.proofs.EntryLaws.{event_of-store}
-use Rattle.pm_raw.proofs.UndoLaws.{undone_event, undone-cons}
+use Rattle.pm_raw.proofs.EntryLaws.{event_of-store, length_events}
+use Rattle.pm_raw.proofs.UndoLaws.{length-undone, undone-append, undone_event, undone-cons}
 
 -- ## What is kept
 
@@ -101,3 +105,199 @@ row-undone words (value ∷ values) (old ∷ replaced) word (suc count) few low 
     sym (set-with_values words (take count replaced) word old inside)
     ∙ ap (λ ws. set ws word old) (row-undone words values replaced (word + 1) count few (omega arith) (omega arith) (omega (arith, is)))
     ∙ ap (λ event. undone words (event ∷ rest) (old ∷ replaced)) (sym (event_of-store word value (omega arith)))
+
+-- ## How far stores go on
+
+-- the word behind that of a store, 0 where there is none
+abbrev store_end : Option Event → ℕ
+store_end None = 0
+store_end (Some (Store word value)) = suc word
+store_end (Some Barrier) = 0
+store_end (Some Mark) = 0
+
+stores-none : (first : ℕ) (values : List ℕ) (rest : List Event) (word value : ℕ) → length rest < length (stores_from first values ++ rest) → (if first == word then length values else 0) ≡ 0 → slice_get (stores_from first values ++ rest) 0 ≡ Some (Store word value) → ⊥
+stores-none first [] rest word value fewer none at = omega arith
+stores-none first (held ∷ values) rest word value fewer none at =
+    let is : suc first ≡ suc word = ap store_end at in
+    elim (eqb_tells first word) [
+      | inl same ↦ let some = rw same.0 at none in omega (arith, some)
+      | inr differ ↦ differ.1 (omega (arith, is))
+    ]
+
+piece-none : (piece : Piece) (rest : List Event) (word value : ℕ) → length rest < length (piece_events piece ++ rest) → goes_on piece word ≡ 0 → slice_get (piece_events piece ++ rest) 0 ≡ Some (Store word value) → ⊥
+piece-none (Stores first values) rest word value fewer none at = stores-none first values.now rest word value fewer none at
+piece-none Fence rest word value fewer none at = let no : 0 ≡ suc word = ap store_end at in omega (arith, no)
+piece-none End rest word value fewer none at = let no : 0 ≡ suc word = ap store_end at in omega (arith, no)
+
+-- a piece that does not go on with a word does not begin with a store to it
+pub goes_on-none : (piece : Piece) (events rest : List Event) (word value : ℕ) → events ≡ piece_events piece ++ rest → length rest < length events → goes_on piece word ≡ 0 → slice_get events 0 ≡ Some (Store word value) → ⊥
+goes_on-none piece events rest word value are fewer none at =
+    piece-none piece rest word value (omega (arith, ap length are, fewer)) none (sym (ap (λ es. slice_get es 0) are) ∙ at)
+
+-- the values of stores are those that stand in the log
+stored-value : (word value place held : ℕ) → event_of word value ≡ Store place held → value ≡ held
+stored-value word value place held is = elim (eqb_tells word no_word) [
+  | inl same ↦ absurd (signal-none value (rw same.0 at is))
+  | inr differ ↦ let there : Store word value ≡ Store place held = rw differ.0 at is in ap value_of there
+]
+  where
+    abbrev value_of : Event → ℕ
+    value_of (Store place value) = value
+    value_of Barrier = 0
+    value_of Mark = 0
+    signal-none : (value : ℕ) → signal_of value ≡ Store place held → ⊥
+    signal-none value is = elim (eqb_tells value 0) [
+      | inl none ↦ let no : 0 ≡ suc place = ap (λ e. store_end (Some e)) (rw none.0 at is) in omega (arith, no)
+      | inr some ↦ let no : 0 ≡ suc place = ap (λ e. store_end (Some e)) (rw some.0 at is) in omega (arith, no)
+    ]
+
+pub values-stored : (words values : List ℕ) (first : ℕ) (held : List ℕ) → length values ≡ length words → take (length held) (events_of words values) ≡ stores_from first held → take (length held) values ≡ held
+values-stored words values first [] same are = refl
+values-stored [] [] first (value ∷ held) same are = let no : 0 ≡ suc (length (stores_from (first + 1) held)) = ap length are in absurd (omega (arith, no))
+values-stored [] (other ∷ values) first (value ∷ held) same are = absurd (omega arith)
+values-stored (word ∷ words) [] first (value ∷ held) same are = absurd (omega arith)
+values-stored (word ∷ words) (other ∷ values) first (value ∷ held) same are =
+    ap (λ v. v ∷ take (length held) values) (stored-value word other first value (ap (λ es. get_or es 0 Barrier) are))
+    ∙ ap (λ vs. value ∷ vs) (values-stored words values (first + 1) held (omega arith) (ap (drop 1) are))
+
+stores_from-append : (word : ℕ) (values more : List ℕ) → stores_from word values ++ stores_from (word + length values) more ≡ stores_from word (values ++ more)
+stores_from-append word [] more = let here : word + 0 ≡ word = omega arith in ap (λ w. stores_from w more) here
+stores_from-append word (value ∷ values) more =
+    let there : word + suc (length values) ≡ (word + 1) + length values = omega arith in
+    ap (λ es. Store word value ∷ es) (ap (λ w. stores_from (word + 1) values ++ stores_from w more) there ∙ stores_from-append (word + 1) values more)
+
+-- so many stores in front, and those of the piece behind them
+module _ (words values : List ℕ) (same : length values ≡ length words) (word count : ℕ) (fits : count ≤ length words) (so_far : take count (events_of words values) ≡ stores_from word (take count values)) where
+  joined : (more : List ℕ) (rest new : List Event) → rest ≡ drop count (events_of words values) → rest ≡ stores_from (word + count) more ++ new
+      → take (count + length more) (events_of words values) ≡ stores_from word (take (count + length more) values)
+  joined more rest new behind are =
+      let events = events_of words values in
+      let front = take count values in
+      let long : length front ≡ count = length-take-le count values (omega arith) in
+      let both : length (front ++ more) ≡ count + length more = length-append front more ∙ ap (λ n. n + length more) long in
+      let all : take (length (front ++ more)) events ≡ stores_from word (front ++ more) =
+          ap (λ n. take n events) both
+          ∙ take-add count (length more) events
+          ∙ ap (λ es. es ++ take (length more) (drop count events)) so_far
+          ∙ ap (λ es. stores_from word front ++ take (length more) es) (sym behind ∙ are)
+          ∙ ap (λ es. stores_from word front ++ es) (take_at (stores_from (word + count) more) new (length more) (length-stores_from (word + count) more))
+          ∙ ap (λ n. stores_from word front ++ stores_from (word + n) more) (sym long)
+          ∙ stores_from-append word front more in
+      ap (λ n. take n events) (sym both) ∙ all
+      ∙ ap (stores_from word) (sym (values-stored words values word (front ++ more) same all))
+      ∙ ap (λ n. stores_from word (take n values)) both
+
+  pub goes_on-some : (piece : Piece) (rest new : List Event) → rest ≡ drop count (events_of words values) → rest ≡ piece_events piece ++ new → 0 < goes_on piece (word + count)
+      → take (count + goes_on piece (word + count)) (events_of words values) ≡ stores_from word (take (count + goes_on piece (word + count)) values)
+  goes_on-some (Stores first more) rest new behind are some = elim (eqb_tells first (word + count)) [
+    | inl is ↦ rw is.0 (joined more.now rest new behind (are ∙ ap (λ w. stores_from w more.now ++ new) is.1))
+    | inr differ ↦ let none = rw differ.0 at some in absurd (omega (arith, none))
+  ]
+  goes_on-some Fence rest new behind are some = absurd (omega arith)
+  goes_on-some End rest new behind are some = absurd (omega arith)
+
+-- what a piece that goes on takes of the events
+pub goes_on-fits : (piece : Piece) (word : ℕ) (rest new : List Event) → rest ≡ piece_events piece ++ new → 0 < goes_on piece word → length rest ≡ goes_on piece word + length new
+goes_on-fits (Stores first more) word rest new are some = elim (eqb_tells first word) [
+  | inl is ↦ rw is.0 (ap length are ∙ length-append (stores_from first more.now) new ∙ ap (λ n. n + length new) (length-stores_from first more.now))
+  | inr differ ↦ let none = rw differ.0 at some in absurd (omega (arith, none))
+]
+goes_on-fits Fence word rest new are some = absurd (omega arith)
+goes_on-fits End word rest new are some = absurd (omega arith)
+
+pub goes_on-end : (piece : Piece) (word : ℕ) → 0 < goes_on piece word → word + goes_on piece word ≡ piece_end piece
+goes_on-end (Stores first more) word some = elim (eqb_tells first word) [
+  | inl is ↦ rw is.0 (ap (λ w. w + length more.now) (sym is.1))
+  | inr differ ↦ let none = rw differ.0 at some in absurd (omega (arith, none))
+]
+goes_on-end Fence word some = absurd (omega arith)
+goes_on-end End word some = absurd (omega arith)
+
+pub goes_on-behind : (piece : Piece) (word count : ℕ) (events rest new : List Event) → rest ≡ drop count events → rest ≡ piece_events piece ++ new → 0 < goes_on piece word → new ≡ drop (count + goes_on piece word) events
+goes_on-behind (Stores first more) word count events rest new behind are some = elim (eqb_tells first word) [
+  | inl is ↦ rw is.0 (
+    sym (drop_at (stores_from first more.now) new (length more.now) (length-stores_from first more.now))
+    ∙ ap (drop (length more.now)) (sym are ∙ behind)
+    ∙ drop-drop (length more.now) count events)
+  | inr differ ↦ let none = rw differ.0 at some in absurd (omega (arith, none))
+]
+goes_on-behind Fence word count events rest new behind are some = absurd (omega arith)
+goes_on-behind End word count events rest new behind are some = absurd (omega arith)
+
+-- what stands at a place stands at the front behind it
+pub slice_get-drop : (n : ℕ) (events : List Event) → slice_get (drop n events) 0 ≡ slice_get events n
+slice_get-drop zero events = refl
+slice_get-drop (suc n) [] = refl
+slice_get-drop (suc n) (event ∷ events) = slice_get-drop n events
+
+-- ## What is undone
+
+-- the last events of a log are undone first
+pub undone-last : (words next replaced : List ℕ) (events rest row : List Event) (olds : List ℕ) → events ≡ rest ++ row → length events ≤ length replaced → olds ≡ take (length row) (drop (length rest) replaced) → next ≡ undone words row olds
+    → undone next rest (take (length rest) replaced) ≡ undone words events (take (length events) replaced)
+undone-last words next replaced events rest row olds are fits olds_are next_is =
+    let long : length (rest ++ row) ≡ length rest + length row = length-append rest row in
+    sym (
+      ap (λ es. undone words es (take (length es) replaced)) are
+      ∙ ap (λ n. undone words (rest ++ row) (take n replaced)) long
+      ∙ ap (undone words (rest ++ row)) (take-add (length rest) (length row) replaced)
+      ∙ undone-append words rest row (take (length rest) replaced) (take (length row) (drop (length rest) replaced)) (length-take-le (length rest) replaced (omega (arith, ap length are, long)))
+      ∙ ap (λ vs. undone (undone words row vs) rest (take (length rest) replaced)) (sym olds_are)
+      ∙ ap (λ ws. undone ws rest (take (length rest) replaced)) (sym next_is)
+    )
+
+pub undone-empty : (words : List ℕ) (events : List Event) (replaced : List ℕ) → length events ≡ 0 → undone words events replaced ≡ words
+undone-empty words [] replaced none = refl
+undone-empty words (event ∷ events) replaced none = absurd (omega arith)
+
+pub length-row : (word : ℕ) (values : List ℕ) → length (events_of (range_with_len word (length values)) values) ≡ length values
+length-row word values =
+    let long = length-range_with_len word (length values) in
+    length_events (range_with_len word (length values)) values (sym long) ∙ long
+
+-- what a word was before stores to words in a row that go to it
+pub run-found : (words : List ℕ) (rest : List Event) (values olds : List ℕ) (first word : ℕ) → word < length words → first ≤ word → word < first + length values → length olds ≡ length (stores_from first values ++ rest)
+    → get_or (undone words (stores_from first values ++ rest) olds) word 0 ≡ get_or olds (word - first) 0
+run-found words rest [] olds first word low above under each = absurd (omega arith)
+run-found words rest (value ∷ values) [] first word low above under each = absurd (omega arith)
+run-found words rest (value ∷ values) (old ∷ olds) first word low above under each =
+    let behind = undone words (stores_from (first + 1) values ++ rest) olds in
+    let long : length behind ≡ length words = length-undone words (stores_from (first + 1) values ++ rest) olds in
+    elim (eqb_tells first word) [
+      | inl same ↦
+        let front : word - first ≡ 0 = omega (arith, same.1) in
+        ap (λ place. get_or (set behind place old) word 0) same.1
+        ∙ get_or-set_same behind word old 0 (omega (arith, long))
+        ∙ sym (ap (λ i. get_or (old ∷ olds) i 0) front)
+      | inr differ ↦
+        let further : word - first ≡ suc (word - (first + 1)) = omega (arith, differ.1) in
+        get_or-set_other behind first word old 0 (λ e. differ.1 (sym e))
+        ∙ run-found words rest values olds (first + 1) word low (omega (arith, differ.1)) (omega arith) (omega arith)
+        ∙ sym (ap (λ i. get_or (old ∷ olds) i 0) further)
+    ]
+
+-- and before those that do not
+pub run-missed : (words : List ℕ) (rest : List Event) (values olds : List ℕ) (first word : ℕ) → (first ≤ word → first + length values ≤ word) → length olds ≡ length (stores_from first values ++ rest)
+    → get_or (undone words (stores_from first values ++ rest) olds) word 0 ≡ get_or (undone words rest (drop (length values) olds)) word 0
+run-missed words rest [] olds first word outside each = refl
+run-missed words rest (value ∷ values) [] first word outside each = absurd (omega arith)
+run-missed words rest (value ∷ values) (old ∷ olds) first word outside each =
+    elim (eqb_tells word first) [
+      | inl same ↦ absurd (omega (arith, same.1, outside (omega (arith, same.1))))
+      | inr differ ↦
+        get_or-set_other (undone words (stores_from (first + 1) values ++ rest) olds) first word old 0 differ.1
+        ∙ run-missed words rest values olds (first + 1) word (λ above. omega (arith, outside (omega arith))) (omega arith)
+    ]
+
+-- how many words an event stores to
+abbrev stored_words : Event → ℕ
+stored_words (Store word value) = 1
+stored_words Barrier = 0
+stored_words Mark = 0
+
+-- one event of a log that is no store
+pub signal-missed : (words : List ℕ) (event : Event) (rest : List Event) (olds : List ℕ) → stored_words event ≡ 0 → length olds ≡ length (event ∷ rest) → undone words (event ∷ rest) olds ≡ undone words rest (drop 1 olds)
+signal-missed words event rest [] none each = absurd (omega arith)
+signal-missed words (Store word value) rest (old ∷ olds) none each = absurd (omega arith)
+signal-missed words Barrier rest (old ∷ olds) none each = refl
+signal-missed words Mark rest (old ∷ olds) none each = refl

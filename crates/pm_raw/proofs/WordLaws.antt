@@ -155,6 +155,16 @@ module _ (firsts starts : List ℕ) (at end : ℕ) (runs : AreRuns firsts starts
         fits = λ i low_i high_i. omega (arith, word_at-take k firsts starts i (some (omega arith)) (λ more. omega (arith, later (omega arith) more)), runs.fits i low_i (omega arith));
       }
 
+-- what is read of the run of an event
+module _ (firsts starts : List ℕ) (count : ℕ) (runs : AreRuns firsts starts 0 count) (i run : ℕ) (low : i < count) (inside : run < length starts) (begun : get_or starts run 0 ≤ i) (last : run + 1 < length starts → i < get_or starts (run + 1) 0) where
+  pub word-read : get_or firsts run 0 + (i - get_or starts run 0) ≡ get_or (words_from firsts starts 0 count) i 0
+  word-read =
+      let here : i ≡ 0 + i = omega arith in
+      sym (word_in firsts starts 0 count runs run i inside begun last) ∙ ap (word_at firsts starts) here ∙ sym (get_or-words_from firsts starts 0 count i low)
+
+  pub word-low : get_or firsts run 0 + (i - get_or starts run 0) < 2 ^ 32
+  word-low = omega (arith, word_in firsts starts 0 count runs run i inside begun last, runs.fits i (omega arith) low)
+
 -- ## Words behind others
 
 module _ (firsts starts : List ℕ) (count first n : ℕ) (runs : AreRuns firsts starts 0 count) (fits : first + n ≤ 2 ^ 32) where

@@ -1,5 +1,5 @@
 -- The events of a piece of a log.
-use Rattle.std.specs.Prelude.{ℕ, ◌==◌, Bool, true, false, if◌then◌else◌, length, List, [], ◌∷◌}
+use Rattle.std.specs.Prelude.{ℕ, ◌+◌, ◌==◌, Bool, true, false, if◌then◌else◌, length, List, [], ◌∷◌}
 use Rattle.pm_epochs.specs.declared.event.Event.{Event}
 use Rattle.pm_epochs.specs.declared.event.Event.TheVariants as event
 use Rattle.pm_region.specs.Memory.{stores_from}
@@ -22,3 +22,9 @@ abbrev pub goes_on : Piece → ℕ → ℕ
 goes_on (Stores first values) word = if first == word then length values.now else 0
 goes_on Barrier word = 0
 goes_on Mark word = 0
+
+-- the word that goes on with a piece's stores, 0 where it is none
+abbrev pub piece_end : Piece → ℕ
+piece_end (Stores word values) = word + length values.now
+piece_end Barrier = 0
+piece_end Mark = 0

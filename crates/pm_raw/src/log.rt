@@ -4,7 +4,7 @@ ghost use Rattle.std.specs.Prelude.{◌≡◌, ◌+◌, ◌^◌, ◌<◌, ◌≤
 ghost use Rattle.std.specs.List.{range_with_len};
 ghost use Rattle.pm_raw.specs.Entries.{events_of};
 ghost use Rattle.pm_raw.specs.RunWords.{AreRuns, Rises, words_from};
-ghost use Rattle.pm_raw.specs.Pieces.{goes_on, piece_events};
+ghost use Rattle.pm_raw.specs.Pieces.{goes_on, piece_end, piece_events};
 ghost use Rattle.pm_raw.specs.Runs.{IsRun};
 
 use super::runs::run_of;
@@ -157,6 +157,7 @@ impl<'a> Log<'a> {
         requires { 0 < length self.old }
         ensures events { self.old ≡ piece_events result ++ self.new }
         ensures some { length self.new < length self.old }
+        ensures in_range { piece_end result ≤ 2 ^ 32 }
     {
         let (firsts, starts, values) = (self.firsts, self.starts, self.values);
         let word = firsts[0] + (self.at - starts[0]) as u32;

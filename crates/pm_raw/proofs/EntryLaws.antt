@@ -70,6 +70,15 @@ events_of-run first (value ∷ values) fits =
     ap (λ e. e ∷ events_of (range_with_len (first + 1) (length values)) values) (event_of-store first value (omega arith))
     ∙ ap (λ es. Store first value ∷ es) (events_of-run (first + 1) values (omega arith))
 
+pub row_stores : (word : ℕ) (values : List ℕ) → word + length values ≤ no_word → events_of (range_with_len word (length values)) values ≡ stores_from word values
+row_stores word values fits = events_of-run word values fits
+
+-- one event that is no store
+pub row_signal : (word : ℕ) (values : List ℕ) → word ≡ no_word → length values ≡ 1 → events_of (range_with_len word (length values)) values ≡ signal_of (get_or values 0 0) ∷ []
+row_signal word [] is one = absurd (omega arith)
+row_signal word (value ∷ []) is one = ap (λ w. event_of w value ∷ []) is
+row_signal word (value ∷ more ∷ values) is one = absurd (omega arith)
+
 -- a number more
 pub range_with_len-more : (first n : ℕ) → range_with_len first (n + 1) ≡ range_with_len first n ++ (first + n) ∷ []
 range_with_len-more first n = rw add-one (more first n)

@@ -11,13 +11,13 @@ use Rattle.pm_raw.proofs.EntryLaws.{events_of-append, events_of-drop, events_of-
 use Rattle.pm_raw.proofs.WordLaws.{begun_by, drop-words_from, get_or-words_from, length-words_from, runs-behind, runs-front, runs-same, take-words_from, word_in, words-behind, words-front, words-same, words_from-range}
 
 module _ (firsts starts values : List ℕ) (at : ℕ) (runs : AreRuns firsts starts at (at + length values)) where
-  abbrev words : List ℕ
+  abbrev pub words : List ℕ
   words = words_from firsts starts at (length values)
 
-  abbrev events : List Event
+  abbrev pub events : List Event
   events = events_of words values
 
-  each : length values ≡ length words
+  pub each : length values ≡ length words
   each = sym (length-words_from firsts starts at (length values))
 
   pub length-part : length events ≡ length values

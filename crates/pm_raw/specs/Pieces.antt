@@ -1,5 +1,5 @@
 -- The events of a piece of a log.
-use Rattle.std.specs.Prelude.{ℕ, ◌+◌, ◌==◌, Bool, true, false, if◌then◌else◌, length, List, [], ◌∷◌}
+use Rattle.std.specs.Prelude.{ℕ, zero, suc, ◌+◌, ◌==◌, Bool, true, false, if◌then◌else◌, length, List, [], ◌∷◌}
 use Rattle.pm_epochs.specs.declared.event.Event.{Event}
 use Rattle.pm_epochs.specs.declared.event.Event.TheVariants as event
 use Rattle.pm_region.specs.Memory.{stores_from}
@@ -16,6 +16,13 @@ abbrev pub all_kept : List Bool → Bool
 all_kept [] = true
 all_kept (true ∷ mask) = all_kept mask
 all_kept (false ∷ mask) = false
+
+-- whether a mask keeps so many first stores
+abbrev pub keeps : ℕ → List Bool → Bool
+keeps zero mask = true
+keeps (suc n) [] = false
+keeps (suc n) (true ∷ mask) = keeps n mask
+keeps (suc n) (false ∷ mask) = false
 
 -- how many stores a piece has, where the first one goes to this word, and otherwise none
 abbrev pub goes_on : Piece → ℕ → ℕ

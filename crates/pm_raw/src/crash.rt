@@ -1,11 +1,11 @@
 //! What a cut of the power leaves of a log, and how many calls it keeps.
 
-ghost use Rattle.std.specs.Prelude.{◌≡◌, ◌^◌, ◌<◌, ◌≤◌, ◌↔◌, IsOk, IfOk, length};
+ghost use Rattle.std.specs.Prelude.{◌≡◌, ◌^◌, ◌<◌, ◌≤◌, ◌↔◌, true, false, IsOk, IfOk, length, slice_set};
 ghost use Rattle.pm_epochs.specs.Log.{barriers, epoch_stores, marks, words_after};
 ghost use Rattle.pm_epochs.specs.Replay.{IsRight, kept_calls as kept_calls_of, marks_of, stores_of};
 ghost use Rattle.pm_region.specs.Epochs.{epoch_start};
 ghost use Rattle.pm_region.specs.Memory.{stores_from};
-ghost use Rattle.pm_raw.specs.Pieces.{all_kept};
+ghost use Rattle.pm_raw.specs.Pieces.{all_kept, keeps};
 ghost use Rattle.pm_raw.specs.Places.{is_barrier, is_mark, places_where};
 
 use super::log::{Log, Piece};
@@ -41,6 +41,18 @@ fn keeps_all(mask: &[bool]) -> bool
     true
 }
 
+/// Whether the mask keeps so many first stores.
+#[tactic(auto, using(crate::proofs::PieceLaws::keeps_short, crate::proofs::PieceLaws::keeps_long))]
+fn keeps_first(mask: &[bool], wanted: usize) -> bool
+    ensures { result ≡ keeps wanted mask.now }
+{
+    if mask.len() < wanted {
+        false
+    } else {
+        keeps_all(&mask[..wanted])
+    }
+}
+
 /// The marks before the first store that is not kept, where the mask is for the first epoch.
 fn calls_of(log: Log<'_>, mask: &[bool]) -> usize
     ensures { result ≡ marks_of 0 mask.now log.entry }
@@ -52,11 +64,10 @@ fn calls_of(log: Log<'_>, mask: &[bool]) -> usize
     while rest.len() > 0 {
         match rest.take_first() {
             Piece::Stores { values, .. } => {
-                let stores = values.len();
-                if mask.len() < stores || !keeps_all(&mask[..stores]) {
+                if !keeps_first(mask, values.len()) {
                     return calls;
                 }
-                mask = &mask[stores..];
+                mask = &mask[values.len()..];
             }
             Piece::Barrier => mask = &[],
             Piece::Mark => calls += 1,
@@ -113,15 +124,25 @@ pub fn kept_calls(log: &Log<'_>, mark_places: &Places, start: usize, choice: &Ch
     }
 }
 
+/// Puts a value in place of a word that is there, where it is kept.
+#[inline(always)]
+#[tactic(auto, using(std::proofs::lemmas::List::set_past))]
+fn put_kept(words: &mut [u64], place: usize, value: u64, keep: bool)
+    ensures kept { keep ≡ true → words.new ≡ slice_set words.old place value }
+    ensures lost { keep ≡ false → words.new ≡ words.old }
+{
+    if keep && place < words.len() {
+        words[place] = value;
+    }
+}
+
 /// Does those stores of these values, to the words from this one on, that the mask keeps.
 fn apply_stores(words: &mut [u64], word: u32, values: &[u64], mask: &[bool])
     ensures { words.new ≡ words_after words.old (stores_of 0 mask.now (stores_from word values.now)) }
 {
     let first = word as usize;
     for i in 0..values.len().min(mask.len()) {
-        if mask[i] && first + i < words.len() {
-            words[first + i] = values[i];
-        }
+        put_kept(words, first + i, values[i], mask[i]);
     }
 }
 
@@ -131,7 +152,7 @@ pub fn apply_first(words: &mut [u64], log: Log<'_>, mask: &[bool])
 {
     let mut rest = log;
     let mut mask = mask;
-    while rest.len() > 0 && mask.len() > 0 {
+    while rest.len() > 0 {
         match rest.take_first() {
             Piece::Stores { word, values } => {
                 apply_stores(words, word, values, mask);

@@ -192,8 +192,6 @@ impl Entries {
         );
         put_values(&mut self.values, count, values);
         put_values(&mut self.replaced, count, replaced);
-        if values.len() > 0 {
-            self.words.push(first, values.len());
-        }
+        self.words.extend(first, values.len());
     }
 }

@@ -1,8 +1,8 @@
 //! A part of a log as it stands in memory.
 
-ghost use Rattle.std.specs.Prelude.{◌≡◌, ◌+◌, ◌^◌, ◌<◌, ◌≤◌, ◌++◌, length, take, drop, slice_index};
+ghost use Rattle.std.specs.Prelude.{◌≡◌, ◌+◌, ◌^◌, ◌<◌, ◌≤◌, [], ◌∷◌, ◌++◌, length, take, drop, slice_index};
 ghost use Rattle.std.specs.List.{range_with_len};
-ghost use Rattle.pm_raw.specs.Entries.{events_of};
+ghost use Rattle.pm_raw.specs.Entries.{no_word, signal_of, events_of};
 ghost use Rattle.pm_raw.specs.RunWords.{AreRuns, Rises, words_from};
 ghost use Rattle.pm_raw.specs.Pieces.{goes_on, piece_end, piece_events};
 ghost use Rattle.pm_raw.specs.Runs.{IsRun};
@@ -61,12 +61,21 @@ impl<'a> Model for Log<'a> {
     ghost invariant = { IsPart };
 }
 
-/// Where the first run ends, in a log that ends here.
-fn end_of_first(starts: &[usize], end: usize) -> usize
-    ensures more { 1 < length starts.now → result ≡ slice_index starts.now 1 }
-    ensures one { length starts.now ≤ 1 → result ≡ end }
+/// How many events the first piece has, in a log from `at` to `end`, where the first word is this one: those of the first run,
+/// but one alone where it is no store, and no such one behind stores.
+#[inline]
+fn count_of_first(starts: &[usize], at: usize, end: usize, word: u32) -> usize
+    requires some { at < end }
+    requires first { 1 < length starts.now → at < slice_index starts.now 1 }
+    requires next { 1 < length starts.now → slice_index starts.now 1 ≤ end }
+    ensures some { 0 < result }
+    ensures within { at + result ≤ end }
+    ensures run { 1 < length starts.now → at + result ≤ slice_index starts.now 1 }
+    ensures signal { word ≡ no_word → result ≡ 1 }
+    ensures stores { word < no_word → word + result ≤ no_word }
 {
-    if starts.len() > 1 { starts[1] } else { end }
+    let last = if starts.len() > 1 { starts[1] } else { end };
+    (last - at).min(((NO_WORD - word) as usize).max(1))
 }
 
 /// The number of the run of an event that is in the first run or begins the next one.
@@ -82,6 +91,36 @@ fn first_or_next(starts: &[usize], event: usize) -> usize
         1
     } else {
         0
+    }
+}
+
+/// The piece of what is no store, by its value.
+#[tactic(auto, using(std::proofs::lemmas::Bool::Decides::nat_tests))]
+fn signal_piece<'a>(value: u64) -> Piece<'a>
+    ensures events { piece_events result ≡ signal_of value ∷ [] }
+    ensures in_range { piece_end result ≡ 0 }
+{
+    if value == BARRIER {
+        Piece::Barrier
+    } else {
+        Piece::Mark
+    }
+}
+
+/// The piece of events with words in a row, from this one on, and with these values.
+#[tactic(auto, using(crate::proofs::EntryLaws::row_signal, crate::proofs::EntryLaws::row_stores))]
+#[inline]
+fn piece_of<'a>(word: u32, values: &'a [u64]) -> Piece<'a>
+    requires some { 0 < length values.now }
+    requires signal { word ≡ no_word → length values.now ≡ 1 }
+    requires stores { word < no_word → word + length values.now ≤ no_word }
+    ensures events { piece_events result ≡ events_of (range_with_len word (length values.now)) values.now }
+    ensures in_range { piece_end result ≤ 2 ^ 32 }
+{
+    if word == NO_WORD {
+        signal_piece(values[0])
+    } else {
+        Piece::Stores { word, values }
     }
 }
 
@@ -161,26 +200,14 @@ impl<'a> Log<'a> {
     {
         let (firsts, starts, values) = (self.firsts, self.starts, self.values);
         let word = firsts[0] + (self.at - starts[0]) as u32;
-        let end = end_of_first(starts, self.at + values.len());
-        let count = (end - self.at).min(((NO_WORD - word) as usize).max(1));
+        let count = count_of_first(starts, self.at, self.at + values.len(), word);
         let at = self.at + count;
         let run = first_or_next(starts, at);
         self.at = at;
         self.firsts = &firsts[run..];
         self.starts = &starts[run..];
         self.values = &values[count..];
-        if word == NO_WORD {
-            if values[0] == BARRIER {
-                Piece::Barrier
-            } else {
-                Piece::Mark
-            }
-        } else {
-            Piece::Stores {
-                word,
-                values: &values[..count],
-            }
-        }
+        piece_of(word, &values[..count])
     }
 
     /// Takes the last events off, whose words are in a row, as many as their run has. There is an event.
@@ -212,10 +239,11 @@ impl<'a> Log<'a> {
         let values = self.values;
         let mut rest = self.behind(0);
         let mut count = 0;
-        while count < most && rest.len() > 0 {
-            let more = stores_at(&rest.take_first(), word as usize + count);
+        while rest.len() > 0 {
+            let piece = rest.take_first();
+            let more = stores_at(&piece, word as usize + count);
             if more == 0 {
-                return &values[..count];
+                return &values[..count.min(most)];
             }
             count += more;
         }

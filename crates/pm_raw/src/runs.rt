@@ -230,4 +230,16 @@ impl Runs {
         self.next = first as usize + wanted;
         self.count = count + wanted;
     }
+    /// The same of any number of events, also of none.
+    #[inline(always)]
+    pub fn extend(&mut self, first: u32, wanted: usize)
+        requires room { length self.old.words + wanted ≤ self.old.room }
+        requires in_range { first + wanted ≤ 2 ^ 32 }
+        ensures words { self.new.words ≡ self.old.words ++ range_with_len first wanted }
+        ensures room { self.new.room ≡ self.old.room }
+    {
+        if wanted > 0 {
+            self.push(first, wanted);
+        }
+    }
 }

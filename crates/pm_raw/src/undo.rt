@@ -1,6 +1,6 @@
 //! Words as they were before the last events of a log.
 
-ghost use Rattle.std.specs.Prelude.{◌≡◌, ◌+◌, ℕ, List, ◌^◌, ◌<◌, ◌≤◌, drop, length, slice_index};
+ghost use Rattle.std.specs.Prelude.{◌≡◌, ◌+◌, ℕ, List, ◌^◌, ◌<◌, ◌≤◌, true, false, drop, length, slice_index};
 ghost use Rattle.std.specs.List.{range_with_len};
 ghost use Rattle.pm_region.specs.Memory.{with_values};
 ghost use Rattle.pm_raw.specs.Entries.{events_of};
@@ -54,6 +54,14 @@ pub fn undo_from(words: &mut [u64], log: &Log<'_>, replaced: &[u64], start: usiz
     undo(words, log.behind(start), &replaced[start..]);
 }
 
+/// Whether a word is one of so many in a row, from the first one on.
+fn is_among(word: u32, first: u32, count: usize) -> bool
+    ensures inside { result ≡ true → (first ≤ word) × (word < first + count) }
+    ensures outside { result ≡ false → first ≤ word → first + count ≤ word }
+{
+    first <= word && ((word - first) as usize) < count
+}
+
 /// What a word was before a log whose events replaced these values: what the first store to it replaced.
 pub fn word_before(words: &[u64], log: &Log<'_>, replaced: &[u64], word: u32) -> u64
     requires in_range { word < length words.now }
@@ -63,14 +71,17 @@ pub fn word_before(words: &[u64], log: &Log<'_>, replaced: &[u64], word: u32) ->
     let mut rest = log.behind(0);
     while rest.len() > 0 {
         let before = log.len() - rest.len();
-        if let Piece::Stores {
-            word: first,
-            values,
-        } = rest.take_first()
-        {
-            if first <= word && ((word - first) as usize) < values.len() {
-                return replaced[before + (word - first) as usize];
+        match rest.take_first() {
+            Piece::Stores {
+                word: first,
+                values,
+            } => {
+                if is_among(word, first, values.len()) {
+                    return replaced[before + (word - first) as usize];
+                }
             }
+            Piece::Barrier => {}
+            Piece::Mark => {}
         }
     }
     words[word as usize]

@@ -2,8 +2,8 @@ use Rattle.std.proofs.Common.{◌≡◌, ◌+◌, ◌^◌, ◌≤◌, drop, leng
 use Rattle.pm_region.specs.Memory.{stores_from}
 use Rattle.pm_raw.proofs.log.Log.run.Given as goal
 
-abbrev pub invariant-loop-count : goal.invariant-loop-count
-invariant-loop-count l = record {
+abbrev pub invariant-loop-rest : goal.invariant-loop-rest
+invariant-loop-rest l = record {
   within : l.count + length l.rest ≡ length l.self;
   behind : l.rest ≡ drop l.count l.self;
   stores : take l.count l.self ≡ stores_from l.word (take l.count l.values);
@@ -11,5 +11,5 @@ invariant-loop-count l = record {
 }
 
 -- fewer events are left
-abbrev pub decreases-loop-count : goal.decreases-loop-count
-decreases-loop-count l = length l.rest
+abbrev pub decreases-loop-rest : goal.decreases-loop-rest
+decreases-loop-rest l = length l.rest

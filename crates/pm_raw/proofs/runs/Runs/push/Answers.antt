@@ -36,18 +36,18 @@ invariant_of-self c =
         starts_room = w.begin.ensures.starts_room;
       })
       | else-first-self w ↦
-        let low : c.args.first < 4294967296 = omega (arith, c.requires.in_range, c.requires.some) in
-        rw w.self-inside-is (record {
-          are = runs-joined (firsts_of runs) (starts_of runs) runs.count c.args.first c.args.wanted step.are c.requires.in_range (w.if-first-self.false ∙ step.next) low;
-          next = sym (next-joined (firsts_of runs) (starts_of runs) runs.count c.args.first c.args.wanted step.are c.requires.in_range (w.if-first-self.false ∙ step.next) low);
-          few = omega (arith, step.few);
-          counted = omega (arith, c.requires.room, many, size, room);
-          filled = step.filled;
-          within = step.within;
-          starts_places = step.starts_places;
-          firsts_room = step.firsts_room;
-          starts_room = step.starts_room;
-        })
+          let low : c.args.first < 4294967296 = omega (arith, c.requires.in_range, c.requires.some) in
+          rw w.self-inside-is (record {
+            are = runs-joined (firsts_of runs) (starts_of runs) runs.count c.args.first c.args.wanted step.are c.requires.in_range (w.if-first-self.false ∙ step.next) low;
+            next = sym (next-joined (firsts_of runs) (starts_of runs) runs.count c.args.first c.args.wanted step.are c.requires.in_range (w.if-first-self.false ∙ step.next) low);
+            few = omega (arith, step.few);
+            counted = omega (arith, c.requires.room, many, size, room);
+            filled = step.filled;
+            within = step.within;
+            starts_places = step.starts_places;
+            firsts_room = step.firsts_room;
+            starts_room = step.starts_room;
+          })
     ]
 
 pub returns-clause-words : goal.returns-clause-words
@@ -57,11 +57,11 @@ returns-clause-words c =
     let was = ap (λ (w : Worded). w.words ++ range_with_len c.args.first c.args.wanted) c.self.view_is in
     elim c.if-first-self.branch [
       | then-first-self w ↦ rw w.self-inside-is
-        (words-same (firsts_of runs ++ c.args.first ∷ []) (starts_of runs ++ runs.count ∷ []) _ _ w.begin.ensures.firsts w.begin.ensures.starts 0 (runs.count + c.args.wanted)
-        ∙ words-begun (firsts_of runs) (starts_of runs) runs.count c.args.first c.args.wanted step.are c.requires.in_range
-        ∙ was)
+          (words-same (firsts_of runs ++ c.args.first ∷ []) (starts_of runs ++ runs.count ∷ []) _ _ w.begin.ensures.firsts w.begin.ensures.starts 0 (runs.count + c.args.wanted)
+          ∙ words-begun (firsts_of runs) (starts_of runs) runs.count c.args.first c.args.wanted step.are c.requires.in_range
+          ∙ was)
       | else-first-self w ↦
-        let low : c.args.first < 4294967296 = omega (arith, c.requires.in_range, c.requires.some) in
-        rw w.self-inside-is
-        (words-joined (firsts_of runs) (starts_of runs) runs.count c.args.first c.args.wanted step.are c.requires.in_range (w.if-first-self.false ∙ step.next) low ∙ was)
+          let low : c.args.first < 4294967296 = omega (arith, c.requires.in_range, c.requires.some) in
+          rw w.self-inside-is
+          (words-joined (firsts_of runs) (starts_of runs) runs.count c.args.first c.args.wanted step.are c.requires.in_range (w.if-first-self.false ∙ step.next) low ∙ was)
     ]

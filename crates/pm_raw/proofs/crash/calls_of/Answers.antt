@@ -1,8 +1,14 @@
-use Rattle.std.proofs.Common.{◌≡◌, ◌∙◌, ap, arith, drop, length}
+use Rattle.std.proofs.Common.{◌≡◌, ◌∙◌, ap, arith, length, sym}
 use Rattle.std.proofs.lemmas.List.{take_rest}
-use Rattle.pm_raw.specs.Pieces.{keeps}
 use Rattle.pm_raw.proofs.PieceLaws.{marks_of-barrier, marks_of-mark, run-kept, run-length, run-lost}
 use Rattle.pm_raw.proofs.crash.calls_of.Goals as goal
+
+pub overflow_add-calls : goal.overflow_add-calls
+overflow_add-calls c = omega (arith, c.loop-rest.invariant.few, ap length c.in-Mark.ensures.events, c.len-_events.ensures)
+
+pub returns-then-not-keeps_first : goal.returns-then-not-keeps_first
+returns-then-not-keeps_first c =
+    omega (arith, c.loop-rest.invariant.so_far, run-lost c.loop-rest.rest c.take_first.new.self c.in-Stores.word c.in-Stores.values.now c.in-Stores.ensures.events c.loop-rest.mask (sym c.keeps_first.ensures ∙ c.if-not-keeps_first.true))
 
 pub loop-rest-preserved-in-Stores : goal.loop-rest-preserved-in-Stores
 loop-rest-preserved-in-Stores c =
@@ -15,5 +21,23 @@ loop-rest-preserved-in-Stores c =
     let mask = c.loop-rest.mask in
     record {
       few = omega (arith, step.few, run-length rest new word values are);
-      so_far = omega (arith, step.so_far, run-kept rest new word values are mask _ (c.keeps_first.ensures) (take_rest mask (length values)));
+      so_far = omega (arith, step.so_far, run-kept rest new word values are mask _ (sym c.keeps_first.ensures ∙ c.if-not-keeps_first.false) (take_rest mask (length values)));
+    }
+
+pub loop-rest-preserved-in-Barrier : goal.loop-rest-preserved-in-Barrier
+loop-rest-preserved-in-Barrier c =
+    let step = c.loop-rest.invariant in
+    let are = c.in-Barrier.ensures.events in
+    record {
+      few = omega (arith, step.few, ap length are);
+      so_far = omega (arith, step.so_far, marks_of-barrier c.loop-rest.mask c.loop-rest.rest c.take_first.new.self are);
+    }
+
+pub loop-rest-preserved-in-Mark : goal.loop-rest-preserved-in-Mark
+loop-rest-preserved-in-Mark c =
+    let step = c.loop-rest.invariant in
+    let are = c.in-Mark.ensures.events in
+    record {
+      few = omega (arith, step.few, ap length are);
+      so_far = omega (arith, step.so_far, marks_of-mark c.loop-rest.mask c.loop-rest.rest c.take_first.new.self are);
     }

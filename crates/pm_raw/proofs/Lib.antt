@@ -1,6 +1,5 @@
 mod Blocks
 mod EntryLaws
-mod RunLaws
 mod WordLaws
 mod PieceLaws
 mod LogLaws

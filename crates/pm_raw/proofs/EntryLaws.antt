@@ -1,5 +1,5 @@
 -- A log that stands in two arrays.
-use Rattle.std.proofs.Common.{◌≡◌, ℕ, zero, suc, ◌+◌, ◌<◌, ◌≤◌, inl, inr, List, [], ◌∷◌, ◌++◌, length, take, drop, get_or, refl, sym, ◌∙◌, ap, arith, add-one}
+use Rattle.std.proofs.Common.{◌≡◌, ℕ, zero, suc, ◌+◌, ◌<◌, ◌≤◌, inl, inr, List, [], ◌∷◌, ◌++◌, length, take, drop, get_or, refl, sym, ◌∙◌, ap, arith}
 use Rattle.std.specs.Prelude.{Some, slice_get}
 use Rattle.std.specs.List.{range_with_len}
 use Rattle.std.proofs.lemmas.Bool.Decides.{eqb_tells}
@@ -78,18 +78,6 @@ pub row_signal : (word : ℕ) (values : List ℕ) → word ≡ no_word → lengt
 row_signal word [] is one = absurd (omega arith)
 row_signal word (value ∷ []) is one = ap (λ w. event_of w value ∷ []) is
 row_signal word (value ∷ more ∷ values) is one = absurd (omega arith)
-
--- a number more
-pub range_with_len-more : (first n : ℕ) → range_with_len first (n + 1) ≡ range_with_len first n ++ (first + n) ∷ []
-range_with_len-more first n = rw add-one (more first n)
-  where
-    more : (first n : ℕ) → range_with_len first (suc n) ≡ range_with_len first n ++ (first + n) ∷ []
-    more first zero =
-        let here : first ≡ first + 0 = omega arith in
-        ap (λ w. w ∷ []) here
-    more first (suc n) =
-        let there : (first + 1) + n ≡ first + suc n = omega arith in
-        ap (λ ws. first ∷ ws) (more (first + 1) n ∙ ap (λ w. range_with_len (first + 1) n ++ w ∷ []) there)
 
 -- events behind a log
 pub log-pushed : (words values new_words new_values more_words more_values : List ℕ) → length values ≡ length words → new_words ≡ words ++ more_words → new_values ≡ values ++ more_values → events_of new_words new_values ≡ events_of words values ++ events_of more_words more_values

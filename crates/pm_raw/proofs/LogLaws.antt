@@ -1,14 +1,13 @@
 -- Parts of a log as they stand in memory.
-use Rattle.std.proofs.Common.{◌≡◌, ℕ, ◌+◌, ◌-◌, ◌^◌, ◌<◌, ◌≤◌, inl, inr, List, [], ◌∷◌, ◌++◌, length, take, drop, get_or, refl, sym, ◌∙◌, ap, arith, subst}
+use Rattle.std.proofs.Common.{◌≡◌, ℕ, ◌+◌, ◌-◌, ◌^◌, ◌<◌, ◌≤◌, inl, inr, List, ◌++◌, length, take, drop, get_or, refl, sym, ◌∙◌, ap, arith, subst}
 use Rattle.std.specs.List.{range_with_len}
 use Rattle.std.proofs.lemmas.Bool.Decides.{eqb_tells}
-use Rattle.std.proofs.lemmas.List.{length-drop, length-take-le, take-append-drop, take_more, take_rest}
+use Rattle.std.proofs.lemmas.List.{length-drop, length-take-le, take-append-drop, take_rest}
 use Rattle.pm_epochs.specs.declared.event.Event.{Event}
-use Rattle.pm_region.specs.Memory.{stores_from}
-use Rattle.pm_raw.specs.Entries.{no_word, signal_of, event_of, events_of}
-use Rattle.pm_raw.specs.RunWords.{AreRuns, word_at, words_from}
-use Rattle.pm_raw.proofs.EntryLaws.{events_of-append, events_of-drop, events_of-run, events_of-take, get_or-events_of, length_events}
-use Rattle.pm_raw.proofs.WordLaws.{begun_by, drop-words_from, get_or-words_from, length-words_from, runs-behind, runs-front, runs-same, take-words_from, word_in, words-behind, words-front, words-same, words_from-range}
+use Rattle.pm_raw.specs.Entries.{events_of}
+use Rattle.pm_raw.specs.RunWords.{AreRuns, words_from}
+use Rattle.pm_raw.proofs.EntryLaws.{events_of-drop, events_of-take, length_events}
+use Rattle.pm_raw.proofs.WordLaws.{begun_by, drop-words_from, length-words_from, runs-behind, runs-front, runs-same, take-words_from, word_in, words-behind, words-front, words-same, words_from-range}
 
 module _ (firsts starts values : List ℕ) (at : ℕ) (runs : AreRuns firsts starts at (at + length values)) where
   abbrev pub words : List ℕ
@@ -22,13 +21,6 @@ module _ (firsts starts values : List ℕ) (at : ℕ) (runs : AreRuns firsts sta
 
   pub length-part : length events ≡ length values
   length-part = length_events words values each ∙ sym each
-
-  pub event-read : (i run : ℕ) (none : Event) → i < length values → run < length starts → get_or starts run 0 ≤ at + i → (run + 1 < length starts → at + i < get_or starts (run + 1) 0)
-      → event_of (get_or firsts run 0 + ((at + i) - get_or starts run 0)) (get_or values i 0) ≡ get_or events i none
-  event-read i run none low inside begun last =
-      ap (λ w. event_of w (get_or values i 0)) (sym (word_in firsts starts at (at + length values) runs run (at + i) inside begun last))
-      ∙ ap (λ w. event_of w (get_or values i 0)) (sym (get_or-words_from firsts starts at (length values) i low))
-      ∙ sym (get_or-events_of words values i none each (omega (arith, each)))
 
   -- what is left behind the first events, with the runs from that of the first one of them on
   module _ (n run : ℕ) (fits : n ≤ length values) (inside : run < length starts) (begun : get_or starts run 0 ≤ at + n) (last : run + 1 < length starts → at + n < get_or starts (run + 1) 0) where
@@ -110,27 +102,6 @@ module _ (firsts starts values : List ℕ) (at : ℕ) (runs : AreRuns firsts sta
         ∙ ap (λ ws. events_of ws (take n values) ++ drop n events) (take-words_from firsts starts at n (length values) fits)
         ∙ ap (λ ws. events_of ws (take n values) ++ drop n events) (run-in 0 n at word (runs.some (omega arith)) runs.begun (λ more. within (omega arith)) is)
 
-    pub first-fits : 0 < n → word + n ≤ 2 ^ 32
-    first-fits more =
-        let last = at + (n - 1) in
-        let here = word_in firsts starts at (at + length values) runs 0 last (runs.some (omega arith)) (omega (arith, runs.begun)) (λ others. omega (arith, within (omega arith))) in
-        omega (arith, is, here, runs.begun, runs.fits last (omega arith) (omega arith))
-
-    pub first-stores : word + n ≤ no_word → events ≡ stores_from word (take n values) ++ drop n events
-    first-stores low =
-        let long = length-take-le n values fits in
-        first-row
-        ∙ ap (λ k. events_of (range_with_len word k) (take n values) ++ drop n events) (sym long)
-        ∙ ap (λ es. es ++ drop n events) (events_of-run word (take n values) (omega (arith, long)))
-
-    -- where it is a signal
-    pub first-signal : word ≡ no_word → n ≡ 1 → events ≡ signal_of (get_or values 0 0) ∷ drop n events
-    first-signal none one =
-        first-row
-        ∙ ap (λ w. events_of (range_with_len w n) (take n values) ++ drop n events) none
-        ∙ ap (λ k. events_of (range_with_len no_word k) (take k values) ++ drop n events) one
-        ∙ ap (λ vs. events_of (no_word ∷ []) vs ++ drop n events) (take_more values 0 0 some)
-
   -- the first word has 32 bits
   pub first-low : 0 < length values → get_or firsts 0 0 + (at - get_or starts 0 0) < 2 ^ 32
   first-low some =
@@ -164,15 +135,3 @@ module _ (firsts starts values : List ℕ) (at : ℕ) (runs : AreRuns firsts sta
         let end = (at + length values) - 1 in
         let here = word_in firsts starts at (at + length values) runs (length starts - 1) end (omega arith) (omega arith) (λ more. absurd (omega arith)) in
         omega (arith, is, here, long-final, runs.fits end (omega arith) (omega arith))
-
--- a part with no event
-pub runs-none : (at : ℕ) → AreRuns [] [] at (at + 0)
-runs-none at = record {
-  same = refl;
-  some = λ more. absurd (omega arith);
-  begun = omega arith;
-  first = λ more. absurd (omega arith);
-  taken = λ i inside. absurd (omega arith);
-  rises = λ i j less inside. absurd (omega arith);
-  fits = λ i low high. absurd (omega arith);
-}

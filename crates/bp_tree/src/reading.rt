@@ -73,8 +73,24 @@ fn read_words<R: Region>(region: &R, word: u32, into: &mut [u8])
     unpack(region.load_words(word, into.len().div_ceil(8) as u32), into);
 }
 
-/// The bytes of words, the lowest of each first, as many as `into` has room for.
-pub fn unpack(words: &[u64], into: &mut [u8])
+/// How many words are turned to bytes at once: their number is known where it is done, so it takes a few wide moves.
+const LINE: usize = 8;
+
+/// The bytes of the words of a line.
+fn unpack_line(words: &[u64], into: &mut [u8])
+    requires words { length words.now ≡ 8 }
+    requires into { length into.old ≡ 64 }
+    ensures { into.new ≡ stored_bytes words.now 0 64 }
+{
+    let mut line = [0; LINE];
+    line.copy_from_slice(words);
+    for i in 0..LINE {
+        into[8 * i..8 * i + 8].copy_from_slice(&line[i].to_le_bytes());
+    }
+}
+
+/// The bytes of fewer words than a line has, as many as `into` has room for.
+fn unpack_few(words: &[u64], into: &mut [u8])
     requires { length into.old ≤ 8 * length words.now }
     ensures { into.new ≡ stored_bytes words.now 0 (length into.old) }
 {
@@ -87,6 +103,24 @@ pub fn unpack(words: &[u64], into: &mut [u8])
         let bytes = words[done / 8].to_le_bytes();
         into[done..end].copy_from_slice(&bytes[..end - done]);
     }
+}
+
+/// The bytes of words, the lowest of each first, as many as `into` has room for.
+pub fn unpack(words: &[u64], into: &mut [u8])
+    requires { length into.old ≤ 8 * length words.now }
+    ensures { into.new ≡ stored_bytes words.now 0 (length into.old) }
+{
+    let end = into.len();
+    let lines = end / (8 * LINE);
+    for line in 0..lines {
+        let word = LINE * line;
+        unpack_line(
+            &words[word..word + LINE],
+            &mut into[8 * word..8 * (word + LINE)],
+        );
+    }
+    let word = LINE * lines;
+    unpack_few(&words[word..], &mut into[8 * word..end]);
 }
 
 /// Reads some of the bytes of a word.

@@ -1,9 +1,6 @@
-use Rattle.std.proofs.Common.{◌≡◌, ◌≤◌, ◌*◌, length, take}
+use Rattle.std.proofs.Common.{◌≡◌, ◌*◌, take}
 use Rattle.bp_tree.specs.Bytes.{stored_bytes}
 use Rattle.bp_tree.proofs.reading.unpack.Given as goal
 
-abbrev pub invariant-loop-i : goal.invariant-loop-i
-invariant-loop-i l = record {
-  within : 8 * l.i ≤ length l.into;
-  bytes : take (8 * l.i) l.into ≡ stored_bytes l.words 0 (8 * l.i);
-}
+abbrev pub invariant-loop-line : goal.invariant-loop-line
+invariant-loop-line l = take (64 * l.line) l.into ≡ stored_bytes l.words 0 (64 * l.line)

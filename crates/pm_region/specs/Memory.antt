@@ -1,8 +1,8 @@
 -- What a region of persistent memory is: the words at the last drain, and what was done since.
-use Rattle.std.specs.Prelude.{◌≡◌, ℕ, ◌+◌, ◌-◌, ◌^◌, ◌<◌, min, nat_lt, if◌then◌else◌, List, [], ◌∷◌, ◌++◌, length, drop}
+use Rattle.std.specs.Prelude.{◌≡◌, ℕ, ◌+◌, ◌-◌, ◌^◌, ◌<◌, min, nat_lt, if◌then◌else◌, List, [], ◌∷◌, ◌++◌, Some, length, drop, slice_get}
 use Rattle.std.specs.List.{splice}
 use Rattle.pm_epochs.specs.declared.event.Event.{Event}
-use Rattle.pm_epochs.specs.declared.event.Event.TheVariants.{Store}
+use Rattle.pm_epochs.specs.declared.event.Event.TheVariants.{Barrier, Mark, Store}
 use Rattle.pm_epochs.specs.Log.{words_after}
 use Rattle.pm_epochs.specs.May.{StoresMay}
 use Rattle.pm_epochs.specs.Replay.{PowerCut, replay}
@@ -55,3 +55,17 @@ stores_from word (value ∷ values) = Store word value ∷ stores_from (word + 1
 -- the words with these values in place of those from this one on
 abbrev pub with_values : List ℕ → ℕ → List ℕ → List ℕ
 with_values words first values = splice words first (first + length values) values
+
+-- both are stores, and the second goes to the word behind that of the first
+abbrev pub Follows : Event → Event → Type 0
+Follows (Store word value) (Store next other) = next ≡ word + 1
+Follows (Store word value) Barrier = ⊥
+Follows (Store word value) Mark = ⊥
+Follows Barrier event = ⊥
+Follows Mark event = ⊥
+
+-- of so many events from one on each but the first follows that before it
+abbrev pub AreInRow : List Event → ℕ → ℕ → Type 0
+AreInRow events first count =
+    (i : ℕ) (event next : Event) → i + 1 < count → slice_get events (first + i) ≡ Some event →
+    slice_get events (first + i + 1) ≡ Some next → Follows event next

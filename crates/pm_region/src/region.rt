@@ -5,7 +5,7 @@ ghost use Rattle.pm_epochs.specs.declared.event.Event.TheVariants.{Store, Barrie
 ghost use Rattle.pm_epochs.specs.Log.{barriers, marks};
 ghost use Rattle.pm_epochs.specs.Replay.{IsRight, kept_calls};
 ghost use Rattle.pm_region.specs.Epochs.{epoch_start};
-ghost use Rattle.pm_region.specs.Memory.{Memory, crashed, current_words, room_in, drained, stores_from, AreWithin, Adds};
+ghost use Rattle.pm_region.specs.Memory.{Memory, crashed, current_words, room_in, drained, stores_from, AreInRow, AreWithin, Adds};
 
 use pm_epochs::{BadChoice, Choice, Event, Kept};
 
@@ -80,6 +80,17 @@ pub trait Region {
         requires { i < length (memory self.now).events }
         ensures get { slice_get (memory self.now).events i ≡ Some result }
         ensures value { result ≡ slice_index_or (memory self.now).events i result };
+
+    /// How many events from one on, by its number from 0, can be taken at once: it, and behind it stores to words in a row.
+    /// Fewer may be told than there are.
+    fn row_len(&self, first: usize) -> usize
+        requires { first < length (memory self.now).events }
+        ensures some { 0 < result }
+        ensures inside { first + result ≤ length (memory self.now).events }
+        ensures row { AreInRow (memory self.now).events first result }
+    {
+        1
+    }
 
     /// How many barriers stand before the event with this number.
     fn barriers_before(&self, moment: usize) -> usize

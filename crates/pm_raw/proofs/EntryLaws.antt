@@ -1,22 +1,16 @@
 -- A log that stands in two arrays.
-use Rattle.std.proofs.Common.{◌≡◌, ℕ, zero, suc, ◌+◌, ◌<◌, ◌≤◌, inl, inr, List, [], ◌∷◌, ◌++◌, length, take, drop, get_or, refl, sym, ◌∙◌, ap, arith, add-one}
+use Rattle.std.proofs.Common.{◌≡◌, ℕ, zero, suc, ◌+◌, ◌<◌, ◌≤◌, inl, inr, List, [], ◌∷◌, ◌++◌, length, take, drop, get_or, refl, sym, ◌∙◌, ap, arith}
 use Rattle.std.specs.Prelude.{Some, slice_get}
 use Rattle.std.specs.List.{range_with_len}
 use Rattle.std.proofs.lemmas.Bool.Decides.{eqb_tells}
 use Rattle.pm_epochs.specs.declared.event.Event.{Event}
 use Rattle.pm_epochs.specs.declared.event.Event.TheVariants.{Store}
-use Rattle.pm_region.specs.Memory.{AreWithin, stores_from}
-use Rattle.pm_raw.specs.Entries.{no_word, signal_of, event_of, events_of, event_word}
+use Rattle.pm_region.specs.Memory.{AreInRow, AreWithin, Follows, stores_from}
+use Rattle.pm_raw.specs.Entries.{no_word, signal_of, event_of, events_of}
 
 pub event_of-store : (word value : ℕ) → word < no_word → event_of word value ≡ Store word value
 event_of-store word value low = elim (eqb_tells word no_word) [
   | inl same ↦ absurd (omega (arith, same.1))
-  | inr differ ↦ rw differ.0 refl
-]
-
-word_of-signal : (value : ℕ) → event_word (signal_of value) ≡ no_word
-word_of-signal value = elim (eqb_tells value 0) [
-  | inl same ↦ rw same.0 refl
   | inr differ ↦ rw differ.0 refl
 ]
 
@@ -25,12 +19,6 @@ pub within-signal : (count value : ℕ) → AreWithin count (signal_of value ∷
 within-signal count value = elim (eqb_tells value 0) [
   | inl same ↦ rw same.0 tt
   | inr differ ↦ rw differ.0 tt
-]
-
-pub word_of-event : (word value : ℕ) → event_word (event_of word value) ≡ word
-word_of-event word value = elim (eqb_tells word no_word) [
-  | inl same ↦ rw same.0 (word_of-signal value ∙ sym same.1)
-  | inr differ ↦ rw differ.0 refl
 ]
 
 pub length_events : (words values : List ℕ) → length values ≡ length words → length (events_of words values) ≡ length words
@@ -70,17 +58,14 @@ events_of-run first (value ∷ values) fits =
     ap (λ e. e ∷ events_of (range_with_len (first + 1) (length values)) values) (event_of-store first value (omega arith))
     ∙ ap (λ es. Store first value ∷ es) (events_of-run (first + 1) values (omega arith))
 
--- a number more
-pub range_with_len-more : (first n : ℕ) → range_with_len first (n + 1) ≡ range_with_len first n ++ (first + n) ∷ []
-range_with_len-more first n = rw add-one (more first n)
-  where
-    more : (first n : ℕ) → range_with_len first (suc n) ≡ range_with_len first n ++ (first + n) ∷ []
-    more first zero =
-        let here : first ≡ first + 0 = omega arith in
-        ap (λ w. w ∷ []) here
-    more first (suc n) =
-        let there : (first + 1) + n ≡ first + suc n = omega arith in
-        ap (λ ws. first ∷ ws) (more (first + 1) n ∙ ap (λ w. range_with_len (first + 1) n ++ w ∷ []) there)
+pub row_stores : (word : ℕ) (values : List ℕ) → word + length values ≤ no_word → events_of (range_with_len word (length values)) values ≡ stores_from word values
+row_stores word values fits = events_of-run word values fits
+
+-- one event that is no store
+pub row_signal : (word : ℕ) (values : List ℕ) → word ≡ no_word → length values ≡ 1 → events_of (range_with_len word (length values)) values ≡ signal_of (get_or values 0 0) ∷ []
+row_signal word [] is one = absurd (omega arith)
+row_signal word (value ∷ []) is one = ap (λ w. event_of w value ∷ []) is
+row_signal word (value ∷ more ∷ values) is one = absurd (omega arith)
 
 -- events behind a log
 pub log-pushed : (words values new_words new_values more_words more_values : List ℕ) → length values ≡ length words → new_words ≡ words ++ more_words → new_values ≡ values ++ more_values → events_of new_words new_values ≡ events_of words values ++ events_of more_words more_values
@@ -93,3 +78,28 @@ pub slice_get_read : (events : List Event) (i : ℕ) (event : Event) → i < len
 slice_get_read [] i event low is = absurd (omega arith)
 slice_get_read (first ∷ events) zero event low is = ap Some (sym is)
 slice_get_read (first ∷ events) (suc i) event low is = slice_get_read events i event (omega arith) is
+
+-- ---- events in a row
+
+-- the event with a number
+event_at : (words values : List ℕ) (i : ℕ) (event : Event) → length values ≡ length words → i < length words → slice_get (events_of words values) i ≡ Some event → event ≡ event_of (get_or words i 0) (get_or values i 0)
+event_at [] values i event same low here = absurd (omega (arith, low))
+event_at (word ∷ words) [] i event same low here = absurd (omega (arith, same))
+event_at (word ∷ words) (value ∷ values) zero event same low here = let is : event_of word value ≡ event = cc in sym is
+event_at (word ∷ words) (value ∷ values) (suc i) event same low here = event_at words values i event (omega (arith, same)) (omega (arith, low)) here
+
+follows_at : (event next : Event) (word value given : ℕ) → event ≡ event_of word value → next ≡ event_of (word + 1) given → word + 1 < no_word → Follows event next
+follows_at event next word value given is next_is low =
+    rw (is, next_is, event_of-store word value (omega (arith, low)), event_of-store (word + 1) given low) refl
+
+-- words in a row, of which none is what stands for no store, are those of stores in a row
+pub row_events : (words values : List ℕ) (first count word : ℕ) → length values ≡ length words → first + count ≤ length words → ((j : ℕ) → j < count → get_or words (first + j) 0 ≡ word + j)
+    → (1 < count → word + count ≤ no_word) → AreInRow (events_of words values) first count
+row_events words values first count word same fits row low i event next more here there =
+    follows_at event next (word + i) (get_or values (first + i) 0) (get_or values (first + i + 1) 0)
+    (event_at words values (first + i) event same (omega (arith, more, fits)) here ∙ ap (λ w. event_of w (get_or values (first + i) 0)) (row i (omega (arith, more))))
+    (event_at words values (first + i + 1) next same (omega (arith, more, fits)) there ∙ ap (λ w. event_of w (get_or values (first + i + 1) 0)) second)
+    (omega (arith, more, low (omega (arith, more))))
+  where
+    second : get_or words (first + i + 1) 0 ≡ word + i + 1
+    second = let place : first + (i + 1) ≡ first + i + 1 = omega arith in omega (arith, ap (λ k. get_or words k 0) place, row (i + 1) more)

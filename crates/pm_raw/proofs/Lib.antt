@@ -1,6 +1,8 @@
 mod Blocks
 mod EntryLaws
-mod RunLaws
+mod WordLaws
+mod PieceLaws
+mod LogLaws
 mod UndoLaws
 mod EpochLaws
 mod PlaceLaws

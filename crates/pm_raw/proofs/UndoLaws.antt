@@ -1,8 +1,7 @@
 -- What undoing a log leaves, and what writing a block of words does to the words and to the arrays of a log.
-use Rattle.std.proofs.Common.{◌≡◌, ℕ, zero, suc, ◌+◌, ◌<◌, ◌≤◌, true, false, eqb, inl, inr, List, [], ◌∷◌, ◌++◌, length, take, drop, get_or, set, refl, sym, ◌∙◌, ap, arith}
+use Rattle.std.proofs.Common.{◌≡◌, ℕ, zero, suc, ◌+◌, ◌≤◌, true, false, eqb, List, [], ◌∷◌, ◌++◌, length, take, drop, get_or, set, refl, sym, ◌∙◌, ap, arith}
 use Rattle.std.specs.Prelude.{if◌then◌else◌}
-use Rattle.std.proofs.lemmas.Bool.Decides.{eqb_tells}
-use Rattle.std.proofs.lemmas.List.{append_assoc, drop-set-lt, drop_more, get_or-set_other, get_or-set_same, length-append, length-set, length-take-le, set-get_or, set-set, take_at, take_more, take_more_set}
+use Rattle.std.proofs.lemmas.List.{append_assoc, drop-set-lt, drop_more, length-append, length-set, length-take-le, set-get_or, set-set, take_at, take_more_set}
 use Rattle.pm_epochs.specs.declared.event.Event.{Event}
 use Rattle.pm_epochs.specs.declared.event.Event.TheVariants.{Store, Barrier, Mark}
 use Rattle.pm_epochs.specs.Log.{words_after}
@@ -10,7 +9,7 @@ use Rattle.pm_epochs.proofs.CrashLaws.{words_after-append}
 use Rattle.pm_region.specs.Memory.{Memory, stores_from, with_values}
 use Rattle.pm_region.proofs.MemoryLaws.{with_values-none}
 use Rattle.pm_raw.specs.Entries.{Entered, events_of, signal_of}
-use Rattle.pm_raw.specs.Undo.{is_store_to, saved_of, undone}
+use Rattle.pm_raw.specs.Undo.{saved_of, undone}
 
 pub length-undone : (words : List ℕ) (events : List Event) (replaced : List ℕ) → length (undone words events replaced) ≡ length words
 length-undone words [] replaced = refl
@@ -90,27 +89,10 @@ undone_event words (Store word value) old = set words word old
 undone_event words Barrier old = words
 undone_event words Mark old = words
 
-undone-cons : (words : List ℕ) (event : Event) (events : List Event) (old : ℕ) (replaced : List ℕ) → undone words (event ∷ events) (old ∷ replaced) ≡ undone_event (undone words events replaced) event old
+pub undone-cons : (words : List ℕ) (event : Event) (events : List Event) (old : ℕ) (replaced : List ℕ) → undone words (event ∷ events) (old ∷ replaced) ≡ undone_event (undone words events replaced) event old
 undone-cons words (Store word value) events old replaced = refl
 undone-cons words Barrier events old replaced = refl
 undone-cons words Mark events old replaced = refl
-
--- from one place of a log to the next
-pub undone-drop : (words : List ℕ) (events : List Event) (replaced : List ℕ) (none : Event) (i : ℕ) → i < length events → length replaced ≡ length events →
-    undone words (drop i events) (drop i replaced) ≡ undone_event (undone words (drop (i + 1) events) (drop (i + 1) replaced)) (get_or events i none) (get_or replaced i 0)
-undone-drop words events replaced none i low each =
-    ap (λ es. undone words es (drop i replaced)) (drop_more events i none low)
-    ∙ ap (undone words (get_or events i none ∷ drop (i + 1) events)) (drop_more replaced i 0 (omega arith))
-    ∙ undone-cons words (get_or events i none) (drop (i + 1) events) (get_or replaced i 0) (drop (i + 1) replaced)
-
--- the front of a log up to a place, and the event there
-pub undone-take : (words : List ℕ) (events : List Event) (replaced : List ℕ) (none : Event) (i : ℕ) → i < length events → length replaced ≡ length events →
-    undone words (take (i + 1) events) (take (i + 1) replaced) ≡ undone (undone words (get_or events i none ∷ []) (get_or replaced i 0 ∷ [])) (take i events) (take i replaced)
-undone-take words events replaced none i low each =
-    ap (λ es. undone words es (take (i + 1) replaced)) (take_more events i none low)
-    ∙ ap (undone words (take i events ++ get_or events i none ∷ [])) (take_more replaced i 0 (omega arith))
-    ∙ undone-append words (take i events) (get_or events i none ∷ []) (take i replaced) (get_or replaced i 0 ∷ [])
-    (length-take-le i replaced (omega arith) ∙ sym (length-take-le i events (omega arith)))
 
 -- a block written at once is written word by word
 pub with_values-stores : (words values : List ℕ) (first : ℕ) → first + length values ≤ length words → with_values words first values ≡ words_after words (stores_from first values)
@@ -131,40 +113,6 @@ take-with_values words values first fits =
     let front = take first words in
     ap (take (first + length values)) (sym (append_assoc front values (drop (first + length values) words)))
     ∙ take_at (front ++ values) (drop (first + length values) words) (first + length values) (length-append front values ∙ ap (λ n. n + length values) (length-take-le first words (omega arith)))
-
--- ## One word
-
-word-undone-same : (words : List ℕ) (event : Event) (old word : ℕ) → word < length words → is_store_to word event ≡ true → get_or (undone_event words event old) word 0 ≡ old
-word-undone-same words (Store place value) old word low found = elim (eqb_tells place word) [
-  | inl same ↦ rw same.1 (get_or-set_same words word old 0 low)
-  | inr differ ↦ let other : eqb place word ≡ false = differ.0 in cc
-]
-word-undone-same words Barrier old word low found = cc
-word-undone-same words Mark old word low found = cc
-
-word-undone-other : (words : List ℕ) (event : Event) (old word : ℕ) → is_store_to word event ≡ false → get_or (undone_event words event old) word 0 ≡ get_or words word 0
-word-undone-other words (Store place value) old word missed = elim (eqb_tells place word) [
-  | inl same ↦ let here : eqb place word ≡ true = same.0 in cc
-  | inr differ ↦ get_or-set_other words place word old 0 (λ e. differ.1 (sym e))
-]
-word-undone-other words Barrier old word missed = refl
-word-undone-other words Mark old word missed = refl
-
-module _ (words : List ℕ) (events : List Event) (replaced : List ℕ) (none : Event) (i word : ℕ) (low : i < length events) (each : length replaced ≡ length events) where
-  abbrev behind : List ℕ
-  behind = undone words (drop (i + 1) events) (drop (i + 1) replaced)
-
-  -- the first store to a word replaced what the word was
-  pub word_before-found : word < length words → is_store_to word (get_or events i none) ≡ true → get_or (undone words (drop i events) (drop i replaced)) word 0 ≡ get_or replaced i 0
-  word_before-found within found =
-      ap (λ ws. get_or ws word 0) (undone-drop words events replaced none i low each)
-      ∙ word-undone-same behind (get_or events i none) (get_or replaced i 0) word (omega (arith, length-undone words (drop (i + 1) events) (drop (i + 1) replaced))) found
-
-  -- another event leaves it
-  pub word_before-other : is_store_to word (get_or events i none) ≡ false → get_or (undone words (drop i events) (drop i replaced)) word 0 ≡ get_or (undone words (drop (i + 1) events) (drop (i + 1) replaced)) word 0
-  word_before-other missed =
-      ap (λ ws. get_or ws word 0) (undone-drop words events replaced none i low each)
-      ∙ word-undone-other behind (get_or events i none) (get_or replaced i 0) word missed
 
 -- ## Memories
 

@@ -7,6 +7,10 @@ pub mod Part
 pub mod Spelled
 pub mod Filling
 pub mod Entries
+pub mod RunWords
+pub mod RunsRoom
+pub mod LogRuns
+pub mod Pieces
 pub mod Grows
 pub mod EntriesRoom
 pub mod Places

@@ -1,48 +1,76 @@
 //! What a cut of the power leaves of a log, and how many calls it keeps.
 
-ghost use Rattle.std.specs.Prelude.{◌≡◌, ◌^◌, ◌<◌, ◌≤◌, ◌↔◌, IsOk, IfOk, length};
+ghost use Rattle.std.specs.Prelude.{◌≡◌, ◌^◌, ◌<◌, ◌≤◌, ◌↔◌, true, false, IsOk, IfOk, length, slice_set};
 ghost use Rattle.pm_epochs.specs.Log.{barriers, epoch_stores, marks, words_after};
 ghost use Rattle.pm_epochs.specs.Replay.{IsRight, kept_calls as kept_calls_of, marks_of, stores_of};
 ghost use Rattle.pm_region.specs.Epochs.{epoch_start};
+ghost use Rattle.pm_region.specs.Memory.{stores_from};
+ghost use Rattle.pm_raw.specs.Pieces.{all_kept, keeps};
 ghost use Rattle.pm_raw.specs.Places.{is_barrier, is_mark, places_where};
 
-use super::log::Log;
+use super::log::{Log, Piece};
 use super::places::Places;
-use pm_epochs::{BadChoice, Choice, Event, Keeper, Kept};
-use pm_region::words::apply_event;
+use pm_epochs::{BadChoice, Choice, Kept};
 
 /// How many stores stand before the first barrier.
-fn first_stores(log: &Log<'_>) -> usize
-    ensures { result ≡ epoch_stores 0 log.now }
+fn first_stores(log: Log<'_>) -> usize
+    ensures { result ≡ epoch_stores 0 log.entry }
 {
+    let _events = log.len();
+    let mut rest = log;
     let mut count = 0;
-    for i in 0..log.len() {
-        match log.event(i) {
-            Event::Store { .. } => count += 1,
-            Event::Barrier => return count,
-            Event::Mark => {}
+    while rest.len() > 0 {
+        match rest.take_first() {
+            Piece::Stores { values, .. } => count += values.len(),
+            Piece::Barrier => return count,
+            Piece::Mark => {}
         }
     }
     count
 }
 
-/// The marks before the first store that is not kept.
-fn calls_of(log: &Log<'_>, epoch: usize, mask: &[bool]) -> usize
-    ensures { result ≡ marks_of epoch mask.now log.now }
+/// Whether all of these stores are kept.
+fn keeps_all(mask: &[bool]) -> bool
+    ensures { result ≡ all_kept mask.now }
 {
-    let mut keeper = Keeper { epoch, mask };
+    for keep in mask {
+        if !*keep {
+            return false;
+        }
+    }
+    true
+}
+
+/// Whether the mask keeps so many first stores.
+#[tactic(auto, using(crate::proofs::PieceLaws::keeps_short, crate::proofs::PieceLaws::keeps_long))]
+fn keeps_first(mask: &[bool], wanted: usize) -> bool
+    ensures { result ≡ keeps wanted mask.now }
+{
+    if mask.len() < wanted {
+        false
+    } else {
+        keeps_all(&mask[..wanted])
+    }
+}
+
+/// The marks before the first store that is not kept, where the mask is for the first epoch.
+fn calls_of(log: Log<'_>, mask: &[bool]) -> usize
+    ensures { result ≡ marks_of 0 mask.now log.entry }
+{
+    let _events = log.len();
+    let mut rest = log;
+    let mut mask = mask;
     let mut calls = 0;
-    for i in 0..log.len() {
-        let event = log.event(i);
-        let kept = keeper.keeps(event);
-        match event {
-            Event::Store { .. } => {
-                if !kept {
+    while rest.len() > 0 {
+        match rest.take_first() {
+            Piece::Stores { values, .. } => {
+                if !keeps_first(mask, values.len()) {
                     return calls;
                 }
+                mask = &mask[values.len()..];
             }
-            Event::Barrier => {}
-            Event::Mark => calls += 1,
+            Piece::Barrier => mask = &[],
+            Piece::Mark => calls += 1,
         }
     }
     calls
@@ -75,7 +103,7 @@ pub fn start_of(log: &Log<'_>, barrier_places: &Places, choice: &Choice) -> Resu
         return Err(BadChoice);
     }
     let start = start_of_epoch(log, barrier_places, epoch);
-    if choice.mask().len() > first_stores(&log.front(moment).behind(start)) {
+    if choice.mask().len() > first_stores(log.front(moment).behind(start)) {
         return Err(BadChoice);
     }
     Ok(start)
@@ -91,24 +119,47 @@ pub fn kept_calls(log: &Log<'_>, mark_places: &Places, start: usize, choice: &Ch
     ensures of { result.n ≡ marks log.now }
 {
     Kept {
-        c: mark_places.before(start) + calls_of(&log.behind(start), 0, choice.mask()),
+        c: mark_places.before(start) + calls_of(log.behind(start), choice.mask()),
         n: mark_places.len(),
     }
 }
 
-/// Does those stores before the first barrier that the mask keeps.
-pub fn apply_first(words: &mut [u64], log: &Log<'_>, mask: &[bool])
-    ensures { words.new ≡ words_after words.old (stores_of 0 mask.now log.now) }
+/// Puts a value in place of a word that is there, where it is kept.
+#[inline(always)]
+#[tactic(auto, using(std::proofs::lemmas::List::set_past))]
+fn put_kept(words: &mut [u64], place: usize, value: u64, keep: bool)
+    ensures kept { keep ≡ true → words.new ≡ slice_set words.old place value }
+    ensures lost { keep ≡ false → words.new ≡ words.old }
 {
-    let mut keeper = Keeper { epoch: 0, mask };
-    for i in 0..log.len() {
-        let event = log.event(i);
-        if let Event::Barrier = event {
-            return;
-        }
-        let kept = keeper.keeps(event);
-        if kept {
-            apply_event(words, event);
+    if keep && place < words.len() {
+        words[place] = value;
+    }
+}
+
+/// Does those stores of these values, to the words from this one on, that the mask keeps.
+fn apply_stores(words: &mut [u64], word: u32, values: &[u64], mask: &[bool])
+    ensures { words.new ≡ words_after words.old (stores_of 0 mask.now (stores_from word values.now)) }
+{
+    let first = word as usize;
+    for i in 0..values.len().min(mask.len()) {
+        put_kept(words, first + i, values[i], mask[i]);
+    }
+}
+
+/// Does those stores before the first barrier that the mask keeps.
+pub fn apply_first(words: &mut [u64], log: Log<'_>, mask: &[bool])
+    ensures { words.new ≡ words_after words.old (stores_of 0 mask.now log.entry) }
+{
+    let mut rest = log;
+    let mut mask = mask;
+    while rest.len() > 0 {
+        match rest.take_first() {
+            Piece::Stores { word, values } => {
+                apply_stores(words, word, values, mask);
+                mask = &mask[values.len().min(mask.len())..];
+            }
+            Piece::Barrier => return,
+            Piece::Mark => {}
         }
     }
 }

@@ -1,11 +1,13 @@
 //! What a region writes down of each event since the last drain.
-ghost use Rattle.std.specs.Prelude.{◌≡◌, ◌+◌, ◌-◌, ◌^◌, ◌<◌, ◌≤◌, [], ◌∷◌, ◌++◌, IfOk, length, take, vec_capacity};
+ghost use Rattle.std.specs.Prelude.{◌≡◌, ◌+◌, ◌-◌, ◌^◌, ◌<◌, ◌≤◌, [], ◌∷◌, ◌++◌, IfOk, Some, length, take, slice_get, slice_index_or, vec_capacity};
 ghost use Rattle.std.specs.List.{range_with_len};
-ghost use Rattle.pm_region.specs.Memory.{with_values};
-ghost use Rattle.pm_raw.specs.Entries.{events_of};
+ghost use Rattle.pm_region.specs.Memory.{AreInRow, with_values};
+ghost use Rattle.pm_raw.specs.Entries.{event_of, events_of};
 ghost use Rattle.pm_raw.specs.Grows.{Grows};
 
-use super::log::Log;
+use super::log::{BARRIER, Log, NO_WORD};
+use super::runs::Runs;
+use pm_epochs::Event;
 use std::alloc::{AllocError, Global};
 use std::marker::Model;
 
@@ -13,16 +15,14 @@ use std::marker::Model;
 /// filled is still in the processor's nearest caches when it is written, and that a log touches little more than it needs.
 const FILLED_AHEAD: usize = 1024;
 
-/// The events of a log: the word and the value of each, and the value that it replaced. They stand at the fronts of three
-/// vectors that take their memory once. Places are filled as the log grows, so a short log touches little of that memory, and
-/// stay filled when it begins anew.
+/// The events of a log: the words of all, by runs, and the value of each and the value that it replaced. The values stand at
+/// the fronts of two vectors that take their memory once. Places are filled as the log grows, so a short log touches little
+/// of that memory, and stay filled when it begins anew.
 #[derive(Drop)]
 pub struct Entries {
-    words: Vec<u32>,
+    words: Runs,
     values: Vec<u64>,
     replaced: Vec<u64>,
-    count: usize,
-    room: usize,
 }
 
 impl Model for Entries {
@@ -40,48 +40,31 @@ impl Model for Entries {
 /// Fills places up to the wanted ones, and some behind them, so that it is seldom done.
 #[cold]
 #[inline(never)]
-fn grow(
-    words: &mut Vec<u32>,
-    values: &mut Vec<u64>,
-    replaced: &mut Vec<u64>,
-    wanted: usize,
-    room: usize,
-)
-    requires wanted { (length words.old.items < wanted) × (wanted ≤ room) }
-    requires words { room ≤ vec_capacity words.old }
-    requires values { (length values.old.items ≡ length words.old.items) × (room ≤ vec_capacity values.old) }
-    requires replaced { (length replaced.old.items ≡ length words.old.items) × (room ≤ vec_capacity replaced.old) }
-    ensures filled { (wanted ≤ length words.new.items) × (length words.new.items ≤ room) }
-    ensures words { Grows words.old words.new }
-    ensures values { Grows values.old values.new × (length values.new.items ≡ length words.new.items) }
-    ensures replaced { Grows replaced.old replaced.new × (length replaced.new.items ≡ length words.new.items) }
+fn grow(values: &mut Vec<u64>, replaced: &mut Vec<u64>, wanted: usize, room: usize)
+    requires wanted { (length values.old.items < wanted) × (wanted ≤ room) }
+    requires values { room ≤ vec_capacity values.old }
+    requires replaced { (length replaced.old.items ≡ length values.old.items) × (room ≤ vec_capacity replaced.old) }
+    ensures filled { (wanted ≤ length values.new.items) × (length values.new.items ≤ room) }
+    ensures values { Grows values.old values.new }
+    ensures replaced { Grows replaced.old replaced.new × (length replaced.new.items ≡ length values.new.items) }
 {
     let places = wanted + FILLED_AHEAD.min(room - wanted);
-    let _ = words.resize(places, 0);
     let _ = values.resize(places, 0);
     let _ = replaced.resize(places, 0);
 }
 
 /// Sees to it that the wanted places are filled. They mostly are.
 #[inline(always)]
-fn fill(
-    words: &mut Vec<u32>,
-    values: &mut Vec<u64>,
-    replaced: &mut Vec<u64>,
-    wanted: usize,
-    room: usize,
-)
+fn fill(values: &mut Vec<u64>, replaced: &mut Vec<u64>, wanted: usize, room: usize)
     requires wanted { wanted ≤ room }
-    requires words { (length words.old.items ≤ room) × (room ≤ vec_capacity words.old) }
-    requires values { (length values.old.items ≡ length words.old.items) × (room ≤ vec_capacity values.old) }
-    requires replaced { (length replaced.old.items ≡ length words.old.items) × (room ≤ vec_capacity replaced.old) }
-    ensures filled { (wanted ≤ length words.new.items) × (length words.new.items ≤ room) }
-    ensures words { Grows words.old words.new }
-    ensures values { Grows values.old values.new × (length values.new.items ≡ length words.new.items) }
-    ensures replaced { Grows replaced.old replaced.new × (length replaced.new.items ≡ length words.new.items) }
+    requires values { (length values.old.items ≤ room) × (room ≤ vec_capacity values.old) }
+    requires replaced { (length replaced.old.items ≡ length values.old.items) × (room ≤ vec_capacity replaced.old) }
+    ensures filled { (wanted ≤ length values.new.items) × (length values.new.items ≤ room) }
+    ensures values { Grows values.old values.new }
+    ensures replaced { Grows replaced.old replaced.new × (length replaced.new.items ≡ length values.new.items) }
 {
-    if words.len() < wanted {
-        grow(words, values, replaced, wanted, room);
+    if values.len() < wanted {
+        grow(values, replaced, wanted, room);
     }
 }
 
@@ -94,24 +77,20 @@ fn put_values(values: &mut Vec<u64>, at: usize, new: &[u64])
     values[at..at + new.len()].copy_from_slice(new);
 }
 
-/// Puts the words from `first` on in place of all of these.
-fn number_words(words: &mut [u32], first: u32)
-    requires { first + length words.old < 2 ^ 32 }
-    ensures { words.new ≡ range_with_len first (length words.old) }
+/// The event with this word and this value.
+#[tactic(auto, using(std::proofs::lemmas::Bool::Decides::nat_tests))]
+fn read_event(word: u32, value: u64) -> Event
+    ensures { result ≡ event_of word value }
 {
-    for i in 0..words.len() {
-        words[i] = first + i as u32;
+    if word == NO_WORD {
+        if value == BARRIER {
+            Event::Barrier
+        } else {
+            Event::Mark
+        }
+    } else {
+        Event::Store { word, value }
     }
-}
-
-/// Puts so many words, from `first` on, in place of those of a vector from `at` on.
-fn put_words(words: &mut Vec<u32>, at: usize, first: u32, wanted: usize)
-    requires room { at + wanted ≤ length words.old.items }
-    requires in_range { first + wanted < 2 ^ 32 }
-    ensures items { words.new.items ≡ with_values words.old.items at (range_with_len first wanted) }
-    ensures capacity { vec_capacity words.new ≡ vec_capacity words.old }
-{
-    number_words(&mut words[at..at + wanted], first);
 }
 
 impl Entries {
@@ -119,15 +98,13 @@ impl Entries {
     pub fn new(alloc: Global, room: usize) -> Result<Entries, AllocError>
         ensures { IfOk result (λ entries. entries ≡ record { words = []; values = []; replaced = []; room = room }) }
     {
-        let words = Vec::with_capacity(alloc, room)?;
+        let words = Runs::new(alloc, room)?;
         let values = Vec::with_capacity(alloc, room)?;
         let replaced = Vec::with_capacity(alloc, room)?;
         Ok(Entries {
             words,
             values,
             replaced,
-            count: 0,
-            room,
         })
     }
 
@@ -135,14 +112,14 @@ impl Entries {
     pub fn len(&self) -> usize
         ensures { result ≡ length self.now.words }
     {
-        self.count
+        self.words.len()
     }
 
     /// How many more there is room for.
     pub fn room(&self) -> usize
         ensures { result ≡ self.now.room - length self.now.words }
     {
-        self.room - self.count
+        self.words.room() - self.words.len()
     }
 
     /// The events.
@@ -150,24 +127,49 @@ impl Entries {
         requires { length self.now.values ≡ length self.now.words }
         ensures { result ≡ events_of self.now.words self.now.values }
     {
-        Log::new(&self.words[..self.count], &self.values[..self.count])
+        self.words.log(&self.values[..self.words.len()])
+    }
+
+    /// One of them, by its number from 0.
+    #[inline]
+    pub fn event(&self, i: usize) -> Event
+        requires each { length self.now.values ≡ length self.now.words }
+        requires inside { i < length self.now.words }
+        ensures get { slice_get (events_of self.now.words self.now.values) i ≡ Some result }
+        ensures value { result ≡ slice_index_or (events_of self.now.words self.now.values) i result }
+    {
+        read_event(self.words.word(i), self.values[i])
+    }
+
+    /// How many events from one on, by its number from 0, are it and stores to words in a row behind it.
+    pub fn row_len(&self, i: usize) -> usize
+        requires each { length self.now.values ≡ length self.now.words }
+        requires inside { i < length self.now.words }
+        ensures some { 0 < result }
+        ensures fits { i + result ≤ length self.now.words }
+        ensures row { AreInRow (events_of self.now.words self.now.values) i result }
+    {
+        // The word that stands for no store is none of a row.
+        let stores = (NO_WORD - self.words.word(i)) as usize;
+        self.words.row_len(i).min(stores.max(1))
     }
 
     /// The values that they replaced.
     pub fn replaced(&self) -> &[u64]
         ensures { result.now ≡ self.now.replaced }
     {
-        &self.replaced[..self.count]
+        &self.replaced[..self.words.len()]
     }
 
     /// Begins anew, with none. The room stays.
     pub fn clear(&mut self)
         ensures { self.new ≡ record { words = []; values = []; replaced = []; room = self.old.room } }
     {
-        self.count = 0;
+        self.words.clear();
     }
 
     /// One more, behind the others.
+    #[inline(always)]
     pub fn push(&mut self, word: u32, value: u64, replaced: u64)
         requires { length self.old.words < self.old.room }
         ensures words { self.new.words ≡ self.old.words ++ word ∷ [] }
@@ -175,17 +177,12 @@ impl Entries {
         ensures replaced { self.new.replaced ≡ self.old.replaced ++ replaced ∷ [] }
         ensures room { self.new.room ≡ self.old.room }
     {
-        fill(
-            &mut self.words,
-            &mut self.values,
-            &mut self.replaced,
-            self.count + 1,
-            self.room,
-        );
-        self.words[self.count] = word;
-        self.values[self.count] = value;
-        self.replaced[self.count] = replaced;
-        self.count += 1;
+        let count = self.words.len();
+        let room = self.words.room();
+        fill(&mut self.values, &mut self.replaced, count + 1, room);
+        self.values[count] = value;
+        self.replaced[count] = replaced;
+        self.words.push(word, 1);
     }
 
     /// A run of stores, behind the others, to the words from `first` on.
@@ -198,16 +195,16 @@ impl Entries {
         ensures replaced { self.new.replaced ≡ self.old.replaced ++ replaced.now }
         ensures room { self.new.room ≡ self.old.room }
     {
+        let count = self.words.len();
+        let room = self.words.room();
         fill(
-            &mut self.words,
             &mut self.values,
             &mut self.replaced,
-            self.count + values.len(),
-            self.room,
+            count + values.len(),
+            room,
         );
-        put_words(&mut self.words, self.count, first, values.len());
-        put_values(&mut self.values, self.count, values);
-        put_values(&mut self.replaced, self.count, replaced);
-        self.count += values.len();
+        put_values(&mut self.values, count, values);
+        put_values(&mut self.replaced, count, replaced);
+        self.words.extend(first, values.len());
     }
 }

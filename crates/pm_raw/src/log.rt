@@ -1,12 +1,13 @@
-//! A log as it stands in two arrays.
+//! A part of a log as it stands in memory.
 
-ghost use Rattle.std.specs.Prelude.{◌≡◌, ◌+◌, ◌^◌, ◌<◌, ◌≤◌, length, take, drop, slice_get, slice_index_or, true, Some};
+ghost use Rattle.std.specs.Prelude.{◌≡◌, ◌+◌, ◌^◌, ◌<◌, ◌≤◌, [], ◌∷◌, ◌++◌, length, take, drop, slice_index};
 ghost use Rattle.std.specs.List.{range_with_len};
-ghost use Rattle.pm_epochs.specs.declared.event.Event.TheVariants.{Mark};
-ghost use Rattle.pm_raw.specs.Entries.{event_of, events_of, event_word};
-ghost use Rattle.pm_raw.specs.Runs.{IsRow, IsRun};
+ghost use Rattle.pm_raw.specs.Entries.{no_word, signal_of, events_of};
+ghost use Rattle.pm_raw.specs.RunWords.{AreRuns, Rises, words_from};
+ghost use Rattle.pm_raw.specs.Pieces.{goes_on, piece_end, piece_events};
+ghost use Rattle.pm_raw.specs.Runs.{IsRun};
 
-use pm_epochs::Event;
+use super::runs::run_of;
 use std::marker::Model;
 
 /// The word of an event that is no store. No region has a word with this place.
@@ -18,144 +19,215 @@ pub const BARRIER: u64 = 0;
 /// The value of a mark, whose word is `NO_WORD`.
 pub const MARK: u64 = 1;
 
-/// A log as it stands in two arrays: the words and the values of its events.
+/// Events in a row of a log.
+#[derive(Drop)]
+pub enum Piece<'a> {
+    /// Stores of these values to words in a row, from this one on.
+    Stores { word: u32, values: &'a [u64] },
+    /// A barrier.
+    Barrier,
+    /// The end of a call.
+    Mark,
+}
+
+/// Events in a row with words in a row, from this one on, and with these values.
+#[derive(Drop)]
+pub struct Row<'a> {
+    /// The first word.
+    pub word: u32,
+    /// The values.
+    pub values: &'a [u64],
+}
+
+/// A part of a log as it stands in memory: the runs of words, each by its first word and the number of its first event, the
+/// number of the part's first event, and the values of its events.
 #[derive(Drop)]
 pub struct Log<'a> {
-    words: &'a [u32],
+    firsts: &'a [u32],
+    starts: &'a [usize],
+    at: usize,
     values: &'a [u64],
 }
 
 impl<'a> Model for Log<'a> {
-    ghost use Rattle.std.specs.Prelude.{◌≡◌, List, length};
+    ghost use Rattle.std.specs.Prelude.{List};
     ghost use Rattle.pm_epochs.specs.declared.event.Event.{Event};
-    ghost use Rattle.pm_raw.specs.Entries.{events_of};
+    ghost use Rattle.pm_raw.specs.LogRuns.{log_events, IsPart};
 
     ghost Value = { List Event };
 
-    ghost view = { λ log. events_of log.words.now log.values.now };
+    ghost view = { log_events };
 
-    ghost invariant = { λ log. length log.values.now ≡ length log.words.now };
+    ghost invariant = { IsPart };
 }
 
-/// The event with this word and this value.
+/// How many events the first piece has, in a log from `at` to `end`, where the first word is this one: those of the first run,
+/// but one alone where it is no store, and no such one behind stores.
+#[inline]
+fn count_of_first(starts: &[usize], at: usize, end: usize, word: u32) -> usize
+    requires some { at < end }
+    requires first { 1 < length starts.now → at < slice_index starts.now 1 }
+    requires next { 1 < length starts.now → slice_index starts.now 1 ≤ end }
+    ensures some { 0 < result }
+    ensures within { at + result ≤ end }
+    ensures run { 1 < length starts.now → at + result ≤ slice_index starts.now 1 }
+    ensures signal { word ≡ no_word → result ≡ 1 }
+    ensures stores { word < no_word → word + result ≤ no_word }
+{
+    let last = if starts.len() > 1 { starts[1] } else { end };
+    (last - at).min(((NO_WORD - word) as usize).max(1))
+}
+
+/// The number of the run of an event that is in the first run or begins the next one.
+fn first_or_next(starts: &[usize], event: usize) -> usize
+    requires rises { Rises starts.now }
+    requires some { (0 < length starts.now) × (slice_index starts.now 0 ≤ event) }
+    requires near { 1 < length starts.now → event ≤ slice_index starts.now 1 }
+    ensures inside { result < length starts.now }
+    ensures begun { slice_index starts.now result ≤ event }
+    ensures last { result + 1 < length starts.now → event < slice_index starts.now (result + 1) }
+{
+    if starts.len() > 1 && starts[1] == event {
+        1
+    } else {
+        0
+    }
+}
+
+/// The piece of what is no store, by its value.
 #[tactic(auto, using(std::proofs::lemmas::Bool::Decides::nat_tests))]
-fn read_event(word: u32, value: u64) -> Event
-    ensures { result ≡ event_of word value }
+fn signal_piece<'a>(value: u64) -> Piece<'a>
+    ensures events { piece_events result ≡ signal_of value ∷ [] }
+    ensures in_range { piece_end result ≡ 0 }
+{
+    if value == BARRIER {
+        Piece::Barrier
+    } else {
+        Piece::Mark
+    }
+}
+
+/// The piece of events with words in a row, from this one on, and with these values.
+#[tactic(auto, using(crate::proofs::EntryLaws::row_signal, crate::proofs::EntryLaws::row_stores))]
+#[inline]
+fn piece_of<'a>(word: u32, values: &'a [u64]) -> Piece<'a>
+    requires some { 0 < length values.now }
+    requires signal { word ≡ no_word → length values.now ≡ 1 }
+    requires stores { word < no_word → word + length values.now ≤ no_word }
+    ensures events { piece_events result ≡ events_of (range_with_len word (length values.now)) values.now }
+    ensures in_range { piece_end result ≤ 2 ^ 32 }
 {
     if word == NO_WORD {
-        if value == BARRIER {
-            Event::Barrier
-        } else {
-            Event::Mark
-        }
+        signal_piece(values[0])
     } else {
-        Event::Store { word, value }
+        Piece::Stores { word, values }
     }
-}
-
-/// How many words are compared at once: enough for wide registers, and few where a run is short.
-const AT_ONCE: usize = 32;
-
-/// Whether these words are those from `first` on, in order. It looks at all of them, so that they are compared side by side.
-fn are_in_row(words: &[u32], first: u32) -> bool
-    requires { first + length words.now < 2 ^ 32 }
-    ensures { result ≡ true → words.now ≡ range_with_len first (length words.now) }
-{
-    let mut all = true;
-    for i in 0..words.len() {
-        if words[i] != first + i as u32 {
-            all = false;
-        }
-    }
-    all
-}
-
-/// How many of these words, from the front, are those from `first` on, in order, by whole pieces of so many.
-fn pieces_in_row(words: &[u32], first: u32) -> usize
-    requires { first + length words.now < 2 ^ 32 }
-    ensures { (result ≤ length words.now) × (take result words.now ≡ range_with_len first result) }
-{
-    let pieces = words.len() / AT_ONCE;
-    for i in 0..pieces {
-        let known = AT_ONCE * i;
-        if !are_in_row(&words[known..known + AT_ONCE], first + known as u32) {
-            return known;
-        }
-    }
-    AT_ONCE * pieces
-}
-
-/// How many of these words, from the front, are those from `first` on, in order.
-fn row_length(words: &[u32], first: u32) -> usize
-    requires { first + length words.now < 2 ^ 32 }
-    ensures { IsRow words.now first result }
-{
-    for next in pieces_in_row(words, first)..words.len() {
-        if words[next] != first + next as u32 {
-            return next;
-        }
-    }
-    words.len()
 }
 
 impl<'a> Log<'a> {
-    /// The log of these words and values.
-    pub fn new(words: &'a [u32], values: &'a [u64]) -> Log<'a>
-        requires { length values.now ≡ length words.now }
-        ensures { result ≡ events_of words.now values.now }
+    /// The log of events with these values, whose words are in these runs.
+    pub fn new(firsts: &'a [u32], starts: &'a [usize], values: &'a [u64]) -> Log<'a>
+        requires { AreRuns firsts.now starts.now 0 (length values.now) }
+        ensures { result ≡ events_of (words_from firsts.now starts.now 0 (length values.now)) values.now }
     {
-        Log { words, values }
+        Log {
+            firsts,
+            starts,
+            at: 0,
+            values,
+        }
     }
 
     /// How many events there are.
     pub fn len(&self) -> usize
         ensures { result ≡ length self.now }
     {
-        self.words.len()
-    }
-
-    /// An event, by its number from 0.
-    #[tactic(auto, using(crate::proofs::EntryLaws::length_events))]
-    pub fn event(&self, i: usize) -> Event
-        requires { i < length self.now }
-        ensures get { slice_get self.now i ≡ Some result }
-        ensures value { result ≡ slice_index_or self.now i result }
-    {
-        let (words, values) = (self.words, self.values);
-        read_event(words[i], values[i])
-    }
-
-    /// The word of an event, by its number from 0. It is `NO_WORD` where the event is no store.
-    #[tactic(auto, using(crate::proofs::EntryLaws::length_events))]
-    pub fn word(&self, i: usize) -> u32
-        requires { i < length self.now }
-        ensures { result ≡ event_word (slice_index_or self.now i Mark) }
-    {
-        let words = self.words;
-        words[i]
+        self.values.len()
     }
 
     /// The first events, as many as are wanted.
-    #[tactic(auto, using(crate::proofs::EntryLaws::length_events))]
     pub fn front(&self, wanted: usize) -> Log<'a>
         requires { wanted ≤ length self.now }
         ensures { result ≡ take wanted self.now }
     {
+        if wanted == 0 {
+            return Log {
+                firsts: &[],
+                starts: &[],
+                at: self.at,
+                values: &[],
+            };
+        }
+        let runs = run_of(self.starts, self.at + (wanted - 1)) + 1;
         Log {
-            words: &self.words[..wanted],
+            firsts: &self.firsts[..runs],
+            starts: &self.starts[..runs],
+            at: self.at,
             values: &self.values[..wanted],
         }
     }
 
     /// The events behind the first ones.
-    #[tactic(auto, using(crate::proofs::EntryLaws::length_events))]
     pub fn behind(&self, first: usize) -> Log<'a>
         requires { first ≤ length self.now }
         ensures { result ≡ drop first self.now }
     {
+        if self.values.len() == 0 {
+            return Log {
+                firsts: self.firsts,
+                starts: self.starts,
+                at: self.at,
+                values: self.values,
+            };
+        }
+        let at = self.at + first;
+        let run = run_of(self.starts, at);
         Log {
-            words: &self.words[first..],
+            firsts: &self.firsts[run..],
+            starts: &self.starts[run..],
+            at,
             values: &self.values[first..],
+        }
+    }
+
+    /// Takes the first events off: a signal, or stores to words in a row, as many as their run has. There is an event.
+    #[inline]
+    pub fn take_first(&mut self) -> Piece<'a>
+        requires { 0 < length self.old }
+        ensures events { self.old ≡ piece_events result ++ self.new }
+        ensures some { length self.new < length self.old }
+        ensures in_range { piece_end result ≤ 2 ^ 32 }
+    {
+        let (firsts, starts, values) = (self.firsts, self.starts, self.values);
+        let word = firsts[0] + (self.at - starts[0]) as u32;
+        let count = count_of_first(starts, self.at, self.at + values.len(), word);
+        let at = self.at + count;
+        let run = first_or_next(starts, at);
+        self.at = at;
+        self.firsts = &firsts[run..];
+        self.starts = &starts[run..];
+        self.values = &values[count..];
+        piece_of(word, &values[..count])
+    }
+
+    /// Takes the last events off, whose words are in a row, as many as their run has. There is an event.
+    pub fn take_last(&mut self) -> Row<'a>
+        requires { 0 < length self.old }
+        ensures events { self.old ≡ self.new ++ events_of (range_with_len result.word (length result.values.now)) result.values.now }
+        ensures some { 0 < length result.values.now }
+        ensures in_range { result.word + length result.values.now ≤ 2 ^ 32 }
+    {
+        let (firsts, starts, values) = (self.firsts, self.starts, self.values);
+        let last = starts.len() - 1;
+        let from = self.at.max(starts[last]);
+        let word = firsts[last] + (from - starts[last]) as u32;
+        let kept = from - self.at;
+        self.firsts = &firsts[..last];
+        self.starts = &starts[..last];
+        self.values = &values[..kept];
+        Row {
+            word,
+            values: &values[kept..],
         }
     }
 
@@ -164,10 +236,35 @@ impl<'a> Log<'a> {
     pub fn run(&self, word: u32, most: usize) -> &'a [u64]
         ensures { IsRun self.now word most result.now }
     {
-        let (words, values) = (self.words, self.values);
-        // What has `NO_WORD` is no store, so no run reaches it.
-        let wanted = most.min(words.len()).min((NO_WORD - word) as usize);
-        let count = row_length(&words[..wanted], word);
-        &values[..count]
+        let values = self.values;
+        let mut rest = self.behind(0);
+        let mut count = 0;
+        while rest.len() > 0 {
+            let piece = rest.take_first();
+            let more = stores_at(&piece, word as usize + count);
+            if more == 0 {
+                return &values[..count.min(most)];
+            }
+            count += more;
+        }
+        &values[..count.min(most)]
+    }
+}
+
+/// How many stores a piece has, where the first one goes to this word, and otherwise none.
+fn stores_at(piece: &Piece<'_>, word: usize) -> usize
+    ensures { result ≡ goes_on piece.now word }
+{
+    match piece {
+        Piece::Stores {
+            word: first,
+            values,
+        } => if *first as usize == word {
+            values.len()
+        } else {
+            0
+        },
+        Piece::Barrier => 0,
+        Piece::Mark => 0,
     }
 }

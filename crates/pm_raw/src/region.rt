@@ -115,6 +115,7 @@ impl RawRegion {
     }
 
     /// Puts an event that is no store at the end of the log, by its value.
+    #[inline(always)]
     fn push_signal(&mut self, value: u64)
         requires { length self.old.events < self.old.capacity }
         ensures { self.new ≡ record self.old { events = self.old.events ++ signal_of value ∷ [] } }
@@ -141,6 +142,7 @@ impl Region for RawRegion {
         &self.current.as_slice()[first..first + count as usize]
     }
 
+    #[inline(always)]
     fn store(&mut self, word: u32, value: u64) {
         let replaced = self.current.as_slice()[word as usize];
         self.current.set(word as usize, value);
@@ -156,10 +158,12 @@ impl Region for RawRegion {
         overwrite(self.current.as_mut_slice(), place, values);
     }
 
+    #[inline(always)]
     fn barrier(&mut self) {
         self.push_signal(BARRIER);
     }
 
+    #[inline(always)]
     fn mark(&mut self) {
         self.push_signal(MARK);
     }
@@ -180,7 +184,11 @@ impl Region for RawRegion {
     }
 
     fn event(&self, i: usize) -> Event {
-        self.entries.log().event(i)
+        self.entries.event(i)
+    }
+
+    fn row_len(&self, first: usize) -> usize {
+        self.entries.row_len(first)
     }
 
     fn barriers_before(&self, moment: usize) -> usize {
@@ -212,7 +220,7 @@ impl Region for RawRegion {
         );
         apply_first(
             self.current.as_mut_slice(),
-            &log.front(choice.moment()).behind(start),
+            log.front(choice.moment()).behind(start),
             choice.mask(),
         );
         self.entries.clear();

@@ -1,32 +1,46 @@
 //! Words as they were before the last events of a log.
 
-ghost use Rattle.std.specs.Prelude.{◌≡◌, ◌^◌, ◌<◌, ◌≤◌, [], ◌∷◌, drop, length, slice_index};
-ghost use Rattle.pm_epochs.specs.declared.event.Event.{Event};
-ghost use Rattle.pm_raw.specs.Entries.{event_word};
-ghost use Rattle.pm_raw.specs.Undo.{is_store_to, undone};
+ghost use Rattle.std.specs.Prelude.{◌≡◌, ◌+◌, ℕ, List, ◌^◌, ◌<◌, ◌≤◌, true, false, drop, length, slice_index};
+ghost use Rattle.std.specs.List.{range_with_len};
+ghost use Rattle.pm_region.specs.Memory.{with_values};
+ghost use Rattle.pm_raw.specs.Entries.{events_of};
+ghost use Rattle.pm_raw.specs.Undo.{undone};
 
-use super::log::Log;
-use pm_epochs::Event;
+use super::log::{Log, Piece};
 
-/// Puts back what an event replaced, by its word. An event that is no store has a word that no region has.
-fn undo_event(words: &mut [u64], word: u32, replaced: u64)
-    requires { length words.old < 2 ^ 32 }
-    ensures { (event : Event) → word ≡ event_word event → words.new ≡ undone words.old (event ∷ []) (replaced ∷ []) }
+/// Puts these values in place of the words from `first` on.
+fn put_back(words: &mut [u64], first: usize, values: &[u64])
+    requires { first + length values.now ≤ length words.old }
+    ensures { words.new ≡ with_values words.old first values.now }
 {
-    let place = word as usize;
-    if place < words.len() {
-        words[place] = replaced;
+    words[first..first + values.len()].copy_from_slice(values);
+}
+
+/// Puts back what events with words in a row replaced, from this word on. Behind the last word there is nothing to put back.
+fn undo_row(words: &mut [u64], word: u32, replaced: &[u64])
+    requires few { length words.old < 2 ^ 32 }
+    requires in_range { word + length replaced.now ≤ 2 ^ 32 }
+    ensures { (values : List ℕ) → length values ≡ length replaced.now →
+        words.new ≡ undone words.old (events_of (range_with_len word (length replaced.now)) values) replaced.now }
+{
+    let first = word as usize;
+    if first < words.len() {
+        let count = replaced.len().min(words.len() - first);
+        put_back(words, first, &replaced[..count]);
     }
 }
 
 /// Undoes a log whose events replaced these values, the last one first.
-fn undo(words: &mut [u64], log: &Log<'_>, replaced: &[u64])
-    requires each { length replaced.now ≡ length log.now }
+fn undo(words: &mut [u64], log: Log<'_>, replaced: &[u64])
+    requires each { length replaced.now ≡ length log }
     requires few { length words.old < 2 ^ 32 }
-    ensures { words.new ≡ undone words.old log.now replaced.now }
+    ensures { words.new ≡ undone words.old log.entry replaced.now }
 {
-    for i in (0..log.len()).rev() {
-        undo_event(words, log.word(i), replaced[i]);
+    let mut rest = log;
+    while rest.len() > 0 {
+        let row = rest.take_last();
+        let first = rest.len();
+        undo_row(words, row.word, &replaced[first..first + row.values.len()]);
     }
 }
 
@@ -37,18 +51,15 @@ pub fn undo_from(words: &mut [u64], log: &Log<'_>, replaced: &[u64], start: usiz
     requires few { length words.old < 2 ^ 32 }
     ensures { words.new ≡ undone words.old (drop start log.now) (drop start replaced.now) }
 {
-    undo(words, &log.behind(start), &replaced[start..]);
+    undo(words, log.behind(start), &replaced[start..]);
 }
 
-/// Whether an event is a store to this word.
-fn stores_to(event: Event, word: u32) -> bool
-    ensures { result ≡ is_store_to word event }
+/// Whether a word is one of so many in a row, from the first one on.
+fn is_among(word: u32, first: u32, count: usize) -> bool
+    ensures inside { result ≡ true → (first ≤ word) × (word < first + count) }
+    ensures outside { result ≡ false → first ≤ word → first + count ≤ word }
 {
-    match event {
-        Event::Store { word: place, .. } => place == word,
-        Event::Barrier => false,
-        Event::Mark => false,
-    }
+    first <= word && ((word - first) as usize) < count
 }
 
 /// What a word was before a log whose events replaced these values: what the first store to it replaced.
@@ -57,10 +68,20 @@ pub fn word_before(words: &[u64], log: &Log<'_>, replaced: &[u64], word: u32) ->
     requires each { length replaced.now ≡ length log.now }
     ensures { result ≡ slice_index (undone words.now log.now replaced.now) word }
 {
-    for i in 0..log.len() {
-        let found = stores_to(log.event(i), word);
-        if found {
-            return replaced[i];
+    let mut rest = log.behind(0);
+    while rest.len() > 0 {
+        let before = log.len() - rest.len();
+        match rest.take_first() {
+            Piece::Stores {
+                word: first,
+                values,
+            } => {
+                if is_among(word, first, values.len()) {
+                    return replaced[before + (word - first) as usize];
+                }
+            }
+            Piece::Barrier => {}
+            Piece::Mark => {}
         }
     }
     words[word as usize]

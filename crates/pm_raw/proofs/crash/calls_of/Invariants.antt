@@ -1,9 +1,13 @@
-use Rattle.std.proofs.Common.{◌≡◌, ◌≤◌, ◌+◌, drop}
+use Rattle.std.proofs.Common.{◌≡◌, ◌≤◌, ◌+◌, length}
 use Rattle.pm_epochs.specs.Replay.{marks_of}
 use Rattle.pm_raw.proofs.crash.calls_of.Given as goal
 
-abbrev pub invariant-loop-i : goal.invariant-loop-i
-invariant-loop-i l = record {
-  few : l.calls ≤ l.i;
-  so_far : l.calls + marks_of l.keeper.epoch l.keeper.mask.now (drop l.i l.log) ≡ marks_of l.epoch l.mask l.log;
+abbrev pub invariant-loop-rest : goal.invariant-loop-rest
+invariant-loop-rest l = record {
+  few : l.calls + length l.rest ≤ length l.fn.log;
+  so_far : l.calls + marks_of 0 l.mask l.rest ≡ marks_of 0 l.fn.mask l.fn.log;
 }
+
+-- fewer events are left
+abbrev pub decreases-loop-rest : goal.decreases-loop-rest
+decreases-loop-rest l = length l.rest

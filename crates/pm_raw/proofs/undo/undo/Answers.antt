@@ -1,43 +1,75 @@
-use Rattle.std.proofs.Common.{◌≡◌, ◌+◌, ◌-◌, ◌<◌, ◌∙◌, [], ◌∷◌, ap, arith, get_or, length, sym, take}
-use Rattle.std.proofs.lemmas.List.{take_all}
-use Rattle.pm_epochs.specs.declared.event.Event.TheVariants.{Mark}
+use Rattle.std.proofs.Common.{◌≡◌, ◌+◌, ◌-◌, ◌∙◌, ap, arith, drop, length, sym, take}
+use Rattle.std.specs.List.{range_with_len}
+use Rattle.std.proofs.lemmas.List.{length-append, length-drop, length-take-le}
+use Rattle.pm_raw.specs.Entries.{events_of}
 use Rattle.pm_raw.specs.Undo.{undone}
-use Rattle.pm_raw.proofs.UndoLaws.{length-undone, undone-take}
+use Rattle.pm_raw.proofs.PieceLaws.{length-row, undone-last}
+use Rattle.pm_raw.proofs.UndoLaws.{length-undone}
 use Rattle.pm_raw.proofs.undo.undo.Goals as goal
 
-pub loop-i-init : goal.loop-i-init
-loop-i-init c =
-    let words = c.args.words.now in
-    let log = c.args.log.now in
+pub slice_bounds-undo_row-end : goal.slice_bounds-undo_row-end
+slice_bounds-undo_row-end c =
+    let step = c.loop-rest.invariant in
+    let row = c.take_last-row.result in
+    let taken = c.take_last-row.ensures in
+    let rest = c.take_last-row.new.self in
+    let values = row.values.now in
+    let events = events_of (range_with_len row.word (length values)) values in
+    let long = length-row row.word values in
+    let split = ap length taken.events ∙ length-append rest events in
+    omega (arith, step.within, split, long, c.len-first.ensures)
+
+pub undo_row-requires-clause-in_range : goal.undo_row-requires-clause-in_range
+undo_row-requires-clause-in_range c =
+    let step = c.loop-rest.invariant in
+    let row = c.take_last-row.result in
+    let taken = c.take_last-row.ensures in
+    let rest = c.take_last-row.new.self in
+    let values = row.values.now in
+    let events = events_of (range_with_len row.word (length values)) values in
+    let long = length-row row.word values in
+    let split = ap length taken.events ∙ length-append rest events in
+    let first = c.len-first.result in
     let replaced = c.args.replaced.now in
-    let count = c.len-i.result in
+    let olds = take ((first + length values) - first) (drop first replaced) in
+    let count : (first + length values) - first ≡ length values = omega arith in
+    let olds_long = length-take-le ((first + length values) - first) (drop first replaced) (omega (arith, length-drop first replaced, step.within, split, long, c.len-first.ensures)) ∙ count in
+    omega (arith, olds_long, taken.in_range)
+
+pub loop-rest-preserved : goal.loop-rest-preserved
+loop-rest-preserved c =
+    let step = c.loop-rest.invariant in
+    let row = c.take_last-row.result in
+    let taken = c.take_last-row.ensures in
+    let rest = c.take_last-row.new.self in
+    let values = row.values.now in
+    let events = events_of (range_with_len row.word (length values)) values in
+    let long = length-row row.word values in
+    let split = ap length taken.events ∙ length-append rest events in
+    let first = c.len-first.result in
+    let replaced = c.args.replaced.now in
+    let olds = take ((first + length values) - first) (drop first replaced) in
+    let count : (first + length values) - first ≡ length values = omega arith in
+    let olds_long = length-take-le ((first + length values) - first) (drop first replaced) (omega (arith, length-drop first replaced, step.within, split, long, c.len-first.ensures)) ∙ count in
+    let words = c.loop-rest.words in
+    let next =
+    c.undo_row.ensures values (sym olds_long)
+    ∙ ap (λ n. undone words (events_of (range_with_len row.word n) values) olds) olds_long in
+    let olds_are = ap (λ n. take n (drop first replaced)) (count ∙ sym long) ∙ ap (λ n. take (length events) (drop n replaced)) c.len-first.ensures in
     record {
-      few = c.requires.few;
-      so_far =
-          ap (λ es. undone words es (take count replaced)) (take_all count log (omega arith))
-          ∙ ap (undone words log) (take_all count replaced (omega (arith, c.requires.each)));
+      few = omega (arith, step.few, ap length next, length-undone words events olds);
+      within = omega (arith, step.within, split);
+      so_far = undone-last words c.undo_row.new.words replaced c.loop-rest.rest rest events olds taken.events step.within olds_are next ∙ step.so_far;
     }
 
-pub loop-i-preserved : goal.loop-i-preserved
-loop-i-preserved c =
-    let loop = c.loop-i in
-    let log = c.args.log.now in
-    let replaced = c.args.replaced.now in
-    let at = loop.i - 1 in
-    let event = get_or log at Mark in
-    let above : at + 1 ≡ loop.i = omega (arith, c.loop-i-test.true) in
-    let low : at < length log = omega (arith, c.loop-i-test.true, c.loop-i.auto.i) in
-    let undo_is = c.undo_event.ensures event c.word.ensures in
-    record {
-      few = omega (arith, ap length undo_is, length-undone loop.words (event ∷ []) (get_or replaced at 0 ∷ []), loop.invariant.few);
-      so_far =
-          ap (λ ws. undone ws (take at log) (take at replaced)) undo_is
-          ∙ sym (undone-take loop.words log replaced Mark at low c.requires.each)
-          ∙ ap (λ n. undone loop.words (take n log) (take n replaced)) above
-          ∙ loop.invariant.so_far;
-    }
-
-pub returns : goal.returns
-returns c =
-    let done : c.loop-i.i ≡ 0 = omega (arith, c.loop-i-test.false) in
-    rw done at c.loop-i.invariant.so_far
+pub loop-rest-smaller : goal.loop-rest-smaller
+loop-rest-smaller c =
+    let step = c.loop-rest.invariant in
+    let row = c.take_last-row.result in
+    let taken = c.take_last-row.ensures in
+    let rest = c.take_last-row.new.self in
+    let values = row.values.now in
+    let events = events_of (range_with_len row.word (length values)) values in
+    let long = length-row row.word values in
+    let split = ap length taken.events ∙ length-append rest events in
+    omega (arith, split, long, taken.some)

@@ -1,28 +1,54 @@
-use Rattle.std.proofs.Common.{◌<◌, ◌∙◌, ap, arith, length, sym}
-use Rattle.std.proofs.lemmas.List.{drop_all}
-use Rattle.pm_raw.specs.Undo.{is_store_to}
-use Rattle.pm_raw.proofs.UndoLaws.{word_before-found, word_before-other}
+use Rattle.std.proofs.Common.{◌+◌, ◌-◌, ◌∙◌, ap, arith, get_or, length, refl}
+use Rattle.pm_epochs.specs.declared.event.Event.TheVariants.{Barrier, Mark}
+use Rattle.pm_raw.proofs.PieceLaws.{before-found, before-run, before-signal, run-length}
 use Rattle.pm_raw.proofs.undo.word_before.Goals as goal
 
-pub returns-then-found : goal.returns-then-found
-returns-then-found c =
-    let loop = c.loop-i in
-    let log = c.args.log.now in
-    let low : loop.i < length log = omega (arith, c.loop-i-test.true) in
-    let found = ap (is_store_to c.args.word) (sym c.event.ensures.value) ∙ sym c.stores_to-found.ensures ∙ c.if-found.true in
-    sym (word_before-found c.args.words.now log c.args.replaced.now c.event.result loop.i c.args.word low c.requires.each c.requires.in_range found)
-    ∙ loop.invariant
+pub loop-rest-preserved-else-is_among : goal.loop-rest-preserved-else-is_among
+loop-rest-preserved-else-is_among c =
+    let step = c.loop-rest.invariant in
+    let first = c.in-Stores.first in
+    let values = c.in-Stores.values.now in
+    let are = c.in-Stores.ensures.events in
+    record {
+      within = omega (arith, step.within, run-length c.loop-rest.rest c.take_first.new.self first values are);
+      so_far = before-run c.args.words.now c.args.replaced.now c.args.log.now c.loop-rest.rest c.take_first.new.self c.args.word c.requires.each step.within first values are (c.is_among.ensures.outside c.if-is_among.false) ∙ step.so_far;
+    }
 
-pub loop-i-preserved : goal.loop-i-preserved
-loop-i-preserved c =
-    let loop = c.loop-i in
-    let log = c.args.log.now in
-    let low : loop.i < length log = omega (arith, c.loop-i-test.true) in
-    let missed = ap (is_store_to c.args.word) (sym c.event.ensures.value) ∙ sym c.stores_to-found.ensures ∙ c.if-found.false in
-    sym (word_before-other c.args.words.now log c.args.replaced.now c.event.result loop.i c.args.word low c.requires.each missed)
-    ∙ loop.invariant
+pub loop-rest-preserved-in-Barrier : goal.loop-rest-preserved-in-Barrier
+loop-rest-preserved-in-Barrier c =
+    let step = c.loop-rest.invariant in
+    let are = c.in-Barrier.ensures.events in
+    record {
+      within = omega (arith, step.within, ap length are);
+      so_far = before-signal c.args.words.now c.args.replaced.now c.args.log.now c.loop-rest.rest c.take_first.new.self c.args.word c.requires.each step.within Barrier refl are ∙ step.so_far;
+    }
 
-pub returns : goal.returns
-returns c =
-    let over = drop_all c.loop-i.i c.args.log.now (omega (arith, c.loop-i-test.false)) in
-    rw over at c.loop-i.invariant
+pub loop-rest-preserved : goal.loop-rest-preserved
+loop-rest-preserved c =
+    let step = c.loop-rest.invariant in
+    let are = c.in-Mark.ensures.events in
+    record {
+      within = omega (arith, step.within, ap length are);
+      so_far = before-signal c.args.words.now c.args.replaced.now c.args.log.now c.loop-rest.rest c.take_first.new.self c.args.word c.requires.each step.within Mark refl are ∙ step.so_far;
+    }
+
+pub bounds-replaced-before : goal.bounds-replaced-before
+bounds-replaced-before c =
+    let first = c.in-Stores.first in
+    let among = c.is_among.ensures.inside c.if-is_among.true in
+    let long = run-length c.loop-rest.rest c.take_first.new.self first c.in-Stores.values.now c.in-Stores.ensures.events in
+    omega (arith, among.0, among.1, long, c.loop-rest.invariant.within, c.requires.each, c.len-in-loop-rest.ensures, c.len-in-loop-rest-2.ensures)
+
+pub returns-then-is_among : goal.returns-then-is_among
+returns-then-is_among c =
+    let step = c.loop-rest.invariant in
+    let log = c.args.log.now in
+    let rest = c.loop-rest.rest in
+    let replaced = c.args.replaced.now in
+    let word = c.args.word in
+    let first = c.in-Stores.first in
+    let among = c.is_among.ensures.inside c.if-is_among.true in
+    ap (λ n. get_or replaced ((n - c.len-in-loop-rest-2.result) + (word - first)) 0) c.len-in-loop-rest.ensures
+    ∙ ap (λ n. get_or replaced ((length log - n) + (word - first)) 0) c.len-in-loop-rest-2.ensures
+    ∙ before-found c.args.words.now replaced log rest c.take_first.new.self word c.requires.each step.within first c.in-Stores.values.now c.in-Stores.ensures.events c.requires.in_range among.0 among.1
+    ∙ step.so_far

@@ -1,0 +1,137 @@
+-- Parts of a log as they stand in memory.
+use Rattle.std.proofs.Common.{◌≡◌, ℕ, ◌+◌, ◌-◌, ◌^◌, ◌<◌, ◌≤◌, inl, inr, List, ◌++◌, length, take, drop, get_or, sym, ◌∙◌, ap, arith, subst}
+use Rattle.std.specs.List.{range_with_len}
+use Rattle.std.proofs.lemmas.Bool.Decides.{eqb_tells}
+use Rattle.std.proofs.lemmas.List.{length-drop, length-take-le, take-append-drop, take_rest}
+use Rattle.pm_epochs.specs.declared.event.Event.{Event}
+use Rattle.pm_raw.specs.Entries.{events_of}
+use Rattle.pm_raw.specs.RunWords.{AreRuns, words_from}
+use Rattle.pm_raw.proofs.EntryLaws.{events_of-drop, events_of-take, length_events}
+use Rattle.pm_raw.proofs.WordLaws.{begun_by, drop-words_from, length-words_from, runs-behind, runs-front, runs-same, take-words_from, word_in, words-behind, words-front, words-same, words_from-range}
+
+module _ (firsts starts values : List ℕ) (at : ℕ) (runs : AreRuns firsts starts at (at + length values)) where
+  abbrev pub words : List ℕ
+  words = words_from firsts starts at (length values)
+
+  abbrev pub events : List Event
+  events = events_of words values
+
+  pub each : length values ≡ length words
+  each = sym (length-words_from firsts starts at (length values))
+
+  pub length-part : length events ≡ length values
+  length-part = length_events words values each ∙ sym each
+
+  -- what is left behind the first events, with the runs from that of the first one of them on
+  module _ (n run : ℕ) (fits : n ≤ length values) (inside : run < length starts) (begun : get_or starts run 0 ≤ at + n) (last : run + 1 < length starts → at + n < get_or starts (run + 1) 0) where
+    abbrev rest : List ℕ
+    rest = take (length values - n) (drop n values)
+
+    long-rest : length rest ≡ length values - n
+    long-rest = ap length (take_rest values n) ∙ length-drop n values
+
+    ends : (at + n) + length rest ≡ at + length values
+    ends = omega (arith, long-rest)
+
+    pub behind-runs : AreRuns (take (length firsts - run) (drop run firsts)) (take (length starts - run) (drop run starts)) (at + n) ((at + n) + length (take (length values - n) (drop n values)))
+    behind-runs =
+        subst (AreRuns (take (length firsts - run) (drop run firsts)) (take (length starts - run) (drop run starts)) (at + n)) (sym ends)
+        (runs-same (drop run firsts) (drop run starts) (take (length firsts - run) (drop run firsts)) (take (length starts - run) (drop run starts)) (take_rest firsts run) (take_rest starts run) (at + n) (at + length values)
+        (runs-behind firsts starts at (at + length values) runs run (at + n) (omega arith) (omega arith) inside begun last))
+
+    pub behind-small : at + length values < 2 ^ 64 → (at + n) + length (take (length values - n) (drop n values)) < 2 ^ 64
+    behind-small small = omega (arith, ends)
+
+    pub behind-events : events_of (words_from (take (length firsts - run) (drop run firsts)) (take (length starts - run) (drop run starts)) (at + n) (length (take (length values - n) (drop n values)))) (take (length values - n) (drop n values)) ≡ drop n events
+    behind-events =
+        ap (λ ws. events_of ws rest) (words-same (drop run firsts) (drop run starts) (take (length firsts - run) (drop run firsts)) (take (length starts - run) (drop run starts)) (take_rest firsts run) (take_rest starts run) (at + n) (length rest))
+        ∙ ap (λ k. events_of (words_from (drop run firsts) (drop run starts) (at + n) k) rest) long-rest
+        ∙ ap (events_of (words_from (drop run firsts) (drop run starts) (at + n) (length values - n))) (take_rest values n)
+        ∙ ap (λ ws. events_of ws (drop n values)) (words-behind firsts starts at (at + length values) runs run (at + n) (length values - n) inside begun)
+        ∙ ap (λ ws. events_of ws (drop n values)) (sym (drop-words_from firsts starts at n (length values) fits))
+        ∙ events_of-drop n words values each
+
+  -- the first events, with the first runs
+  module _ (n run : ℕ) (fits : n ≤ length values) (within : run ≤ length starts) (some : 0 < n → 0 < run) (taken : (i : ℕ) → i < run → get_or starts i 0 < at + n) (later : 0 < n → run < length starts → at + n ≤ get_or starts run 0) where
+    long-front : length (take n values) ≡ n
+    long-front = length-take-le n values fits
+
+    pub front-runs : AreRuns (take run firsts) (take run starts) at (at + length (take n values))
+    front-runs =
+        subst (λ k. AreRuns (take run firsts) (take run starts) at (at + k)) (sym long-front)
+        (runs-front firsts starts at (at + length values) runs run (at + n) (omega arith) (omega arith) within (λ more. some (omega arith)) taken (λ more. later (omega arith)))
+
+    pub front-small : at + length values < 2 ^ 64 → at + length (take n values) < 2 ^ 64
+    front-small small = omega (arith, long-front)
+
+    pub front-events : events_of (words_from (take run firsts) (take run starts) at (length (take n values))) (take n values) ≡ take n events
+    front-events =
+        ap (λ k. events_of (words_from (take run firsts) (take run starts) at k) (take n values)) long-front
+        ∙ ap (λ ws. events_of ws (take n values)) (words-front firsts starts at (at + length values) runs run n some later)
+        ∙ ap (λ ws. events_of ws (take n values)) (sym (take-words_from firsts starts at n (length values) fits))
+        ∙ events_of-take n words values
+
+  -- which those are, by the run of the last one
+  pub front-taken : (n run : ℕ) → run < length starts → 0 < n → get_or starts run 0 ≤ at + (n - 1) → (i : ℕ) → i < run + 1 → get_or starts i 0 < at + n
+  front-taken n run inside some begun i low = omega (arith, begun_by firsts starts at (at + length values) runs run i (at + (n - 1)) (omega arith) inside begun)
+
+  -- the last run begins before the end, and where it is not the only one the events begin before it
+  pub last-taken : (i : ℕ) → i < length starts - 1 → get_or starts i 0 < get_or starts (length starts - 1) 0
+  last-taken i low = runs.rises i (length starts - 1) low (omega arith)
+
+  pub last-alone : at < get_or starts (length starts - 1) 0 → 0 < length starts - 1
+  last-alone more = elim (eqb_tells (length starts - 1) 0) [
+    | inl none ↦ absurd (omega (arith, ap (λ i. get_or starts i 0) none.1, runs.begun))
+    | inr some ↦ omega (arith, some.1)
+  ]
+
+  -- the events of a run
+  pub run-in : (run n : ℕ) (from word : ℕ) → run < length starts → get_or starts run 0 ≤ from → (run + 1 < length starts → from + n ≤ get_or starts (run + 1) 0) → word ≡ get_or firsts run 0 + (from - get_or starts run 0)
+      → words_from firsts starts from n ≡ range_with_len word n
+  run-in run n from word inside begun last is =
+      words_from-range firsts starts from word n (λ i low high.
+      let here = word_in firsts starts at (at + length values) runs run i inside (omega arith) (λ more. omega (arith, last more)) in
+      omega (arith, here, is))
+
+  -- so many events in front, where the first run has as many
+  module _ (word n : ℕ) (some : 0 < length values) (is : word ≡ get_or firsts 0 0 + (at - get_or starts 0 0)) (fits : n ≤ length values) (within : 1 < length starts → at + n ≤ get_or starts 1 0) where
+    pub first-row : events ≡ events_of (range_with_len word n) (take n values) ++ drop n events
+    first-row =
+        sym (take-append-drop n events)
+        ∙ ap (λ es. es ++ drop n events) (sym (events_of-take n words values))
+        ∙ ap (λ ws. events_of ws (take n values) ++ drop n events) (take-words_from firsts starts at n (length values) fits)
+        ∙ ap (λ ws. events_of ws (take n values) ++ drop n events) (run-in 0 n at word (runs.some (omega arith)) runs.begun (λ more. within (omega arith)) is)
+
+  -- the first word has 32 bits
+  pub first-low : 0 < length values → get_or firsts 0 0 + (at - get_or starts 0 0) < 2 ^ 32
+  first-low some =
+      let here = word_in firsts starts at (at + length values) runs 0 at (runs.some (omega arith)) runs.begun runs.first in
+      omega (arith, here, runs.fits at (omega arith) (omega arith))
+
+  -- the events of the last run
+  module _ (kept word : ℕ) (some : 0 < length values) (fits : kept < length values) (begun : get_or starts (length starts - 1) 0 ≤ at + kept) (is : word ≡ get_or firsts (length starts - 1) 0 + ((at + kept) - get_or starts (length starts - 1) 0)) where
+    abbrev final : List ℕ
+    final = take (length values - kept) (drop kept values)
+
+    long-final : length final ≡ length values - kept
+    long-final = ap length (take_rest values kept) ∙ length-drop kept values
+
+    pub last-row : take kept events ++ events_of (range_with_len word (length (take (length values - kept) (drop kept values)))) (take (length values - kept) (drop kept values)) ≡ events
+    last-row =
+        let there = runs.some (omega arith) in
+        ap (λ k. take kept events ++ events_of (range_with_len word k) final) long-final
+        ∙ ap (λ vs. take kept events ++ events_of (range_with_len word (length values - kept)) vs) (take_rest values kept)
+        ∙ ap (λ ws. take kept events ++ events_of ws (drop kept values)) (sym (run-in (length starts - 1) (length values - kept) (at + kept) word (omega arith) begun (λ more. absurd (omega arith)) is))
+        ∙ ap (λ ws. take kept events ++ events_of ws (drop kept values)) (sym (drop-words_from firsts starts at kept (length values) (omega arith)))
+        ∙ ap (λ es. take kept events ++ es) (events_of-drop kept words values each)
+        ∙ take-append-drop kept events
+
+    pub last-some : 0 < length (take (length values - kept) (drop kept values))
+    last-some = omega (arith, long-final)
+
+    pub last-fits : word + length (take (length values - kept) (drop kept values)) ≤ 2 ^ 32
+    last-fits =
+        let there = runs.some (omega arith) in
+        let end = (at + length values) - 1 in
+        let here = word_in firsts starts at (at + length values) runs (length starts - 1) end (omega arith) (omega arith) (λ more. absurd (omega arith)) in
+        omega (arith, is, here, long-final, runs.fits end (omega arith) (omega arith))

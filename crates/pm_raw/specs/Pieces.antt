@@ -1,0 +1,37 @@
+-- The events of a piece of a log.
+use Rattle.std.specs.Prelude.{ℕ, zero, suc, ◌+◌, ◌==◌, Bool, true, false, if◌then◌else◌, length, List, [], ◌∷◌}
+use Rattle.pm_epochs.specs.declared.event.Event.{Event}
+use Rattle.pm_epochs.specs.declared.event.Event.TheVariants as event
+use Rattle.pm_region.specs.Memory.{stores_from}
+use Rattle.pm_raw.specs.declared.log.Piece.{Piece}
+use Rattle.pm_raw.specs.declared.log.Piece.TheVariants.{Stores, Barrier, Mark}
+
+abbrev pub piece_events : Piece → List Event
+piece_events (Stores word values) = stores_from word values.now
+piece_events Barrier = event.Barrier ∷ []
+piece_events Mark = event.Mark ∷ []
+
+-- whether all of these are true
+abbrev pub all_kept : List Bool → Bool
+all_kept [] = true
+all_kept (true ∷ mask) = all_kept mask
+all_kept (false ∷ mask) = false
+
+-- whether a mask keeps so many first stores
+abbrev pub keeps : ℕ → List Bool → Bool
+keeps zero mask = true
+keeps (suc n) [] = false
+keeps (suc n) (true ∷ mask) = keeps n mask
+keeps (suc n) (false ∷ mask) = false
+
+-- how many stores a piece has, where the first one goes to this word, and otherwise none
+abbrev pub goes_on : Piece → ℕ → ℕ
+goes_on (Stores first values) word = if first == word then length values.now else 0
+goes_on Barrier word = 0
+goes_on Mark word = 0
+
+-- the word that goes on with a piece's stores, 0 where it is none
+abbrev pub piece_end : Piece → ℕ
+piece_end (Stores word values) = word + length values.now
+piece_end Barrier = 0
+piece_end Mark = 0

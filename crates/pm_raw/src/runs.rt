@@ -1,0 +1,265 @@
+//! The words of a log's events, held by runs of words in a row.
+ghost use Rattle.std.specs.Prelude.{◌≡◌, ℕ, ◌+◌, ◌^◌, ◌<◌, ◌≤◌, [], ◌∷◌, ◌++◌, IfOk, length, slice_index, take, vec_capacity};
+ghost use Rattle.std.specs.List.{range_with_len};
+ghost use Rattle.pm_raw.specs.Entries.{events_of};
+ghost use Rattle.pm_raw.specs.Grows.{Grows};
+ghost use Rattle.pm_raw.specs.RunWords.{Rises};
+
+use super::log::Log;
+use std::alloc::{AllocError, Global};
+use std::cell::Cell;
+use std::marker::Model;
+
+/// How many places behind the wanted one are filled when the runs reach their last filled place: few enough that what was
+/// filled is still in the processor's nearest caches when it is written, and that a log touches little more than it needs.
+const FILLED_AHEAD: usize = 1024;
+
+/// What no word goes on with: more than any word of 32 bits.
+const NOWHERE: usize = 1 << 32;
+
+/// The word of each event of a log, `NO_WORD` where it is no store. Words in a row are one run, of which the first word is held
+/// and the number of the first event. They stand at the fronts of two vectors that take their memory once. Places are filled
+/// as the log grows, so a short log touches little of that memory, and stay filled when it begins anew.
+#[derive(Drop)]
+pub struct Runs {
+    firsts: Vec<u32>,
+    starts: Vec<usize>,
+    runs: usize,
+    next: usize,
+    count: usize,
+    room: usize,
+    // The run of the event that was last asked for.
+    asked: Cell<usize>,
+}
+
+impl Model for Runs {
+    ghost use Rattle.pm_raw.specs.RunWords.{Worded};
+
+    ghost Value = { Worded };
+
+    ghost use Rattle.pm_raw.specs.RunsRoom.{worded_of, HasRuns};
+
+    ghost view = { worded_of };
+
+    ghost invariant = { HasRuns };
+}
+
+/// Fills a place more, and some behind it, so that it is seldom done.
+#[cold]
+#[inline(never)]
+fn grow(firsts: &mut Vec<u32>, starts: &mut Vec<usize>, wanted: usize, room: usize)
+    requires wanted { (length firsts.old.items < wanted) × (wanted ≤ room) }
+    requires firsts { room ≤ vec_capacity firsts.old }
+    requires starts { (length starts.old.items ≡ length firsts.old.items) × (room ≤ vec_capacity starts.old) }
+    ensures filled { (wanted ≤ length firsts.new.items) × (length firsts.new.items ≤ room) }
+    ensures firsts { Grows firsts.old firsts.new }
+    ensures starts { Grows starts.old starts.new × (length starts.new.items ≡ length firsts.new.items) }
+{
+    let places = wanted + FILLED_AHEAD.min(room - wanted);
+    let _ = firsts.resize(places, 0);
+    let _ = starts.resize(places, 0);
+}
+
+/// Sees to it that a place more is filled. It mostly is.
+#[inline(always)]
+fn fill(firsts: &mut Vec<u32>, starts: &mut Vec<usize>, wanted: usize, room: usize)
+    requires wanted { wanted ≤ room }
+    requires firsts { (length firsts.old.items ≤ room) × (room ≤ vec_capacity firsts.old) }
+    requires starts { (length starts.old.items ≡ length firsts.old.items) × (room ≤ vec_capacity starts.old) }
+    ensures filled { (wanted ≤ length firsts.new.items) × (length firsts.new.items ≤ room) }
+    ensures firsts { Grows firsts.old firsts.new }
+    ensures starts { Grows starts.old starts.new × (length starts.new.items ≡ length firsts.new.items) }
+{
+    if firsts.len() < wanted {
+        grow(firsts, starts, wanted, room);
+    }
+}
+
+/// The number of the last run that begins no later than an event.
+pub fn run_of(starts: &[usize], event: usize) -> usize
+    requires rises { Rises starts.now }
+    requires some { (0 < length starts.now) × (slice_index starts.now 0 ≤ event) }
+    ensures inside { result < length starts.now }
+    ensures begun { slice_index starts.now result ≤ event }
+    ensures last { result + 1 < length starts.now → event < slice_index starts.now (result + 1) }
+{
+    let mut low = 0;
+    let mut high = starts.len();
+    while high - low > 1 {
+        let middle = low + (high - low) / 2;
+        if starts[middle] <= event {
+            low = middle;
+        } else {
+            high = middle;
+        }
+    }
+    low
+}
+
+/// The same, where events are mostly asked for in order: it looks first at the run with the number `near`, and at the one behind
+/// it.
+#[inline(always)]
+fn run_near(starts: &[usize], event: usize, near: usize) -> usize
+    requires rises { Rises starts.now }
+    requires some { (0 < length starts.now) × (slice_index starts.now 0 ≤ event) }
+    ensures inside { result < length starts.now }
+    ensures begun { slice_index starts.now result ≤ event }
+    ensures last { result + 1 < length starts.now → event < slice_index starts.now (result + 1) }
+{
+    if near < starts.len() && starts[near] <= event {
+        let next = near + 1;
+        if next == starts.len() || event < starts[next] {
+            return near;
+        }
+        let after = next + 1;
+        if after == starts.len() || event < starts[after] {
+            return next;
+        }
+    }
+    run_of(starts, event)
+}
+
+/// Puts a run behind so many, by its first word and the number of its first event.
+#[inline(always)]
+fn begin(
+    firsts: &mut Vec<u32>,
+    starts: &mut Vec<usize>,
+    runs: usize,
+    first: u32,
+    start: usize,
+    room: usize,
+)
+    requires room { (runs < room) × (runs ≤ length firsts.old.items) }
+    requires firsts { (length firsts.old.items ≤ room) × (room ≤ vec_capacity firsts.old) }
+    requires starts { (length starts.old.items ≡ length firsts.old.items) × (room ≤ vec_capacity starts.old) }
+    ensures filled { (runs < length firsts.new.items) × (length firsts.new.items ≤ room) }
+    ensures firsts { take (runs + 1) firsts.new.items ≡ take runs firsts.old.items ++ first ∷ [] }
+    ensures starts { take (runs + 1) starts.new.items ≡ take runs starts.old.items ++ start ∷ [] }
+    ensures starts_places { length starts.new.items ≡ length firsts.new.items }
+    ensures firsts_room { room ≤ vec_capacity firsts.new }
+    ensures starts_room { room ≤ vec_capacity starts.new }
+{
+    fill(firsts, starts, runs + 1, room);
+    firsts[runs] = first;
+    starts[runs] = start;
+}
+
+impl Runs {
+    /// None yet, with room for the words of so many events. Fails only for want of memory; no other call takes any.
+    pub fn new(alloc: Global, room: usize) -> Result<Runs, AllocError>
+        ensures { IfOk result (λ runs. runs ≡ record { words = []; room = room }) }
+    {
+        let firsts = Vec::with_capacity(alloc, room)?;
+        let starts = Vec::with_capacity(alloc, room)?;
+        Ok(Runs {
+            firsts,
+            starts,
+            runs: 0,
+            next: NOWHERE,
+            count: 0,
+            room,
+            asked: Cell::new(0),
+        })
+    }
+
+    /// Of how many events they are.
+    pub fn len(&self) -> usize
+        ensures { result ≡ length self.now.words }
+    {
+        self.count
+    }
+
+    /// Of how many events there is room for words.
+    pub fn room(&self) -> usize
+        ensures { result ≡ self.now.room }
+    {
+        self.room
+    }
+
+    /// The events with these words and values.
+    pub fn log<'a>(&'a self, values: &'a [u64]) -> Log<'a>
+        requires { length values.now ≡ length self.now.words }
+        ensures { result ≡ events_of self.now.words values.now }
+    {
+        Log::new(&self.firsts[..self.runs], &self.starts[..self.runs], values)
+    }
+
+    /// The word of an event, by its number from 0.
+    #[inline]
+    pub fn word(&self, i: usize) -> u32
+        requires { i < length self.now.words }
+        ensures { result ≡ slice_index self.now.words i }
+    {
+        let (firsts, starts) = (&self.firsts[..self.runs], &self.starts[..self.runs]);
+        let run = run_near(starts, i, self.asked.get());
+        self.asked.set(run);
+        firsts[run] + (i - starts[run]) as u32
+    }
+
+    /// How many events from one on, by its number from 0, have words in a row.
+    pub fn row_len(&self, i: usize) -> usize
+        requires { i < length self.now.words }
+        ensures some { 0 < result }
+        ensures inside { i + result ≤ length self.now.words }
+        ensures row { (j : ℕ) → j < result → slice_index self.now.words (i + j) ≡ slice_index self.now.words i + j }
+    {
+        let starts = &self.starts[..self.runs];
+        let run = run_near(starts, i, self.asked.get());
+        self.asked.set(run);
+        let next = run + 1;
+        let end = if next < starts.len() {
+            starts[next]
+        } else {
+            self.count
+        };
+        end - i
+    }
+
+    /// Begins anew, with none. The room stays.
+    pub fn clear(&mut self)
+        ensures { self.new ≡ record { words = []; room = self.old.room } }
+    {
+        self.runs = 0;
+        self.next = NOWHERE;
+        self.count = 0;
+    }
+
+    /// Words in a row, of so many events, behind the others.
+    #[inline(always)]
+    pub fn push(&mut self, first: u32, wanted: usize)
+        requires some { 0 < wanted }
+        requires room { length self.old.words + wanted ≤ self.old.room }
+        requires in_range { first + wanted ≤ 2 ^ 32 }
+        ensures words { self.new.words ≡ self.old.words ++ range_with_len first wanted }
+        ensures room { self.new.room ≡ self.old.room }
+    {
+        let count = self.count;
+        if first as usize != self.next {
+            let run = self.runs;
+            begin(
+                &mut self.firsts,
+                &mut self.starts,
+                run,
+                first,
+                count,
+                self.room,
+            );
+            self.runs = run + 1;
+        }
+        self.next = first as usize + wanted;
+        self.count = count + wanted;
+    }
+
+    /// The same of any number of events, also of none.
+    #[inline(always)]
+    pub fn extend(&mut self, first: u32, wanted: usize)
+        requires room { length self.old.words + wanted ≤ self.old.room }
+        requires in_range { first + wanted ≤ 2 ^ 32 }
+        ensures words { self.new.words ≡ self.old.words ++ range_with_len first wanted }
+        ensures room { self.new.room ≡ self.old.room }
+    {
+        if wanted > 0 {
+            self.push(first, wanted);
+        }
+    }
+}

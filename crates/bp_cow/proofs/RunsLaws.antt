@@ -1,10 +1,11 @@
 -- Lists of runs: their leaves and the ways to these, the paths that tell, and the words over which they are laid.
-use Rattle.std.proofs.Common.{◌≡◌, ◌⊎◌, ℕ, zero, suc, ◌+◌, ◌-◌, ◌*◌, ◌/◌, ◌%◌, ◌<◌, ◌≤◌, List, [], ◌∷◌, length, drop, Bool, true, false, Some, refl, sym, ◌∙◌, ap, subst, arith, inl, inr}
+use Rattle.std.proofs.Common.{◌≡◌, ◌⊎◌, ℕ, zero, suc, ◌+◌, ◌-◌, ◌*◌, ◌/◌, ◌%◌, ◌<◌, ◌≤◌, List, [], ◌∷◌, ◌++◌, length, drop, take, Bool, true, false, Some, refl, sym, ◌∙◌, ap, subst, add-one, arith, inl, inr}
 use Rattle.std.specs.List.{slice_get}
 use Rattle.std.specs.Prelude.{nat_lt, bytes_eq, slice_index, slice_index_or, ◌==◌, if◌then◌else◌}
 use Rattle.std.proofs.lemmas.Bool.{cases_lt, lt-ltb, ltb-true}
 use Rattle.std.proofs.lemmas.List.{get_or-take, length-take}
-use Rattle.std.proofs.Math.Seq.{drop-cons}
+use Rattle.std.proofs.Math.ListN.{get_or-append}
+use Rattle.std.proofs.Math.Seq.{drop-cons, get_or-append_seam}
 use Rattle.std.proofs.lemmas.Slice.Eq.{bytes_eq-Decides}
 use Rattle.bp_layout.specs.Members.{Has}
 use Rattle.bp_layout.specs.WordPaths.{WordPath}
@@ -33,13 +34,31 @@ has-item [] k run low is = absurd (omega (arith, low))
 has-item (first ∷ runs) zero run low is = inl (sym is)
 has-item (first ∷ runs) (suc k) run low is = inr (has-item runs k run (omega (arith, low)) is)
 
-pub item-same : {A : Type 0} (items : List A) (k : ℕ) (one two : A) → k < length items → one ≡ slice_index_or items k one → two ≡ slice_index_or items k two → one ≡ two
-item-same [] k one two low is also = absurd (omega (arith, low))
-item-same (first ∷ items) zero one two low is also = is ∙ sym also
-item-same (first ∷ items) (suc k) one two low is also = item-same items k one two (omega (arith, low)) is also
+-- how many ways there are to the leaves of the first runs
+pub leaves-take : (runs : List Run) (k : ℕ) (run : Run) → k < length runs → run ≡ slice_index_or runs k run → leaves_of (take (k + 1) runs) ≡ leaves_of (take k runs) + run_leaves run
+leaves-take runs k run low is = rw (add-one k) (next runs k low is)
+  where
+    next : (rs : List Run) (n : ℕ) → n < length rs → run ≡ slice_index_or rs n run → leaves_of (take (suc n) rs) ≡ leaves_of (take n rs) + run_leaves run
+    next [] n low is = absurd (omega (arith, low))
+    next (first ∷ rs) zero low is = let same : run_leaves run ≡ run_leaves first = ap (λ (r : Run). run_leaves r) is in omega (arith, same)
+    next (first ∷ rs) (suc n) low is = omega (arith, next rs n (omega (arith, low)) is)
 
-pub run-leaves-few : (run : Run) → IsRun run → run_leaves run ≤ 257
-run-leaves-few run is = omega (arith, is.few, is.some)
+pub leaves-part : (runs : List Run) (k : ℕ) → leaves_of (take k runs) ≤ leaves_of runs
+leaves-part runs zero = omega arith
+leaves-part [] (suc k) = omega arith
+leaves-part (run ∷ runs) (suc k) = omega (arith, leaves-part runs k)
+
+-- the ends of the first runs, and that of one run more
+pub ends-next : (runs : List Run) (ends : List ℕ) (end count : ℕ) → length ends ≡ count → ((k : ℕ) → k < count → slice_index ends k ≡ leaves_of (take (k + 1) runs)) → end ≡ leaves_of (take (count + 1) runs) →
+    (k : ℕ) → k < count + 1 → slice_index (ends ++ end ∷ []) k ≡ leaves_of (take (k + 1) runs)
+ends-next runs ends end count each right last k low = at (cases_lt k count)
+  where
+    at : (k < count) ⊎ (count ≤ k) → slice_index (ends ++ end ∷ []) k ≡ leaves_of (take (k + 1) runs)
+    at (inl here) = get_or-append ends (end ∷ []) 0 k (omega (arith, here, each)) ∙ right k here
+    at (inr past) =
+        let behind : k ≡ length ends = omega (arith, past, low, each) in
+        let newest : count ≡ k = omega (arith, past, low) in
+        ap (λ n. slice_index (ends ++ end ∷ []) n) behind ∙ get_or-append_seam ends end [] 0 ∙ last ∙ ap (λ n. leaves_of (take (n + 1) runs)) newest
 
 -- what holds of one run alone holds of each
 pub one_run : {runs : List Run} → (P : Run → Type 0) (run : Run) → P run → runs ≡ run ∷ [] → (r : Run) → Has runs r → P r
@@ -113,6 +132,21 @@ leaf-behind all first runs paths i run leaf past is = record {
   patch = λ slot old. let test : nat_lt i (run_leaves first) ≡ false = not-less i (run_leaves first) past in rw test (is.patch slot old);
   live = λ trees depth. let test : nat_lt i (run_leaves first) ≡ false = not-less i (run_leaves first) past in rw test (is.live trees depth);
 }
+
+-- of one run, given how many ways there are to the leaves of the runs before it
+pub leaf-at : (all runs : List Run) (paths : List WordPath) (k i first : ℕ) (run : Run) → k < length runs → run ≡ slice_index_or runs k run → first ≡ leaves_of (take k runs) → first ≤ i → i < first + run_leaves run →
+    IsLeaf all runs paths i run (i - first)
+leaf-at all [] paths k i first run low is before past here = absurd (omega (arith, low))
+leaf-at all (head ∷ runs) paths zero i first run low is before past here =
+    let same : run_leaves run ≡ run_leaves head = ap (λ (r : Run). run_leaves r) is in
+    let whole : i ≡ i - first = omega (arith, before) in
+    subst (λ n. IsLeaf all (head ∷ runs) paths i run n) whole
+    (subst (λ (r : Run). IsLeaf all (head ∷ runs) paths i r i) (sym is) (leaf-here all head runs paths i (omega (arith, here, before, same))))
+leaf-at all (head ∷ runs) paths (suc k) i first run low is before past here =
+    let rest : i - run_leaves head - leaves_of (take k runs) ≡ i - first = omega (arith, before) in
+    leaf-behind all head runs paths i run (i - first) (omega (arith, before, past))
+    (subst (λ n. IsLeaf all runs paths (i - run_leaves head) run n) rest
+    (leaf-at all runs paths k (i - run_leaves head) (leaves_of (take k runs)) run (omega (arith, low)) is refl (omega (arith, before, past)) (omega (arith, before, past, here))))
 
 -- each way that is none to a word leads to a leaf
 pub record HasLeaf (all runs : List Run) (paths : List WordPath) (i : ℕ) : Type 0 where

@@ -1,8 +1,10 @@
 -- How much of a path some ways share.
-use Rattle.std.proofs.Common.{◌≡◌, ◌≢◌, ◌⊎◌, ℕ, zero, suc, ◌+◌, ◌-◌, ◌*◌, ◌/◌, ◌%◌, ◌^◌, ◌<◌, ◌≤◌, List, [], ◌∷◌, ◌++◌, length, min, max, refl, sym, ◌∙◌, ap, subst, arith, inl, inr, le_trans}
+use Rattle.std.proofs.Common.{◌≡◌, ◌≢◌, ◌⊎◌, ℕ, suc, ◌+◌, ◌-◌, ◌*◌, ◌/◌, ◌%◌, ◌^◌, ◌<◌, ◌≤◌, List, [], ◌∷◌, ◌++◌, length, min, max, refl, sym, ◌∙◌, ap, subst, arith, inl, inr, le_trans}
 use Rattle.std.specs.List.{slice_index}
-use Rattle.std.specs.Prelude.{◌↔◌, slice_index_or}
+use Rattle.std.specs.Prelude.{◌↔◌}
 use Rattle.std.proofs.Math.Nat.{div-mul-le_self, le-div_iff_mul-le, mul-div_left, one-le-pow}
+use Rattle.std.proofs.Math.ListN.{get_or-append}
+use Rattle.std.proofs.Math.Seq.{get_or-append_seam}
 use Rattle.std.proofs.lemmas.Bool.{cases_eq, cases_lt}
 use Rattle.std.proofs.lemmas.List.{length-append}
 use Rattle.bp_layout.specs.WordPaths.{WordPath, digits}
@@ -14,8 +16,7 @@ use Rattle.bp_cow.specs.declared.touched.Run.{Run}
 use Rattle.bp_cow.specs.declared.touched.Touched.{Touched}
 use Rattle.bp_cow.specs.Job.{ways}
 use Rattle.bp_cow.specs.Touched.{IsRun, IsTouched, job_of, path_of, run_leaves, run_way, way_of, word_paths}
-use Rattle.bp_cow.specs.Ways.{AreShared, IsFoundWay, IsShared}
-use Rattle.bp_cow.specs.declared.ways.FoundWay.{FoundWay}
+use Rattle.bp_cow.specs.Ways.{AreFronts, IsShared}
 use Rattle.bp_cow.proofs.CoverLaws.{run-slots}
 use Rattle.bp_cow.proofs.RunLaws.{length-run_path, length-run_way, slot-run_way}
 use Rattle.bp_cow.proofs.RunsLaws.{length-above, slot-above, way-behind, way-leaf, way-short, ways-by}
@@ -351,36 +352,20 @@ way-slots touched is i d here = ways-by touched (λ p. d < length p → slice_in
     (λ k few inside. subst (λ n. n < 512) (sym (slot-above (path_of (word_paths touched) k) d inside)) (is.slots k d few (omega (arith, inside, length-above (path_of (word_paths touched) k)))))
     i here
 
--- ---- a list of what was found of the first ways
-
-any-past : {A : Type 0} (items : List A) (i : ℕ) (item any : A) → i < length items → slice_index_or items i any ≡ slice_index_or items i item
-any-past [] i item any low = absurd (omega (arith, low))
-any-past (one ∷ items) zero item any low = refl
-any-past (one ∷ items) (suc i) item any low = any-past items i item any (omega (arith, low))
-
-append-before : {A : Type 0} (items : List A) (final : A) (i : ℕ) (item : A) → i < length items → item ≡ slice_index_or (items ++ final ∷ []) i item → item ≡ slice_index_or items i item
-append-before [] final i item low is = absurd (omega (arith, low))
-append-before (one ∷ items) final zero item low is = is
-append-before (one ∷ items) final (suc i) item low is = append-before items final i item (omega (arith, low)) is
-
-append-end : {A : Type 0} (items : List A) (final item : A) → item ≡ slice_index_or (items ++ final ∷ []) (length items) item → item ≡ final
-append-end [] final item is = is
-append-end (one ∷ items) final item is = append-end items final item is
-
--- an item of a list, whatever stands for one past its end
-pub index-own : {A : Type 0} (items other : List A) (i : ℕ) (item any : A) → i < length items → other ≡ items → item ≡ slice_index_or other i any → item ≡ slice_index_or items i item
-index-own items other i item any low same is = is ∙ ap (λ its. slice_index_or its i any) same ∙ any-past items i item any low
+-- ---- a list of how much the first ways share
 
 -- with the next way's behind it, it is right of one way more
-pub listed-next : (touched : Touched) (found : List FoundWay) (last : FoundWay) → AreShared touched found → IsFoundWay touched (length found) last → AreShared touched (found ++ last ∷ [])
-listed-next touched found last right is i way low at = go (cases_lt i (length found))
+pub listed-next : (touched : Touched) (shared : List ℕ) (fronts : ℕ) → AreFronts touched shared
+    → ((d : ℕ) → (d < fronts) ↔ IsShared (job_of touched).way (length shared) ((job_of touched).way (length shared)) d)
+    → AreFronts touched (shared ++ fronts ∷ [])
+listed-next touched shared fronts right last i d low = at (cases_lt i (length shared))
   where
-    go : (i < length found) ⊎ (length found ≤ i) → IsFoundWay touched i way
-    go (inl here) = right i way here (append-before found last i way here at)
-    go (inr past) =
-        let end : length found ≡ i = omega (arith, past, low, length-append found (last ∷ [])) in
-        subst (λ k. IsFoundWay touched k way) end
-        (subst (IsFoundWay touched (length found)) (sym (append-end found last way (subst (λ k. way ≡ slice_index_or (found ++ last ∷ []) k way) (sym end) at))) is)
+    at : (i < length shared) ⊎ (length shared ≤ i) → (d < slice_index (shared ++ fronts ∷ []) i) ↔ IsShared (job_of touched).way i ((job_of touched).way i) d
+    at (inl here) = subst (λ n. (d < n) ↔ IsShared (job_of touched).way i ((job_of touched).way i) d) (sym (get_or-append shared (fronts ∷ []) 0 i here)) (right i d here)
+    at (inr past) =
+        let end : length shared ≡ i = omega (arith, past, low, length-append shared (fronts ∷ [])) in
+        subst (λ k. (d < slice_index (shared ++ fronts ∷ []) k) ↔ IsShared (job_of touched).way k ((job_of touched).way k) d) end
+        (subst (λ n. (d < n) ↔ IsShared (job_of touched).way (length shared) ((job_of touched).way (length shared)) d) (sym (get_or-append_seam shared fronts [] 0)) (last d))
 
 -- no way shares more fronts than it has
 pub shared-small : (touched : Touched) → IsTouched touched → (i fronts : ℕ) → i < ways (job_of touched)

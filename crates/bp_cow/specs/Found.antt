@@ -20,7 +20,7 @@ pub record IsCoverIn (image : Image) (touched : Touched) (cover : FoundCover) : 
   pub at : IsAt image touched cover
   pub has : CoverHas image touched cover.len
 
--- the cover, and how many fronts of the first ways begin an earlier one
+-- the cover, and what was found of the ways
 pub record AreWaysIn (image : Image) (touched : Touched) (found : FoundWays) : Type 0 where
   pub cover : IsCoverIn image touched found.cover
-  pub shared : AreShared touched found.shared.items
+  pub shared : AreShared touched found.shared

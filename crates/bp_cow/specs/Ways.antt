@@ -1,5 +1,5 @@
 -- A way as code holds it, and how much of it earlier ways share.
-use Rattle.std.specs.Prelude.{◌≡◌, ℕ, ◌<◌, ◌≤◌, ◌↔◌, List, IfSome, None, length, slice_index_or}
+use Rattle.std.specs.Prelude.{◌≡◌, ℕ, ◌+◌, ◌<◌, ◌≤◌, ◌↔◌, List, IfSome, None, length, slice_index, take}
 use Rattle.bp_layout.specs.WordPaths.{WordPath}
 use Rattle.bp_shapes.specs.Trail.{trail_of}
 use Rattle.bp_cow.specs.Job.{ways}
@@ -7,8 +7,7 @@ use Rattle.bp_cow.specs.Leaves.{IsLeaf}
 use Rattle.bp_cow.specs.Touched.{job_of, leaves_of, word_paths}
 use Rattle.bp_cow.specs.declared.touched.Run.{Run}
 use Rattle.bp_cow.specs.declared.touched.Touched.{Touched}
-use Rattle.bp_cow.specs.declared.ways.FoundWay.{FoundWay}
-use Rattle.bp_cow.specs.declared.ways.LeafNumber.{LeafNumber}
+use Rattle.bp_cow.specs.declared.ways.Shared.{Shared}
 use Rattle.bp_cow.specs.declared.ways.Way.{Way}
 
 -- one of the first ways, so many, begins with the first slots of a path
@@ -19,22 +18,20 @@ pub record IsShared (way : ℕ → WordPath) (count : ℕ) (path : WordPath) (de
   pub there : depth ≤ length (way which)
   pub same : trail_of path depth ≡ trail_of (way which) depth
 
--- a way leads to the leaf with these numbers
-pub record IsLeafAt (touched : Touched) (i : ℕ) (at : LeafNumber) : Type 0 where
-  pub here : at.run < length touched.runs.now
-  pub leaf : (run : Run) → run ≡ slice_index_or touched.runs.now at.run run
-      → IsLeaf touched.runs.now touched.runs.now (word_paths touched) i run at.index
+-- how many fronts of each of the first ways begin an earlier way
+abbrev pub AreFronts : Touched → List ℕ → Type 0
+AreFronts touched fronts =
+    (i d : ℕ) → i < length fronts → (d < slice_index fronts i) ↔ IsShared (job_of touched).way i ((job_of touched).way i) d
 
--- what was found of a way: how many of its fronts begin an earlier one, and the leaf to which it leads
-pub record IsFoundWay (touched : Touched) (i : ℕ) (found : FoundWay) : Type 0 where
-  pub shared : (d : ℕ) → (d < found.shared) ↔ IsShared (job_of touched).way i ((job_of touched).way i) d
-  pub leaf : IfSome found.leaf (IsLeafAt touched i)
-  pub none : found.leaf ≡ None → leaves_of touched.runs.now ≤ i
+-- of each run how many ways there are to its leaves and to those of the runs before it
+pub record AreEnds (runs : List Run) (ends : List ℕ) : Type 0 where
+  pub each : length ends ≡ length runs
+  pub right : (k : ℕ) → k < length runs → slice_index ends k ≡ leaves_of (take (k + 1) runs)
 
--- the same of each of the first ways
-abbrev pub AreShared : Touched → List FoundWay → Type 0
-AreShared touched found =
-    (i : ℕ) (way : FoundWay) → i < length found → way ≡ slice_index_or found i way → IsFoundWay touched i way
+-- what was found of the ways is right
+pub record AreShared (touched : Touched) (shared : Shared) : Type 0 where
+  pub fronts : AreFronts touched shared.fronts.items
+  pub ends : AreEnds touched.runs.now shared.ends.items
 
 -- A way of touched words, with its length, the leaf to which it leads, and how many of its fronts begin an earlier way.
 pub record IsWay (touched : Touched) (way : Way) : Type 0 where

@@ -39,7 +39,7 @@ fn turn_over<R: Region>(
     ghost plan: { Plan }
     requires touched { IsTouched touched.now }
     requires can { CanTurn plan touched.now from place blocks.old (R.memory region.old) }
-    requires shared { AreShared touched.now shared.now.items }
+    requires shared { AreShared touched.now shared.now }
     ensures done { IsTurnedOver plan touched.now from place blocks.old blocks.new
         (R.memory region.old) (R.memory region.new) }
     ensures others { (w : ℕ) → w ≢ place → plan.free (w / block_words) ≡ false →
@@ -65,7 +65,7 @@ fn commit_copies<R: Region>(
     requires can { CanTurn plan touched.now from place parts.old.blocks (R.memory parts.old.region) }
     requires fits { block_count plan.old ≤ length parts.old.blocks }
     requires kept { TellsKept plan.kept plan.old parts.old.frozen }
-    requires shared { AreShared touched.now shared.now.items }
+    requires shared { AreShared touched.now shared.now }
     ensures done { (taken : Set) × IsTurnedOver plan touched.now from place parts.old.blocks taken
         (R.memory parts.old.region) (R.memory parts.new.region) }
     ensures exact { IsExactSet (current_words (R.memory parts.new.region))
@@ -123,7 +123,7 @@ pub fn commit_at<R: Region>(parts: &mut Parts<R>, touched: &Touched<'_>, found: 
     ensures frozen { parts.new.frozen ≡ parts.old.frozen }
 {
     let cover = found.cover;
-    if touched.way_len(0) < cover.len {
+    if touched.way_len(0, &found.shared) < cover.len {
         commit_one(&mut parts.region, touched, cover.place);
     } else {
         commit_copies(parts, touched, &found.shared, cover.len, cover.place);

@@ -118,7 +118,7 @@ pub struct FoundCover {
 pub struct FoundWays {
     /// Their cover.
     pub cover: FoundCover,
-    /// What was found of the first ways.
+    /// What was found of the ways themselves.
     pub shared: Shared,
 }
 

@@ -118,7 +118,7 @@ pub(crate) fn give_back<R: Region>(
     requires top { top ≡ block_on plan.old (front (job_of touched.now) 0 from) }
     requires fits { block_count plan.old ≤ length blocks.old }
     requires kept { TellsKept plan.kept plan.old frozen.now }
-    requires shared { AreShared touched.now shared.now.items }
+    requires shared { AreShared touched.now shared.now }
     ensures back { IsBack (planned plan touched.now) from (ways (job_of touched.now)) from plan.free_after (has blocks.new) }
     ensures size { length blocks.new ≡ length blocks.old }
 {

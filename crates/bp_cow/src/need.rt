@@ -37,11 +37,11 @@ fn turned_for(touched: &Touched<'_>, way: &Way<'_>, from: usize) -> u32
 /// How many blocks a commit of the touched words copies, and takes, given what was found of their ways.
 pub fn copies_below(touched: &Touched<'_>, found: &FoundWays) -> u32
     requires touched { IsTouched touched.now }
-    requires shared { AreShared touched.now found.now.shared.items }
+    requires shared { AreShared touched.now found.now.shared }
     ensures { result ≡ copies_at (job_of touched.now) found.now.cover.len }
 {
     let from = found.cover.len;
-    if touched.way_len(0) < from {
+    if touched.way_len(0, &found.shared) < from {
         return 0;
     }
     let ways = touched.ways();

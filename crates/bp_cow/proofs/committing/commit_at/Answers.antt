@@ -19,6 +19,10 @@ pub way_len-requires-clause-i : goal.way_len-requires-clause-i
 way_len-requires-clause-i g c =
     c.requires.1.0.can.shape.some
 
+pub way_len-requires-clause-shared : goal.way_len-requires-clause-shared
+way_len-requires-clause-shared g c =
+    c.requires.1.1.0.shared
+
 pub commit_one-requires-clause-touched : goal.commit_one-requires-clause-touched
 commit_one-requires-clause-touched g c =
     c.requires.1.0.can.shape

@@ -1,5 +1,5 @@
 -- A write across the size of a file, by the number of its inode: what its parts ask and give.
-use Rattle.std.proofs.Common.{◌≡◌, ℕ, zero, suc, ◌+◌, ◌-◌, ◌*◌, ◌/◌, ◌<◌, ◌≤◌, Bool, List, ◌++◌, [], ◌∷◌, length, take, drop, slice_index, refl, sym, ◌∙◌, ap, subst, subst₂, inl, inr, arith}
+use Rattle.std.proofs.Common.{◌≡◌, ℕ, zero, suc, ◌+◌, ◌-◌, ◌*◌, ◌/◌, ◌<◌, ◌≤◌, Bool, List, ◌++◌, [], ◌∷◌, length, drop, slice_index, refl, sym, ◌∙◌, ap, subst, subst₂, inl, inr, arith}
 use Rattle.std.proofs.lemmas.List.{append-nil, length-append}
 use Rattle.arrayvec.specs.ArrayVec.{ArrayVec}
 use Rattle.bp_free.specs.Set.{Set, members}
@@ -16,17 +16,21 @@ use Rattle.bp_shapes.specs.Sets.{AreExact}
 use Rattle.bp_commit.specs.Performs.{PerformsThawed, room_for}
 use Rattle.bp_cow.specs.Commit.{CanCommitIn, CommitsTouched}
 use Rattle.bp_cow.specs.Cover.{LeadsInside, copied_count}
-use Rattle.bp_cow.specs.Touched.{IsTouched, NoneBegins, all_paths}
+use Rattle.bp_cow.specs.Found.{AreWaysIn}
+use Rattle.bp_cow.specs.Job.{copies_at}
+use Rattle.bp_cow.specs.Touched.{IsTouched, NoneBegins, all_paths, job_of}
+use Rattle.bp_cow.specs.declared.covering.FoundWays.{FoundWays}
 use Rattle.bp_cow.specs.declared.touched.Touched.{Touched}
 use Rattle.pm_region.specs.Memory.{Memory, current_words, room_in}
 use Rattle.pm_region.proofs.MemoryLaws.{length-current_words, room_in-piece}
 use Rattle.bp_calls.specs.CanWrite.{CanWriteInto}
 use Rattle.bp_calls.specs.Space.{HasRoomThawed}
-use Rattle.bp_calls.specs.TouchedAcross.{IsRunAcross, IsSizeWord, TouchesAcross, WritesAcross}
-use Rattle.bp_cow.specs.declared.touched.Run.{Run}
+use Rattle.bp_calls.specs.TouchedAcross.{IsPlanFor, IsSizeWord, WritesAcross}
+use Rattle.bp_calls.specs.declared.writing.across.Plan.{Plan}
+use Rattle.bp_cow.proofs.CoverOf.{count_is}
 use Rattle.bp_calls.specs.WritesFile.{WritesFile}
 use Rattle.bp_calls.proofs.AcrossDone.{across_exact, across_performs}
-use Rattle.bp_calls.proofs.AcrossMiddle.{across_can, middle_count, middle_formed, middle_loose}
+use Rattle.bp_calls.proofs.AcrossMiddle.{across_can, middle_count, middle_formed, middle_loose, middle_ways}
 use Rattle.bp_calls.proofs.SizesWith.{sizes_with}
 use Rattle.bp_calls.proofs.AcrossTouched.{across_apart, across_few, across_inside, across_needs, across_shape, across_words}
 use Rattle.bp_append.proofs.EndWays.{loose_end}
@@ -46,13 +50,16 @@ roomy : (made behind copied needed words room left : ℕ) → room ≤ left + (2
 roomy made behind copied needed words room left a b c d e = omega (arith, a, b, c, d, e)
 
 -- the word of the size, with the path that was read
-pub sized_word : (image : Image) (i end : ℕ) (path : ArrayVec ℕ) → path.items ≡ inode_path (height_of (root_of image 0)) i 2 → {words : List (ArrayVec ℕ × ℕ)} → words ≡ (path, end) ∷ [] → IsSizeWord image i end words
-sized_word image i end path is words = subst (λ (ws : List (ArrayVec ℕ × ℕ)). IsSizeWord image i end ws) (sym words) (record { path = ap (λ (p : List ℕ). p ∷ []) is; value = refl })
+pub sized_word : (image : Image) (i end : ℕ) (path : ArrayVec ℕ) → path.items ≡ inode_path (height_of (root_of image 0)) i 2 → IsSizeWord image i end ((path, end) ∷ [])
+sized_word image i end path is = record { path = ap (λ (p : List ℕ). p ∷ []) is; value = refl }
 
--- a run and a word make what is touched
-pub touches_across : (image : Image) (i off end : ℕ) (bytes : List ℕ) (touched : Touched) (run : Run) → touched.runs.now ≡ run ∷ [] → IsRunAcross image i off end bytes run → IsSizeWord image i end touched.words.now →
-    touched.trees.now ≡ [] → TouchesAcross image i off end bytes touched
-touches_across image i off end bytes touched run one is sized none = record { run = run; one = one; is = is; sized = sized.path; value = sized.value; no_trees = none }
+-- a plan has the inode, the offset and the bytes of its write
+module _ (image : Image) (i off : ℕ) (bytes : List ℕ) (plan : Plan) (is : IsPlanFor image i off bytes plan) where
+  pub of_plan : (P : ℕ → ℕ → List ℕ → Type 0) → P i off bytes → P plan.inode plan.off plan.bytes.now
+  of_plan P here = subst (λ j. P j plan.off plan.bytes.now) (sym is.inode) (subst (λ o. P i o plan.bytes.now) (sym is.from) (subst (P i off) (sym is.bytes_are) here))
+
+  pub from_plan : (P : ℕ → ℕ → List ℕ → Type 0) → P plan.inode plan.off plan.bytes.now → P i off bytes
+  from_plan P here = subst (P i off) is.bytes_are (subst (λ o. P i o plan.bytes.now) is.from (subst (λ j. P j plan.off plan.bytes.now) is.inode here))
 
 -- the nodes that are made, by the root word and the size that were read
 abbrev made_for : Image → ℕ → ℕ → ℕ → ℕ
@@ -65,15 +72,17 @@ module _ {kept : ℕ → Bool} (old : Memory) (blocks inodes : Set) (off : ℕ) 
   not_inodes : (P : Type 0) → WritesAcross kept old blocks inodes 0 off bytes touched → P
   not_inodes P across = absurd (omega (arith, across.can.file))
 
-  -- the bytes are split at the size
-  pub splits_at : (i size : ℕ) (below : List ℕ) → CanWriteInto kept (current_words old) blocks inodes i off bytes → off < size_of (current_words old) i → size_of (current_words old) i < off + length bytes → size ≡ size_of (current_words old) i →
-      below ≡ take (size - off) bytes → TouchesAcross (current_words old) i off (off + length bytes) below touched → WritesAcross kept old blocks inodes i off bytes touched
-  splits_at i size below can low past is split touches = record {
-    can = can;
-    below = low;
-    past = past;
-    touches = subst (λ bs. TouchesAcross (current_words old) i off (off + length bytes) bs touched) (split ∙ ap (λ s. take (s - off) bytes) is) touches;
-  }
+  -- what is touched for a planned write
+  pub planned_across : (i : ℕ) (plan : Plan) → IsPlanFor (current_words old) i off bytes plan → CanWriteInto kept (current_words old) blocks inodes i off bytes → off < size_of (current_words old) i → size_of (current_words old) i < off + length bytes →
+      touched.words.now ≡ plan.sized ∷ [] → touched.runs.now ≡ plan.run ∷ [] → touched.trees.now ≡ [] → WritesAcross kept old blocks inodes i off bytes touched
+  planned_across i plan is can low past words runs none =
+      let sized : IsSizeWord (current_words old) i (off + length bytes) touched.words.now = subst (λ (ws : List (ArrayVec ℕ × ℕ)). IsSizeWord (current_words old) i (off + length bytes) ws) (sym words) is.sized in
+      record {
+        can = can;
+        below = low;
+        past = past;
+        touches = record { run = plan.run; one = runs; is = is.run; sized = sized.path; value = sized.value; no_trees = none };
+      }
 
   pub at_shape : (i : ℕ) → WritesAcross kept old blocks inodes i off bytes touched → IsTouched touched
   at_shape zero across = not_inodes _ across
@@ -92,6 +101,11 @@ module _ {kept : ℕ → Bool} (old : Memory) (blocks inodes : Set) (off : ℕ) 
   at_few zero root size across = not_inodes _ across
   at_few (suc n) root size across = λ one two.
       omega (arith, made_is (current_words old) (off + length bytes) (suc n) root size one two, across_few old blocks inodes n off bytes touched across (current_words old))
+
+  -- so many are copied, by what was found of the ways
+  pub at_copied : (i copied : ℕ) (found : FoundWays) → WritesAcross kept old blocks inodes i off bytes touched → AreWaysIn (current_words old) touched found → copied ≡ copies_at (job_of touched) found.cover.len →
+      copied ≡ copied_count (current_words old) touched
+  at_copied i copied found across ways counted = counted ∙ count_is touched (at_shape i across) (current_words old) (at_apart i across) found.cover.len ways.cover.has
 
   -- so many blocks it takes
   pub at_needs : (i root size made copied : ℕ) → WritesAcross kept old blocks inodes i off bytes touched → root ≡ root_of (current_words old) i → size ≡ size_of (current_words old) i →
@@ -158,6 +172,13 @@ module _ {kept : ℕ → Bool} (old : Memory) (blocks inodes : Set) (off : ℕ) 
               roomy _ _ _ _ _ _ _ left (behind_whole (size_of (current_words old) (suc n)) (size_of (current_words old) (suc n)) (off + length bytes) max_height) (omega (arith, needs, count))
               (across_words old blocks inodes n off bytes touched across) has;
         }
+
+    -- what was found of the ways holds behind it
+    pub at_ways : (i : ℕ) → WritesAcross kept old blocks inodes i off bytes touched →
+        PreparesWith kept old middle (members blocks) (members after) i (size_of (current_words old) i) (off + length bytes) (drop (size_of (current_words old) i - off) bytes) →
+        (found : FoundWays) → AreWaysIn (current_words old) touched found → AreWaysIn (current_words middle) touched found
+    at_ways zero across = not_inodes _ across
+    at_ways (suc n) across = λ prepared. middle_ways old middle blocks inodes after n off bytes touched across prepared
 
     module _ (new : Memory) (last : Set) where
       pub at_done : (i : ℕ) → WritesAcross kept old blocks inodes i off bytes touched →

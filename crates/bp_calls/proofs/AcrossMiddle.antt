@@ -1,5 +1,6 @@
 -- Behind the preparation of a write across the size of a file, what is touched can be committed: the sizes that count are those that the trees have, and for the file the end of the bytes.
 use Rattle.std.proofs.Common.{◌≡◌, ◌≢◌, ◌⊎◌, ℕ, zero, suc, ◌+◌, ◌-◌, ◌*◌, ◌/◌, ◌%◌, ◌<◌, ◌≤◌, Bool, false, List, [], ◌∷◌, length, drop, slice_index, refl, sym, ◌∙◌, ap, subst, suc-ne-zero, arith, true, inl, inr}
+use Rattle.std.proofs.lemmas.Bool.{cases_eq}
 use Rattle.bp_free.specs.Set.{Set, has, members}
 use Rattle.bp_layout.specs.Free.{AreUnheld}
 use Rattle.bp_layout.specs.Inode.{root_of, size_of, inode_count}
@@ -9,10 +10,10 @@ use Rattle.bp_layout.specs.Reached.IsReached.{inode_file}
 use Rattle.bp_layout.specs.WellFormed.{IsWellFormed}
 use Rattle.bp_layout.specs.WordPaths.{WordPath, address, digits, inode_path}
 use Rattle.bp_layout.specs.Need.Change.{writes}
-use Rattle.bp_layout.specs.Tree.{IsLivePointer, IsLiveWord, node, word_at}
+use Rattle.bp_layout.specs.Tree.{IsLivePointer, IsLiveWord, node}
 use Rattle.bp_layout.proofs.Addresses.{address_from-digits}
 use Rattle.bp_layout.proofs.ThawLaws.{loose-on}
-use Rattle.bp_layout.proofs.TreeLaws.{live_above, live_content, live_pointer_word}
+use Rattle.bp_layout.proofs.TreeLaws.{live_above, live_content, live_pointer_word, word_at-zero}
 use Rattle.bp_tree.proofs.LooseWays.{loose_word}
 use Rattle.bp_cow.specs.Commit.{HasLooseCover}
 use Rattle.bp_calls.proofs.WriteTargets.{across_targets}
@@ -22,16 +23,20 @@ use Rattle.bp_changes.proofs.ReachedOn.{reached_on}
 use Rattle.bp_changes.proofs.SameMeaning as meaning
 use Rattle.bp_append.specs.Prepared.{PreparesWith}
 use Rattle.bp_tree.proofs.Digits.{length-digits}
-use Rattle.bp_shapes.specs.Forest.{tree_trail, IsForest, IsTreePointer}
+use Rattle.bp_shapes.specs.Forest.{along, tree_trail, IsForest, IsTreePointer}
 use Rattle.bp_shapes.specs.Sets.{AreExactFor}
-use Rattle.bp_shapes.specs.Trail.{Trail, trail_of}
+use Rattle.bp_shapes.specs.Trail.{Trail, block_on, trail_of}
+use Rattle.bp_shapes.proofs.ForestLaws.{word-tree}
 use Rattle.bp_shapes.proofs.FreeSets.{content_fronts, content_no_pointer}
 use Rattle.bp_shapes.proofs.PathTrails.{length-trail_of}
 use Rattle.bp_cow.specs.CanCommit.{CanCommit, IsRunIn, IsTreeIn}
 use Rattle.bp_cow.specs.Cover.{commit_cover, copied_count}
+use Rattle.bp_cow.specs.Found.{AreWaysIn}
 use Rattle.bp_cow.specs.Touched.{path_of, run_path, word_paths}
+use Rattle.bp_cow.specs.declared.covering.FoundWays.{FoundWays}
 use Rattle.bp_cow.specs.declared.touched.Run.{Run}
 use Rattle.bp_cow.specs.declared.touched.Touched.{Touched}
+use Rattle.bp_cow.proofs.CopiesNeed.{has-word}
 use Rattle.bp_cow.proofs.LeafCover.{IsSizedRun, leaf_cover, leaf_count, leaf_path}
 use Rattle.bp_cow.proofs.RunLaws.{length-run_path}
 use Rattle.bp_cow.proofs.RunWrites.{IsFileRun, digits_trail, root_path_trail}
@@ -42,6 +47,11 @@ use Rattle.bp_calls.proofs.SizesWith.{size_with_here, size_with_other, sizes_wit
 use Rattle.bp_calls.proofs.PreparedSets.{live_before, prepared_exact, prepared_forest, prepared_sets, sizes_low, still_free}
 use Rattle.bp_layout.specs.Thaw.{IsLoose, targets, thawed}
 use Rattle.bp_cow.proofs.CallerLaws.{no_trees}
+use Rattle.bp_calls.proofs.WaysStay.{ways_stay_on}
+
+-- the trail without its last slot
+without_last : (x y : ℕ) (p q : Trail) → x ∷ p ≡ y ∷ q → p ≡ q
+without_last x y p q e = cc
 
 module _ {kept : ℕ → Bool} (old middle : Memory) (blocks inodes after : Set) (n off : ℕ) (bytes : List ℕ) (touched : Touched) (across : WritesAcross kept old blocks inodes (suc n) off bytes touched)
     (prepared : PreparesWith kept old middle (members blocks) (members after) (suc n) (size_of (current_words old) (suc n)) (off + length bytes) (drop (size_of (current_words old) (suc n) - off) bytes)) where
@@ -232,6 +242,53 @@ module _ {kept : ℕ → Bool} (old middle : Memory) (blocks inodes after : Set)
       (ap height_of (sym root_stays)) in_file
       ∙ sym (leaf_count (height_of (root_of image 0)) (suc n) touched across.touches.run (across_run old blocks inodes n off bytes touched across) (across_shape old blocks inodes n off bytes touched across) image wf refl in_image)
 
+  -- ---- the pointers of the inode file stay
+
+  inode_node : (d k : ℕ) → IsLivePointer (root_of image 0) (size_of image 0) d k → node mid (root_of mid 0) d k ≡ node image (root_of image 0) d k
+  inode_node zero k live = ap block_of (word_at-zero mid (root_of mid 0) k ∙ root_stays ∙ sym (word_at-zero image (root_of image 0) k))
+  inode_node (suc d) k live =
+      ap block_of (prepared.ready.others 0 d k inode_file (λ e. suc-ne-zero n (sym e)) (live_pointer_word _ _ (suc d) k live) (λ _ last _. omega (arith, last, live.height)))
+
+  -- so do all that begin a path to one of them
+  block_stays : (path : WordPath) (count k : ℕ) → trail_of path count ≡ along [] count k → IsLivePointer (root_of image 0) (size_of image 0) count k → block_on mid (trail_of path count) ≡ block_on image (trail_of path count)
+  block_stays path count k is live =
+      ap (block_on mid) is ∙ ap block_of (word-tree mid 0 count k) ∙ inode_node count k live ∙ sym (ap block_of (word-tree image 0 count k)) ∙ sym (ap (block_on image) is)
+
+  blocks_stay : (path : WordPath) (count k : ℕ) → trail_of path count ≡ along [] count k → IsLivePointer (root_of image 0) (size_of image 0) count k → (d : ℕ) → d ≤ count → block_on mid (trail_of path d) ≡ block_on image (trail_of path d)
+  blocks_stay path zero k is live zero low = block_stays path zero k is live
+  blocks_stay path zero k is live (suc d) low = absurd (omega (arith, low))
+  blocks_stay path (suc count) k is live d low = go (cases_eq d (suc count)) (λ less. blocks_stay path count (k / 512) above (live_above _ _ count k (live_pointer_word _ _ (suc count) k live)) d less)
+    where
+      above : trail_of path count ≡ along [] count (k / 512)
+      above = without_last _ _ _ _ is
+
+      go : (d ≡ suc count) ⊎ (d ≡ suc count → ⊥) → (d ≤ count → block_on mid (trail_of path d) ≡ block_on image (trail_of path d)) → block_on mid (trail_of path d) ≡ block_on image (trail_of path d)
+      go (inl e) rest = subst (λ x. block_on mid (trail_of path x) ≡ block_on image (trail_of path x)) (sym e) (block_stays path (suc count) k is live)
+      go (inr apart) rest = rest (omega (arith, low, apart))
+
+  -- and those on the way to the size
+  size_blocks : (d : ℕ) → d < length (path_of (word_paths touched) 0) → block_on mid (trail_of (path_of (word_paths touched) 0) d) ≡ block_on image (trail_of (path_of (word_paths touched) 0) d)
+  size_blocks =
+      subst (λ (p : WordPath). (d : ℕ) → d < length p → block_on mid (trail_of p d) ≡ block_on image (trail_of p d)) (sym (ap (λ ps. path_of ps 0) across.touches.sized))
+      (λ d low. blocks_stay (inode_path (height_of (root_of image 0)) (suc n) 2) (height_of (root_of image 0)) ((8 * suc n + 2) / 512) above leaf d
+      (omega (arith, low, length-digits (suc (height_of (root_of image 0))) (8 * suc n + 2))))
+    where
+      leaf : IsLivePointer (root_of image 0) (size_of image 0) (height_of (root_of image 0)) ((8 * suc n + 2) / 512)
+      leaf = live_above _ _ (height_of (root_of image 0)) (8 * suc n + 2) (live_content _ _ (8 * suc n + 2) (omega (arith, in_image)))
+
+      whole : trail_of (inode_path (height_of (root_of image 0)) (suc n) 2) (suc (height_of (root_of image 0))) ≡ along [] (suc (height_of (root_of image 0))) (8 * suc n + 2)
+      whole = subst (λ r. trail_of (inode_path (height_of r) (suc n) 2) (suc (height_of r)) ≡ along [] (suc (height_of r)) (8 * suc n + 2)) root_stays size_trail
+
+      above : trail_of (inode_path (height_of (root_of image 0)) (suc n) 2) (height_of (root_of image 0)) ≡ along [] (height_of (root_of image 0)) ((8 * suc n + 2) / 512)
+      above = without_last _ _ _ _ whole
+
+  -- so the ways that were found before are those of the image in the middle
+  pub middle_ways : (found : FoundWays) → AreWaysIn (current_words old) touched found → AreWaysIn (current_words middle) touched found
+  middle_ways =
+      let shape = across_shape old blocks inodes n off bytes touched across in
+      ways_stay_on image mid touched shape prepared.ready.meaning.trees.whole (path_of (word_paths touched) 0)
+      (has-word touched shape 0 (omega (arith, across_words old blocks inodes n off bytes touched across))) size_blocks
+
   -- ---- the store in place
 
   -- No pointer on the way to the leaf of the inode is kept, and these are the same behind the preparation.
@@ -252,11 +309,7 @@ module _ {kept : ℕ → Bool} (old middle : Memory) (blocks inodes after : Set)
         (live_pointer_word _ _ (height_of (root_of image 0)) leaf_number (live_above _ _ (height_of (root_of image 0)) (8 * suc n + 1) (live_content _ _ (8 * suc n + 1) (omega (arith, in_image))))))
 
     node_stays : (d : ℕ) → suc d ≡ height_of (root_of image 0) → node mid (root_of mid 0) d (leaf_number / 512) ≡ node image (root_of image 0) d (leaf_number / 512)
-    unfolding word_at
-    node_stays zero high = ap block_of root_stays
-    node_stays (suc d) high =
-        ap block_of
-        (prepared.ready.others 0 d (leaf_number / 512) inode_file (λ e. suc-ne-zero n (sym e)) (live_pointer_word _ _ (suc d) (leaf_number / 512) (under_leaf (suc d) high)) (λ _ deep _. omega (arith, deep, high)))
+    node_stays d high = inode_node d (leaf_number / 512) (under_leaf d high)
 
     leaf_open : (h : ℕ) → h ≡ height_of (root_of image 0) → 512 ≤ address mid (digits h leaf_number) → kept (address mid (digits h leaf_number) / 512) ≡ false
     leaf_open zero high low = absurd (omega (arith, low))

@@ -75,3 +75,4 @@ pub mod RunCommits
 pub mod WriteBelow
 pub mod RowLaws
 pub mod CoverPaths
+pub mod WaysStay

@@ -10,6 +10,7 @@ use Rattle.bp_layout.specs.Nodes.{height_with}
 use Rattle.bp_layout.specs.WordPaths.{inode_path}
 use Rattle.bp_layout.specs.Words.{Image, height_of}
 use Rattle.bp_calls.specs.CanWrite.{CanWriteInto}
+use Rattle.bp_calls.specs.declared.writing.across.Plan.{Plan}
 use Rattle.pm_region.specs.Memory.{Memory, current_words}
 
 -- the word of the size of inode i alone, with the value that it is given
@@ -43,3 +44,14 @@ pub record WritesAcross (kept : ℕ → Bool) (memory : Memory) (blocks inodes :
   pub past : size_of (current_words memory) i < off + length bytes
   pub touches : TouchesAcross (current_words memory) i off (off + length bytes)
       (take (size_of (current_words memory) i - off) bytes) touched
+
+-- A write of these bytes into inode i, as it is planned: with the file's tree, the word of its size, and the run of the bytes
+-- below that.
+pub record IsPlanFor (image : Image) (i off : ℕ) (bytes : List ℕ) (plan : Plan) : Type 0 where
+  pub inode : plan.inode ≡ i
+  pub from : plan.off ≡ off
+  pub bytes_are : plan.bytes.now ≡ bytes
+  pub root : plan.tree.root ≡ root_of image i
+  pub size : plan.tree.size ≡ size_of image i
+  pub sized : IsSizeWord image i (off + length bytes) (plan.sized ∷ [])
+  pub run : IsRunAcross image i off (off + length bytes) (take (size_of image i - off) bytes) plan.run

@@ -32,16 +32,30 @@ use bp_thaw::thaw_need;
 use bp_tree::Tree;
 use pm_region::Region;
 
-/// How many blocks bytes below the size of a file take: one for each block on the ways to them, from the word that covers
-/// them down, and none where they lie in one word.
-fn need_below<R: Region>(parts: &Parts<R>, i: u32, off: u64, bytes: &[u8]) -> u32
+/// How many blocks bytes take that begin behind the size of a file, or at it, given its tree.
+fn need_behind<R: Region>(parts: &Parts<R>, i: u32, tree: Tree, off: u64, bytes: &[u8]) -> u32
+    requires root { tree.root ≡ root_of (current_words (R.memory parts.now.region)) i }
+    requires size { tree.size ≡ size_of (current_words (R.memory parts.now.region)) i }
+    requires mounted { IsMounted (current_words (R.memory parts.now.region)) parts.now }
+    requires can { CanWrite (current_words (R.memory parts.now.region)) i off bytes.now }
+    requires behind { size_of (current_words (R.memory parts.now.region)) i ≤ off }
+    ensures need { result ≡ need (current_words (R.memory parts.now.region)) (writes i off (length bytes.now)) }
+    ensures few { result ≤ 320 }
+{
+    need_prep(&parts.region, tree, off, off + bytes.len() as u64)
+}
+
+/// How many blocks bytes below the size of a file take, given its tree: one for each block on the ways to them, from the
+/// word that covers them down, and none where they lie in one word.
+fn need_below<R: Region>(parts: &Parts<R>, i: u32, tree: Tree, off: u64, bytes: &[u8]) -> u32
+    requires root { tree.root ≡ root_of (current_words (R.memory parts.now.region)) i }
+    requires size { tree.size ≡ size_of (current_words (R.memory parts.now.region)) i }
     requires mounted { IsMounted (current_words (R.memory parts.now.region)) parts.now }
     requires can { CanWrite (current_words (R.memory parts.now.region)) i off bytes.now }
     requires below { off + length bytes.now ≤ size_of (current_words (R.memory parts.now.region)) i }
     ensures need { result ≡ need (current_words (R.memory parts.now.region)) (writes i off (length bytes.now)) }
     ensures few { result ≤ 320 }
 {
-    let tree = tree_of(&parts.region, i);
     let runs = [run_for(&parts.region, i, tree, off, bytes)];
     need_cover(&parts.region, &touched_by(&runs))
 }
@@ -55,14 +69,13 @@ fn need_write<R: Region>(parts: &Parts<R>, i: u32, tree: Tree, off: u64, bytes: 
     ensures need { result ≡ need (current_words (R.memory parts.now.region)) (writes i off (length bytes.now)) }
     ensures few { result ≤ 320 }
 {
-    let end = off + bytes.len() as u64;
     if tree.size <= off {
-        return need_prep(&parts.region, tree, off, end);
+        return need_behind(parts, i, tree, off, bytes);
     }
-    if end <= tree.size {
-        return need_below(parts, i, off, bytes);
+    if off + bytes.len() as u64 <= tree.size {
+        return need_below(parts, i, tree, off, bytes);
     }
-    need_across(parts, i, off, bytes)
+    need_across(parts, i, tree, off, bytes)
 }
 
 /// Whether nothing that is kept has to be thawed before bytes come into a file.
@@ -157,7 +170,7 @@ fn write_behind<R: Region>(parts: &mut Parts<R>, i: u32, off: u64, bytes: &[u8])
     commit_word(&mut parts.region, size_place, end);
 }
 
-/// Writes bytes below the size of a file, once nothing is left to thaw, by one commit of them.
+/// Writes bytes below the size of a file, once nothing is left to thaw, by one commit of them, given its tree.
 ///
 /// # Errors
 ///
@@ -166,9 +179,12 @@ fn write_behind<R: Region>(parts: &mut Parts<R>, i: u32, off: u64, bytes: &[u8])
 fn write_below<R: Region>(
     parts: &mut Parts<R>,
     i: u32,
+    tree: Tree,
     off: u64,
     bytes: &[u8],
 ) -> Result<(), NoSpace>
+    requires root { tree.root ≡ root_of (current_words (R.memory parts.old.region)) i }
+    requires size { tree.size ≡ size_of (current_words (R.memory parts.old.region)) i }
     requires can { CanWriteThawed (kept_of parts.old) (R.memory parts.old.region) parts.old.blocks parts.old.inodes i off bytes.now }
     requires exact { IsExact (current_words (R.memory parts.old.region)) parts.old }
     requires below { off + length bytes.now ≤ size_of (current_words (R.memory parts.old.region)) i }
@@ -181,30 +197,9 @@ fn write_below<R: Region>(
     ensures free { IfErr result (λ lacks. lacks.free ≡ length (members parts.old.blocks)) }
     ensures same { OnErr result (parts.new ≡ parts.old) }
 {
-    let tree = tree_of(&parts.region, i);
     let runs = [run_for(&parts.region, i, tree, off, bytes)];
     let touched = touched_by(&runs);
     commit_below(parts, &touched)
-}
-
-/// Writes bytes of which some lie past the size of a file, once nothing is left to thaw and enough blocks are free, given
-/// that size.
-fn write_past<R: Region>(parts: &mut Parts<R>, i: u32, size: u64, off: u64, bytes: &[u8])
-    requires can { CanWriteThawed (kept_of parts.old) (R.memory parts.old.region) parts.old.blocks parts.old.inodes i off bytes.now }
-    requires exact { IsExact (current_words (R.memory parts.old.region)) parts.old }
-    requires enough { need (current_words (R.memory parts.old.region)) (writes i off (length bytes.now))
-        ≤ length (members parts.old.blocks) }
-    requires size { size ≡ size_of (current_words (R.memory parts.old.region)) i }
-    requires past { size < off + length bytes.now }
-    ensures performs { PerformsThawed (kept_of parts.old) (R.memory parts.old.region) (R.memory parts.new.region)
-        (writes i off (length bytes.now)) (WritesFile i off bytes.now) }
-    ensures frozen { parts.new.frozen ≡ parts.old.frozen }
-    ensures exact { IsExact (current_words (R.memory parts.new.region)) parts.new }
-{
-    if size <= off {
-        return write_behind(parts, i, off, bytes);
-    }
-    write_across(parts, i, off, bytes);
 }
 
 /// What [`write`] does where some bytes lie past the size of the file, once nothing is left to thaw, given its tree.
@@ -233,10 +228,13 @@ fn write_longer<R: Region>(
     ensures free { IfErr result (λ lacks. lacks.free ≡ length (members parts.old.blocks)) }
     ensures same { OnErr result (parts.new ≡ parts.old) }
 {
-    let need = need_write(parts, i, tree, off, bytes);
+    if tree.size > off {
+        return write_across(parts, i, tree, off, bytes);
+    }
+    let need = need_behind(parts, i, tree, off, bytes);
     match enough_free(parts, need) {
         Ok(()) => {
-            write_past(parts, i, tree.size, off, bytes);
+            write_behind(parts, i, off, bytes);
             Ok(())
         }
         Err(lacks) => Err(lacks),
@@ -267,7 +265,7 @@ fn write_thawed<R: Region>(
 {
     let tree = tree_of(&parts.region, i);
     if off + bytes.len() as u64 <= tree.size {
-        return write_below(parts, i, off, bytes);
+        return write_below(parts, i, tree, off, bytes);
     }
     write_longer(parts, i, tree, off, bytes)
 }

@@ -68,7 +68,7 @@ use Rattle.bp_rename.proofs.ListedTrees.{lists_stay}
 use Rattle.bp_rename.proofs.LooseCovers.{block_stays, still_loose}
 use Rattle.bp_rename.proofs.ContentWords.{AreContent, content_trail, size_given, size_kept, words_can, words_fronts, words_kept, words_only, words_value}
 use Rattle.bp_rename.proofs.Outside.{below_before}
-use Rattle.bp_rename.proofs.WaysStay.{ways_stay_on}
+use Rattle.bp_calls.proofs.WaysStay.{ways_stay_on}
 use Rattle.bp_rename.proofs.TwoWords.{first_value, pick, second_value, two_count}
 
 -- a trail that is shorter than those of inodes' words is that of a pointer of the inode file

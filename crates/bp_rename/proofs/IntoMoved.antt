@@ -59,7 +59,7 @@ use Rattle.bp_rename.proofs.IntoDone.{into_count, into_cover, into_fronts, into_
 use Rattle.bp_rename.proofs.LooseCovers.{block_stays, still_loose}
 use Rattle.bp_rename.proofs.IntoLaws.{into_can, into_taking, into_trees, mid_empty, mid_formed, mid_name, mid_outside, mid_touches}
 use Rattle.bp_rename.proofs.TwoWords.{first_value, has_first, no_leaves, pick, second_value, two_are, two_count}
-use Rattle.bp_rename.proofs.WaysStay.{ways_stay_on}
+use Rattle.bp_calls.proofs.WaysStay.{ways_stay_on}
 use Rattle.bp_rename.proofs.WholePaths.{cover-whole, pointed-directory}
 
 module _ {kept : ℕ → Bool} (old third mid : Memory) (move : Move) (s entry : ℕ) (can : CanRename (current_words old) move) (new_name : move.to_slot ≡ None) (other : move.from_dir ≢ move.to_dir)

@@ -24,4 +24,3 @@ pub mod FewWays
 pub mod RenameTargets
 pub mod ListedTrees
 pub mod Plans
-pub mod WaysStay

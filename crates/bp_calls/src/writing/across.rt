@@ -1,27 +1,32 @@
 //! Bytes that begin below the size of a file and end past it: a preparation for those behind the size, and then a commit
 //! of the others with the size.
 
-ghost use Rattle.std.specs.Prelude.{◌≡◌, ◌+◌, ◌<◌, ◌≤◌, [], length};
+ghost use Rattle.std.specs.Prelude.{◌≡◌, ◌+◌, ◌<◌, ◌≤◌, ◌∷◌, [], ℕ, length, slice_index, IfErr, OnErr, OnOk};
 ghost use Rattle.bp_calls.specs.CanWrite.{CanWrite, CanWriteThawed};
 ghost use Rattle.bp_calls.specs.Mounted.{IsMounted};
-ghost use Rattle.bp_calls.specs.Space.{HasRoomThawed};
+ghost use Rattle.bp_calls.specs.Space.{HasRoomThawed, LacksBlocks};
+ghost use Rattle.bp_cow.specs.Found.{AreWaysIn};
 ghost use Rattle.bp_free.specs.Set.{members};
 ghost use Rattle.bp_layout.specs.Need.{need};
 ghost use Rattle.bp_layout.specs.Thaw.{thawed};
-ghost use Rattle.bp_calls.specs.TouchedAcross.{IsRunAcross, WritesAcross};
+ghost use Rattle.bp_calls.specs.TouchedAcross.{IsPlanFor, IsRunAcross, WritesAcross};
 ghost use Rattle.bp_calls.specs.WritesFile.{WritesFile};
 ghost use Rattle.bp_layout.specs.Inode.{root_of, size_of};
 ghost use Rattle.bp_layout.specs.Need.Change.{writes};
+ghost use Rattle.bp_layout.specs.WordPaths.{inode_path};
+ghost use Rattle.bp_layout.specs.Words.{height_of};
 ghost use Rattle.bp_shapes.specs.Sets.{IsExact, kept_of};
 ghost use Rattle.bp_commit.specs.Performs.{PerformsThawed};
 ghost use Rattle.pm_region.specs.Memory.{current_words};
 
+use crate::thawing::enough_free;
 use bp_append::{height_with, need_prep, prep};
-use bp_cow::{Run, Touched, commit, need_cover};
-use bp_free::Parts;
-use bp_inodes::{root_path, size_path, tree_of};
+use bp_cow::{FoundWays, Run, Touched, commit_at, copies_below, find_ways};
+use bp_free::{NoSpace, Parts};
+use bp_inodes::{root_path, size_path};
 use bp_tree::{Slots, Tree};
 use pm_region::Region;
+use std::slice;
 
 /// The run of bytes that lie below the size of a file, in its tree once it is high enough for an end.
 fn run_across<'a, R: Region>(
@@ -46,21 +51,89 @@ fn run_across<'a, R: Region>(
     }
 }
 
-/// What is touched for bytes across the size of a file: those below the size, and the word of the size.
-fn touched_across<'a>(sized: &'a [(Slots, u64)], runs: &'a [Run<'a>]) -> Touched<'a>
-    ensures words { result.words.now ≡ sized.now }
-    ensures runs { result.runs.now ≡ runs.now }
+/// A write across the size of a file, with what it touches.
+#[derive(Drop)]
+struct Plan<'a> {
+    /// The number of the file's inode.
+    inode: u32,
+    /// The file's tree, before the write.
+    tree: Tree,
+    /// Where the bytes begin, below the size.
+    off: u64,
+    /// The bytes, which end past the size.
+    bytes: &'a [u8],
+    /// The word of the size, with the end of the bytes, which it is given.
+    sized: (Slots, u64),
+    /// The run of those bytes that lie below the size.
+    run: Run<'a>,
+}
+
+/// Plans a write of bytes across the size of a file, given its tree.
+fn plan_write<'a, R: Region>(region: &R, i: u32, tree: Tree, off: u64, bytes: &'a [u8]) -> Plan<'a>
+    requires some { 4 ≤ length (current_words (R.memory region.now)) }
+    requires root { tree.root ≡ root_of (current_words (R.memory region.now)) i }
+    requires size { tree.size ≡ size_of (current_words (R.memory region.now)) i }
+    requires can { CanWrite (current_words (R.memory region.now)) i off bytes.now }
+    requires below { off < size_of (current_words (R.memory region.now)) i }
+    requires past { size_of (current_words (R.memory region.now)) i < off + length bytes.now }
+    ensures { IsPlanFor (current_words (R.memory region.now)) i off bytes.now result }
+{
+    let end = off + bytes.len() as u64;
+    let (below, _) = bytes.split_at((tree.size - off) as usize);
+    Plan {
+        inode: i,
+        tree,
+        off,
+        bytes,
+        sized: (size_path(region, i), end),
+        run: run_across(region, i, tree, off, below, end),
+    }
+}
+
+/// What a planned write touches: the bytes below the size, and the word of the size.
+fn touched_across<'a>(plan: &'a Plan<'_>) -> Touched<'a>
+    ensures words { result.words.now ≡ plan.now.sized ∷ [] }
+    ensures runs { result.runs.now ≡ plan.now.run ∷ [] }
     ensures trees { result.trees.now ≡ [] }
 {
     Touched {
-        words: sized,
-        runs,
+        words: slice::from_ref(&plan.sized),
+        runs: slice::from_ref(&plan.run),
         trees: &[],
     }
 }
 
-/// How many blocks bytes take that begin below the size of a file and end past it.
-pub(crate) fn need_across<R: Region>(parts: &Parts<R>, i: u32, off: u64, bytes: &[u8]) -> u32
+/// How many blocks a planned write takes, given what was found of the ways to what it touches.
+fn need_found<R: Region>(
+    parts: &Parts<R>,
+    plan: &Plan<'_>,
+    touched: &Touched<'_>,
+    found: &FoundWays,
+) -> u32
+    requires across { WritesAcross (kept_of parts.now) (R.memory parts.now.region) parts.now.blocks parts.now.inodes
+        plan.now.inode plan.now.off plan.now.bytes.now touched.now }
+    requires root { plan.now.tree.root ≡ root_of (current_words (R.memory parts.now.region)) plan.now.inode }
+    requires size { plan.now.tree.size ≡ size_of (current_words (R.memory parts.now.region)) plan.now.inode }
+    requires found { AreWaysIn (current_words (R.memory parts.now.region)) touched.now found.now }
+    ensures need { result ≡ need (current_words (R.memory parts.now.region))
+        (writes plan.now.inode plan.now.off (length plan.now.bytes.now)) }
+    ensures few { result ≤ 320 }
+{
+    let end = plan.off + plan.bytes.len() as u64;
+    let copied = copies_below(touched, found);
+    need_prep(&parts.region, plan.tree, plan.tree.size, end) + copied
+}
+
+/// How many blocks bytes take that begin below the size of a file and end past it, given its tree.
+pub(crate) fn need_across<R: Region>(
+    parts: &Parts<R>,
+    i: u32,
+    tree: Tree,
+    off: u64,
+    bytes: &[u8],
+) -> u32
+    requires root { tree.root ≡ root_of (current_words (R.memory parts.now.region)) i }
+    requires size { tree.size ≡ size_of (current_words (R.memory parts.now.region)) i }
     requires mounted { IsMounted (current_words (R.memory parts.now.region)) parts.now }
     requires can { CanWrite (current_words (R.memory parts.now.region)) i off bytes.now }
     requires below { off < size_of (current_words (R.memory parts.now.region)) i }
@@ -68,63 +141,84 @@ pub(crate) fn need_across<R: Region>(parts: &Parts<R>, i: u32, off: u64, bytes: 
     ensures need { result ≡ need (current_words (R.memory parts.now.region)) (writes i off (length bytes.now)) }
     ensures few { result ≤ 320 }
 {
-    let tree = tree_of(&parts.region, i);
-    let end = off + bytes.len() as u64;
-    let (below, _) = bytes.split_at((tree.size - off) as usize);
-    let sized = [(size_path(&parts.region, i), end)];
-    let runs = [run_across(&parts.region, i, tree, off, below, end)];
-    let copied = need_cover(&parts.region, &touched_across(&sized, &runs));
-    need_prep(&parts.region, tree, tree.size, end) + copied
+    let plan = plan_write(&parts.region, i, tree, off, bytes);
+    let touched = touched_across(&plan);
+    let found = find_ways(&parts.region, &touched);
+    need_found(parts, &plan, &touched, &found)
 }
 
-/// Writes bytes across the size of a file, given what is touched for them. Its tree is prepared for those behind the
-/// size, and then one store brings the others in, together with the size.
-fn write_touched<R: Region>(
+/// Does a planned write, given what was found of the ways to what it touches. The tree is prepared for the bytes behind the
+/// size, which leaves these ways as they are, and then one store brings the others in, together with the size.
+fn write_planned<R: Region>(
     parts: &mut Parts<R>,
-    i: u32,
-    off: u64,
-    bytes: &[u8],
+    plan: &Plan<'_>,
     touched: &Touched<'_>,
+    found: &FoundWays,
 )
     requires exact { IsExact (current_words (R.memory parts.old.region)) parts.old }
-    requires across { WritesAcross (kept_of parts.old) (R.memory parts.old.region) parts.old.blocks parts.old.inodes i off
-        bytes.now touched.now }
+    requires across { WritesAcross (kept_of parts.old) (R.memory parts.old.region) parts.old.blocks parts.old.inodes
+        plan.now.inode plan.now.off plan.now.bytes.now touched.now }
+    requires size { plan.now.tree.size ≡ size_of (current_words (R.memory parts.old.region)) plan.now.inode }
+    requires root { plan.now.run.root.items ≡
+        inode_path (height_of (root_of (current_words (R.memory parts.old.region)) 0)) plan.now.inode 1 }
+    requires small { (k : ℕ) → slice_index plan.now.bytes.now k < 256 }
     requires clear { thawed (current_words (R.memory parts.old.region)) (kept_of parts.old)
-        (writes i off (length bytes.now)) ≡ [] }
-    requires room { HasRoomThawed (R.memory parts.old.region) parts.old.blocks (writes i off (length bytes.now)) }
-    requires enough { need (current_words (R.memory parts.old.region)) (writes i off (length bytes.now))
-        ≤ length (members parts.old.blocks) }
+        (writes plan.now.inode plan.now.off (length plan.now.bytes.now)) ≡ [] }
+    requires room { HasRoomThawed (R.memory parts.old.region) parts.old.blocks
+        (writes plan.now.inode plan.now.off (length plan.now.bytes.now)) }
+    requires enough { need (current_words (R.memory parts.old.region))
+        (writes plan.now.inode plan.now.off (length plan.now.bytes.now)) ≤ length (members parts.old.blocks) }
+    requires found { AreWaysIn (current_words (R.memory parts.old.region)) touched.now found.now }
     ensures performs { PerformsThawed (kept_of parts.old) (R.memory parts.old.region) (R.memory parts.new.region)
-        (writes i off (length bytes.now)) (WritesFile i off bytes.now) }
+        (writes plan.now.inode plan.now.off (length plan.now.bytes.now))
+        (WritesFile plan.now.inode plan.now.off plan.now.bytes.now) }
     ensures frozen { parts.new.frozen ≡ parts.old.frozen }
     ensures exact { IsExact (current_words (R.memory parts.new.region)) parts.new }
 {
-    let tree = tree_of(&parts.region, i);
-    let end = off + bytes.len() as u64;
-    let (_, beyond) = bytes.split_at((tree.size - off) as usize);
-    let root = root_path(&parts.region, i);
-    prep(parts, &root, tree.size, beyond, end);
-    commit(parts, touched);
+    let size = plan.tree.size;
+    let end = plan.off + plan.bytes.len() as u64;
+    let (_, beyond) = plan.bytes.split_at((size - plan.off) as usize);
+    prep(parts, &plan.run.root, size, beyond, end);
+    commit_at(parts, touched, found);
 }
 
-/// Writes bytes that begin below the size of a file and end past it, once nothing is left to thaw and enough blocks are
-/// free.
-pub(crate) fn write_across<R: Region>(parts: &mut Parts<R>, i: u32, off: u64, bytes: &[u8])
+/// Writes bytes that begin below the size of a file and end past it, once nothing is left to thaw, given its tree. The ways
+/// to what they touch are found once.
+///
+/// # Errors
+///
+/// Where fewer blocks are free than are needed. Nothing has changed then.
+pub(crate) fn write_across<R: Region>(
+    parts: &mut Parts<R>,
+    i: u32,
+    tree: Tree,
+    off: u64,
+    bytes: &[u8],
+) -> Result<(), NoSpace>
+    requires root { tree.root ≡ root_of (current_words (R.memory parts.old.region)) i }
+    requires size { tree.size ≡ size_of (current_words (R.memory parts.old.region)) i }
     requires can { CanWriteThawed (kept_of parts.old) (R.memory parts.old.region) parts.old.blocks parts.old.inodes i off bytes.now }
     requires exact { IsExact (current_words (R.memory parts.old.region)) parts.old }
-    requires enough { need (current_words (R.memory parts.old.region)) (writes i off (length bytes.now))
-        ≤ length (members parts.old.blocks) }
     requires below { off < size_of (current_words (R.memory parts.old.region)) i }
     requires past { size_of (current_words (R.memory parts.old.region)) i < off + length bytes.now }
-    ensures performs { PerformsThawed (kept_of parts.old) (R.memory parts.old.region) (R.memory parts.new.region)
-        (writes i off (length bytes.now)) (WritesFile i off bytes.now) }
+    ensures performs { OnOk result (PerformsThawed (kept_of parts.old) (R.memory parts.old.region) (R.memory parts.new.region)
+        (writes i off (length bytes.now)) (WritesFile i off bytes.now)) }
     ensures frozen { parts.new.frozen ≡ parts.old.frozen }
     ensures exact { IsExact (current_words (R.memory parts.new.region)) parts.new }
+    ensures refused { IfErr result (LacksBlocks (current_words (R.memory parts.old.region)) (kept_of parts.old)
+        (need (current_words (R.memory parts.old.region)) (writes i off (length bytes.now)))) }
+    ensures free { IfErr result (λ lacks. lacks.free ≡ length (members parts.old.blocks)) }
+    ensures same { OnErr result (parts.new ≡ parts.old) }
 {
-    let tree = tree_of(&parts.region, i);
-    let end = off + bytes.len() as u64;
-    let (below, _) = bytes.split_at((tree.size - off) as usize);
-    let sized = [(size_path(&parts.region, i), end)];
-    let runs = [run_across(&parts.region, i, tree, off, below, end)];
-    write_touched(parts, i, off, bytes, &touched_across(&sized, &runs));
+    let plan = plan_write(&parts.region, i, tree, off, bytes);
+    let touched = touched_across(&plan);
+    let found = find_ways(&parts.region, &touched);
+    let need = need_found(parts, &plan, &touched, &found);
+    match enough_free(parts, need) {
+        Ok(()) => {
+            write_planned(parts, &plan, &touched, &found);
+            Ok(())
+        }
+        Err(lacks) => Err(lacks),
+    }
 }

@@ -1,5 +1,5 @@
 -- Ways that were found stay those of an image in which the pointers on the way to the cover lead to the same blocks.
-use Rattle.std.proofs.Common.{◌≡◌, ◌≢◌, ℕ, zero, suc, ◌+◌, ◌*◌, ◌<◌, ◌≤◌, length, slice_index, refl, sym, ◌∙◌, ap, subst, arith}
+use Rattle.std.proofs.Common.{◌≡◌, ◌≢◌, ℕ, zero, suc, ◌+◌, ◌*◌, ◌<◌, length, slice_index, refl, sym, ◌∙◌, ap, subst, arith}
 use Rattle.bp_layout.specs.Members.{Has}
 use Rattle.bp_layout.specs.WordPaths.{WordPath}
 use Rattle.bp_layout.specs.Words.{Image}

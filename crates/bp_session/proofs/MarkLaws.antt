@@ -1,98 +1,144 @@
 -- The blocks to which a log stores.
-use Rattle.std.proofs.Common.{zero, suc, refl, sym, ◌∙◌, ap, arith, ◌≡◌, ℕ, ◌+◌, ◌*◌, ◌/◌, ◌≤◌, List, [], ◌∷◌, ◌++◌, length, take, set, Bool, true, false, inl, inr}
-use Rattle.std.specs.Prelude.{◌⊎◌, None, Some, slice_get}
-use Rattle.std.proofs.lemmas.Bool.{cases_eq}
-use Rattle.std.proofs.lemmas.List.{get_or-set_other, get_or-set_same, length-set}
-use Rattle.pm_epochs.proofs.CrashLaws.{words_after-append}
+use Rattle.std.proofs.Common.{zero, suc, refl, sym, ◌∙◌, ap, arith, ◌≡◌, ℕ, ◌+◌, ◌-◌, ◌/◌, ◌<◌, ◌≤◌, List, [], ◌∷◌, length, set, Bool, true, false, inl, inr, subst}
+use Rattle.std.specs.Prelude.{◌⊎◌, Option, None, Some, slice_get}
+use Rattle.std.proofs.lemmas.Bool.{cases_eq, cases_lt}
+use Rattle.std.proofs.lemmas.List.{get_or-set_other, length-set}
 use Rattle.pm_epochs.specs.declared.event.Event.{Event}
 use Rattle.pm_epochs.specs.declared.event.Event.TheVariants.{Barrier, Mark, Store}
 use Rattle.pm_epochs.specs.Log.{stores, words_after}
-use Rattle.pm_region.specs.Memory.{AreWithin}
+use Rattle.pm_region.specs.Memory.{AreInRow, AreWithin, Follows}
 use Rattle.bp_layout.specs.Words.{Image, word}
-use Rattle.bp_session.specs.Changed.{MarksChanges, is_marked, marked_by}
-use Rattle.bp_session.proofs.ActingLaws.{one_more_event}
+use Rattle.bp_session.specs.Changed.{MarksChanges, is_marked}
 
-pub within_at : (count : ℕ) (events : List Event) (i : ℕ) (event : Event) → AreWithin count events → slice_get events i ≡ Some event → AreWithin count (event ∷ [])
-within_at count [] i event within at = absurd (let no : None ≡ Some event = at in cc)
-within_at count (Store word value ∷ events) zero event within at = let same : Store word value ≡ event = cc in rw (← same) (within.0, tt)
-within_at count (Barrier ∷ events) zero event within at = let same : Barrier ≡ event = cc in rw (← same) tt
-within_at count (Mark ∷ events) zero event within at = let same : Mark ≡ event = cc in rw (← same) tt
-within_at count (Store word value ∷ events) (suc i) event within at = within_at count events i event within.1 at
-within_at count (Barrier ∷ events) (suc i) event within at = within_at count events i event within at
-within_at count (Mark ∷ events) (suc i) event within at = within_at count events i event within at
+-- each word to which one of the first events stores, so many, lies in a block that is marked
+abbrev pub MarksStores : List Bool → List Event → ℕ → Type 0
+MarksStores marks events count =
+    (i at value : ℕ) → i < count → slice_get events i ≡ Some (Store at value) → is_marked marks (at / 512) ≡ true
 
-pub within_more : (count most : ℕ) (event : Event) → count ≤ most → AreWithin count (event ∷ []) → AreWithin most (event ∷ [])
-within_more count most (Store word value) fits within = (omega (arith, within.0, fits), tt)
-within_more count most Barrier fits within = tt
-within_more count most Mark fits within = tt
-
-pub length-marked_by : (marks : List Bool) (event : Event) → length (marked_by marks event) ≡ length marks
-length-marked_by marks (Store word value) = length-set marks (word / 512) true
-length-marked_by marks Barrier = refl
-length-marked_by marks Mark = refl
-
--- a mark stays
-mark_stays : (marks : List Bool) (i k : ℕ) → is_marked marks k ≡ true → is_marked (set marks i true) k ≡ true
-mark_stays marks i k on = go (cases_eq k i)
+-- where each store's word does, no other word changes
+pub marks_changes : (marks : List Bool) (base : Image) (events : List Event) → MarksStores marks events (length events) → MarksChanges marks base (words_after base events)
+marks_changes marks base [] told place inside off = refl
+marks_changes marks base (Store at value ∷ events) told place inside off =
+    marks_changes marks (set base at value) events (λ i a v low. told (suc i) a v (omega (arith, low))) place (omega (arith, inside, length-set base at value)) off
+    ∙ apart (cases_eq place at)
   where
-    go : ((k ≡ i) ⊎ (k ≡ i → ⊥)) → is_marked (set marks i true) k ≡ true
-    go (inl e) = rw e (here marks i (rw e at on))
+    apart : ((place ≡ at) ⊎ (place ≡ at → ⊥)) → word (set base at value) place ≡ word base place
+    apart (inl e) = absurd (let no : true ≡ false = sym (told zero at value (omega arith) refl) ∙ (rw (sym e) off) in cc)
+    apart (inr other) = get_or-set_other base at place value 0 other
+marks_changes marks base (Barrier ∷ events) told place inside off = marks_changes marks base events (λ i a v low. told (suc i) a v (omega (arith, low))) place inside off
+marks_changes marks base (Mark ∷ events) told place inside off = marks_changes marks base events (λ i a v low. told (suc i) a v (omega (arith, low))) place inside off
+
+-- ---- a row of stores
+
+-- the event is a store to this word
+abbrev pub StoresTo : Event → ℕ → Type 0
+StoresTo (Store at value) place = at ≡ place
+StoresTo Barrier place = ⊥
+StoresTo Mark place = ⊥
+
+some_at : (events : List Event) (i : ℕ) → i < length events → slice_get events i ≡ None → ⊥
+some_at [] i low none = omega (arith, low)
+some_at (event ∷ events) zero low none = absurd (cc)
+some_at (event ∷ events) (suc i) low none = some_at events i (omega (arith, low)) none
+
+next_to : (event next : Event) (place : ℕ) → StoresTo event place → Follows event next → StoresTo next (place + 1)
+next_to (Store at value) (Store other given) place to follows = follows ∙ ap (λ n. n + 1) to
+next_to (Store at value) Barrier place to follows = absurd follows
+next_to (Store at value) Mark place to follows = absurd follows
+next_to Barrier next place to follows = absurd to
+next_to Mark next place to follows = absurd to
+
+-- the events of a row that begins with a store, by their places in it
+pub row_at : (events : List Event) (first count at value : ℕ) → slice_get events first ≡ Some (Store at value) → AreInRow events first count → first + count ≤ length events
+    → (j : ℕ) (event : Event) → j < count → slice_get events (first + j) ≡ Some event → StoresTo event (at + j)
+row_at events first count at value is row fits zero event low here =
+    let place : first + 0 ≡ first = omega arith in
+    let same : Some (Store at value) ≡ Some event = sym is ∙ sym (ap (slice_get events) place) ∙ here in
+    let store : Store at value ≡ event = cc in
+    let to : at ≡ at + 0 = omega arith in
+    subst (λ (e : Event). StoresTo e (at + 0)) store to
+row_at events first count at value is row fits (suc j) event low here =
+    go (slice_get events (first + j)) refl (λ before. row_at events first count at value is row fits j before (omega (arith, low)))
+  where
+    go : (before : Option Event) → slice_get events (first + j) ≡ before → ((before : Event) → slice_get events (first + j) ≡ Some before → StoresTo before (at + j)) → StoresTo event (at + suc j)
+    go None none to = absurd (some_at events (first + j) (omega (arith, low, fits)) none)
+    go (Some before) some to =
+        let place : first + suc j ≡ first + j + 1 = omega arith in
+        let follows = row j before event (omega (arith, low)) some (sym (ap (slice_get events) place) ∙ here) in
+        let sum : at + j + 1 ≡ at + suc j = omega arith in
+        subst (λ n. StoresTo event n) sum (next_to before event (at + j) (to before some) follows)
+
+-- an event that none follows stands alone
+pub row_alone : (events : List Event) (first count : ℕ) (event : Event) → slice_get events first ≡ Some event → ((next : Event) → Follows event next → ⊥) → AreInRow events first count
+    → first + count ≤ length events → count ≤ 1
+row_alone events first count event is alone row fits = at (cases_lt 1 count)
+  where
+    at : (1 < count) ⊎ (count ≤ 1) → count ≤ 1
+    at (inl more) = go (slice_get events (first + 1)) refl
       where
-        here : (marks : List Bool) (i : ℕ) → is_marked marks i ≡ true → is_marked (set marks i true) i ≡ true
-        here [] i on = on
-        here (m ∷ marks) zero on = refl
-        here (m ∷ marks) (suc i) on = here marks i on
-    go (inr other) = get_or-set_other marks i k true false other ∙ on
+        go : (next : Option Event) → slice_get events (first + 1) ≡ next → count ≤ 1
+        go None none = absurd (some_at events (first + 1) (omega (arith, more, fits)) none)
+        go (Some next) some =
+            let here : first + 0 ≡ first = omega arith in
+            let behind : first + 0 + 1 ≡ first + 1 = omega arith in
+            absurd (alone next (row 0 event next (omega (arith, more)) (ap (slice_get events) here ∙ is) (ap (slice_get events) behind ∙ some)))
+    at (inr few) = few
 
-pub marked_stays : (marks : List Bool) (event : Event) (k : ℕ) → is_marked marks k ≡ true → is_marked (marked_by marks event) k ≡ true
-marked_stays marks (Store word value) k on = mark_stays marks (word / 512) k on
-marked_stays marks Barrier k on = on
-marked_stays marks Mark k on = on
+within_at : (count : ℕ) (events : List Event) (i at value : ℕ) → AreWithin count events → slice_get events i ≡ Some (Store at value) → at < count
+within_at count [] i at value within here = absurd (cc)
+within_at count (Store word given ∷ events) zero at value within here = let same : word ≡ at = cc in subst (λ n. n < count) same within.0
+within_at count (Barrier ∷ events) zero at value within here = absurd (cc)
+within_at count (Mark ∷ events) zero at value within here = absurd (cc)
+within_at count (Store word given ∷ events) (suc i) at value within here = within_at count events i at value within.1 here
+within_at count (Barrier ∷ events) (suc i) at value within here = within_at count events i at value within here
+within_at count (Mark ∷ events) (suc i) at value within here = within_at count events i at value within here
 
--- a word of a block that isn't marked
-stays_off : (marks : List Bool) (i k : ℕ) → is_marked (set marks i true) k ≡ false → is_marked marks k ≡ false
-stays_off marks i k off = go (is_marked marks k) refl
+-- the words of a row of stores
+pub row_within : (words : ℕ) (events : List Event) (first count at value : ℕ) → slice_get events first ≡ Some (Store at value) → AreInRow events first count → first + count ≤ length events
+    → 0 < count → AreWithin words events → at + count ≤ words
+row_within words events first count at value is row fits some within = go (slice_get events (first + (count - 1))) refl
   where
-    go : (b : Bool) → is_marked marks k ≡ b → is_marked marks k ≡ false
-    go true e = absurd (let no : true ≡ false = sym (mark_stays marks i k e) ∙ off in cc)
-    go false e = e
-
--- the next event is marked
-pub marks_next : (marks : List Bool) (base : Image) (events : List Event) (i : ℕ) (event : Event) → slice_get events i ≡ Some event → length base ≤ 512 * length marks
-    → MarksChanges marks base (words_after base (take i events)) → MarksChanges (marked_by marks event) base (words_after base (take (i + 1) events))
-marks_next marks base events i event at covers so_far place inside off =
-    rw (one_more_event events i event at, words_after-append base (take i events) (event ∷ [])) (go event off)
-  where
-    go : (event : Event) → is_marked (marked_by marks event) (place / 512) ≡ false → word (words_after (words_after base (take i events)) (event ∷ [])) place ≡ word base place
-    go (Store at value) off = apart (cases_eq place at)
+    go : (last : Option Event) → slice_get events (first + (count - 1)) ≡ last → at + count ≤ words
+    go None none = absurd (some_at events (first + (count - 1)) (omega (arith, some, fits)) none)
+    go (Some last) here = end last here (row_at events first count at value is row fits (count - 1) last (omega (arith, some)) here)
       where
-        apart : ((place ≡ at) ⊎ (place ≡ at → ⊥)) → word (set (words_after base (take i events)) at value) place ≡ word base place
-        apart (inl e) =
-            let on : is_marked (set marks (at / 512) true) (at / 512) ≡ true = get_or-set_same marks (at / 512) true false (omega (arith, covers, inside, e)) in
-            absurd (let no : true ≡ false = sym on ∙ (rw e at off) in cc)
-        apart (inr other) = get_or-set_other (words_after base (take i events)) at place value 0 other ∙ so_far place inside (stays_off marks (at / 512) (place / 512) off)
-    go Barrier off = so_far place inside off
-    go Mark off = so_far place inside off
+        end : (last : Event) → slice_get events (first + (count - 1)) ≡ Some last → StoresTo last (at + (count - 1)) → at + count ≤ words
+        end (Store word given) here to = omega (arith, some, to, within_at words events (first + (count - 1)) word given within here)
+        end Barrier here to = absurd to
+        end Mark here to = absurd to
 
-stores-append : (first rest : List Event) → stores (first ++ rest) ≡ stores first ++ stores rest
-stores-append [] rest = refl
-stores-append (Store word value ∷ first) rest = ap (λ l. Store word value ∷ l) (stores-append first rest)
-stores-append (Barrier ∷ first) rest = stores-append first rest
-stores-append (Mark ∷ first) rest = stores-append first rest
+-- ---- the marks of a row, behind those of the events before it
 
-append_none : {A : Type 0} (xs ys : List A) → xs ++ ys ≡ [] → (xs ≡ []) × (ys ≡ [])
-append_none [] ys e = (refl, e)
-append_none (x ∷ xs) ys e = absurd (cc)
+pub marks_more : (old new : List Bool) (events : List Event) (count : ℕ) → ((i : ℕ) → is_marked old i ≡ true → is_marked new i ≡ true) → MarksStores old events count → MarksStores new events count
+marks_more old new events count more told i at value low here = more (at / 512) (told i at value low here)
 
--- .. and none is, where there is no store
-pub none_next : (marks first : List Bool) (events : List Event) (i : ℕ) (event : Event) → slice_get events i ≡ Some event → (stores (take i events) ≡ [] → marks ≡ first)
-    → stores (take (i + 1) events) ≡ [] → marked_by marks event ≡ first
-none_next marks first events i event at so_far none =
-    let split = sym (stores-append (take i events) (event ∷ [])) ∙ ap stores (sym (one_more_event events i event at)) ∙ none in
-    let parts = append_none (stores (take i events)) (stores (event ∷ [])) split in
-    go event parts.1 ∙ so_far parts.0
+pub marks_row : (marks : List Bool) (events : List Event) (first count at value : ℕ) → slice_get events first ≡ Some (Store at value) → AreInRow events first count → first + count ≤ length events
+    → ((place : ℕ) → at ≤ place → place < at + count → is_marked marks (place / 512) ≡ true) → MarksStores marks events first → MarksStores marks events (first + count)
+marks_row marks events first count at value is row fits marked told i store given low here = go (cases_lt i first)
   where
-    go : (event : Event) → stores (event ∷ []) ≡ [] → marked_by marks event ≡ marks
-    go (Store word value) e = absurd (cc)
-    go Barrier e = refl
-    go Mark e = refl
+    go : (i < first) ⊎ (first ≤ i) → is_marked marks (store / 512) ≡ true
+    go (inl before) = told i store given before here
+    go (inr past) =
+        let place : first + (i - first) ≡ i = omega (arith, past) in
+        let to : store ≡ at + (i - first) = row_at events first count at value is row fits (i - first) (Store store given) (omega (arith, low, past)) (ap (slice_get events) place ∙ here) in
+        marked store (omega (arith, to)) (omega (arith, to, low, past))
+
+pub marks_alone : (marks : List Bool) (events : List Event) (first count : ℕ) (event : Event) → slice_get events first ≡ Some event → ((at value : ℕ) → event ≡ Store at value → ⊥) → count ≤ 1
+    → MarksStores marks events first → MarksStores marks events (first + count)
+marks_alone marks events first count event is alone few told i store given low here = go (cases_lt i first)
+  where
+    go : (i < first) ⊎ (first ≤ i) → is_marked marks (store / 512) ≡ true
+    go (inl before) = told i store given before here
+    go (inr past) =
+        let place : i ≡ first = omega (arith, past, low, few) in
+        let same : Some event ≡ Some (Store store given) = sym is ∙ sym (ap (slice_get events) place) ∙ here in
+        absurd (alone store given cc)
+
+-- a log without a store has none
+pub none_at : (events : List Event) (i at value : ℕ) → stores events ≡ [] → slice_get events i ≡ Some (Store at value) → ⊥
+none_at [] i at value none here = cc
+none_at (Store word given ∷ events) i at value none here = cc
+none_at (Barrier ∷ events) zero at value none here = cc
+none_at (Mark ∷ events) zero at value none here = cc
+none_at (Barrier ∷ events) (suc i) at value none here = none_at events i at value none here
+none_at (Mark ∷ events) (suc i) at value none here = none_at events i at value none here

@@ -1,9 +1,7 @@
 -- Which blocks of a file a save writes: those that are marked.
-use Rattle.std.specs.Prelude.{◌≡◌, ◌⊎◌, ℕ, ◌*◌, ◌/◌, ◌<◌, ◌≤◌, List, Bool, true, false, Some, None, ⊤, length, slice_index_or, slice_set}
+use Rattle.std.specs.Prelude.{◌≡◌, ◌⊎◌, ℕ, ◌*◌, ◌/◌, ◌<◌, ◌≤◌, List, Bool, true, false, Some, None, ⊤, length, slice_index_or}
 use Rattle.bp_limits.specs.Limits.{block_size, block_words}
 use Rattle.bp_io.specs.Files.{Known, View, block_bytes}
-use Rattle.pm_epochs.specs.declared.event.Event.{Event}
-use Rattle.pm_epochs.specs.declared.event.Event.TheVariants.{Barrier, Mark, Store}
 use Rattle.bp_layout.specs.Words.{Image, word}
 
 abbrev pub is_marked : List Bool → ℕ → Bool
@@ -37,9 +35,3 @@ pub record HoldsChanged (marks : List Bool) (files : View) (name first second : 
   pub attached : files.is_attached name ≡ true
   pub size : length first ≡ block_size * files.blocks
   pub has : HasChanged (files.contents name) marks files.blocks first second
-
--- the marks, with one more where an event stores to a word of a block
-abbrev pub marked_by : List Bool → Event → List Bool
-marked_by marks (Store word value) = slice_set marks (word / block_words) true
-marked_by marks Barrier = marks
-marked_by marks Mark = marks

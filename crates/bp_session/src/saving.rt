@@ -1,15 +1,15 @@
 //! A file takes the words of a region.
 
-ghost use Rattle.std.specs.Prelude.{[], ◌∷◌, ◌≡◌, ◌≤◌, ◌+◌, ◌*◌, ◌<◌, List, ℕ, OnOk, OnErr, false, length, true};
+ghost use Rattle.std.specs.Prelude.{[], ◌≡◌, ◌≤◌, ◌+◌, ◌*◌, ◌/◌, ◌<◌, List, ℕ, OnOk, OnErr, false, length, true};
 ghost use Rattle.bp_layout.specs.Words.{Image};
 ghost use Rattle.bp_io.specs.Causes.{HasCause};
 ghost use Rattle.bp_io.specs.Files.{KeepsFiles, KeepsOthers, StaysAttached};
 ghost use Rattle.bp_layout.specs.Bytes.{image_bytes};
 ghost use Rattle.bp_limits.specs.Limits.{block_words};
-ghost use Rattle.bp_session.specs.Changed.{AreUnmarked, HoldsChanged, MarksChanges, is_marked, marked_by};
+ghost use Rattle.bp_session.specs.Changed.{AreUnmarked, HoldsChanged, MarksChanges, is_marked};
 ghost use Rattle.bp_session.specs.Files.{HasBlocksOf, Holds, HoldsAs, HoldsBytes, HoldsPartly, IsReady, StaysTold};
 ghost use Rattle.pm_epochs.specs.Log.{stores};
-ghost use Rattle.pm_region.specs.Memory.{AreWithin, current_words, drained};
+ghost use Rattle.pm_region.specs.Memory.{current_words, drained};
 
 use crate::blocks::{RUN_BLOCKS, read_blocks};
 use bp_io::{Failed, Files};
@@ -21,26 +21,38 @@ use pm_region::Region;
 /// The bytes of a block, as a length.
 const BLOCK: usize = BLOCK_SIZE as usize;
 
-/// Marks the block to which an event stores.
-fn mark(changed: &mut [bool], event: Event)
-    requires { AreWithin (block_words * length changed.old) (event ∷ []) }
-    ensures { changed.new ≡ marked_by changed.old event }
+/// Marks the blocks that hold so many words in a row.
+fn mark_words(changed: &mut [bool; MAX_BLOCKS as usize], first: u32, count: usize)
+    requires some { 0 < count }
+    requires inside { first + count ≤ block_words * length changed.old }
+    ensures marked { (word : ℕ) → first ≤ word → word < first + count → is_marked changed.new (word / block_words) ≡ true }
+    ensures more { (i : ℕ) → is_marked changed.old i ≡ true → is_marked changed.new i ≡ true }
+    ensures size { length changed.new ≡ length changed.old }
 {
-    if let Event::Store { word, .. } = event {
-        changed[(word / BLOCK_WORDS) as usize] = true;
+    let last = (first as usize + (count - 1)) / BLOCK_WORDS as usize;
+    for block in (first / BLOCK_WORDS) as usize..last + 1 {
+        changed[block] = true;
     }
 }
 
 /// Marks the blocks to which a store of the log went.
-fn mark_stored<R: Region>(region: &R, changed: &mut [bool])
+fn mark_stored<R: Region>(region: &R, changed: &mut [bool; MAX_BLOCKS as usize])
     requires { length (R.memory region.now).base ≤ block_words * length changed.old }
     ensures marks { MarksChanges changed.new (R.memory region.now).base (current_words (R.memory region.now)) }
     ensures more { (i : ℕ) → is_marked changed.old i ≡ true → is_marked changed.new i ≡ true }
     ensures none { stores (R.memory region.now).events ≡ [] → changed.new ≡ changed.old }
     ensures size { length changed.new ≡ length changed.old }
 {
-    for i in 0..region.event_count() {
-        mark(changed, region.event(i));
+    let count = region.event_count();
+    let mut i: usize = 0;
+    while i < count {
+        let row = region.row_len(i);
+        match region.event(i) {
+            Event::Store { word, .. } => mark_words(changed, word, row),
+            Event::Barrier => {}
+            Event::Mark => {}
+        }
+        i += row;
     }
 }
 

@@ -1,10 +1,13 @@
 //! Replies for a sink.
 
-ghost use Rattle.std.specs.Prelude.{◌++◌, ◌≤◌, OnOk, OnErr, length};
+ghost use Rattle.std.specs.Prelude.{◌++◌, ◌≡◌, ◌≤◌, OnOk, OnErr, length};
 ghost use Rattle.bp_io.specs.Causes.{HasCause};
+ghost use Rattle.bp_plain.specs.Calls as calls;
 ghost use Rattle.bp_plain.specs.Calls.Answer.{names};
+ghost use Rattle.bp_script.specs.Sayings.{FitsReply, said_text};
 ghost use Rattle.bp_script.specs.Texts.{answer_text, reply_text};
 ghost use Rattle.bp_session.specs.Acting.{reply_of};
+ghost use Rattle.bp_session.specs.declared.outcome.Outcome.TheVariants.{Answered};
 ghost use Rattle.bp_replies.specs.Gathering.{PassesOn, waiting};
 ghost use Rattle.bp_replies.specs.Taking.{TakesPart};
 
@@ -44,6 +47,34 @@ fn tell_answer<K: Sink>(reply: &Reply, replies: &mut Replies, out: &mut K) -> Re
     }
 }
 
+/// What is said of a line that is no call. It stands by itself so that a call, which most lines are, makes room for none of it.
+#[inline(never)]
+fn said(outcome: Outcome) -> Said<'static>
+    requires { ¬ (outcome ≡ Answered) }
+    ensures text { (answer : calls.Answer) → said_text result ≡ reply_text (reply_of outcome answer) }
+    ensures fits { FitsReply result }
+{
+    match outcome {
+        Outcome::Answered => unreachable!(),
+        Outcome::Synced => Said::Synced,
+        Outcome::Counted { free, live } => Said::Space { free, live },
+        Outcome::Kept { c, n } => Said::Kept { c, n },
+        Outcome::Logged {
+            events,
+            barriers,
+            calls,
+        } => Said::Log {
+            events,
+            barriers,
+            calls,
+        },
+        Outcome::BadChoice => Said::BadChoice,
+        Outcome::NoMemory => Said::Answer(Answer::Refused(FsError::Memory)),
+        Outcome::BadSyntax => Said::Syntax,
+        Outcome::TooLong => Said::LongLine,
+    }
+}
+
 /// Tells what a line came to, behind the replies that wait. Where the sink failed, it took a proper front of them all.
 fn tell<K: Sink>(
     outcome: Outcome,
@@ -59,25 +90,7 @@ fn tell<K: Sink>(
 {
     match outcome {
         Outcome::Answered => tell_answer(reply, replies, out),
-        Outcome::Synced => replies.tell(&Said::Synced, out),
-        Outcome::Counted { free, live } => replies.tell(&Said::Space { free, live }, out),
-        Outcome::Kept { c, n } => replies.tell(&Said::Kept { c, n }, out),
-        Outcome::Logged {
-            events,
-            barriers,
-            calls,
-        } => {
-            let said = Said::Log {
-                events,
-                barriers,
-                calls,
-            };
-            replies.tell(&said, out)
-        }
-        Outcome::BadChoice => replies.tell(&Said::BadChoice, out),
-        Outcome::NoMemory => { replies.tell(&Said::Answer(Answer::Refused(FsError::Memory)), out) }
-        Outcome::BadSyntax => replies.tell(&Said::Syntax, out),
-        Outcome::TooLong => replies.tell(&Said::LongLine, out),
+        other => replies.tell(&said(other), out),
     }
 }
 

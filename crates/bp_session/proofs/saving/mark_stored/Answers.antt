@@ -1,17 +1,77 @@
-use Rattle.std.proofs.Common.{◌∙◌}
-use Rattle.bp_session.proofs.MarkLaws.{length-marked_by, marked_stays, marks_next, none_next, within_at, within_more}
+use Rattle.std.proofs.Common.{◌≡◌, ◌+◌, ◌∙◌, length, sym, refl, ap, arith, subst, List, Bool, true}
+use Rattle.std.specs.Prelude.{Some, slice_get}
+use Rattle.pm_epochs.specs.declared.event.Event.{Event}
+use Rattle.pm_epochs.specs.declared.event.Event.TheVariants.{Barrier, Mark}
+use Rattle.bp_session.specs.Changed.{is_marked}
+use Rattle.bp_session.proofs.MarkLaws.{MarksStores, marks_alone, marks_changes, marks_more, marks_row, none_at, row_alone, row_within}
 use Rattle.bp_session.proofs.saving.mark_stored.Goals as goal
+use Rattle.bp_session.proofs.saving.mark_stored.Goals.{in-Store, in-Barrier, in-Mark}
 
-pub mark-requires : goal.mark-requires
-mark-requires g c = within_more _ _ c.event.result (rw c.loop-i.invariant.size c.requires) (within_at _ _ c.loop-i.i c.event.result c.event_count-i-end.ensures.within c.event.ensures.get)
+pub loop-i-init : goal.loop-i-init
+loop-i-init g c = record {
+  here = omega arith;
+  marks = λ i at value low here. absurd (omega (arith, low));
+  more = λ k on. on;
+  none = λ _. refl;
+  size = refl;
+}
+
+pub mark_words-requires-clause-inside : goal.mark_words-requires-clause-inside
+mark_words-requires-clause-inside g c =
+    let memory = g.R.Region.memory c.args.region.now in
+    let words = length memory.base in
+    omega (
+      arith,
+      c.requires,
+      c.loop-i.invariant.size,
+      row_within words memory.events c.loop-i.i c.row_len-row.result c.in-Store.word c.in-Store.value c.in-Store.ensures.get c.row_len-row.ensures.row c.row_len-row.ensures.inside c.row_len-row.ensures.some c.event_count-count.ensures.within,
+    )
 
 pub loop-i-preserved : goal.loop-i-preserved
 loop-i-preserved g c =
     let memory = g.R.Region.memory c.args.region.now in
+    let events = memory.events in
+    let old = c.loop-i.changed in
+    let new = c.match-event.changed in
     let here = c.loop-i.invariant in
-    rw c.mark.ensures (record {
-      marks = marks_next c.loop-i.changed memory.base memory.events c.loop-i.i c.event.result c.event.ensures.get (rw here.size c.requires) here.marks;
-      more = λ k on. marked_stays c.loop-i.changed c.event.result k (here.more k on);
-      none = none_next c.loop-i.changed c.args.changed.now memory.events c.loop-i.i c.event.result c.event.ensures.get here.none;
-      size = length-marked_by c.loop-i.changed c.event.result ∙ here.size;
-    })
+    let i = c.loop-i.i in
+    let count = c.row_len-row.result in
+    let row = c.row_len-row.ensures in
+    record {
+      here = omega (arith, row.inside, c.event_count-count.ensures.count);
+      marks = elim c.match-event.branch [
+        | in-Store w ↦
+            subst (λ (marks : List Bool). MarksStores marks events (i + count)) (sym w.changed-is)
+            (marks_row w.mark_words.new.changed events i count w.in-Store.word w.in-Store.value w.in-Store.ensures.get row.row row.inside w.mark_words.ensures.marked
+            (marks_more old w.mark_words.new.changed events i w.mark_words.ensures.more here.marks))
+        | in-Barrier w ↦
+            let at : slice_get events i ≡ Some Barrier = c.event.ensures.get ∙ ap (λ (event : Event). Some event) w.in-Barrier.is in
+            subst (λ (marks : List Bool). MarksStores marks events (i + count)) (sym w.changed-is)
+            (marks_alone old events i count Barrier at (λ word value e. cc) (row_alone events i count Barrier at (λ next follows. follows) row.row row.inside) here.marks)
+        | in-Mark w ↦
+            let at : slice_get events i ≡ Some Mark = c.event.ensures.get ∙ ap (λ (event : Event). Some event) w.in-Mark.is in
+            subst (λ (marks : List Bool). MarksStores marks events (i + count)) (sym w.changed-is)
+            (marks_alone old events i count Mark at (λ word value e. cc) (row_alone events i count Mark at (λ next follows. follows) row.row row.inside) here.marks)
+      ];
+      more = elim c.match-event.branch [
+        | in-Store w ↦ λ k on. subst (λ (marks : List Bool). is_marked marks k ≡ true) (sym w.changed-is) (w.mark_words.ensures.more k (here.more k on))
+        | in-Barrier w ↦ λ k on. subst (λ (marks : List Bool). is_marked marks k ≡ true) (sym w.changed-is) (here.more k on)
+        | in-Mark w ↦ λ k on. subst (λ (marks : List Bool). is_marked marks k ≡ true) (sym w.changed-is) (here.more k on)
+      ];
+      none = elim c.match-event.branch [
+        | in-Store w ↦ λ none. absurd (none_at events i w.in-Store.word w.in-Store.value none w.in-Store.ensures.get)
+        | in-Barrier w ↦ λ none. w.changed-is ∙ here.none none
+        | in-Mark w ↦ λ none. w.changed-is ∙ here.none none
+      ];
+      size = elim c.match-event.branch [
+        | in-Store w ↦ ap (λ (marks : List Bool). length marks) w.changed-is ∙ w.mark_words.ensures.size ∙ here.size
+        | in-Barrier w ↦ ap (λ (marks : List Bool). length marks) w.changed-is ∙ here.size
+        | in-Mark w ↦ ap (λ (marks : List Bool). length marks) w.changed-is ∙ here.size
+      ];
+    }
+
+pub returns-clause-marks : goal.returns-clause-marks
+returns-clause-marks g c =
+    let memory = g.R.Region.memory c.args.region.now in
+    let all : c.loop-i.i ≡ length memory.events = omega (arith, c.loop-i-test.false, c.loop-i.invariant.here, c.event_count-count.ensures.count) in
+    marks_changes c.loop-i.changed memory.base memory.events (subst (λ n. MarksStores c.loop-i.changed memory.events n) all c.loop-i.invariant.marks)

@@ -3,7 +3,7 @@
  * WHAT IT IS
  *   A volume holds a copy of an image's words in ordinary memory and serves file calls over it. It does no input and no output. What each
  *   call stores it writes down in a log. Carrying that log to what really persists (persistent memory, a file, another machine) is yours:
- *   carry.h beside this header has the loop, and file.c, pmem.c and stream.c are carriers of some sixty lines.
+ *   carry.h beside this header has the loop, and file.c, pmem.c and stream.c are carriers of sixty to ninety lines.
  *
  * A PROGRAM
  *     #include "file.h"
@@ -56,8 +56,8 @@
  *   processes behind a fork.
  *
  * COST
- *   A volume has its own copy of the words (4 KiB a block) and some hundred bytes a block beside it, and a log of 524,288 events (19 MB, of
- *   which the system gives what is used). Memory is taken by bpfs_mount, bpfs_format_events, bpfs_list and bpfs_snap_list; calls may take
+ *   A volume has its own copy of the words (4 KiB a block), up to some 720 bytes a block beside it, and a log of 524,288 events (23 MB); of
+ *   both the system gives what is used. Memory is taken by bpfs_mount, bpfs_format_events, bpfs_list and bpfs_snap_list; calls may take
  *   some to remember where names stand, and go on without where there is none.
  *
  * CARRYING

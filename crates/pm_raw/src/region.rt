@@ -17,8 +17,8 @@ use pm_region::Region;
 use std::alloc::{AllocError, Global};
 use std::marker::Model;
 
-/// A region in raw memory: the words now, and for each event since the last drain its word, its value, and the value that it
-/// replaced. Beside them it keeps where the barriers and the marks stand, so that a crash and a storm need not look for them
+/// A region in raw memory: the words now, the words of the events since the last drain by runs, and for each event its value and
+/// the value that it replaced. Beside them it keeps where the barriers and the marks stand, so that a crash and a storm need not look for them
 /// among the stores. The words at the last drain are held nowhere: they are what undoing the log leaves. So a drain takes
 /// constant time, as each other call does but a crash and a look at a word at the last drain, which take time for the events
 /// of the log, and a count of the barriers before an event, which takes time for the barriers.

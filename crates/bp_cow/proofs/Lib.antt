@@ -40,3 +40,4 @@ pub mod LooseCover
 pub mod NodeLive
 pub mod WordLive
 pub mod TreeSizes
+pub mod WayLaws

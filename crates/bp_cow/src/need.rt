@@ -44,7 +44,7 @@ pub fn copies_below(touched: &Touched<'_>, found: &FoundWays) -> u32
     if touched.way_len(0, &found.shared) < from {
         return 0;
     }
-    let ways = touched.ways();
+    let ways = touched.ways(&found.shared.ends);
     let mut count = 1;
     for i in 0..ways {
         count += turned_for(touched, &touched.way(i, &found.shared), from);

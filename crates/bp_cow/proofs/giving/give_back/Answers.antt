@@ -49,6 +49,9 @@ loop-i-init g c =
       }
     ]
 
+pub ways-ways-requires-clause-ends : goal.ways-ways-requires-clause-ends
+ways-ways-requires-clause-ends g c = c.requires.1.1.1.1.1.1.1.ends
+
 pub way-requires-clause-i : goal.way-requires-clause-i
 way-requires-clause-i g c = subst (λ n. c.loop-i.i < n) c.ways-ways.ensures c.loop-i-test.true
 

@@ -41,3 +41,4 @@ pub mod NodeLive
 pub mod WordLive
 pub mod TreeSizes
 pub mod WayLaws
+pub mod SkipLaws

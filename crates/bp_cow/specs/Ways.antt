@@ -19,10 +19,16 @@ pub record IsShared (way : ℕ → WordPath) (count : ℕ) (path : WordPath) (de
   pub there : depth ≤ length (way which)
   pub same : trail_of path depth ≡ trail_of (way which) depth
 
--- how many fronts of each of the first ways begin an earlier way
-abbrev pub AreFronts : Touched → List ℕ → Type 0
-AreFronts touched fronts =
-    (i d : ℕ) → i < length fronts → (d < slice_index fronts i) ↔ IsShared (job_of touched).way i ((job_of touched).way i) d
+-- each front of a way begins an earlier one
+abbrev pub AddsNoBlock : Touched → ℕ → Type 0
+AddsNoBlock touched i =
+    (d : ℕ) → d ≤ length ((job_of touched).way i) → IsShared (job_of touched).way i ((job_of touched).way i) d
+
+-- how many fronts of each of the first ways begin no earlier one: those that do come before them
+pub record AreFresh (touched : Touched) (fresh : List ℕ) : Type 0 where
+  pub few : (i : ℕ) → i < length fresh → slice_index fresh i ≤ length ((job_of touched).way i) + 1
+  pub right : (i d : ℕ) → i < length fresh → (d < length ((job_of touched).way i) + 1 - slice_index fresh i)
+      ↔ IsShared (job_of touched).way i ((job_of touched).way i) d
 
 -- how many ways there are to leaves, and of each run, but for the last one maybe, how many to its leaves and to those of the
 -- runs before it
@@ -33,7 +39,7 @@ pub record AreEnds (runs : List Run) (ends : Ends) : Type 0 where
 
 -- what was found of the ways is right
 pub record AreShared (touched : Touched) (shared : Shared) : Type 0 where
-  pub fronts : AreFronts touched shared.fronts.items
+  pub fresh : AreFresh touched shared.fresh.items
   pub ends : AreEnds touched.runs.now shared.ends
 
 -- A way of touched words, with its length, the leaf or the word to which it leads, and how many of its fronts begin an

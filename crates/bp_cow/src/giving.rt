@@ -127,6 +127,9 @@ pub(crate) fn give_back<R: Region>(
         give_loose(blocks, frozen, top);
     }
     for i in 0..ways {
+        if touched.adds_no_block(i, shared) {
+            continue;
+        }
         give_way(
             region,
             blocks,

@@ -157,8 +157,15 @@ pub fn find_ways<R: Region>(region: &R, touched: &Touched<'_>) -> FoundWays
     requires in_range { LeadsInside (current_words (R.memory region.now)) touched.now }
     ensures { AreWaysIn (current_words (R.memory region.now)) touched.now result }
 {
+    let cover = find_cover(region, touched);
+    if touched.runs.len() < 2 {
+        return FoundWays {
+            cover,
+            shared: touched.few_shared(),
+        };
+    }
     FoundWays {
-        cover: find_cover(region, touched),
+        cover,
         shared: touched.all_shared(),
     }
 }

@@ -172,7 +172,7 @@ piece_newline status most held a b line = record {
   broken = λ e rest saved. rw (commands_at_newline held rest) (breaks_behind _ _ _ _ _ (commands_from [] rest) _ _ (breaks_as _ _ _ _ _ _ (λ image held. held) 0 most _ (λ _. refl) (line.broken e saved)));
   stopped = λ e rest. record {
     stops = λ saved. rw (commands_at_newline held rest) (stops_behind _ _ _ _ (commands_from [] rest) _ _ ((line.stopped e).stops saved));
-    cleared = (line.stopped e).cleared;
+    lost = (line.stopped e).lost;
   };
   keeps_files = line.keeps;
   first = line.first;
@@ -199,7 +199,7 @@ module _ (most : ℕ) (held i middle : List ℕ) (a b c : Moment) (one : PieceOu
     stops = λ saved.
         let first = one.whole refl saved in
         stops_in _ _ _ _ _ _ _ _ _ first _ _ j (stops_as _ _ _ _ _ _ (carries_on_partly a b c saved first.after first.file) _ (stopped.stops first.after));
-    cleared = stopped.cleared;
+    lost = stopped.lost;
   }
 
   pub all_after : (j : List ℕ) → DoesAll b c (commands_from middle j) → DoesAll a c (commands_from held (i ++ j))

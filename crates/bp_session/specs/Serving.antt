@@ -1,5 +1,5 @@
 -- What serving some of an input does, from one moment to another.
-use Rattle.std.specs.Prelude.{All, ◌≡◌, ◌≤◌, ◌⊎◌, ℕ, ◌<◌, List, [], ◌∷◌, ◌++◌, Some, Bool, true, false, length, take, Option}
+use Rattle.std.specs.Prelude.{All, ◌≡◌, ◌≤◌, ◌⊎◌, ℕ, ◌<◌, List, [], ◌∷◌, ◌++◌, Some, Bool, true, length, take, Option}
 use Rattle.std.specs.Io.KnownBytes.{Appends, Consumes, IsAtEnd}
 use Rattle.bp_io.specs.Causes.{Rose}
 use Rattle.bp_io.specs.Files.{KeepsOthers, StaysAttached, View}
@@ -11,6 +11,7 @@ use Rattle.bp_script.specs.Commands.Command.{sync}
 use Rattle.bp_script.specs.Texts.{LineReply, reply_text}
 use Rattle.bp_session.specs.Lines.{commands_from, text_of}
 use Rattle.bp_session.specs.Acting.{state}
+use Rattle.bp_session.specs.Changed.{AreMarked}
 use Rattle.bp_session.specs.Files.{HoldsAs, HoldsPartly, IsReady}
 use Rattle.bp_session.specs.Outside.{IsFirstFault, counts}
 use Rattle.bp_session.specs.Session.{State, SessionLine, Session}
@@ -91,26 +92,27 @@ pub record StopsAtSave (old : State) (memory : Memory) (holds_partly : Image →
 
 -- ---- what is told from one moment to another
 
--- The region, the files and the sink, as they are told at a moment, and whether the attached file is taken to hold the
+-- The region, the files and the sink, as they are told at a moment, and the blocks of the attached file that may lack
 -- words of the last drain.
 pub record Moment : Type 0 where
   pub memory : Memory
   pub files : View
   pub taken : Option (List ℕ)
   pub faults : ℕ
-  pub is_base_saved : Bool
+  pub stale : List Bool
 
+-- .. where any block may
 abbrev pub moment : Memory → View → Option (List ℕ) → ℕ → Moment
 moment memory files taken faults =
-    record { memory = memory; files = files; taken = taken; faults = faults; is_base_saved = false }
+    record { memory = memory; files = files; taken = taken; faults = faults; stale = [] }
 
--- the same moment, where the attached file is taken to hold the words of the last drain if so
-abbrev pub saved_if : Bool → Moment → Moment
-saved_if is_base_saved now = record now { is_base_saved = is_base_saved }
+-- the same moment, where these blocks may
+abbrev pub with_stale : List Bool → Moment → Moment
+with_stale stale now = record now { stale = stale }
 
--- the file of this name holds these words, and where it is taken to hold those of the last drain, it does
+-- the file of this name holds these words, and in each block that is not stale those of the last drain
 abbrev pub HoldsAt : Moment → List ℕ → Image → Type 0
-HoldsAt now name image = HoldsAs now.is_base_saved now.files now.memory.base name image
+HoldsAt now name image = HoldsAs now.stale now.files now.memory.base name image
 
 -- whatever name's file holds the first words at one moment holds the second at the other
 abbrev pub Carries : Moment → Moment → Image → Image → Type 0
@@ -136,10 +138,10 @@ abbrev pub DoesLine : Moment → Command → LineReply → Moment → Type 0
 DoesLine old command reply new =
     (saved : Image) → Acts (state old.memory saved) new.memory (Carries old new saved) command reply
 
--- A sync couldn't save, and the file is not taken to hold the words.
+-- A sync couldn't save, and any block of the file may lack words.
 pub record FailsLine (old : Moment) (command : Command) (new : Moment) : Type 0 where
   pub fails : (saved : Image) → SyncFails (state old.memory saved) new.memory (CarriesPartly old new saved) command
-  pub cleared : new.is_base_saved ≡ false
+  pub lost : AreMarked new.stale
 
 -- The lines that this input ends were answered.
 abbrev pub DoesPart : List ℕ → List ℕ → List ℕ → Moment → Moment → Type 0
@@ -156,11 +158,11 @@ abbrev pub DoesBreakOff : ℕ → Moment → Moment → List Command → Type 0
 DoesBreakOff most old new commands = (saved : Image) →
     BreaksOff most (state old.memory saved) new.memory (Carries old new saved) commands old.taken new.taken
 
--- .. or a sync among them couldn't save, and the file is not taken to hold the words.
+-- .. or a sync among them couldn't save, and any block of the file may lack words.
 pub record DoesStop (old new : Moment) (commands : List Command) : Type 0 where
   pub stops : (saved : Image) →
       StopsAtSave (state old.memory saved) new.memory (CarriesPartly old new saved) commands old.taken new.taken
-  pub cleared : new.is_base_saved ≡ false
+  pub lost : AreMarked new.stale
 
 -- The region keeps its size and the room of its log, the same file is attached, no other one changes, and what was
 -- flushed before is flushed where no sync failed.

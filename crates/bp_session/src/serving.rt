@@ -7,16 +7,18 @@ ghost use Rattle.std.specs.Io.KnownBytes.{ReadConsumes};
 ghost use Rattle.bp_io.specs.Causes.{HasCause};
 ghost use Rattle.bp_script.specs.Commands.Command.{sync};
 ghost use Rattle.bp_script.specs.Commands.{command_of};
+ghost use Rattle.bp_session.specs.Changed.{stale_in};
 ghost use Rattle.bp_session.specs.Files.{IsReady};
 ghost use Rattle.bp_session.specs.Lines.{commands_from};
 ghost use Rattle.bp_session.specs.Gathering.{LineGathers};
 ghost use Rattle.bp_replies.specs.Room.{gathered_size};
 ghost use Rattle.bp_session.specs.Pieces.{piece_size};
 ghost use Rattle.bp_session.specs.Serving.{CanServe, LineOutcome, PieceOutcome, ServeOutcome, ServesAgain};
-ghost use Rattle.bp_session.specs.Serving.{moment, saved_if, told};
+ghost use Rattle.bp_session.specs.Serving.{moment, told, with_stale};
 ghost use Rattle.bp_session.specs.Work.{held_line, held_replies, read_piece};
 
 use crate::acting::act_and_save;
+use crate::saving::Stale;
 use crate::telling::tell_by;
 use crate::work::Work;
 use bp_io::{Failed, Files, Sink, Source};
@@ -33,15 +35,15 @@ fn answer_line<R: Region, K: Sink, F: Files>(
     volume: &mut Volume<R>,
     work: &mut Work,
     most: usize,
-    is_base_saved: &mut bool,
+    stale: &mut [bool],
     out: &mut K,
     files: &mut F,
 ) -> u8
     requires { CanServe volume.old (F.view files.old) }
     ensures outcome { LineGathers result (command_of (held_line work.old))
         (held_replies work.old) (held_replies work.new)
-        (saved_if is_base_saved.old (moment volume.old (F.view files.old) (K.taken out.old) (K.faults out.old)))
-        (saved_if is_base_saved.new (moment volume.new (F.view files.new) (K.taken out.new) (K.faults out.new))) }
+        (with_stale stale.old (moment volume.old (F.view files.old) (K.taken out.old) (K.faults out.old)))
+        (with_stale stale.new (moment volume.new (F.view files.new) (K.taken out.new) (K.faults out.new))) }
     ensures few { result ≡ 0 → length (held_replies work.new) ≤ most }
     ensures synced { held_replies work.old ≡ [] → ¬ (result ≡ 5) → command_of (held_line work.old) ≡ sync →
         (F.view files.new).is_flushed ≡ true }
@@ -50,7 +52,7 @@ fn answer_line<R: Region, K: Sink, F: Files>(
     ensures piece { read_piece work.new ≡ read_piece work.old }
 {
     let Work { buffers, .. } = work;
-    match act_and_save(alloc, volume, buffers, is_base_saved, out, files) {
+    match act_and_save(alloc, volume, buffers, stale, out, files) {
         Ok(outcome) => match tell_by(outcome, &buffers.reply, &mut buffers.replies, most, out) {
             Ok(()) => 0,
             Err(Failed) => 4,
@@ -64,21 +66,21 @@ fn answer_alone<R: Region, K: Sink, F: Files>(
     alloc: Global,
     volume: &mut Volume<R>,
     work: &mut Work,
-    is_base_saved: &mut bool,
+    stale: &mut [bool],
     out: &mut K,
     files: &mut F,
 ) -> u8
     requires { CanServe volume.old (F.view files.old) }
     ensures outcome { LineOutcome result (command_of (held_line work.old) ∷ [])
-        (saved_if is_base_saved.old (moment volume.old (F.view files.old) (K.taken out.old) (K.faults out.old)))
-        (saved_if is_base_saved.new (moment volume.new (F.view files.new) (K.taken out.new) (K.faults out.new))) }
+        (with_stale stale.old (moment volume.old (F.view files.old) (K.taken out.old) (K.faults out.old)))
+        (with_stale stale.new (moment volume.new (F.view files.new) (K.taken out.new) (K.faults out.new))) }
     ensures synced { ¬ (result ≡ 5) → command_of (held_line work.old) ≡ sync → (F.view files.new).is_flushed ≡ true }
     ensures again { ServesAgain volume.old volume.new (F.view files.new) }
     ensures line { held_line work.new ≡ held_line work.old }
     ensures piece { read_piece work.new ≡ read_piece work.old }
 {
     work.buffers.replies.clear();
-    answer_line(alloc, volume, work, 0, is_base_saved, out, files)
+    answer_line(alloc, volume, work, 0, stale, out, files)
 }
 
 /// Serves the line that the work holds, and answers the status: 0 where its reply was taken whole, 4 where the sink
@@ -100,8 +102,7 @@ pub fn serve_line<R: Region, K: Sink, F: Files>(
     ensures line { held_line work.new ≡ held_line work.old }
     ensures piece { read_piece work.new ≡ read_piece work.old }
 {
-    let mut is_base_saved = false;
-    answer_alone(alloc, volume, work, &mut is_base_saved, out, files)
+    answer_alone(alloc, volume, work, &mut [], out, files)
 }
 
 /// Serves the line that a newline ends, and begins the next. Where more replies than so many bytes then wait, they are
@@ -111,21 +112,21 @@ fn end_line<R: Region, K: Sink, F: Files>(
     volume: &mut Volume<R>,
     work: &mut Work,
     most: usize,
-    is_base_saved: &mut bool,
+    stale: &mut [bool],
     out: &mut K,
     files: &mut F,
 ) -> u8
     requires { CanServe volume.old (F.view files.old) }
     ensures outcome { LineGathers result (command_of (held_line work.old))
         (held_replies work.old) (held_replies work.new)
-        (saved_if is_base_saved.old (moment volume.old (F.view files.old) (K.taken out.old) (K.faults out.old)))
-        (saved_if is_base_saved.new (moment volume.new (F.view files.new) (K.taken out.new) (K.faults out.new))) }
+        (with_stale stale.old (moment volume.old (F.view files.old) (K.taken out.old) (K.faults out.old)))
+        (with_stale stale.new (moment volume.new (F.view files.new) (K.taken out.new) (K.faults out.new))) }
     ensures few { result ≡ 0 → length (held_replies work.new) ≤ most }
     ensures ready { IsReady volume.new.base (F.view files.new) }
     ensures line { held_line work.new ≡ [] }
     ensures piece { read_piece work.new ≡ read_piece work.old }
 {
-    let status = answer_line(alloc, volume, work, most, is_base_saved, out, files);
+    let status = answer_line(alloc, volume, work, most, stale, out, files);
     work.buffers.line.clear();
     status
 }
@@ -164,7 +165,7 @@ fn take_piece<R: Region, K: Sink, F: Files>(
     work: &mut Work,
     count: usize,
     most: usize,
-    is_base_saved: &mut bool,
+    stale: &mut [bool],
     out: &mut K,
     files: &mut F,
 ) -> u8
@@ -172,15 +173,15 @@ fn take_piece<R: Region, K: Sink, F: Files>(
     requires inside { count ≤ piece_size }
     ensures outcome { PieceOutcome result most
         (held_line work.old) (take count (read_piece work.old)) (held_line work.new)
-        (saved_if is_base_saved.old (moment volume.old (F.view files.old) (K.taken out.old) (K.faults out.old)))
-        (saved_if is_base_saved.new (moment volume.new (F.view files.new) (K.taken out.new) (K.faults out.new))) }
+        (with_stale stale.old (moment volume.old (F.view files.old) (K.taken out.old) (K.faults out.old)))
+        (with_stale stale.new (moment volume.new (F.view files.new) (K.taken out.new) (K.faults out.new))) }
     ensures again { ServesAgain volume.old volume.new (F.view files.new) }
 {
     let mut at: usize = 0;
     work.buffers.replies.clear();
     while let Some(end) = newline_in(&work.piece, at, count) {
         take_run(work, at, end);
-        let status = end_line(alloc, volume, work, most, is_base_saved, out, files);
+        let status = end_line(alloc, volume, work, most, stale, out, files);
         if status != 0 {
             return status;
         }
@@ -198,19 +199,19 @@ fn finish<R: Region, K: Sink, F: Files>(
     alloc: Global,
     volume: &mut Volume<R>,
     work: &mut Work,
-    is_base_saved: &mut bool,
+    stale: &mut [bool],
     out: &mut K,
     files: &mut F,
 ) -> u8
     requires { CanServe volume.old (F.view files.old) }
     ensures { LineOutcome result (commands_from (held_line work.old) [])
-        (saved_if is_base_saved.old (moment volume.old (F.view files.old) (K.taken out.old) (K.faults out.old)))
-        (saved_if is_base_saved.new (moment volume.new (F.view files.new) (K.taken out.new) (K.faults out.new))) }
+        (with_stale stale.old (moment volume.old (F.view files.old) (K.taken out.old) (K.faults out.old)))
+        (with_stale stale.new (moment volume.new (F.view files.new) (K.taken out.new) (K.faults out.new))) }
 {
     if work.buffers.line.is_empty() {
         return 0;
     }
-    answer_alone(alloc, volume, work, is_base_saved, out, files)
+    answer_alone(alloc, volume, work, stale, out, files)
 }
 
 /// Reads a piece of the input.
@@ -229,7 +230,7 @@ fn serve_by<R: Region, S: Source, K: Sink, F: Files>(
     volume: &mut Volume<R>,
     work: &mut Work,
     most: usize,
-    is_base_saved: &mut bool,
+    stale: &mut [bool],
     src: &mut S,
     out: &mut K,
     files: &mut F,
@@ -237,8 +238,8 @@ fn serve_by<R: Region, S: Source, K: Sink, F: Files>(
     requires { CanServe volume.old (F.view files.old) }
     ensures outcome { ServeOutcome result most
         (told (S.left src.old) (S.faults src.old)) (told (S.left src.new) (S.faults src.new))
-        (saved_if is_base_saved.old (moment volume.old (F.view files.old) (K.taken out.old) (K.faults out.old)))
-        (saved_if is_base_saved.new (moment volume.new (F.view files.new) (K.taken out.new) (K.faults out.new))) }
+        (with_stale stale.old (moment volume.old (F.view files.old) (K.taken out.old) (K.faults out.old)))
+        (with_stale stale.new (moment volume.new (F.view files.new) (K.taken out.new) (K.faults out.new))) }
     ensures again { ServesAgain volume.old volume.new (F.view files.new) }
 {
     work.buffers.line.clear();
@@ -252,7 +253,7 @@ fn serve_by<R: Region, S: Source, K: Sink, F: Files>(
             break;
         }
         let served = count.min(MAX_INPUT as usize - taken);
-        let status = take_piece(alloc, volume, work, served, most, is_base_saved, out, files);
+        let status = take_piece(alloc, volume, work, served, most, stale, out, files);
         if status != 0 {
             return status;
         }
@@ -261,7 +262,7 @@ fn serve_by<R: Region, S: Source, K: Sink, F: Files>(
         }
         taken += count;
     }
-    finish(alloc, volume, work, is_base_saved, out, files)
+    finish(alloc, volume, work, stale, out, files)
 }
 
 /// Answers each line of a source, in whatever pieces it comes. No line that the work held before is served. Each reply
@@ -281,8 +282,7 @@ pub fn serve<R: Region, S: Source, K: Sink, F: Files>(
         (moment volume.new (F.view files.new) (K.taken out.new) (K.faults out.new)) }
     ensures again { ServesAgain volume.old volume.new (F.view files.new) }
 {
-    let mut is_base_saved = false;
-    serve_by(alloc, volume, work, 0, &mut is_base_saved, src, out, files)
+    serve_by(alloc, volume, work, 0, &mut [], src, out, files)
 }
 
 /// Answers each line of a source, as `serve` does, but for when replies are handed to the sink: they are gathered while
@@ -290,13 +290,13 @@ pub fn serve<R: Region, S: Source, K: Sink, F: Files>(
 /// failed, the volume may be ahead of the line whose reply broke off, by lines behind it of which none is a sync; no
 /// file is.
 ///
-/// Where the attached file is taken to hold the words of the last drain, a sync writes only the blocks to which a store
-/// went since. Whether it is, the caller says, as where it was just read, and is told at the end.
+/// A sync writes only the blocks that are stale, which may lack words of the last drain, and those to which a store went
+/// since. Which are, the caller says, as none where the file was just read, and is told at the end.
 pub fn serve_gathered<R: Region, S: Source, K: Sink, F: Files>(
     alloc: Global,
     volume: &mut Volume<R>,
     work: &mut Work,
-    is_base_saved: &mut bool,
+    stale: &mut Stale,
     src: &mut S,
     out: &mut K,
     files: &mut F,
@@ -304,8 +304,8 @@ pub fn serve_gathered<R: Region, S: Source, K: Sink, F: Files>(
     requires { CanServe volume.old (F.view files.old) }
     ensures outcome { ServeOutcome result gathered_size
         (told (S.left src.old) (S.faults src.old)) (told (S.left src.new) (S.faults src.new))
-        (saved_if is_base_saved.old (moment volume.old (F.view files.old) (K.taken out.old) (K.faults out.old)))
-        (saved_if is_base_saved.new (moment volume.new (F.view files.new) (K.taken out.new) (K.faults out.new))) }
+        (with_stale (stale_in stale.old) (moment volume.old (F.view files.old) (K.taken out.old) (K.faults out.old)))
+        (with_stale (stale_in stale.new) (moment volume.new (F.view files.new) (K.taken out.new) (K.faults out.new))) }
     ensures again { ServesAgain volume.old volume.new (F.view files.new) }
 {
     serve_by(
@@ -313,7 +313,7 @@ pub fn serve_gathered<R: Region, S: Source, K: Sink, F: Files>(
         volume,
         work,
         GATHERED,
-        is_base_saved,
+        &mut stale.blocks,
         src,
         out,
         files,

@@ -1,5 +1,5 @@
 -- Outcomes of the programs, from those of their parts.
-use Rattle.std.proofs.Common.{refl, sym, ◌∙◌, arith, ◌≡◌, ◌≢◌, ◌<◌, ◌≤◌, ℕ, List, length, take, inl, inr, true}
+use Rattle.std.proofs.Common.{refl, sym, ◌∙◌, ap, subst, arith, ◌≡◌, ◌≢◌, ◌<◌, ◌≤◌, ℕ, List, length, take, inl, inr, true}
 use Rattle.std.specs.Prelude.{◌⊎◌}
 use Rattle.std.specs.Io.KnownBytes.{Appends}
 use Rattle.pm_region.specs.Memory.{Memory, current_words, drained}
@@ -7,7 +7,7 @@ use Rattle.bp_io.specs.Causes.{Rose}
 use Rattle.bp_io.specs.Files.{View}
 use Rattle.bp_layout.specs.Words.{Image}
 use Rattle.bp_layout.specs.Bytes.{image_bytes}
-use Rattle.bp_session.specs.Files.{HasBlocksOf, HasBytes, Holds}
+use Rattle.bp_session.specs.Files.{HasBlocksOf, HasBytes, Holds, HoldsAs}
 use Rattle.bp_shell.specs.Formatting.{HasPartly, new_image}
 use Rattle.bp_shell.specs.Opening.{HoldsFileSystem, start}
 use Rattle.bp_session.specs.Outside.{IsIdle, IsUntouched, Outside, counts, outside}
@@ -15,6 +15,7 @@ use Rattle.bp_limits.specs.declared.version.Version.{Version}
 use Rattle.bp_shell.specs.Running.{FormatOutcome, RunOutcome, Runs, RunsBroken, RunsLong, RunsPart, RunsStopped, RunsUnsaved, format_text}
 use Rattle.bp_replies.specs.Room.{gathered_size}
 use Rattle.bp_session.specs.Serving.{Carries, CarriesPartly, HoldsAt, Input, Moment, ServeOutcome}
+use Rattle.bp_session.proofs.ChangedLaws.{holds_drained}
 use Rattle.bp_session.proofs.OutcomeLaws.{files_fault, first_then, no_fault, sink_fault}
 use Rattle.bp_shell.specs.Ending.{StopOutcome, TellsStop}
 use Rattle.bp_shell.specs.Statuses.{code_of}
@@ -100,7 +101,9 @@ module _ (before after : Outside) (untouched : IsUntouched before after) (flushe
 
 -- a file that was just read holds the words of a region whose log is empty
 pub read_now : (now : Moment) (name : List ℕ) (image : Image) → now.memory ≡ (start image).memory → Holds now.files name image → HoldsAt now name image
-read_now now name image same file = record { file = file; drained = λ _. rw same file }
+read_now now name image same file =
+    let base : now.memory.base ≡ image = ap (λ (m : Memory). m.base) same in
+    subst (λ (words : Image). HoldsAs now.stale now.files words name image) (sym base) (holds_drained now.stale now.files image name file)
 
 -- from the moment at which FILE is mounted
 module _ (i j : Input) (files : View) (a b : Moment) (name : List ℕ) (image : Image) (found : HoldsFileSystem (files.contents name) image) (same : a.memory ≡ (start image).memory) (holds : HoldsAt a name image)

@@ -23,7 +23,7 @@ use bp_command::laws::{plain_words_are_taken, words_ask_for_one_program};
 use bp_command::{Program, WordsFault, read_words};
 use bp_io::{Failed, Files, Sink, Source};
 use bp_script::Notice;
-use bp_session::saving::sync_and_save;
+use bp_session::saving::{Stale, sync_and_save};
 use bp_session::{Work, serve_gathered};
 use bp_volume::Volume;
 use pm_region::Region;
@@ -48,13 +48,13 @@ fn serve_and_save<R: Region, S: Source, K: Sink, F: Files>(
     ensures attached { StaysAttached (F.view files.old) (F.view files.new) }
     ensures others { KeepsOthers (F.view files.old) (F.view files.new) }
 {
-    let mut is_base_saved = true;
-    let served = serve_gathered(alloc, volume, work, &mut is_base_saved, src, out, files);
+    let mut stale = Stale::none();
+    let served = serve_gathered(alloc, volume, work, &mut stale, src, out, files);
     match Status::of_serving(served) {
         Status::Done => {}
         broken => return broken,
     }
-    match sync_and_save(volume, is_base_saved, files) {
+    match sync_and_save(volume, &mut stale, files) {
         Ok(()) => Status::Done,
         Err(Failed) => Status::FilesFailed,
     }

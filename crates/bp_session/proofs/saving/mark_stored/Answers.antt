@@ -16,14 +16,14 @@ loop-i-init g c = record {
   size = refl;
 }
 
-pub mark_words-requires-clause-inside : goal.mark_words-requires-clause-inside
-mark_words-requires-clause-inside g c =
+pub mark_words-requires-clause-fits : goal.mark_words-requires-clause-fits
+mark_words-requires-clause-fits g c =
     let memory = g.R.Region.memory c.args.region.now in
     let words = length memory.base in
     omega (
       arith,
-      c.requires,
-      c.loop-i.invariant.size,
+      c.words-words.ensures,
+      c.words-words.type_inv,
       row_within words memory.events c.loop-i.i c.row_len-row.result c.in-Store.word c.in-Store.value c.in-Store.ensures.get c.row_len-row.ensures.row c.row_len-row.ensures.inside c.row_len-row.ensures.some c.event_count-count.ensures.within,
     )
 
@@ -31,8 +31,8 @@ pub loop-i-preserved : goal.loop-i-preserved
 loop-i-preserved g c =
     let memory = g.R.Region.memory c.args.region.now in
     let events = memory.events in
-    let old = c.loop-i.changed in
-    let new = c.match-event.changed in
+    let old = c.loop-i.marks in
+    let new = c.match-event.marks in
     let here = c.loop-i.invariant in
     let i = c.loop-i.i in
     let count = c.row_len-row.result in
@@ -41,32 +41,32 @@ loop-i-preserved g c =
       here = omega (arith, row.inside, c.event_count-count.ensures.count);
       marks = elim c.match-event.branch [
         | in-Store w ↦
-            subst (λ (marks : List Bool). MarksStores marks events (i + count)) (sym w.changed-is)
-            (marks_row w.mark_words.new.changed events i count w.in-Store.word w.in-Store.value w.in-Store.ensures.get row.row row.inside w.mark_words.ensures.marked
-            (marks_more old w.mark_words.new.changed events i w.mark_words.ensures.more here.marks))
+            subst (λ (marks : List Bool). MarksStores marks events (i + count)) (sym w.marks-is)
+            (marks_row w.mark_words.new.marks events i count w.in-Store.word w.in-Store.value w.in-Store.ensures.get row.row row.inside w.mark_words.ensures.marked
+            (marks_more old w.mark_words.new.marks events i w.mark_words.ensures.more here.marks))
         | in-Barrier w ↦
             let at : slice_get events i ≡ Some Barrier = c.event.ensures.get ∙ ap (λ (event : Event). Some event) w.in-Barrier.is in
-            subst (λ (marks : List Bool). MarksStores marks events (i + count)) (sym w.changed-is)
+            subst (λ (marks : List Bool). MarksStores marks events (i + count)) (sym w.marks-is)
             (marks_alone old events i count Barrier at (λ word value e. cc) (row_alone events i count Barrier at (λ next follows. follows) row.row row.inside) here.marks)
         | in-Mark w ↦
             let at : slice_get events i ≡ Some Mark = c.event.ensures.get ∙ ap (λ (event : Event). Some event) w.in-Mark.is in
-            subst (λ (marks : List Bool). MarksStores marks events (i + count)) (sym w.changed-is)
+            subst (λ (marks : List Bool). MarksStores marks events (i + count)) (sym w.marks-is)
             (marks_alone old events i count Mark at (λ word value e. cc) (row_alone events i count Mark at (λ next follows. follows) row.row row.inside) here.marks)
       ];
       more = elim c.match-event.branch [
-        | in-Store w ↦ λ k on. subst (λ (marks : List Bool). is_marked marks k ≡ true) (sym w.changed-is) (w.mark_words.ensures.more k (here.more k on))
-        | in-Barrier w ↦ λ k on. subst (λ (marks : List Bool). is_marked marks k ≡ true) (sym w.changed-is) (here.more k on)
-        | in-Mark w ↦ λ k on. subst (λ (marks : List Bool). is_marked marks k ≡ true) (sym w.changed-is) (here.more k on)
+        | in-Store w ↦ λ k on. subst (λ (marks : List Bool). is_marked marks k ≡ true) (sym w.marks-is) (w.mark_words.ensures.more k (here.more k on))
+        | in-Barrier w ↦ λ k on. subst (λ (marks : List Bool). is_marked marks k ≡ true) (sym w.marks-is) (here.more k on)
+        | in-Mark w ↦ λ k on. subst (λ (marks : List Bool). is_marked marks k ≡ true) (sym w.marks-is) (here.more k on)
       ];
       none = elim c.match-event.branch [
         | in-Store w ↦ λ none. absurd (none_at events i w.in-Store.word w.in-Store.value none w.in-Store.ensures.get)
-        | in-Barrier w ↦ λ none. w.changed-is ∙ here.none none
-        | in-Mark w ↦ λ none. w.changed-is ∙ here.none none
+        | in-Barrier w ↦ λ none. w.marks-is ∙ here.none none
+        | in-Mark w ↦ λ none. w.marks-is ∙ here.none none
       ];
       size = elim c.match-event.branch [
-        | in-Store w ↦ ap (λ (marks : List Bool). length marks) w.changed-is ∙ w.mark_words.ensures.size ∙ here.size
-        | in-Barrier w ↦ ap (λ (marks : List Bool). length marks) w.changed-is ∙ here.size
-        | in-Mark w ↦ ap (λ (marks : List Bool). length marks) w.changed-is ∙ here.size
+        | in-Store w ↦ ap (λ (marks : List Bool). length marks) w.marks-is ∙ w.mark_words.ensures.size ∙ here.size
+        | in-Barrier w ↦ ap (λ (marks : List Bool). length marks) w.marks-is ∙ here.size
+        | in-Mark w ↦ ap (λ (marks : List Bool). length marks) w.marks-is ∙ here.size
       ];
     }
 
@@ -74,4 +74,4 @@ pub returns-clause-marks : goal.returns-clause-marks
 returns-clause-marks g c =
     let memory = g.R.Region.memory c.args.region.now in
     let all : c.loop-i.i ≡ length memory.events = omega (arith, c.loop-i-test.false, c.loop-i.invariant.here, c.event_count-count.ensures.count) in
-    marks_changes c.loop-i.changed memory.base memory.events (subst (λ n. MarksStores c.loop-i.changed memory.events n) all c.loop-i.invariant.marks)
+    marks_changes c.loop-i.marks memory.base memory.events (subst (λ n. MarksStores c.loop-i.marks memory.events n) all c.loop-i.invariant.marks)

@@ -10,10 +10,10 @@ invariant-loop-i g l =
     let events = (g.R.Region.memory l.region).events in
     record {
       here : l.i ≤ l.count;
-      marks : MarksStores l.changed events l.i;
-      more : (k : ℕ) → is_marked l.fn.changed k ≡ true → is_marked l.changed k ≡ true;
-      none : stores events ≡ [] → l.changed ≡ l.fn.changed;
-      size : length l.changed ≡ length l.fn.changed;
+      marks : MarksStores l.marks events l.i;
+      more : (k : ℕ) → is_marked l.fn.marks k ≡ true → is_marked l.marks k ≡ true;
+      none : stores events ≡ [] → l.marks ≡ l.fn.marks;
+      size : length l.marks ≡ length l.fn.marks;
     }
 
 abbrev pub decreases-loop-i : goal.decreases-loop-i

@@ -16,7 +16,7 @@ use bp_io::{Failed, Files};
 use bp_limits::{BLOCK_SIZE, BLOCK_WORDS, CALL_ROOM, MAX_BLOCKS};
 use bp_volume::Volume;
 use pm_epochs::Event;
-use pm_region::Region;
+use pm_region::{Region, Row};
 
 /// The bytes of a block, as a length.
 const BLOCK: usize = BLOCK_SIZE as usize;
@@ -90,13 +90,13 @@ fn mark_stored<R: Region>(region: &R, marks: &mut [bool])
     let count = region.event_count();
     let mut i: usize = 0;
     while i < count {
-        let row = region.row_len(i);
-        match region.event(i) {
-            Event::Store { word, .. } => mark_words(marks, word, row),
+        let Row { event, len } = region.row(i);
+        match event {
+            Event::Store { word, .. } => mark_words(marks, word, len),
             Event::Barrier => {}
             Event::Mark => {}
         }
-        i += row;
+        i += len;
     }
 }
 

@@ -6,8 +6,9 @@ ghost use Rattle.pm_raw.specs.Entries.{event_of, events_of};
 ghost use Rattle.pm_raw.specs.Grows.{Grows};
 
 use super::log::{BARRIER, Log, NO_WORD};
-use super::runs::Runs;
+use super::runs::{Runs, WordRow};
 use pm_epochs::Event;
+use pm_region::Row;
 use std::alloc::{AllocError, Global};
 use std::marker::Model;
 
@@ -141,17 +142,23 @@ impl Entries {
         read_event(self.words.word(i), self.values[i])
     }
 
-    /// How many events from one on, by its number from 0, are it and stores to words in a row behind it.
-    pub fn row_len(&self, i: usize) -> usize
+    /// One of them, by its number from 0, and how many from it on are stores to words in a row.
+    #[inline]
+    pub fn row(&self, i: usize) -> Row
         requires each { length self.now.values ≡ length self.now.words }
         requires inside { i < length self.now.words }
-        ensures some { 0 < result }
-        ensures fits { i + result ≤ length self.now.words }
-        ensures row { AreInRow (events_of self.now.words self.now.values) i result }
+        ensures get { slice_get (events_of self.now.words self.now.values) i ≡ Some result.event }
+        ensures some { 0 < result.len }
+        ensures fits { i + result.len ≤ length self.now.words }
+        ensures row { AreInRow (events_of self.now.words self.now.values) i result.len }
     {
+        let WordRow { first, len } = self.words.row(i);
         // The word that stands for no store is none of a row.
-        let stores = (NO_WORD - self.words.word(i)) as usize;
-        self.words.row_len(i).min(stores.max(1))
+        let stores = (NO_WORD - first) as usize;
+        Row {
+            event: read_event(first, self.values[i]),
+            len: len.min(stores.max(1)),
+        }
     }
 
     /// The values that they replaced.

@@ -13,7 +13,7 @@ use super::log::{BARRIER, MARK, NO_WORD};
 use super::places::Places;
 use super::undo::{undo_from, word_before};
 use pm_epochs::{BadChoice, Choice, Event, Kept};
-use pm_region::Region;
+use pm_region::{Region, Row};
 use std::alloc::{AllocError, Global};
 use std::marker::Model;
 
@@ -187,8 +187,8 @@ impl Region for RawRegion {
         self.entries.event(i)
     }
 
-    fn row_len(&self, first: usize) -> usize {
-        self.entries.row_len(first)
+    fn row(&self, first: usize) -> Row {
+        self.entries.row(first)
     }
 
     fn barriers_before(&self, moment: usize) -> usize {

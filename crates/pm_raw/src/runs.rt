@@ -32,6 +32,12 @@ pub struct Runs {
     asked: Cell<usize>,
 }
 
+/// Words in a row: the first, and how many.
+pub struct WordRow {
+    pub first: u32,
+    pub len: usize,
+}
+
 impl Model for Runs {
     ghost use Rattle.pm_raw.specs.RunWords.{Worded};
 
@@ -196,14 +202,16 @@ impl Runs {
         firsts[run] + (i - starts[run]) as u32
     }
 
-    /// How many events from one on, by its number from 0, have words in a row.
-    pub fn row_len(&self, i: usize) -> usize
+    /// The word of an event, by its number from 0, and how many from it on have words in a row.
+    #[inline]
+    pub fn row(&self, i: usize) -> WordRow
         requires { i < length self.now.words }
-        ensures some { 0 < result }
-        ensures inside { i + result ≤ length self.now.words }
-        ensures row { (j : ℕ) → j < result → slice_index self.now.words (i + j) ≡ slice_index self.now.words i + j }
+        ensures first { result.first ≡ slice_index self.now.words i }
+        ensures some { 0 < result.len }
+        ensures inside { i + result.len ≤ length self.now.words }
+        ensures row { (j : ℕ) → j < result.len → slice_index self.now.words (i + j) ≡ slice_index self.now.words i + j }
     {
-        let starts = &self.starts[..self.runs];
+        let (firsts, starts) = (&self.firsts[..self.runs], &self.starts[..self.runs]);
         let run = run_near(starts, i, self.asked.get());
         self.asked.set(run);
         let next = run + 1;
@@ -212,7 +220,10 @@ impl Runs {
         } else {
             self.count
         };
-        end - i
+        WordRow {
+            first: firsts[run] + (i - starts[run]) as u32,
+            len: end - i,
+        }
     }
 
     /// Begins anew, with none. The room stays.

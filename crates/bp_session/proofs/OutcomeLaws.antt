@@ -4,11 +4,12 @@ use Rattle.std.proofs.lemmas.List.{append_assoc, append-nil}
 use Rattle.std.specs.Prelude.{◌⊎◌}
 use Rattle.std.specs.Io.KnownBytes.{Consumes, IsAtEnd}
 use Rattle.bp_io.specs.Causes.{Rose}
+use Rattle.bp_io.specs.Streams.{SourceView}
 use Rattle.bp_script.specs.Commands.{Command, command_of}
 use Rattle.bp_session.specs.Lines.{commands_from}
 use Rattle.bp_session.specs.Outside.{Faults, IsFirstFault, SinkTookAll, counts}
 use Rattle.bp_layout.specs.Words.{Image}
-use Rattle.bp_session.specs.Serving.{Carries, CarriesPartly, DoesAll, DoesBreakOff, DoesStop, Input, Keeps, LineOutcome, Moment, PieceOutcome, ServeOutcome}
+use Rattle.bp_session.specs.Serving.{Carries, CarriesPartly, DoesAll, DoesBreakOff, DoesStop, Keeps, LineOutcome, Moment, PieceOutcome, ServeOutcome}
 use Rattle.bp_session.proofs.OthersLaws.{others_same, others_then}
 use Rattle.bp_session.proofs.SavingLaws.{stays_attached, still_attached}
 use Rattle.bp_session.proofs.ServingLaws.{all_as, breaks_as, breaks_behind, breaks_in, commands_at_newline, commands_of_nothing, not_long, serves_as, serves_newline, serves_quietly, serves_then, serves_to_end, stops_as, stops_behind, stops_in, told_none}

@@ -3,6 +3,7 @@ use Rattle.std.specs.Prelude.{All, ◌≡◌, ◌≤◌, ◌⊎◌, ℕ, ◌<◌
 use Rattle.std.specs.Io.KnownBytes.{Appends, Consumes, IsAtEnd}
 use Rattle.bp_io.specs.Causes.{Rose}
 use Rattle.bp_io.specs.Files.{KeepsOthers, StaysAttached, View}
+use Rattle.bp_io.specs.Streams.{SinkView, SourceView}
 use Rattle.bp_limits.specs.Limits.{log_events, max_input}
 use Rattle.pm_region.specs.Memory.{Memory, current_words, drained}
 use Rattle.bp_layout.specs.Words.{Image}
@@ -102,9 +103,9 @@ pub record Moment : Type 0 where
   pub stale : List Bool
 
 -- .. where any block may
-abbrev pub moment : Memory → View → Option (List ℕ) → ℕ → Moment
-moment memory files taken faults =
-    record { memory = memory; files = files; taken = taken; faults = faults; stale = [] }
+abbrev pub moment : Memory → View → SinkView → Moment
+moment memory files sink =
+    record { memory = memory; files = files; taken = sink.taken; faults = sink.faults; stale = [] }
 
 -- the same moment, where these blocks may
 abbrev pub with_stale : List Bool → Moment → Moment
@@ -122,14 +123,6 @@ Carries old new saved after = (name : List ℕ) → HoldsAt old name saved → H
 abbrev pub CarriesPartly : Moment → Moment → Image → Image → Image → Type 0
 CarriesPartly old new saved first second =
     (name : List ℕ) → HoldsAt old name saved → HoldsPartly new.files name first second
-
--- What a source has left, and how often it has failed.
-pub record Input : Type 0 where
-  pub left : Option (List ℕ)
-  pub faults : ℕ
-
-abbrev pub told : Option (List ℕ) → ℕ → Input
-told left faults = record { left = left; faults = faults }
 
 -- ---- what is done, whatever the attached file holds
 
@@ -211,7 +204,7 @@ OfLines left input P =
 
 -- What serving a source answers: as above; 3 where the source failed, and 6 where the most bytes were taken and one
 -- read gave more.
-pub record ServeOutcome (status most : ℕ) (before after : Input) (old new : Moment) : Type 0 where
+pub record ServeOutcome (status most : ℕ) (before after : SourceView) (old new : Moment) : Type 0 where
   pub whole : status ≡ 0 → (input : List ℕ) × Consumes before.left after.left input × IsAtEnd after.left
       × (length input ≤ max_input) × DoesAll old new (commands_from [] input)
   pub part : status ≡ 3 → (input : List ℕ) × (keeps : List ℕ) × Consumes before.left after.left input

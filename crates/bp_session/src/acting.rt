@@ -200,23 +200,23 @@ pub(crate) fn act_and_save<R: Region, K: Sink, F: Files>(
 ) -> Result<Outcome, u8>
     requires { CanServe volume.old (F.view files.old) }
     ensures does { IfOk result (λ outcome. DoesLine
-        (with_stale stale.old (moment volume.old (F.view files.old) (K.taken out.old) (K.faults out.old)))
+        (with_stale stale.old (moment volume.old (F.view files.old) (K.view out.old)))
         (command_of (line_in buffers.old)) (reply_of outcome (answer_in buffers.new))
-        (with_stale stale.new (moment volume.new (F.view files.new) (K.taken out.new) (K.faults out.new)))) }
+        (with_stale stale.new (moment volume.new (F.view files.new) (K.view out.new)))) }
     ensures stale { IfOk result (λ outcome. LeavesStale outcome volume.old stale.old stale.new) }
     ensures kept { AreUnmarked stale.old → length volume.old.base ≤ block_words * length stale.old →
         stores volume.old.events ≡ [] → KeepsFiles (F.view files.old) (F.view files.new) }
     ensures clears { OnOk result (Clears (command_of (line_in buffers.old)) (waiting_in buffers.old)
-        (waiting_in buffers.new) (K.taken out.old) (K.taken out.new) (F.view files.old) (F.view files.new)) }
+        (waiting_in buffers.new) (K.view out.old).taken (K.view out.new).taken (F.view files.old) (F.view files.new)) }
     ensures stops { IfErr result (λ status. LineGathers status (command_of (line_in buffers.old))
         (waiting_in buffers.old) (waiting_in buffers.new)
-        (with_stale stale.old (moment volume.old (F.view files.old) (K.taken out.old) (K.faults out.old)))
-        (with_stale stale.new (moment volume.new (F.view files.new) (K.taken out.new) (K.faults out.new)))) }
+        (with_stale stale.old (moment volume.old (F.view files.old) (K.view out.old)))
+        (with_stale stale.new (moment volume.new (F.view files.new) (K.view out.new)))) }
     ensures some { IfErr result (λ status. ¬ (status ≡ 0)) }
     ensures heard { IfErr result (λ status. waiting_in buffers.old ≡ [] → status ≡ 5) }
     ensures synced { OnOk result (command_of (line_in buffers.old) ≡ sync → (F.view files.new).is_flushed ≡ true) }
     ensures flushed { OnOk result ((F.view files.old).is_flushed ≡ true → (F.view files.new).is_flushed ≡ true) }
-    ensures sink { OnOk result (K.faults out.new ≡ K.faults out.old) }
+    ensures sink { OnOk result ((K.view out.new).faults ≡ (K.view out.old).faults) }
     ensures files { OnOk result ((F.view files.new).faults ≡ (F.view files.old).faults) }
     ensures size { length volume.new.base ≡ length volume.old.base }
     ensures capacity { volume.new.capacity ≡ volume.old.capacity }

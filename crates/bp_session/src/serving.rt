@@ -14,7 +14,7 @@ ghost use Rattle.bp_session.specs.Gathering.{LineGathers};
 ghost use Rattle.bp_replies.specs.Room.{gathered_size};
 ghost use Rattle.bp_session.specs.Pieces.{piece_size};
 ghost use Rattle.bp_session.specs.Serving.{CanServe, LineOutcome, PieceOutcome, ServeOutcome, ServesAgain};
-ghost use Rattle.bp_session.specs.Serving.{moment, told, with_stale};
+ghost use Rattle.bp_session.specs.Serving.{moment, with_stale};
 ghost use Rattle.bp_session.specs.Work.{held_line, held_replies, read_piece};
 
 use crate::acting::act_and_save;
@@ -42,8 +42,8 @@ fn answer_line<R: Region, K: Sink, F: Files>(
     requires { CanServe volume.old (F.view files.old) }
     ensures outcome { LineGathers result (command_of (held_line work.old))
         (held_replies work.old) (held_replies work.new)
-        (with_stale stale.old (moment volume.old (F.view files.old) (K.taken out.old) (K.faults out.old)))
-        (with_stale stale.new (moment volume.new (F.view files.new) (K.taken out.new) (K.faults out.new))) }
+        (with_stale stale.old (moment volume.old (F.view files.old) (K.view out.old)))
+        (with_stale stale.new (moment volume.new (F.view files.new) (K.view out.new))) }
     ensures few { result ≡ 0 → length (held_replies work.new) ≤ most }
     ensures synced { held_replies work.old ≡ [] → ¬ (result ≡ 5) → command_of (held_line work.old) ≡ sync →
         (F.view files.new).is_flushed ≡ true }
@@ -72,8 +72,8 @@ fn answer_alone<R: Region, K: Sink, F: Files>(
 ) -> u8
     requires { CanServe volume.old (F.view files.old) }
     ensures outcome { LineOutcome result (command_of (held_line work.old) ∷ [])
-        (with_stale stale.old (moment volume.old (F.view files.old) (K.taken out.old) (K.faults out.old)))
-        (with_stale stale.new (moment volume.new (F.view files.new) (K.taken out.new) (K.faults out.new))) }
+        (with_stale stale.old (moment volume.old (F.view files.old) (K.view out.old)))
+        (with_stale stale.new (moment volume.new (F.view files.new) (K.view out.new))) }
     ensures synced { ¬ (result ≡ 5) → command_of (held_line work.old) ≡ sync → (F.view files.new).is_flushed ≡ true }
     ensures again { ServesAgain volume.old volume.new (F.view files.new) }
     ensures line { held_line work.new ≡ held_line work.old }
@@ -95,8 +95,8 @@ pub fn serve_line<R: Region, K: Sink, F: Files>(
 ) -> u8
     requires { CanServe volume.old (F.view files.old) }
     ensures outcome { LineOutcome result (command_of (held_line work.old) ∷ [])
-        (moment volume.old (F.view files.old) (K.taken out.old) (K.faults out.old))
-        (moment volume.new (F.view files.new) (K.taken out.new) (K.faults out.new)) }
+        (moment volume.old (F.view files.old) (K.view out.old))
+        (moment volume.new (F.view files.new) (K.view out.new)) }
     ensures synced { ¬ (result ≡ 5) → command_of (held_line work.old) ≡ sync → (F.view files.new).is_flushed ≡ true }
     ensures again { ServesAgain volume.old volume.new (F.view files.new) }
     ensures line { held_line work.new ≡ held_line work.old }
@@ -119,8 +119,8 @@ fn end_line<R: Region, K: Sink, F: Files>(
     requires { CanServe volume.old (F.view files.old) }
     ensures outcome { LineGathers result (command_of (held_line work.old))
         (held_replies work.old) (held_replies work.new)
-        (with_stale stale.old (moment volume.old (F.view files.old) (K.taken out.old) (K.faults out.old)))
-        (with_stale stale.new (moment volume.new (F.view files.new) (K.taken out.new) (K.faults out.new))) }
+        (with_stale stale.old (moment volume.old (F.view files.old) (K.view out.old)))
+        (with_stale stale.new (moment volume.new (F.view files.new) (K.view out.new))) }
     ensures few { result ≡ 0 → length (held_replies work.new) ≤ most }
     ensures ready { IsReady volume.new.base (F.view files.new) }
     ensures line { held_line work.new ≡ [] }
@@ -173,8 +173,8 @@ fn take_piece<R: Region, K: Sink, F: Files>(
     requires inside { count ≤ piece_size }
     ensures outcome { PieceOutcome result most
         (held_line work.old) (take count (read_piece work.old)) (held_line work.new)
-        (with_stale stale.old (moment volume.old (F.view files.old) (K.taken out.old) (K.faults out.old)))
-        (with_stale stale.new (moment volume.new (F.view files.new) (K.taken out.new) (K.faults out.new))) }
+        (with_stale stale.old (moment volume.old (F.view files.old) (K.view out.old)))
+        (with_stale stale.new (moment volume.new (F.view files.new) (K.view out.new))) }
     ensures again { ServesAgain volume.old volume.new (F.view files.new) }
 {
     let mut at: usize = 0;
@@ -205,8 +205,8 @@ fn finish<R: Region, K: Sink, F: Files>(
 ) -> u8
     requires { CanServe volume.old (F.view files.old) }
     ensures { LineOutcome result (commands_from (held_line work.old) [])
-        (with_stale stale.old (moment volume.old (F.view files.old) (K.taken out.old) (K.faults out.old)))
-        (with_stale stale.new (moment volume.new (F.view files.new) (K.taken out.new) (K.faults out.new))) }
+        (with_stale stale.old (moment volume.old (F.view files.old) (K.view out.old)))
+        (with_stale stale.new (moment volume.new (F.view files.new) (K.view out.new))) }
 {
     if work.buffers.line.is_empty() {
         return 0;
@@ -218,8 +218,8 @@ fn finish<R: Region, K: Sink, F: Files>(
 fn fill<S: Source>(src: &mut S, piece: &mut Vec<u8>) -> Result<usize, Failed>
     ensures len { vec_len piece.new ≡ vec_len piece.old }
     ensures bound { ReadsAtMost result piece.new.items }
-    ensures bytes { ReadConsumes (S.left src.old) (S.left src.new) result piece.new.items }
-    ensures cause { HasCause (S.faults src.old) (S.faults src.new) result }
+    ensures bytes { ReadConsumes (S.view src.old).left (S.view src.new).left result piece.new.items }
+    ensures cause { HasCause (S.view src.old).faults (S.view src.new).faults result }
 {
     src.read(piece)
 }
@@ -237,9 +237,9 @@ fn serve_by<R: Region, S: Source, K: Sink, F: Files>(
 ) -> u8
     requires { CanServe volume.old (F.view files.old) }
     ensures outcome { ServeOutcome result most
-        (told (S.left src.old) (S.faults src.old)) (told (S.left src.new) (S.faults src.new))
-        (with_stale stale.old (moment volume.old (F.view files.old) (K.taken out.old) (K.faults out.old)))
-        (with_stale stale.new (moment volume.new (F.view files.new) (K.taken out.new) (K.faults out.new))) }
+        (S.view src.old) (S.view src.new)
+        (with_stale stale.old (moment volume.old (F.view files.old) (K.view out.old)))
+        (with_stale stale.new (moment volume.new (F.view files.new) (K.view out.new))) }
     ensures again { ServesAgain volume.old volume.new (F.view files.new) }
 {
     work.buffers.line.clear();
@@ -277,9 +277,9 @@ pub fn serve<R: Region, S: Source, K: Sink, F: Files>(
 ) -> u8
     requires { CanServe volume.old (F.view files.old) }
     ensures outcome { ServeOutcome result 0
-        (told (S.left src.old) (S.faults src.old)) (told (S.left src.new) (S.faults src.new))
-        (moment volume.old (F.view files.old) (K.taken out.old) (K.faults out.old))
-        (moment volume.new (F.view files.new) (K.taken out.new) (K.faults out.new)) }
+        (S.view src.old) (S.view src.new)
+        (moment volume.old (F.view files.old) (K.view out.old))
+        (moment volume.new (F.view files.new) (K.view out.new)) }
     ensures again { ServesAgain volume.old volume.new (F.view files.new) }
 {
     serve_by(alloc, volume, work, 0, &mut [], src, out, files)
@@ -303,9 +303,9 @@ pub fn serve_gathered<R: Region, S: Source, K: Sink, F: Files>(
 ) -> u8
     requires { CanServe volume.old (F.view files.old) }
     ensures outcome { ServeOutcome result gathered_size
-        (told (S.left src.old) (S.faults src.old)) (told (S.left src.new) (S.faults src.new))
-        (with_stale (stale_in stale.old) (moment volume.old (F.view files.old) (K.taken out.old) (K.faults out.old)))
-        (with_stale (stale_in stale.new) (moment volume.new (F.view files.new) (K.taken out.new) (K.faults out.new))) }
+        (S.view src.old) (S.view src.new)
+        (with_stale (stale_in stale.old) (moment volume.old (F.view files.old) (K.view out.old)))
+        (with_stale (stale_in stale.new) (moment volume.new (F.view files.new) (K.view out.new))) }
     ensures again { ServesAgain volume.old volume.new (F.view files.new) }
 {
     serve_by(

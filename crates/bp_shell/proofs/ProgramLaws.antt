@@ -5,6 +5,7 @@ use Rattle.std.specs.Io.KnownBytes.{Appends}
 use Rattle.pm_region.specs.Memory.{Memory, current_words, drained}
 use Rattle.bp_io.specs.Causes.{Rose}
 use Rattle.bp_io.specs.Files.{View}
+use Rattle.bp_io.specs.Streams.{SourceView}
 use Rattle.bp_layout.specs.Words.{Image}
 use Rattle.bp_layout.specs.Bytes.{image_bytes}
 use Rattle.bp_session.specs.Files.{HasBlocksOf, HasBytes, Holds, HoldsAs}
@@ -14,7 +15,7 @@ use Rattle.bp_session.specs.Outside.{IsIdle, IsUntouched, Outside, counts, outsi
 use Rattle.bp_limits.specs.declared.version.Version.{Version}
 use Rattle.bp_shell.specs.Running.{FormatOutcome, RunOutcome, Runs, RunsBroken, RunsLong, RunsPart, RunsStopped, RunsUnsaved, format_text}
 use Rattle.bp_replies.specs.Room.{gathered_size}
-use Rattle.bp_session.specs.Serving.{Carries, CarriesPartly, HoldsAt, Input, Moment, ServeOutcome}
+use Rattle.bp_session.specs.Serving.{Carries, CarriesPartly, HoldsAt, Moment, ServeOutcome}
 use Rattle.bp_session.proofs.ChangedLaws.{holds_drained}
 use Rattle.bp_session.proofs.OutcomeLaws.{files_fault, first_then, no_fault, sink_fault}
 use Rattle.bp_shell.specs.Ending.{StopOutcome, TellsStop}

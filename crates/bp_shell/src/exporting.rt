@@ -34,7 +34,7 @@ fn tell_tree<K: Sink>(alloc: Global, region: &RawRegion, counts: &Counts, out: &
     requires counts { AreCounts region.now.base counts.now }
     requires inodes { length counts.now ≡ block_inodes * block_count region.now.base }
     ensures { (tree : FileTree) → Stands region.now.base tree →
-        TellsTree tree result (K.taken out.old) (K.taken out.new) (K.faults out.old) (K.faults out.new) }
+        TellsTree tree result (K.view out.old).taken (K.view out.new).taken (K.view out.old).faults (K.view out.new).faults }
 {
     match export(alloc, region, counts, out) {
         Ok(()) => Status::Done,
@@ -74,8 +74,8 @@ pub(crate) fn export_file<K: Sink, F: Files>(
 ) -> Status
     // Whatever a source has left.
     ensures outcome { (left : Option (List ℕ)) (reads : ℕ) → ExportOutcome (code_of result)
-        (outside left reads (K.taken out.old) (K.faults out.old) (F.view files.old) name.now)
-        (outside left reads (K.taken out.new) (K.faults out.new) (F.view files.new) name.now) }
+        (outside left reads (K.view out.old).taken (K.view out.old).faults (F.view files.old) name.now)
+        (outside left reads (K.view out.new).taken (K.view out.new).faults (F.view files.new) name.now) }
     ensures reads { OnlyReads name.now (F.view files.old) (F.view files.new) }
 {
     match examine(alloc, name, files) {

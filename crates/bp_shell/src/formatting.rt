@@ -99,8 +99,8 @@ pub(crate) fn format_file<K: Sink, F: Files>(
     requires most { blocks ≤ MAX_BLOCKS }
     // Whatever a source has left.
     ensures outcome { (left : Option (List ℕ)) (reads : ℕ) → FormatOutcome (code_of result) version blocks
-        (outside left reads (K.taken out.old) (K.faults out.old) (F.view files.old) name.now)
-        (outside left reads (K.taken out.new) (K.faults out.new) (F.view files.new) name.now) }
+        (outside left reads (K.view out.old).taken (K.view out.old).faults (F.view files.old) name.now)
+        (outside left reads (K.view out.new).taken (K.view out.new).faults (F.view files.new) name.now) }
     ensures makes { OnlyMakes name.now (F.view files.old) (F.view files.new) }
 {
     let front = match new_front(alloc, blocks, version) {

@@ -157,8 +157,8 @@ pub(crate) fn play_file<K: Sink, F: Files>(
     requires { count ≤ max_turns }
     // Whatever a source has left.
     ensures outcome { (left : Option (List ℕ)) (reads : ℕ) → PlayOutcome (code_of result) seed count
-        (outside left reads (K.taken out.old) (K.faults out.old) (F.view files.old) name.now)
-        (outside left reads (K.taken out.new) (K.faults out.new) (F.view files.new) name.now) }
+        (outside left reads (K.view out.old).taken (K.view out.old).faults (F.view files.old) name.now)
+        (outside left reads (K.view out.new).taken (K.view out.new).faults (F.view files.new) name.now) }
     ensures reads { OnlyReads name.now (F.view files.old) (F.view files.new) }
 {
     let text = match perform(alloc, name, seed, count, files) {

@@ -64,7 +64,7 @@ returns-then-served-count-clause-outcome g c =
 pub returns-clause-outcome : goal.returns-clause-outcome
 returns-clause-outcome g c =
     let before = c.loop-count.invariant.served in
-    let none : Consumes (g.S.Source.left c.loop-count.src) (g.S.Source.left c.fill.new.src) [] = rw c.if-count-eq0.true at c.in-Ok.ensures.bytes.0 in
+    let none : Consumes (g.S.Source.view c.loop-count.src).left (g.S.Source.view c.fill.new.src).left [] = rw c.if-count-eq0.true at c.in-Ok.ensures.bytes.0 in
     serve_end _ _ _ _ _ _ (before.0 ++ []) _ _ (Consumes-trans _ _ _ _ _ before.1 none) (c.in-Ok.ensures.bytes.1 c.if-count-eq0.true (search rules))
     (omega (arith, length-append before.0 [], before.2, c.loop-count.invariant.taken))
     (piece_then _ _ _ _ _ _ _ before.3 0 _ _ (piece_nothing _ _ _)) c.finish.ensures (c.in-Ok.ensures.cause.same ∙ c.loop-count.invariant.source)

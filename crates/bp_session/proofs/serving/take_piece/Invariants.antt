@@ -10,9 +10,9 @@ invariant-loop-end g l =
     record {
       inside : l.at ≤ l.count;
       piece : l.work.piece.items ≡ l.fn.work.piece.items;
-      waits : Waits (with_stale l.fn.stale (moment l.fn.volume (g.F.Files.view l.fn.files) (g.K.Sink.taken l.fn.out) (g.K.Sink.faults l.fn.out))) l.most
+      waits : Waits (with_stale l.fn.stale (moment l.fn.volume (g.F.Files.view l.fn.files) (g.K.Sink.view l.fn.out))) l.most
           l.fn.work.buffers.line.items (take l.at l.fn.work.piece.items) l.work.buffers.line.items (waiting l.work.buffers.replies)
-          (with_stale l.stale (moment l.volume (g.F.Files.view l.files) (g.K.Sink.taken l.out) (g.K.Sink.faults l.out)));
+          (with_stale l.stale (moment l.volume (g.F.Files.view l.files) (g.K.Sink.view l.out)));
     }
 
 abbrev pub decreases-loop-end : goal.decreases-loop-end

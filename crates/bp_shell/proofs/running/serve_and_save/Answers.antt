@@ -9,7 +9,7 @@ use Rattle.bp_shell.proofs.running.serve_and_save.Goals as goal
 
 pub returns-in_default-clause-outcome : goal.returns-in_default-clause-outcome
 returns-in_default-clause-outcome g c = λ before name image mounted.
-    let begun : Moment = with_stale (stale_in c.none-stale.result) (moment c.args.volume.now (g.F.Files.view c.args.files.now) (g.K.Sink.taken c.args.out.now) (g.K.Sink.faults c.args.out.now)) in
+    let begun : Moment = with_stale (stale_in c.none-stale.result) (moment c.args.volume.now (g.F.Files.view c.args.files.now) (g.K.Sink.view c.args.out.now)) in
     let held = read_now begun name image mounted.starts mounted.holds in
     rw c.of_serving.ensures.code (run_served _ _ before begun _ name image mounted.found mounted.starts held mounted.flushed mounted.calm _
     (λ e. c.in_default.not-Done (c.of_serving.ensures.done e)) c.serve_gathered-served.ensures.outcome)
@@ -20,7 +20,7 @@ returns-in_default-clause-unread g c unread =
 
 pub returns-in-Ok-clause-outcome : goal.returns-in-Ok-clause-outcome
 returns-in-Ok-clause-outcome g c = λ before name image mounted.
-    let begun : Moment = with_stale (stale_in c.none-stale.result) (moment c.args.volume.now (g.F.Files.view c.args.files.now) (g.K.Sink.taken c.args.out.now) (g.K.Sink.faults c.args.out.now)) in
+    let begun : Moment = with_stale (stale_in c.none-stale.result) (moment c.args.volume.now (g.F.Files.view c.args.files.now) (g.K.Sink.view c.args.out.now)) in
     let held = read_now begun name image mounted.starts mounted.holds in
     let whole : c.serve_gathered-served.result ≡ 0 = sym c.of_serving.ensures.code ∙ ap code_of c.in-Done.is in
     let served = rw whole at c.serve_gathered-served.ensures.outcome in
@@ -30,7 +30,7 @@ returns-in-Ok-clause-outcome g c = λ before name image mounted.
 
 pub returns-in-Err-clause-outcome : goal.returns-in-Err-clause-outcome
 returns-in-Err-clause-outcome g c = λ before name image mounted.
-    let begun : Moment = with_stale (stale_in c.none-stale.result) (moment c.args.volume.now (g.F.Files.view c.args.files.now) (g.K.Sink.taken c.args.out.now) (g.K.Sink.faults c.args.out.now)) in
+    let begun : Moment = with_stale (stale_in c.none-stale.result) (moment c.args.volume.now (g.F.Files.view c.args.files.now) (g.K.Sink.view c.args.out.now)) in
     let held = read_now begun name image mounted.starts mounted.holds in
     let whole : c.serve_gathered-served.result ≡ 0 = sym c.of_serving.ensures.code ∙ ap code_of c.in-Done.is in
     let served = rw whole at c.serve_gathered-served.ensures.outcome in

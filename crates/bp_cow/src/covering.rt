@@ -2,11 +2,10 @@
 
 ghost use Rattle.std.specs.Prelude.{◌≡◌, ◌↔◌, ℕ, ◌+◌, ◌-◌, ◌/◌, ◌^◌, ◌<◌, ◌≤◌, length, slice_index, IfSome};
 ghost use Rattle.bp_limits.specs.Limits.{block_words};
-ghost use Rattle.bp_shapes.specs.Trail.{block_on, trail_of};
 ghost use Rattle.pm_region.specs.Memory.{current_words};
 ghost use Rattle.bp_cow.specs.Cover.{end_path, ends, BeginAlike, BothBegin, LeadsInside, commit_cover};
 ghost use Rattle.bp_cow.specs.Touched.{IsRun, IsTouched, run_end, run_path};
-ghost use Rattle.bp_cow.specs.Found.{AreWaysIn, IsAt, IsCoverIn};
+ghost use Rattle.bp_cow.specs.Found.{AreWaysIn, IsCoverIn};
 
 use crate::touched::{Run, Touched};
 use crate::ways::Shared;

@@ -32,9 +32,11 @@ pub struct Runs {
     asked: Cell<usize>,
 }
 
-/// Words in a row: the first, and how many.
+/// The word of an event, and how many events from it on have words in a row: each is one more than the word before it.
 pub struct WordRow {
+    /// The word of the first of these events, `NO_WORD` where it is no store.
     pub first: u32,
+    /// How many events are in the row, the first among them.
     pub len: usize,
 }
 

@@ -22,8 +22,7 @@ pub(crate) fn tell<K: Sink>(
     out: &mut K,
 ) -> Result<(), Failed>
     requires { FitsText (call_of call) }
-    ensures { Tells (call_of call.entry ∷ []) result (waiting replies.old) (waiting replies.new) (K.view out.old).taken (K.view out.new).taken
-        (K.view out.old).faults (K.view out.new).faults }
+    ensures { Tells (call_of call.entry ∷ []) result (waiting replies.old) (waiting replies.new) (K.view out.old) (K.view out.new) }
 {
     replies.tell(&Said::Call(call), out)
 }

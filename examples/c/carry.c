@@ -1,7 +1,7 @@
 #include "carry.h"
 #include <errno.h>
 
-enum { PART = 4096, FORMAT_EVENTS = 16, COPY_EPOCH = 1 << 18 };
+enum { PART = 4096, FEW = 32, FORMAT_EVENTS = 16, COPY_EPOCH = 1 << 18 };
 
 /* What one run asks of a carrier. */
 static int carry_run(bpfs_carrier *carrier, bpfs_run run, const uint64_t *values, size_t count) {
@@ -10,7 +10,33 @@ static int carry_run(bpfs_carrier *carrier, bpfs_run run, const uint64_t *values
     return 0;
 }
 
-int bpfs_carry_on(bpfs *fs, bpfs_carrier *carrier) {
+/* The run with which events begin, of which there is one at least. */
+static size_t first_run(const bpfs_event *events, size_t count, bpfs_run *run, uint64_t *values) {
+    size_t at = 0;
+    *run = (bpfs_run){events->kind, events->word};
+    do {
+        values[at] = events[at].value;
+        at++;
+    } while (at < count && run->kind == BPFS_STORE && events[at].kind == BPFS_STORE && events[at].word == run->word + at);
+    return at;
+}
+
+/* A short log, as an update of a word or two leaves it, is taken at once: to ask for each run would take longer than to carry it. */
+static int carry_few(bpfs *fs, bpfs_carrier *carrier) {
+    bpfs_event events[FEW];
+    uint64_t values[FEW];
+    bpfs_run run;
+    size_t end = bpfs_events(fs, carrier->at, events, FEW);
+    for (size_t i = 0, count; i < end; i += count) {
+        count = first_run(events + i, end - i, &run, values);
+        if (carry_run(carrier, run, values, count)) return -1;
+        carrier->at += count;
+    }
+    return 0;
+}
+
+/* A long one run by run, so that a block is copied at once. */
+static int carry_many(bpfs *fs, bpfs_carrier *carrier) {
     uint64_t values[PART];
     bpfs_run run;
     size_t count;
@@ -18,6 +44,12 @@ int bpfs_carry_on(bpfs *fs, bpfs_carrier *carrier) {
         if (carry_run(carrier, run, values, count)) return -1;
         carrier->at += count;
     }
+    return 0;
+}
+
+int bpfs_carry_on(bpfs *fs, bpfs_carrier *carrier) {
+    size_t left = bpfs_event_count(fs) - carrier->at;
+    if (left > FEW ? carry_many(fs, carrier) : carry_few(fs, carrier)) return -1;
     return carrier->settle(carrier);
 }
 

@@ -2,17 +2,13 @@
 ghost use Rattle.std.specs.Prelude.{◌≡◌, ℕ, ◌+◌, ◌^◌, ◌<◌, ◌≤◌, [], ◌∷◌, ◌++◌, IfOk, length, slice_index, take, vec_capacity};
 ghost use Rattle.std.specs.List.{range_with_len};
 ghost use Rattle.pm_raw.specs.Entries.{events_of};
-ghost use Rattle.pm_raw.specs.Grows.{Grows};
 ghost use Rattle.pm_raw.specs.RunWords.{Rises};
 
 use super::log::Log;
+use super::pairs::fill;
 use std::alloc::{AllocError, Global};
 use std::cell::Cell;
 use std::marker::Model;
-
-/// How many places behind the wanted one are filled when the runs reach their last filled place: few enough that what was
-/// filled is still in the processor's nearest caches when it is written, and that a log touches little more than it needs.
-const FILLED_AHEAD: usize = 1024;
 
 /// What no word goes on with: more than any word of 32 bits.
 const NOWHERE: usize = 1 << 32;
@@ -50,37 +46,6 @@ impl Model for Runs {
     ghost view = { worded_of };
 
     ghost invariant = { HasRuns };
-}
-
-/// Fills a place more, and some behind it, so that it is seldom done.
-#[cold]
-#[inline(never)]
-fn grow(firsts: &mut Vec<u32>, starts: &mut Vec<usize>, wanted: usize, room: usize)
-    requires wanted { (length firsts.old.items < wanted) × (wanted ≤ room) }
-    requires firsts { room ≤ vec_capacity firsts.old }
-    requires starts { (length starts.old.items ≡ length firsts.old.items) × (room ≤ vec_capacity starts.old) }
-    ensures filled { (wanted ≤ length firsts.new.items) × (length firsts.new.items ≤ room) }
-    ensures firsts { Grows firsts.old firsts.new }
-    ensures starts { Grows starts.old starts.new × (length starts.new.items ≡ length firsts.new.items) }
-{
-    let places = wanted + FILLED_AHEAD.min(room - wanted);
-    let _ = firsts.resize(places, 0);
-    let _ = starts.resize(places, 0);
-}
-
-/// Sees to it that a place more is filled. It mostly is.
-#[inline(always)]
-fn fill(firsts: &mut Vec<u32>, starts: &mut Vec<usize>, wanted: usize, room: usize)
-    requires wanted { wanted ≤ room }
-    requires firsts { (length firsts.old.items ≤ room) × (room ≤ vec_capacity firsts.old) }
-    requires starts { (length starts.old.items ≡ length firsts.old.items) × (room ≤ vec_capacity starts.old) }
-    ensures filled { (wanted ≤ length firsts.new.items) × (length firsts.new.items ≤ room) }
-    ensures firsts { Grows firsts.old firsts.new }
-    ensures starts { Grows starts.old starts.new × (length starts.new.items ≡ length firsts.new.items) }
-{
-    if firsts.len() < wanted {
-        grow(firsts, starts, wanted, room);
-    }
 }
 
 /// The number of the last run that begins no later than an event.

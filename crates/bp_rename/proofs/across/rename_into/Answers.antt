@@ -1,5 +1,6 @@
 use Rattle.std.proofs.Common.{sym, ◌∙◌, subst, arith}
 use Rattle.bp_calls.specs.ThawedFor.{IsThawedFor}
+use Rattle.bp_calls.proofs.CommitLaws.{lacking_space}
 use Rattle.bp_calls.proofs.Refusals.{found_empty}
 use Rattle.bp_calls.proofs.TargetPaths.{directory_some}
 use Rattle.bp_shapes.specs.Sets.{kept_of}
@@ -8,7 +9,6 @@ use Rattle.bp_rename.specs.TouchesTwo.{AnyTree}
 use Rattle.bp_rename.proofs.Plans.{into_empty, into_needs, into_over, into_planned}
 use Rattle.bp_rename.proofs.Renames.{across_change, across_renames}
 use Rattle.bp_rename.proofs.TwoWords.{touches_two}
-use Rattle.bp_calls.proofs.CommitLaws.{lacking_space}
 use Rattle.bp_rename.proofs.across.rename_into.Goals as goal
 
 pub ready_ways-requires-clause-empty : goal.ready_ways-requires-clause-empty

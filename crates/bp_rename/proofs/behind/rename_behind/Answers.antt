@@ -1,5 +1,6 @@
-use Rattle.std.proofs.Common.{◌+◌, sym, ◌∙◌, subst, arith}
+use Rattle.std.proofs.Common.{sym, ◌∙◌, subst, arith}
 use Rattle.bp_calls.specs.ThawedFor.{IsThawedFor}
+use Rattle.bp_calls.proofs.CommitLaws.{lacking_space}
 use Rattle.bp_calls.proofs.NewNames.{entry_need_is}
 use Rattle.bp_calls.proofs.PutsLaws.{small_directory}
 use Rattle.bp_calls.proofs.TargetPaths.{directory_some}
@@ -9,7 +10,6 @@ use Rattle.bp_rename.specs.TouchesTwo.{OtherTree}
 use Rattle.bp_rename.proofs.Plans.{behind_needs, behind_none, behind_over, behind_planned}
 use Rattle.bp_rename.proofs.Renames.{across_change, across_renames}
 use Rattle.bp_rename.proofs.TwoWords.{touches_two}
-use Rattle.bp_calls.proofs.CommitLaws.{lacking_space}
 use Rattle.bp_rename.proofs.behind.rename_behind.Goals as goal
 
 pub overflow_add-target : goal.overflow_add-target

@@ -1,5 +1,6 @@
 use Rattle.std.proofs.Common.{◌∙◌, subst, arith}
 use Rattle.bp_calls.specs.ThawedFor.{IsThawedFor}
+use Rattle.bp_calls.proofs.CommitLaws.{lacking_space}
 use Rattle.bp_calls.proofs.TargetPaths.{directory_some}
 use Rattle.bp_shapes.specs.Sets.{kept_of}
 use Rattle.pm_region.specs.Memory.{current_words}
@@ -8,7 +9,6 @@ use Rattle.bp_rename.proofs.OntoLaws.{replaced}
 use Rattle.bp_rename.proofs.Plans.{onto_needs, onto_over, onto_planned}
 use Rattle.bp_rename.proofs.Renames.{onto_change, onto_renames}
 use Rattle.bp_rename.proofs.TwoWords.{touches_two}
-use Rattle.bp_calls.proofs.CommitLaws.{lacking_space}
 use Rattle.bp_rename.proofs.onto.rename_onto.Goals as goal
 
 pub ready_ways-requires-clause-empty : goal.ready_ways-requires-clause-empty

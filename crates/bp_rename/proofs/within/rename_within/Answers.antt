@@ -1,10 +1,11 @@
-use Rattle.std.proofs.Common.{◌≡◌, ◌+◌, ◌≤◌, [], length, refl, sym, ◌∙◌, ap, subst, arith}
+use Rattle.std.proofs.Common.{◌≡◌, ◌+◌, ◌≤◌, [], length, refl, ◌∙◌, subst, arith}
 use Rattle.bp_free.specs.Set.{members}
 use Rattle.bp_layout.specs.Need.{need}
 use Rattle.bp_layout.specs.Thaw.{thawed}
 use Rattle.bp_commit.specs.Performs.{room_for}
 use Rattle.bp_shapes.specs.Sets.{kept_of}
 use Rattle.pm_region.specs.Memory.{Memory, current_words, room_in}
+use Rattle.bp_calls.proofs.CommitLaws.{lacking_space}
 use Rattle.bp_rename.specs.CanRename.{moved_inode}
 use Rattle.bp_rename.specs.RenamesEntry.{RenamesEntry}
 use Rattle.bp_rename.specs.RenamesEntry.RenamesEntry.{within}
@@ -13,7 +14,6 @@ use Rattle.bp_rename.proofs.Plans.{within_needs, within_over, within_planned}
 use Rattle.bp_rename.proofs.Renames.{within_change, within_renames}
 use Rattle.bp_rename.proofs.WithinDone.{within_counts_at, within_exact_at, within_performs_at, within_ready_at, within_room_at, within_whole_at}
 use Rattle.bp_rename.proofs.WithinLaws.{respells_can, within_loose_at, within_need_at}
-use Rattle.bp_calls.proofs.CommitLaws.{lacking_space}
 use Rattle.bp_rename.proofs.within.rename_within.Goals as goal
 
 pub ready_ways-requires-clause-empty : goal.ready_ways-requires-clause-empty

@@ -4,8 +4,8 @@ use Rattle.pm_epochs.specs.declared.event.Event.{Event}
 use Rattle.pm_epochs.specs.declared.event.Event.TheVariants.{Barrier, Mark, Store}
 use Rattle.bp_session.specs.Changed.{is_marked}
 use Rattle.bp_session.proofs.MarkLaws.{MarksStores, marks_alone, marks_changes, marks_more, marks_row, none_at, row_alone, row_within}
-use Rattle.bp_session.proofs.saving.mark_stored.Goals as goal
-use Rattle.bp_session.proofs.saving.mark_stored.Goals.{in-Store, in-Barrier, in-Mark}
+use Rattle.bp_session.proofs.saving.mark_each_store.Goals as goal
+use Rattle.bp_session.proofs.saving.mark_each_store.Goals.{in-Store, in-Barrier, in-Mark}
 
 pub loop-i-init : goal.loop-i-init
 loop-i-init g c = record {

@@ -1,5 +1,5 @@
 -- The blocks to which a log stores.
-use Rattle.std.proofs.Common.{zero, suc, refl, sym, ◌∙◌, ap, arith, ◌≡◌, ℕ, ◌+◌, ◌-◌, ◌*◌, ◌/◌, ◌<◌, ◌≤◌, List, [], ◌∷◌, length, set, Bool, true, false, inl, inr, subst}
+use Rattle.std.proofs.Common.{zero, suc, refl, sym, ◌∙◌, ap, arith, ◌≡◌, ℕ, ◌+◌, ◌-◌, ◌*◌, ◌/◌, ◌<◌, ◌≤◌, List, [], ◌∷◌, length, set, take, Bool, true, false, inl, inr, subst}
 use Rattle.std.specs.Prelude.{◌⊎◌, Option, None, Some, min, replicate, slice_get, if◌then◌else◌}
 use Rattle.std.proofs.lemmas.Bool.{cases_eq, cases_lt, le-ltb, lt-ltb}
 use Rattle.bp_limits.specs.Limits.{call_room}
@@ -143,6 +143,17 @@ none_at (Barrier ∷ events) zero at value none here = cc
 none_at (Mark ∷ events) zero at value none here = cc
 none_at (Barrier ∷ events) (suc i) at value none here = none_at events i at value none here
 none_at (Mark ∷ events) (suc i) at value none here = none_at events i at value none here
+
+-- an event that is no store leaves the log up to it without one
+pub none_next : (events : List Event) (i : ℕ) (event : Event) → slice_get events i ≡ Some event → ((word value : ℕ) → event ≡ Store word value → ⊥) → stores (take i events) ≡ []
+    → stores (take (i + 1) events) ≡ []
+none_next [] i event at other none = absurd (let no : None ≡ Some event = at in cc)
+none_next (Store word value ∷ events) zero event at other none = absurd (let same : Store word value ≡ event = cc in other word value (sym same))
+none_next (Barrier ∷ events) zero event at other none = refl
+none_next (Mark ∷ events) zero event at other none = refl
+none_next (Store word value ∷ events) (suc i) event at other none = absurd (cc)
+none_next (Barrier ∷ events) (suc i) event at other none = let next : suc i + 1 ≡ suc (i + 1) = omega arith in rw next (none_next events i event at other none)
+none_next (Mark ∷ events) (suc i) event at other none = let next : suc i + 1 ≡ suc (i + 1) = omega arith in rw next (none_next events i event at other none)
 
 -- the words of blocks that are marked, up to the last or to the end of the marks
 pub marked_within : (marks : List Bool) (first count end block : ℕ) → 0 < count → end ≡ min (length marks) ((first + (count - 1)) / 512 + 1) → end ≤ block

@@ -1,6 +1,6 @@
 //! A file takes the words of a region.
 
-ghost use Rattle.std.specs.Prelude.{[], ◌≡◌, ◌≤◌, ◌+◌, ◌*◌, ◌/◌, ◌<◌, ◌^◌, List, ℕ, OnOk, OnErr, false, length, true};
+ghost use Rattle.std.specs.Prelude.{[], ◌≡◌, ◌≢◌, ◌↔◌, ◌≤◌, ◌+◌, ◌*◌, ◌/◌, ◌<◌, ◌^◌, List, ℕ, OnOk, OnErr, false, length, true};
 ghost use Rattle.bp_layout.specs.Words.{Image};
 ghost use Rattle.bp_io.specs.Causes.{HasCause};
 ghost use Rattle.bp_io.specs.Files.{KeepsFiles, KeepsOthers, StaysAttached};
@@ -20,6 +20,10 @@ use pm_region::{Region, Row};
 
 /// The bytes of a block, as a length.
 const BLOCK: usize = BLOCK_SIZE as usize;
+
+/// The most events a block of the image at which a log is looked through for the blocks to which its stores went. Where it
+/// has more, most blocks have a store anyway, and writing all of them costs less than looking.
+const MOST_EVENTS_A_BLOCK: usize = 32;
 
 /// The blocks of a file that may lack words of the last drain. It is large: make one for a run.
 #[derive(Drop)]
@@ -78,8 +82,20 @@ fn mark_words(marks: &mut [bool], first: u32, count: usize)
     }
 }
 
+/// Whether the log has a store.
+fn has_store<R: Region>(region: &R) -> bool
+    ensures { result ≡ true ↔ stores (R.memory region.now).events ≢ [] }
+{
+    for i in 0..region.event_count() {
+        if let Event::Store { .. } = region.event(i) {
+            return true;
+        }
+    }
+    false
+}
+
 /// Marks the blocks to which a store of the log went.
-fn mark_stored<R: Region>(region: &R, marks: &mut [bool])
+fn mark_each_store<R: Region>(region: &R, marks: &mut [bool])
     ensures marks { MarksChanges marks.new (R.memory region.now).base (current_words (R.memory region.now)) }
     ensures more { (i : ℕ) → is_marked marks.old i ≡ true → is_marked marks.new i ≡ true }
     ensures none { stores (R.memory region.now).events ≡ [] → marks.new ≡ marks.old }
@@ -100,8 +116,23 @@ fn mark_stored<R: Region>(region: &R, marks: &mut [bool])
     }
 }
 
-/// Marks the blocks to which a store of the log went, where the next call drains it: it drains a log that lacks room for
-/// a call.
+/// Marks the blocks to which a store of the log went, or all blocks where the log has more events a block than are looked
+/// through. A log without a store marks none.
+fn mark_stored<R: Region>(region: &R, marks: &mut [bool])
+    ensures marks { MarksChanges marks.new (R.memory region.now).base (current_words (R.memory region.now)) }
+    ensures more { (i : ℕ) → is_marked marks.old i ≡ true → is_marked marks.new i ≡ true }
+    ensures none { stores (R.memory region.now).events ≡ [] → marks.new ≡ marks.old }
+    ensures size { length marks.new ≡ length marks.old }
+{
+    let blocks = (region.words() / BLOCK_WORDS) as usize;
+    if region.event_count() > MOST_EVENTS_A_BLOCK * blocks && has_store(region) {
+        mark_each(marks, true);
+    } else {
+        mark_each_store(region, marks);
+    }
+}
+
+/// Marks the blocks as `mark_stored` does, where the next call drains the log: it drains one that lacks room for a call.
 pub(crate) fn mark_drain<R: Region>(region: &R, marks: &mut [bool])
     ensures { MarksDrain (R.memory region.now) marks.old marks.new }
 {
@@ -231,8 +262,8 @@ pub(crate) fn sync_marked<R: Region, F: Files>(
 }
 
 /// Waits until all that the calls so far have done is written back, saves the words to the attached file, and flushes
-/// it. Only the blocks are written that are stale or to which a store went since the last drain. None is stale then, and
-/// each where the save failed.
+/// it. Only the blocks are written that are stale or to which a store went since the last drain; or all blocks, where the
+/// log has a store and more than 32 events a block. None is stale then, and each where the save failed.
 pub fn sync_and_save<R: Region, F: Files>(
     volume: &mut Volume<R>,
     stale: &mut Stale,

@@ -1,7 +1,7 @@
 use Rattle.std.proofs.Common.{◌≡◌, ◌+◌, ◌∙◌, length, sym, refl, ap, arith, subst, List, Bool, true}
 use Rattle.std.specs.Prelude.{Some, slice_get}
 use Rattle.pm_epochs.specs.declared.event.Event.{Event}
-use Rattle.pm_epochs.specs.declared.event.Event.TheVariants.{Barrier, Mark}
+use Rattle.pm_epochs.specs.declared.event.Event.TheVariants.{Barrier, Mark, Store}
 use Rattle.bp_session.specs.Changed.{is_marked}
 use Rattle.bp_session.proofs.MarkLaws.{MarksStores, marks_alone, marks_changes, marks_more, marks_row, none_at, row_alone, row_within}
 use Rattle.bp_session.proofs.saving.mark_stored.Goals as goal
@@ -20,11 +20,15 @@ pub mark_words-requires-clause-fits : goal.mark_words-requires-clause-fits
 mark_words-requires-clause-fits g c =
     let memory = g.R.Region.memory c.args.region.now in
     let words = length memory.base in
+    let row = c.row-event.ensures in
+    let word = c.in-Store.word in
+    let value = c.in-Store.value in
+    let at : slice_get memory.events c.loop-i.i ≡ Some (Store word value) = row.get ∙ ap (λ (event : Event). Some event) c.in-Store.is in
     omega (
       arith,
       c.words-words.ensures,
       c.words-words.type_inv,
-      row_within words memory.events c.loop-i.i c.row_len-row.result c.in-Store.word c.in-Store.value c.in-Store.ensures.get c.row_len-row.ensures.row c.row_len-row.ensures.inside c.row_len-row.ensures.some c.event_count-count.ensures.within,
+      row_within words memory.events c.loop-i.i c.row-event.result.len word value at row.row row.inside row.some c.event_count-count.ensures.within,
     )
 
 pub loop-i-preserved : goal.loop-i-preserved
@@ -35,21 +39,22 @@ loop-i-preserved g c =
     let new = c.match-event.marks in
     let here = c.loop-i.invariant in
     let i = c.loop-i.i in
-    let count = c.row_len-row.result in
-    let row = c.row_len-row.ensures in
+    let count = c.row-event.result.len in
+    let row = c.row-event.ensures in
     record {
       here = omega (arith, row.inside, c.event_count-count.ensures.count);
       marks = elim c.match-event.branch [
         | in-Store w ↦
+            let at : slice_get events i ≡ Some (Store w.in-Store.word w.in-Store.value) = row.get ∙ ap (λ (event : Event). Some event) w.in-Store.is in
             subst (λ (marks : List Bool). MarksStores marks events (i + count)) (sym w.marks-is)
-            (marks_row w.mark_words.new.marks events i count w.in-Store.word w.in-Store.value w.in-Store.ensures.get row.row row.inside w.mark_words.ensures.marked
+            (marks_row w.mark_words.new.marks events i count w.in-Store.word w.in-Store.value at row.row row.inside w.mark_words.ensures.marked
             (marks_more old w.mark_words.new.marks events i w.mark_words.ensures.more here.marks))
         | in-Barrier w ↦
-            let at : slice_get events i ≡ Some Barrier = c.event.ensures.get ∙ ap (λ (event : Event). Some event) w.in-Barrier.is in
+            let at : slice_get events i ≡ Some Barrier = row.get ∙ ap (λ (event : Event). Some event) w.in-Barrier.is in
             subst (λ (marks : List Bool). MarksStores marks events (i + count)) (sym w.marks-is)
             (marks_alone old events i count Barrier at (λ word value e. cc) (row_alone events i count Barrier at (λ next follows. follows) row.row row.inside) here.marks)
         | in-Mark w ↦
-            let at : slice_get events i ≡ Some Mark = c.event.ensures.get ∙ ap (λ (event : Event). Some event) w.in-Mark.is in
+            let at : slice_get events i ≡ Some Mark = row.get ∙ ap (λ (event : Event). Some event) w.in-Mark.is in
             subst (λ (marks : List Bool). MarksStores marks events (i + count)) (sym w.marks-is)
             (marks_alone old events i count Mark at (λ word value e. cc) (row_alone events i count Mark at (λ next follows. follows) row.row row.inside) here.marks)
       ];
@@ -59,7 +64,7 @@ loop-i-preserved g c =
         | in-Mark w ↦ λ k on. subst (λ (marks : List Bool). is_marked marks k ≡ true) (sym w.marks-is) (here.more k on)
       ];
       none = elim c.match-event.branch [
-        | in-Store w ↦ λ none. absurd (none_at events i w.in-Store.word w.in-Store.value none w.in-Store.ensures.get)
+        | in-Store w ↦ λ none. absurd (none_at events i w.in-Store.word w.in-Store.value none (row.get ∙ ap (λ (event : Event). Some event) w.in-Store.is))
         | in-Barrier w ↦ λ none. w.marks-is ∙ here.none none
         | in-Mark w ↦ λ none. w.marks-is ∙ here.none none
       ];

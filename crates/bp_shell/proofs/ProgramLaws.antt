@@ -1,5 +1,5 @@
 -- Outcomes of the programs, from those of their parts.
-use Rattle.std.proofs.Common.{refl, sym, ◌∙◌, ap, subst, arith, ◌≡◌, ◌≢◌, ◌<◌, ◌≤◌, ℕ, List, length, take, inl, inr, true}
+use Rattle.std.proofs.Common.{refl, sym, ◌∙◌, ap, subst, arith, ◌≡◌, ◌<◌, ℕ, List, length, take, inl, inr, true}
 use Rattle.std.specs.Prelude.{◌⊎◌}
 use Rattle.std.specs.Io.KnownBytes.{Appends}
 use Rattle.pm_region.specs.Memory.{Memory, current_words, drained}

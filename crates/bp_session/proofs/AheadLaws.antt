@@ -411,7 +411,7 @@ line_forgets status commands old new line = record {
   one_of = line.one_of;
 }
 
-pub serve_forgets : (status most : ℕ) (before after : Input) (old new : Moment) → ServeOutcome status most before after old new → ServeOutcome status most before after old (record new { stale = [] })
+pub serve_forgets : (status most : ℕ) (before after : SourceView) (old new : Moment) → ServeOutcome status most before after old new → ServeOutcome status most before after old (record new { stale = [] })
 serve_forgets status most before after old new served = record {
   whole = λ e. let all = served.whole e in (all.0, all.1, all.2, all.3, λ saved. all_as _ _ _ _ _ _ (forgets old new saved) _ (all.4 saved));
   part = λ e. let part = served.part e in (part.0, part.1, part.2, λ saved. serves_as _ _ _ _ _ _ (forgets old new saved) _ _ _ (part.3 saved));

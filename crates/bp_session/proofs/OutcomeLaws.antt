@@ -1,7 +1,7 @@
 -- Outcomes of serving, from line to line and piece to piece.
 use Rattle.std.proofs.Common.{refl, sym, ◌∙◌, subst, arith, ◌≡◌, ◌≤◌, ℕ, List, [], ◌∷◌, ◌++◌, length, inl, inr}
 use Rattle.std.proofs.lemmas.List.{append_assoc, append-nil}
-use Rattle.std.specs.Prelude.{◌⊎◌}
+use Rattle.std.specs.Prelude.{◌⊎◌, Err, Ok, OnOk, Result}
 use Rattle.std.specs.Io.KnownBytes.{Consumes, IsAtEnd}
 use Rattle.bp_io.specs.Causes.{Rose}
 use Rattle.bp_io.specs.Streams.{SourceView}
@@ -10,9 +10,25 @@ use Rattle.bp_session.specs.Lines.{commands_from}
 use Rattle.bp_session.specs.Outside.{Faults, IsFirstFault, SinkTookAll, counts}
 use Rattle.bp_layout.specs.Words.{Image}
 use Rattle.bp_session.specs.Serving.{Carries, CarriesPartly, DoesAll, DoesBreakOff, DoesStop, Keeps, LineOutcome, Moment, PieceOutcome, ServeOutcome}
+use Rattle.bp_session.specs.Statuses.{broken_status, status_of}
+use Rattle.bp_session.specs.declared.broken.Broken.{Broken}
+use Rattle.bp_session.specs.declared.broken.Broken.TheVariants.{Source, Sink, Files, LongInput}
 use Rattle.bp_session.proofs.OthersLaws.{others_same, others_then}
 use Rattle.bp_session.proofs.SavingLaws.{stays_attached, still_attached}
 use Rattle.bp_session.proofs.ServingLaws.{all_as, breaks_as, breaks_behind, breaks_in, commands_at_newline, commands_of_nothing, not_long, serves_as, serves_newline, serves_quietly, serves_then, serves_to_end, stops_as, stops_behind, stops_in, told_none}
+
+-- ---- statuses
+
+-- each cause that breaks serving off has a status of its own
+pub never_whole : (broken : Broken) → ¬ (broken_status broken ≡ 0)
+never_whole Source e = omega (arith, e)
+never_whole Sink e = omega (arith, e)
+never_whole Files e = omega (arith, e)
+never_whole LongInput e = omega (arith, e)
+
+pub where_whole : {T P : Type 0} (served : Result T Broken) → OnOk served P → status_of served ≡ 0 → P
+where_whole (Ok value) holds e = holds
+where_whole (Err broken) holds e = absurd (never_whole broken e)
 
 -- ---- faults
 
@@ -233,7 +249,7 @@ piece_stops status most held i j keeps more a b other one = record {
 
 -- ---- a source
 
-module _ (most : ℕ) (before after : Input) (a b : Moment) where
+module _ (most : ℕ) (before after : SourceView) (a b : Moment) where
   -- the source failed
   pub serve_part : (input keeps : List ℕ) → Consumes before.left after.left input → PieceOutcome 0 most [] input keeps a b → Rose before.faults after.faults → ServeOutcome 3 most before after a b
   serve_part input keeps read part rose = record {

@@ -177,7 +177,8 @@ pub record ServesAgain (old new : Memory) (files : View) : Type 0 where
   pub ready : IsReady new.base files
   pub capacity : new.capacity ≡ old.capacity
 
--- What serving commands answers: 0 where all were answered, 4 where a reply broke off, 5 where a sync couldn't save.
+-- What serving commands does, by the status that it leads to: 0 where all were answered, 4 where a reply broke off, 5
+-- where a sync couldn't save.
 pub record LineOutcome (status : ℕ) (commands : List Command) (old new : Moment) : Type 0 where
   pub whole : status ≡ 0 → DoesAll old new commands
   pub broken : status ≡ 4 → DoesBreakOff 0 old new commands
@@ -186,7 +187,7 @@ pub record LineOutcome (status : ℕ) (commands : List Command) (old new : Momen
   pub first : IsFirstFault status (counts 0 old.faults old.files) (counts 0 new.faults new.files)
   pub one_of : (status ≡ 0) ⊎ (status ≡ 4) ⊎ (status ≡ 5)
 
--- What serving a piece of an input answers, after what was held of a line, where so many bytes of replies may wait: a
+-- What serving a piece of an input does, after what was held of a line, where so many bytes of replies may wait: a
 -- line that a fault ends is whole, whatever follows.
 pub record PieceOutcome (status most : ℕ) (held input keeps : List ℕ) (old new : Moment) : Type 0 where
   pub whole : status ≡ 0 → DoesPart held input keeps old new
@@ -202,7 +203,7 @@ abbrev pub OfLines : Option (List ℕ) → List ℕ → (List Command → Type 0
 OfLines left input P =
     ((rest : List ℕ) → P (commands_from [] (input ++ rest))) ⊎ (IsAtEnd left × P (commands_from [] input))
 
--- What serving a source answers: as above; 3 where the source failed, and 6 where the most bytes were taken and one
+-- What serving a source does: as above; 3 where the source failed, and 6 where the most bytes were taken and one
 -- read gave more.
 pub record ServeOutcome (status most : ℕ) (before after : SourceView) (old new : Moment) : Type 0 where
   pub whole : status ≡ 0 → (input : List ℕ) × Consumes before.left after.left input × IsAtEnd after.left

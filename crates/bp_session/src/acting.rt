@@ -12,9 +12,12 @@ ghost use Rattle.bp_session.specs.Acting.{CrashesTo, Does, HasCrashed, LeavesSta
 ghost use Rattle.bp_session.specs.Changed.{AreMarked, AreUnmarked};
 ghost use Rattle.bp_session.specs.Gathering.{Clears, LineGathers};
 ghost use Rattle.bp_session.specs.Serving.{CanServe, DoesLine, moment, with_stale};
+ghost use Rattle.bp_session.specs.Statuses.{broken_status};
+ghost use Rattle.bp_session.specs.declared.broken.Broken.TheVariants as cause;
 ghost use Rattle.bp_session.specs.declared.outcome.Outcome.TheVariants.{Logged, Synced};
 ghost use Rattle.bp_session.specs.Work.{answer_in, line_in, waiting_in};
 
+use crate::broken::Broken;
 use crate::caching::crash_by_caches;
 use crate::outcome::Outcome;
 use crate::saving::{mark_drain, mark_each, sync_marked};
@@ -188,8 +191,8 @@ fn mark_crash(outcome: Outcome, stale: &mut [bool])
 }
 
 /// Does what the line asks for. A sync is done behind the replies that wait, and saves to the attached file the blocks
-/// that are stale and those to which a store went since the last drain. An error is the status: 4 where the sink failed
-/// before a sync was done, and 5 where the files did as it saved.
+/// that are stale and those to which a store went since the last drain. It is broken off by the sink, before a sync is
+/// done, or by the files, as it saves.
 pub(crate) fn act_and_save<R: Region, K: Sink, F: Files>(
     alloc: Global,
     volume: &mut Volume<R>,
@@ -197,7 +200,7 @@ pub(crate) fn act_and_save<R: Region, K: Sink, F: Files>(
     stale: &mut [bool],
     out: &mut K,
     files: &mut F,
-) -> Result<Outcome, u8>
+) -> Result<Outcome, Broken>
     requires { CanServe volume.old (F.view files.old) }
     ensures does { IfOk result (λ outcome. DoesLine
         (with_stale stale.old (moment volume.old (F.view files.old) (K.view out.old)))
@@ -208,12 +211,11 @@ pub(crate) fn act_and_save<R: Region, K: Sink, F: Files>(
         stores volume.old.events ≡ [] → KeepsFiles (F.view files.old) (F.view files.new) }
     ensures clears { OnOk result (Clears (command_of (line_in buffers.old)) (waiting_in buffers.old)
         (waiting_in buffers.new) (K.view out.old).taken (K.view out.new).taken (F.view files.old) (F.view files.new)) }
-    ensures stops { IfErr result (λ status. LineGathers status (command_of (line_in buffers.old))
+    ensures stops { IfErr result (λ broken. LineGathers (broken_status broken) (command_of (line_in buffers.old))
         (waiting_in buffers.old) (waiting_in buffers.new)
         (with_stale stale.old (moment volume.old (F.view files.old) (K.view out.old)))
         (with_stale stale.new (moment volume.new (F.view files.new) (K.view out.new)))) }
-    ensures some { IfErr result (λ status. ¬ (status ≡ 0)) }
-    ensures heard { IfErr result (λ status. waiting_in buffers.old ≡ [] → status ≡ 5) }
+    ensures heard { IfErr result (λ broken. waiting_in buffers.old ≡ [] → broken ≡ cause.Files) }
     ensures synced { OnOk result (command_of (line_in buffers.old) ≡ sync → (F.view files.new).is_flushed ≡ true) }
     ensures flushed { OnOk result ((F.view files.old).is_flushed ≡ true → (F.view files.new).is_flushed ≡ true) }
     ensures sink { OnOk result ((K.view out.new).faults ≡ (K.view out.old).faults) }
@@ -228,9 +230,9 @@ pub(crate) fn act_and_save<R: Region, K: Sink, F: Files>(
         Outcome::Synced => match buffers.replies.hand_over(out) {
             Ok(()) => match sync_marked(volume, stale, files) {
                 Ok(()) => Ok(Outcome::Synced),
-                Err(Failed) => Err(5),
+                Err(Failed) => Err(Broken::Files),
             },
-            Err(Failed) => Err(4),
+            Err(Failed) => Err(Broken::Sink),
         },
         outcome => {
             mark_crash(outcome, stale);

@@ -1,5 +1,6 @@
 //! The program `export`. It tells of the first tree alone: a script makes no snapshot's old bytes.
 
+ghost use Rattle.bp_io.specs.Streams.{SourceView};
 ghost use Rattle.bp_layout.specs.Names.{AreCounts};
 ghost use Rattle.bp_layout.specs.Whole.{IsFileSystem};
 ghost use Rattle.bp_layout.specs.Words.{block_count};
@@ -12,7 +13,7 @@ ghost use Rattle.bp_shell.specs.Opening.{HoldsFileSystem, OnlyReads};
 ghost use Rattle.bp_shell.specs.Scanning.{IsScanned};
 ghost use Rattle.bp_shell.specs.Statuses.{code_of};
 ghost use Rattle.bp_shell.specs.Stops.{HasStopCause, IsReason};
-ghost use Rattle.std.specs.Prelude.{◌*◌, ◌≡◌, ℕ, [], IfErr, IfOk, List, Option, length};
+ghost use Rattle.std.specs.Prelude.{◌*◌, ◌≡◌, [], IfErr, IfOk, length};
 
 use crate::opening::load_file;
 use crate::printing::{tell_notice, tell_stop};
@@ -73,9 +74,9 @@ pub(crate) fn export_file<K: Sink, F: Files>(
     files: &mut F,
 ) -> Status
     // Whatever a source has left.
-    ensures outcome { (left : Option (List ℕ)) (reads : ℕ) → ExportOutcome (code_of result)
-        (outside left reads (K.view out.old).taken (K.view out.old).faults (F.view files.old) name.now)
-        (outside left reads (K.view out.new).taken (K.view out.new).faults (F.view files.new) name.now) }
+    ensures outcome { (source : SourceView) → ExportOutcome (code_of result)
+        (outside source (K.view out.old) (F.view files.old) name.now)
+        (outside source (K.view out.new) (F.view files.new) name.now) }
     ensures reads { OnlyReads name.now (F.view files.old) (F.view files.new) }
 {
     match examine(alloc, name, files) {

@@ -49,10 +49,8 @@ fn serve_and_save<R: Region, S: Source, K: Sink, F: Files>(
     ensures others { KeepsOthers (F.view files.old) (F.view files.new) }
 {
     let mut stale = Stale::none();
-    let served = serve_gathered(alloc, volume, work, &mut stale, src, out, files);
-    match Status::of_serving(served) {
-        Status::Done => {}
-        broken => return broken,
+    if let Err(broken) = serve_gathered(alloc, volume, work, &mut stale, src, out, files) {
+        return Status::from(broken);
     }
     match sync_and_save(volume, &mut stale, files) {
         Ok(()) => Status::Done,

@@ -69,7 +69,6 @@ returns-in_default g c =
       kept = λ _ _ _ name. stays_same ((g.F.Files.view c.args.files.now).contents name);
       clears = inl (λ e. other (does.synced e), c.act_but_sync.ensures.waiting, refl, refl);
       stops = tt;
-      some = tt;
       heard = tt;
       synced = λ e. absurd (other (does.synced e));
       flushed = λ e. e;

@@ -284,8 +284,8 @@ pub fn serve<R: Region, S: Source, K: Sink, F: Files>(
 /// failed, the volume may be ahead of the line whose reply broke off, by lines behind it of which none is a sync; no
 /// file is.
 ///
-/// A sync writes only the blocks that are stale, which may lack words of the last drain, and those to which a store went
-/// since. Which are, the caller says, as none where the file was just read, and is told at the end.
+/// A sync writes the blocks that are stale, which may lack words of the last drain, and those to which a store went since,
+/// as `sync_and_save` does. Which are stale the caller says, as none where the file was just read, and is told at the end.
 pub fn serve_gathered<R: Region, S: Source, K: Sink, F: Files>(
     alloc: Global,
     volume: &mut Volume<R>,

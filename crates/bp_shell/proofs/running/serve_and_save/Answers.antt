@@ -21,7 +21,7 @@ pub returns-in-Ok-clause-outcome : goal.returns-in-Ok-clause-outcome
 returns-in-Ok-clause-outcome g c = λ before name image mounted.
     let begun : Moment = with_stale (stale_in c.none-stale.result) (moment c.args.volume.now (g.F.Files.view c.args.files.now) (g.K.Sink.view c.args.out.now)) in
     let held = read_now begun name image mounted.starts mounted.holds in
-    let served = c.in_else.ensures.outcome in
+    let served = c.in_default.ensures.outcome in
     let told = (served.whole refl).4 image in
     run_whole _ _ before begun _ name image mounted.found mounted.starts held mounted.flushed mounted.calm (g.F.Files.view c.sync_and_save.new.files) served
     (c.in-Ok.ensures.saved name told.after (told.file name held)).bytes c.in-Ok.ensures.flushed c.in-Ok.ensures.cause.same
@@ -30,7 +30,7 @@ pub returns-in-Err-sync_and_save-clause-outcome : goal.returns-in-Err-sync_and_s
 returns-in-Err-sync_and_save-clause-outcome g c = λ before name image mounted.
     let begun : Moment = with_stale (stale_in c.none-stale.result) (moment c.args.volume.now (g.F.Files.view c.args.files.now) (g.K.Sink.view c.args.out.now)) in
     let held = read_now begun name image mounted.starts mounted.holds in
-    let served = c.in_else.ensures.outcome in
+    let served = c.in_default.ensures.outcome in
     run_unsaved _ _ before begun _ name image mounted.found mounted.starts held mounted.flushed mounted.calm (g.F.Files.view c.sync_and_save.new.files) served _ c.sync_and_save.ensures.drained
     (λ was file. (c.in-Err-sync_and_save.ensures.partly name was file).bytes) c.in-Err-sync_and_save.ensures.cause.failed
 

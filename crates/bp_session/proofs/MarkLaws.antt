@@ -144,17 +144,6 @@ none_at (Mark ∷ events) zero at value none here = cc
 none_at (Barrier ∷ events) (suc i) at value none here = none_at events i at value none here
 none_at (Mark ∷ events) (suc i) at value none here = none_at events i at value none here
 
--- an event that is no store leaves the log up to it without one
-pub none_next : (events : List Event) (i : ℕ) (event : Event) → slice_get events i ≡ Some event → ((word value : ℕ) → event ≡ Store word value → ⊥) → stores (take i events) ≡ []
-    → stores (take (i + 1) events) ≡ []
-none_next [] i event at other none = absurd (let no : None ≡ Some event = at in cc)
-none_next (Store word value ∷ events) zero event at other none = absurd (let same : Store word value ≡ event = cc in other word value (sym same))
-none_next (Barrier ∷ events) zero event at other none = refl
-none_next (Mark ∷ events) zero event at other none = refl
-none_next (Store word value ∷ events) (suc i) event at other none = absurd (cc)
-none_next (Barrier ∷ events) (suc i) event at other none = let next : suc i + 1 ≡ suc (i + 1) = omega arith in rw next (none_next events i event at other none)
-none_next (Mark ∷ events) (suc i) event at other none = let next : suc i + 1 ≡ suc (i + 1) = omega arith in rw next (none_next events i event at other none)
-
 -- the words of blocks that are marked, up to the last or to the end of the marks
 pub marked_within : (marks : List Bool) (first count end block : ℕ) → 0 < count → end ≡ min (length marks) ((first + (count - 1)) / 512 + 1) → end ≤ block
     → ((k : ℕ) → first / 512 ≤ k → k < block → is_marked marks k ≡ true) → (word : ℕ) → first ≤ word → word < first + count → is_marked marks (word / 512) ≡ true

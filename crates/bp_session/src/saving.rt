@@ -21,9 +21,9 @@ use pm_region::{Region, Row};
 /// The bytes of a block, as a length.
 const BLOCK: usize = BLOCK_SIZE as usize;
 
-/// The most events a block of the image at which a log is looked through for the blocks to which its stores went. Where it
-/// has more, most blocks have a store anyway, and writing all of them costs less than looking.
-const MOST_EVENTS_A_BLOCK: usize = 32;
+/// How many rows of stores a log may have for each block of the image and still be looked through for the blocks to which they
+/// went. Where it has more, writing all blocks costs little more than looking on.
+const MOST_ROWS_A_BLOCK: usize = 4;
 
 /// The blocks of a file that may lack words of the last drain. It is large: make one for a run.
 #[derive(Drop)]
@@ -82,42 +82,39 @@ fn mark_words(marks: &mut [bool], first: u32, count: usize)
     }
 }
 
-/// Whether the log has a store.
-fn has_store<R: Region>(region: &R) -> bool
-    ensures { result ≡ true ↔ stores (R.memory region.now).events ≢ [] }
-{
-    for i in 0..region.event_count() {
-        if let Event::Store { .. } = region.event(i) {
-            return true;
-        }
-    }
-    false
-}
-
-/// Marks the blocks to which a store of the log went.
-fn mark_each_store<R: Region>(region: &R, marks: &mut [bool])
-    ensures marks { MarksChanges marks.new (R.memory region.now).base (current_words (R.memory region.now)) }
+/// Marks the blocks to which a store of the log went, by rows of stores, so many of them. False where the log has more.
+fn mark_rows<R: Region>(region: &R, marks: &mut [bool], most: usize) -> bool
+    ensures marks { result ≡ true → MarksChanges marks.new (R.memory region.now).base (current_words (R.memory region.now)) }
     ensures more { (i : ℕ) → is_marked marks.old i ≡ true → is_marked marks.new i ≡ true }
+    ensures some { result ≡ false → stores (R.memory region.now).events ≢ [] }
     ensures none { stores (R.memory region.now).events ≡ [] → marks.new ≡ marks.old }
     ensures size { length marks.new ≡ length marks.old }
 {
     // The number of a word fits its type.
     let _words = region.words();
     let count = region.event_count();
+    let mut left = most;
     let mut i: usize = 0;
     while i < count {
         let Row { event, len } = region.row(i);
         match event {
-            Event::Store { word, .. } => mark_words(marks, word, len),
+            Event::Store { word, .. } => {
+                if left == 0 {
+                    return false;
+                }
+                mark_words(marks, word, len);
+                left -= 1;
+            }
             Event::Barrier => {}
             Event::Mark => {}
         }
         i += len;
     }
+    true
 }
 
-/// Marks the blocks to which a store of the log went, or all blocks where the log has more events a block than are looked
-/// through. A log without a store marks none.
+/// Marks the blocks to which a store of the log went, or all blocks where the log has more rows of stores a block than are
+/// looked at. A log without a store marks none.
 fn mark_stored<R: Region>(region: &R, marks: &mut [bool])
     ensures marks { MarksChanges marks.new (R.memory region.now).base (current_words (R.memory region.now)) }
     ensures more { (i : ℕ) → is_marked marks.old i ≡ true → is_marked marks.new i ≡ true }
@@ -125,10 +122,8 @@ fn mark_stored<R: Region>(region: &R, marks: &mut [bool])
     ensures size { length marks.new ≡ length marks.old }
 {
     let blocks = (region.words() / BLOCK_WORDS) as usize;
-    if region.event_count() > MOST_EVENTS_A_BLOCK * blocks && has_store(region) {
+    if !mark_rows(region, marks, MOST_ROWS_A_BLOCK * blocks) {
         mark_each(marks, true);
-    } else {
-        mark_each_store(region, marks);
     }
 }
 
@@ -263,7 +258,7 @@ pub(crate) fn sync_marked<R: Region, F: Files>(
 
 /// Waits until all that the calls so far have done is written back, saves the words to the attached file, and flushes
 /// it. Only the blocks are written that are stale or to which a store went since the last drain; or all blocks, where the
-/// log has a store and more than 32 events a block. None is stale then, and each where the save failed.
+/// log has more than four rows of stores a block. None is stale then, and each where the save failed.
 pub fn sync_and_save<R: Region, F: Files>(
     volume: &mut Volume<R>,
     stale: &mut Stale,

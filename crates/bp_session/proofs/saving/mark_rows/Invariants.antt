@@ -2,7 +2,7 @@ use Rattle.std.proofs.Common.{◌≡◌, ◌-◌, ◌≤◌, ℕ, true, [], leng
 use Rattle.pm_epochs.specs.Log.{stores}
 use Rattle.bp_session.specs.Changed.{is_marked}
 use Rattle.bp_session.proofs.MarkLaws.{MarksStores}
-use Rattle.bp_session.proofs.saving.mark_each_store.Given as goal
+use Rattle.bp_session.proofs.saving.mark_rows.Given as goal
 
 -- the stores of the events so far are marked
 abbrev pub invariant-loop-i : goal.invariant-loop-i

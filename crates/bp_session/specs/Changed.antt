@@ -1,5 +1,5 @@
 -- Which blocks of a file a save writes: those that are marked.
-use Rattle.std.specs.Prelude.{◌≡◌, ◌⊎◌, ℕ, ◌*◌, ◌/◌, ◌<◌, ◌≤◌, List, [], Bool, true, false, Some, None, ⊤, length, slice_index_or}
+use Rattle.std.specs.Prelude.{◌≡◌, ◌⊎◌, ℕ, ◌*◌, ◌/◌, ◌<◌, ◌≤◌, List, [], Bool, true, false, Some, None, ⊤, length, slice_index_or, take}
 use Rattle.bp_limits.specs.Limits.{block_size, block_words, call_room}
 use Rattle.bp_io.specs.Files.{Known, View, block_bytes}
 use Rattle.bp_layout.specs.Words.{Image, word}
@@ -19,9 +19,9 @@ AreMarked marks = (i : ℕ) → is_marked marks i ≡ true
 abbrev pub AreUnmarked : List Bool → Type 0
 AreUnmarked marks = (i : ℕ) → i < length marks → is_marked marks i ≡ false
 
--- the blocks that may lack words of the last drain
+-- the marks of the blocks that may lack words of the last drain
 abbrev pub stale_in : Stale → List Bool
-stale_in stale = stale.blocks
+stale_in stale = take stale.count stale.marks
 
 -- each word of a block that is not marked is the same in both images
 abbrev pub MarksChanges : List Bool → Image → Image → Type 0

@@ -1,11 +1,11 @@
 //! A file takes the words of a region.
 
-ghost use Rattle.std.specs.Prelude.{[], ◌≡◌, ◌≢◌, ◌↔◌, ◌≤◌, ◌+◌, ◌*◌, ◌/◌, ◌<◌, ◌^◌, List, ℕ, OnOk, OnErr, false, length, true};
+ghost use Rattle.std.specs.Prelude.{[], ◌≡◌, ◌≢◌, ◌↔◌, ◌≤◌, ◌+◌, ◌*◌, ◌/◌, ◌<◌, ◌^◌, List, ℕ, OnOk, OnErr, false, length, min, true};
 ghost use Rattle.bp_layout.specs.Words.{Image};
 ghost use Rattle.bp_io.specs.Causes.{HasCause};
 ghost use Rattle.bp_io.specs.Files.{KeepsFiles, KeepsOthers, StaysAttached};
 ghost use Rattle.bp_layout.specs.Bytes.{image_bytes};
-ghost use Rattle.bp_limits.specs.Limits.{block_words};
+ghost use Rattle.bp_limits.specs.Limits.{block_words, max_blocks};
 ghost use Rattle.bp_session.specs.Changed.{AreMarked, AreUnmarked, HoldsChanged, MarksChanges, MarksDrain, is_marked, stale_in};
 ghost use Rattle.bp_session.specs.Files.{HasBlocksOf, Holds, HoldsAs, HoldsBytes, HoldsPartly, IsReady, StaysTold};
 ghost use Rattle.pm_epochs.specs.Log.{stores};
@@ -25,28 +25,24 @@ const BLOCK: usize = BLOCK_SIZE as usize;
 /// went. Where it has more, writing all blocks costs little more than looking on.
 const MOST_ROWS_A_BLOCK: usize = 4;
 
-/// The blocks of a file that may lack words of the last drain. It is large: make one for a run.
+/// The blocks of a file that may lack words of the last drain: of the first ones, so many, those that are marked, and each
+/// behind them. It is large: make one for a run.
 #[derive(Drop)]
 pub struct Stale {
-    pub(crate) blocks: [bool; MAX_BLOCKS as usize],
+    pub(crate) marks: [bool; MAX_BLOCKS as usize],
+    pub(crate) count: usize,
+    ghost few: { count ≤ max_blocks },
 }
 
 impl Stale {
-    /// None may, as of a file that was just read.
-    pub fn none() -> Self
-        ensures { AreUnmarked (stale_in result) }
+    /// None of so many blocks may, as of a file of that size that was just read. None has more than `MAX_BLOCKS`.
+    pub fn none(blocks: u32) -> Self
+        ensures none { AreUnmarked (stale_in result) }
+        ensures count { length (stale_in result) ≡ min blocks max_blocks }
     {
         Stale {
-            blocks: [false; MAX_BLOCKS as usize],
-        }
-    }
-
-    /// Each may, as of a file of which nothing is known.
-    pub fn all() -> Self
-        ensures { AreMarked (stale_in result) }
-    {
-        Stale {
-            blocks: [true; MAX_BLOCKS as usize],
+            marks: [false; MAX_BLOCKS as usize],
+            count: blocks.min(MAX_BLOCKS) as usize,
         }
     }
 }
@@ -271,8 +267,8 @@ pub fn sync_and_save<R: Region, F: Files>(
         Holds (F.view files.new) name (current_words volume.old)) }
     ensures partly { OnErr result ((name : List ℕ) (was : Image) → Holds (F.view files.old) name was →
         HoldsPartly (F.view files.new) name was (current_words volume.old)) }
-    ensures kept { AreUnmarked (stale_in stale.old) → stores volume.old.events ≡ [] →
-        KeepsFiles (F.view files.old) (F.view files.new) }
+    ensures kept { AreUnmarked (stale_in stale.old) → length volume.old.base ≤ block_words * length (stale_in stale.old) →
+        stores volume.old.events ≡ [] → KeepsFiles (F.view files.old) (F.view files.new) }
     ensures cleared { OnOk result (AreUnmarked (stale_in stale.new)) }
     ensures lost { OnErr result (AreMarked (stale_in stale.new)) }
     ensures flushed { OnOk result ((F.view files.new).is_flushed ≡ true) }
@@ -281,7 +277,6 @@ pub fn sync_and_save<R: Region, F: Files>(
     ensures attached { StaysAttached (F.view files.old) (F.view files.new) }
     ensures cause { HasCause (F.view files.old).faults (F.view files.new).faults result }
 {
-    // A file system has no more blocks than there are marks.
-    let _region = volume.region();
-    sync_marked(volume, &mut stale.blocks, files)
+    let Stale { marks, count } = stale;
+    sync_marked(volume, &mut marks[..*count], files)
 }

@@ -22,6 +22,7 @@ use crate::status::Status;
 use bp_command::laws::{plain_words_are_taken, words_ask_for_one_program};
 use bp_command::{Program, WordsFault, read_words};
 use bp_io::{Failed, Files, Sink, Source};
+use bp_limits::BLOCK_WORDS;
 use bp_script::Notice;
 use bp_session::saving::{Stale, sync_and_save};
 use bp_session::{Work, serve_gathered};
@@ -48,7 +49,7 @@ fn serve_and_save<R: Region, S: Source, K: Sink, F: Files>(
     ensures attached { StaysAttached (F.view files.old) (F.view files.new) }
     ensures others { KeepsOthers (F.view files.old) (F.view files.new) }
 {
-    let mut stale = Stale::none();
+    let mut stale = Stale::none(volume.region().words() / BLOCK_WORDS);
     if let Err(broken) = serve_gathered(alloc, volume, work, &mut stale, src, out, files) {
         return Status::from(broken);
     }

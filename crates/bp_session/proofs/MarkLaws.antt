@@ -1,9 +1,9 @@
 -- The blocks to which a log stores.
-use Rattle.std.proofs.Common.{zero, suc, refl, sym, ◌∙◌, ap, arith, ◌≡◌, ℕ, ◌+◌, ◌-◌, ◌*◌, ◌/◌, ◌<◌, ◌≤◌, List, [], ◌∷◌, length, set, Bool, true, false, inl, inr, subst}
+use Rattle.std.proofs.Common.{zero, suc, refl, sym, ◌∙◌, ap, arith, ◌≡◌, ℕ, ◌+◌, ◌-◌, ◌*◌, ◌/◌, ◌<◌, ◌≤◌, List, [], ◌∷◌, ◌++◌, drop, length, set, take, Bool, true, false, inl, inr, subst}
 use Rattle.std.specs.Prelude.{◌⊎◌, Option, None, Some, min, replicate, slice_get, if◌then◌else◌}
 use Rattle.std.proofs.lemmas.Bool.{cases_eq, cases_lt, le-ltb, lt-ltb}
 use Rattle.bp_limits.specs.Limits.{call_room}
-use Rattle.std.proofs.lemmas.List.{get_or-replicate, get_or-set_other, get_or-take, get_or_past, length-replicate, length-set, length-take}
+use Rattle.std.proofs.lemmas.List.{append-nil, drop_all, get_or-replicate, get_or-set_other, get_or-take, get_or_past, length-append, length-replicate, length-set, length-take, take_all, take_at}
 use Rattle.pm_epochs.specs.declared.event.Event.{Event}
 use Rattle.pm_epochs.specs.declared.event.Event.TheVariants.{Barrier, Mark, Store}
 use Rattle.pm_epochs.specs.Log.{stores, words_after}
@@ -186,6 +186,16 @@ pub front_unmarked : (count : ℕ) → AreUnmarked (take count (replicate 65536 
 front_unmarked count i low =
     let size : length (take count (replicate 65536 false)) ≡ min count 65536 = length-take count (replicate 65536 false) ∙ ap (min count) (length-replicate 65536 false) in
     get_or-take count (replicate 65536 false) i true (omega (arith, low, size)) ∙ get_or-replicate 65536 i false true (omega (arith, low, size))
+
+-- the first marks, so many, which were lent and came back before those behind them
+pub lent_back : (count lent : ℕ) (marks new : List Bool) → lent ≡ min count (length marks) → length new ≡ lent → take count (new ++ drop lent marks) ≡ new
+lent_back count lent marks new is size = at (cases_lt (length marks) count)
+  where
+    at : (length marks < count) ⊎ (count ≤ length marks) → take count (new ++ drop lent marks) ≡ new
+    at (inl short) =
+        let none : drop lent marks ≡ [] = drop_all lent marks (omega (arith, short, is)) in
+        rw none (take_all count (new ++ []) (omega (arith, length-append new [], size, short, is)) ∙ append-nil new)
+    at (inr fits) = take_at new (drop lent marks) count (omega (arith, size, fits, is))
 
 -- what is told of a file where no mark is, by those before a log without a store
 pub kept_still : {P : Type 0} (old new : List Bool) (words now : ℕ) → (AreUnmarked new → now ≤ 512 * length new → P) → new ≡ old → now ≡ words → AreUnmarked old → words ≤ 512 * length old → P

@@ -7,12 +7,9 @@ use Rattle.bp_layout.specs.Bytes.{image_bytes}
 use Rattle.bp_layout.specs.Words.{Image, word}
 use Rattle.bp_session.specs.Changed.{AreMarked, HasChanged, HoldsChanged, IsChanged, MarksChanges, is_marked}
 use Rattle.bp_session.specs.Files.{HasBytes, HasUnmarked, Holds, HoldsAs, StaysTold}
-use Rattle.pm_region.specs.Memory.{Memory}
-use Rattle.pm_region.specs.Safe.{IsSafe}
-use Rattle.bp_layout.specs.Whole.{SameFiles}
 use Rattle.bp_session.proofs.ActingLaws.{holds_bytes}
 use Rattle.bp_session.proofs.BlockLaws.{blocks-image_bytes, length-image_bytes}
-use Rattle.bp_session.proofs.SavingLaws.{block_is, size-current}
+use Rattle.bp_session.proofs.SavingLaws.{block_is}
 
 -- two lists of blocks with the same blocks
 in_block : (xs : List ℕ) (p : ℕ) → get_or xs p 0 ≡ get_or (block_bytes xs (p / 4096)) (p % 4096) 0
@@ -110,11 +107,6 @@ module _ (marks : List Bool) (now : Image) (n : ℕ) (two : length now ≡ 512 *
   known_saved (Some (Some old)) (Some (Some found)) was size first held told has = all_saved was found size (subst (λ (l : List ℕ). HasUnmarked marks now l) first held) has
 
 -- ---- the whole
-
-pub fits_marks : (memory : Memory) → IsSafe SameFiles memory → length memory.base ≤ 512 * 65536
-fits_marks memory safe =
-    let sized = safe.well.first.new_well_formed.formatted.sized in
-    omega (arith, size-current memory, sized.whole, sized.at_most)
 
 -- what a save leaves of a file
 pub saves_words : (marks : List Bool) (now : Image) (old new : View) → length now ≡ 512 * old.blocks → StaysTold old new → new.blocks ≡ old.blocks → (name : List ℕ) (was : Image)

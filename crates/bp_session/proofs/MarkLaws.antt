@@ -3,7 +3,7 @@ use Rattle.std.proofs.Common.{zero, suc, refl, sym, ◌∙◌, ap, arith, ◌≡
 use Rattle.std.specs.Prelude.{◌⊎◌, Option, None, Some, min, replicate, slice_get, if◌then◌else◌}
 use Rattle.std.proofs.lemmas.Bool.{cases_eq, cases_lt, le-ltb, lt-ltb}
 use Rattle.bp_limits.specs.Limits.{call_room}
-use Rattle.std.proofs.lemmas.List.{get_or-set_other, get_or_past, length-set}
+use Rattle.std.proofs.lemmas.List.{get_or-replicate, get_or-set_other, get_or-take, get_or_past, length-replicate, length-set, length-take}
 use Rattle.pm_epochs.specs.declared.event.Event.{Event}
 use Rattle.pm_epochs.specs.declared.event.Event.TheVariants.{Barrier, Mark, Store}
 use Rattle.pm_epochs.specs.Log.{stores, words_after}
@@ -192,10 +192,11 @@ all_marked marks each i = go (cases_lt i (length marks))
     go (inl inside) = each i inside
     go (inr behind) = get_or_past marks i true behind
 
-pub replicate_marked : (count : ℕ) → AreMarked (replicate count true)
-replicate_marked zero i = refl
-replicate_marked (suc count) zero = refl
-replicate_marked (suc count) (suc i) = replicate_marked count i
+-- the first of marks of which none is
+pub front_unmarked : (count : ℕ) → AreUnmarked (take count (replicate 65536 false))
+front_unmarked count i low =
+    let size : length (take count (replicate 65536 false)) ≡ min count 65536 = length-take count (replicate 65536 false) ∙ ap (min count) (length-replicate 65536 false) in
+    get_or-take count (replicate 65536 false) i true (omega (arith, low, size)) ∙ get_or-replicate 65536 i false true (omega (arith, low, size))
 
 -- what is told of a file where no mark is, by those before a log without a store
 pub kept_still : {P : Type 0} (old new : List Bool) (words now : ℕ) → (AreUnmarked new → now ≤ 512 * length new → P) → new ≡ old → now ≡ words → AreUnmarked old → words ≤ 512 * length old → P

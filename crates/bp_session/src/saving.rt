@@ -31,7 +31,6 @@ const MOST_EVENTS_A_BLOCK: usize = 32;
 pub struct Stale {
     pub(crate) marks: [bool; MAX_BLOCKS as usize],
     pub(crate) count: usize,
-    ghost few: { count ≤ max_blocks },
 }
 
 impl Stale {
@@ -42,7 +41,7 @@ impl Stale {
     {
         Stale {
             marks: [false; MAX_BLOCKS as usize],
-            count: blocks.min(MAX_BLOCKS) as usize,
+            count: blocks as usize,
         }
     }
 }
@@ -282,6 +281,6 @@ pub fn sync_and_save<R: Region, F: Files>(
     ensures attached { StaysAttached (F.view files.old) (F.view files.new) }
     ensures cause { HasCause (F.view files.old).faults (F.view files.new).faults result }
 {
-    let Stale { marks, count } = stale;
-    sync_marked(volume, &mut marks[..*count], files)
+    let count = stale.count.min(stale.marks.len());
+    sync_marked(volume, &mut stale.marks[..count], files)
 }

@@ -302,13 +302,13 @@ pub fn serve_gathered<R: Region, S: Source, K: Sink, F: Files>(
         (with_stale (stale_in stale.new) (moment volume.new (F.view files.new) (K.view out.new))) }
     ensures again { ServesAgain volume.old volume.new (F.view files.new) }
 {
-    let Stale { marks, count } = stale;
+    let count = stale.count.min(stale.marks.len());
     serve_by(
         alloc,
         volume,
         work,
         GATHERED,
-        &mut marks[..*count],
+        &mut stale.marks[..count],
         src,
         out,
         files,

@@ -1,6 +1,5 @@
-use Rattle.std.proofs.Common.{arith, false, true}
-use Rattle.std.proofs.lemmas.List.{get_or-replicate, length-replicate}
+use Rattle.bp_session.proofs.MarkLaws.{front_unmarked}
 use Rattle.bp_session.proofs.saving.Stale.none.Goals as goal
 
-pub returns : goal.returns
-returns c = λ i low. get_or-replicate 65536 i false true (omega (arith, low, length-replicate 65536 false))
+pub returns-clause-none : goal.returns-clause-none
+returns-clause-none c = front_unmarked c.args.blocks

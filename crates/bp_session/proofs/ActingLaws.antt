@@ -1,6 +1,6 @@
 -- One line, by its case.
 use Rattle.std.proofs.Common.{zero, suc, refl, sym, ◌∙◌, ap, arith, ◌≡◌, ◌≤◌, ◌<◌, ◌+◌, ◌*◌, ℕ, List, [], ◌∷◌, ◌++◌, length, take, true, false, inl, inr}
-use Rattle.std.specs.Prelude.{Bool, None, Some, nat_lt, slice_get, if◌then◌else◌}
+use Rattle.std.specs.Prelude.{None, Some, nat_lt, slice_get, if◌then◌else◌}
 use Rattle.pm_epochs.proofs.CrashLaws.{barriers-append, length-words_after, marks-append}
 use Rattle.pm_epochs.specs.declared.event.Event.{Event}
 use Rattle.pm_epochs.specs.Log.{barriers, marks}

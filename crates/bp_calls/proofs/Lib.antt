@@ -71,6 +71,8 @@ pub mod PatchPaths
 pub mod PatchWords
 pub mod PatchCommits
 pub mod CommitResults
+pub mod CommitLaws
+pub mod WriteCommits
 pub mod RunCommits
 pub mod WriteBelow
 pub mod RowLaws

@@ -13,15 +13,14 @@ use Rattle.bp_layout.specs.WellFormed.{IsWellFormed}
 use Rattle.bp_layout.specs.Words.{Image}
 use Rattle.bp_changes.specs.Overwrites.{OverwritesFiles, Patch}
 use Rattle.bp_changes.proofs.KeepsDirectories.{well_formed-same}
-use Rattle.bp_changes.specs.Thawed.{AfterThaw, SameShape}
+use Rattle.bp_changes.specs.Thawed.{SameShape}
 use Rattle.bp_changes.proofs.Overwrites.{keeps}
 use Rattle.bp_changes.proofs.ReachedOn.{reached_on}
 use Rattle.bp_changes.proofs.SameMeaning.{well_formed-same as meant_well_formed}
 use Rattle.bp_changes.proofs.ShapeLaws.{IsOfReached, need-shape}
 use Rattle.bp_shapes.specs.Sets.{AreExact, kept_of}
-use Rattle.bp_free.specs.declared.parts.NoSpace.{NoSpace}
 use Rattle.bp_free.specs.declared.parts.Parts.{Parts}
-use Rattle.bp_commit.specs.Performs.{IsOpen, Performs, PerformsThawed, room_for}
+use Rattle.bp_commit.specs.Performs.{IsOpen, PerformsThawed, room_for}
 use Rattle.pm_region.specs.Memory.{Memory, current_words, room_in}
 use Rattle.bp_cow.specs.declared.touched.Run.{Run}
 use Rattle.bp_cow.specs.declared.touched.Touched.{Touched}
@@ -40,8 +39,8 @@ use Rattle.bp_calls.specs.Mounted.{IsMounted}
 use Rattle.bp_calls.specs.Space.{HasRoomWhereFree, LacksBlocks}
 use Rattle.bp_calls.specs.ThawsFor.{ThawsFor}
 use Rattle.bp_calls.proofs.NothingKept.{clear_at_once, room_at_once}
-use Rattle.bp_calls.proofs.ThawedParts.{performed_thawed, thawed_clear}
-use Rattle.bp_calls.proofs.FreeCounts.{free_members, lacks_nothing}
+use Rattle.bp_calls.proofs.ThawedParts.{thawed_clear}
+use Rattle.bp_calls.proofs.FreeCounts.{free_members}
 use Rattle.bp_calls.proofs.PatchPaths.{patches_cover, patches_need, patches_way}
 use Rattle.bp_calls.proofs.PatchRuns.{IsInFile, leaves_few, no_words, runs_few, patches_can, patches_shape, run_at, some_run}
 use Rattle.bp_calls.proofs.PatchWords.{patches_overwrite, sizes_stay}
@@ -216,7 +215,7 @@ module _ {R : Type 0} (memory : R → Memory) (patches : List Patch) (old : Part
   }
 
   module _ (middle : Parts R) (done : ThawsFor memory (targets (current_words (memory old.region)) (overwrites (stretches_of patches))) old middle) where
-    overwrites_of : IsOfReached (current_words (memory old.region)) (overwrites (stretches_of patches))
+    pub overwrites_of : IsOfReached (current_words (memory old.region)) (overwrites (stretches_of patches))
     overwrites_of = overwrites_reached (current_words (memory old.region)) patches can.each
 
     needs_alike : need (current_words (memory middle.region)) (overwrites (stretches_of patches)) ≡ need (current_words (memory old.region)) (overwrites (stretches_of patches))
@@ -235,12 +234,6 @@ module _ {R : Type 0} (memory : R → Memory) (patches : List Patch) (old : Part
       room = λ enough. omega (arith, room, needs_alike);
     }
 
-    pub overwrites_performed : (new : Parts R) → PerformsThawed (kept_of middle) (memory middle.region) (memory new.region) (overwrites (stretches_of patches)) (OverwritesFiles patches) →
-        Performs (kept_of old) (memory old.region) (memory new.region) (overwrites (stretches_of patches)) (AfterThaw (OverwritesFiles patches))
-    overwrites_performed new rest = performed_thawed memory (overwrites (stretches_of patches)) old middle mounted overwrites_of done new (OverwritesFiles patches) rest
-
-    pub overwrites_lack_nothing : need (current_words (memory old.region)) (overwrites (stretches_of patches)) ≤ length (members middle.blocks) → (lacks : NoSpace) →
-        LacksBlocks (current_words (memory middle.region)) (kept_of middle) (need (current_words (memory middle.region)) (overwrites (stretches_of patches))) lacks → ⊥
-    overwrites_lack_nothing enough lacks has =
-        lacks_nothing (current_words (memory middle.region)) (kept_of middle) middle.blocks done.exact.sets.free_blocks done.exact.sets.block_room
-        (need (current_words (memory middle.region)) (overwrites (stretches_of patches))) (omega (arith, enough, needs_alike)) lacks has
+    pub overwrites_enough : need (current_words (memory old.region)) (overwrites (stretches_of patches)) ≤ length (members middle.blocks) →
+        need (current_words (memory middle.region)) (overwrites (stretches_of patches)) ≤ length (members middle.blocks)
+    overwrites_enough enough = omega (arith, enough, needs_alike)

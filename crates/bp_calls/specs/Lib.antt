@@ -24,3 +24,5 @@ pub mod TouchedBelow
 pub mod Overwritten
 pub mod Rows
 pub mod ContentPaths
+pub mod Commits
+pub mod CommitsTouched

@@ -1,6 +1,7 @@
 //! Bytes into several files at once.
 
 ghost use Rattle.std.specs.Prelude.{◌≡◌, ◌+◌, ◌≤◌, [], ◌∷◌, length, IfErr, OnErr, OnOk};
+ghost use Rattle.bp_calls.specs.Commits.{CommitsOrLacksBlocks, CommitsOrLacksSpace};
 ghost use Rattle.bp_calls.specs.Mounted.{IsMounted};
 ghost use Rattle.bp_calls.specs.Overwritten.{
   AreRuns,
@@ -11,12 +12,11 @@ ghost use Rattle.bp_calls.specs.Overwritten.{
   patches_seen,
   stretches_of,
 };
-ghost use Rattle.bp_calls.specs.Space.{HasRoomWhereFree, LacksBlocks, LacksSpace};
+ghost use Rattle.bp_calls.specs.Space.{HasRoomWhereFree, LacksSpace};
 ghost use Rattle.bp_calls.specs.ThawsFor.{ThawsFor};
 ghost use Rattle.bp_calls.specs.TouchedBelow.{IsRunFor};
 ghost use Rattle.bp_changes.specs.Overwrites.{OverwritesFiles};
-ghost use Rattle.bp_changes.specs.Thawed.{AfterThaw};
-ghost use Rattle.bp_commit.specs.Performs.{Performs, PerformsThawed, room_for};
+ghost use Rattle.bp_commit.specs.Performs.{room_for};
 ghost use Rattle.bp_cow.specs.Cover.{LeadsInside, commit_cover};
 ghost use Rattle.bp_cow.specs.Touched.{IsTouched};
 ghost use Rattle.bp_free.specs.Set.{members};
@@ -97,14 +97,9 @@ fn overlay<R: Region>(parts: &mut Parts<R>, patches: &[Patch<'_>]) -> Result<(),
     requires can { CanOverwriteThawed (kept_of parts.old) (R.memory parts.old.region) parts.old.blocks parts.old.inodes
         (patches_seen patches.now) }
     requires exact { IsExact (current_words (R.memory parts.old.region)) parts.old }
-    ensures performs { OnOk result (PerformsThawed (kept_of parts.old) (R.memory parts.old.region)
-        (R.memory parts.new.region) (overwrites (stretches_of (patches_seen patches.now)))
-        (OverwritesFiles (patches_seen patches.now))) }
-    ensures frozen { parts.new.frozen ≡ parts.old.frozen }
-    ensures exact { IsExact (current_words (R.memory parts.new.region)) parts.new }
-    ensures refused { IfErr result (LacksBlocks (current_words (R.memory parts.old.region)) (kept_of parts.old)
-        (need (current_words (R.memory parts.old.region)) (overwrites (stretches_of (patches_seen patches.now))))) }
-    ensures same { OnErr result (parts.new ≡ parts.old) }
+    ensures { CommitsOrLacksBlocks R.memory parts.old parts.new result
+        (overwrites (stretches_of (patches_seen patches.now)))
+        (OverwritesFiles (patches_seen patches.now)) }
 {
     let runs = runs_of(&parts.region, patches);
     let touched = touched_by(runs.as_slice());
@@ -150,14 +145,9 @@ pub fn batch<R: Region>(parts: &mut Parts<R>, patches: &[Patch<'_>]) -> Result<(
     requires can { CanOverwrite (current_words (R.memory parts.old.region)) (patches_seen patches.now) }
     requires room { HasRoomWhereFree (R.memory parts.old.region) (kept_of parts.old) parts.old.blocks
         (overwrites (stretches_of (patches_seen patches.now))) }
-    ensures performs { OnOk result (Performs (kept_of parts.old) (R.memory parts.old.region) (R.memory parts.new.region)
+    ensures { CommitsOrLacksSpace R.memory parts.old parts.new result
         (overwrites (stretches_of (patches_seen patches.now)))
-        (AfterThaw (OverwritesFiles (patches_seen patches.now)))) }
-    ensures frozen { parts.new.frozen ≡ parts.old.frozen }
-    ensures exact { IsExact (current_words (R.memory parts.new.region)) parts.new }
-    ensures refused { IfErr result (LacksSpace (current_words (R.memory parts.old.region)) (kept_of parts.old)
-        (overwrites (stretches_of (patches_seen patches.now)))) }
-    ensures same { OnErr result (parts.new ≡ parts.old) }
+        (OverwritesFiles (patches_seen patches.now)) }
 {
     if parts.frozen.count() == 0 {
         return overlay(parts, patches);

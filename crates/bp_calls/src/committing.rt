@@ -1,9 +1,10 @@
 //! Commits of bytes below the sizes of files.
 
-ghost use Rattle.std.specs.Prelude.{◌≡◌, ◌<◌, ◌≤◌, [], length, IfErr, OnErr, OnOk};
+ghost use Rattle.std.specs.Prelude.{◌≡◌, ◌≤◌, [], length};
+ghost use Rattle.bp_calls.specs.CommitsTouched.{CommitsTouchedOrLacks};
 ghost use Rattle.bp_calls.specs.TouchedBelow.{IsRunFor};
 ghost use Rattle.bp_cow.specs.CanCommit.{CanCommit};
-ghost use Rattle.bp_cow.specs.Commit.{CommitsTouched, HasLooseCover, HasRoom};
+ghost use Rattle.bp_cow.specs.Commit.{HasLooseCover, HasRoom};
 ghost use Rattle.bp_cow.specs.Cover.{copied_count};
 ghost use Rattle.bp_cow.specs.Found.{AreWaysIn};
 ghost use Rattle.bp_free.specs.Set.{has, members};
@@ -73,17 +74,7 @@ pub(crate) fn commit_found<R: Region>(
     requires room { copied_count (current_words (R.memory parts.old.region)) touched.now ≤ length (members parts.old.blocks)
         → HasRoom (R.memory parts.old.region) touched.now }
     requires found { AreWaysIn (current_words (R.memory parts.old.region)) touched.now found.now }
-    ensures commits { OnOk result (CommitsTouched (size_of (current_words (R.memory parts.old.region)))
-        (kept_of parts.old) touched.now (R.memory parts.old.region) (R.memory parts.new.region) parts.old.blocks parts.new.blocks) }
-    ensures size { length parts.new.blocks ≡ length parts.old.blocks }
-    ensures inodes { parts.new.inodes ≡ parts.old.inodes }
-    ensures counts { parts.new.counts ≡ parts.old.counts }
-    ensures frozen { parts.new.frozen ≡ parts.old.frozen }
-    ensures need { IfErr result
-        (λ lacks. lacks.need ≡ copied_count (current_words (R.memory parts.old.region)) touched.now) }
-    ensures free { IfErr result (λ lacks. lacks.free ≡ length (members parts.old.blocks)) }
-    ensures fewer { IfErr result (λ lacks. lacks.free < lacks.need) }
-    ensures same { OnErr result (parts.new ≡ parts.old) }
+    ensures { CommitsTouchedOrLacks R.memory parts.old parts.new result touched.now }
 {
     let copies = copies_below(touched, found);
     let free = parts.blocks.count();
@@ -111,17 +102,7 @@ pub(crate) fn commit_below<R: Region>(
     requires fits { block_count (current_words (R.memory parts.old.region)) ≤ length parts.old.blocks }
     requires room { copied_count (current_words (R.memory parts.old.region)) touched.now ≤ length (members parts.old.blocks)
         → HasRoom (R.memory parts.old.region) touched.now }
-    ensures commits { OnOk result (CommitsTouched (size_of (current_words (R.memory parts.old.region)))
-        (kept_of parts.old) touched.now (R.memory parts.old.region) (R.memory parts.new.region) parts.old.blocks parts.new.blocks) }
-    ensures size { length parts.new.blocks ≡ length parts.old.blocks }
-    ensures inodes { parts.new.inodes ≡ parts.old.inodes }
-    ensures counts { parts.new.counts ≡ parts.old.counts }
-    ensures frozen { parts.new.frozen ≡ parts.old.frozen }
-    ensures need { IfErr result
-        (λ lacks. lacks.need ≡ copied_count (current_words (R.memory parts.old.region)) touched.now) }
-    ensures free { IfErr result (λ lacks. lacks.free ≡ length (members parts.old.blocks)) }
-    ensures fewer { IfErr result (λ lacks. lacks.free < lacks.need) }
-    ensures same { OnErr result (parts.new ≡ parts.old) }
+    ensures { CommitsTouchedOrLacks R.memory parts.old parts.new result touched.now }
 {
     let found = find_ways(&parts.region, touched);
     commit_found(parts, touched, &found)

@@ -1,6 +1,7 @@
 //! New names.
 
 ghost use Rattle.std.specs.Prelude.{◌≡◌, ℕ, ◌+◌, ◌*◌, ◌<◌, ◌≤◌, ◌^◌, [], Option, None, IfErr, MatchOption, OnErr, OnOk};
+ghost use Rattle.bp_calls.specs.Commits.{CommitsChange, CreatesOrLacksSpace};
 ghost use Rattle.bp_calls.specs.Created.{EntersName};
 ghost use Rattle.bp_calls.specs.Entrant.{entrant_of};
 ghost use Rattle.bp_calls.specs.Growth.{stores_behind_growth};
@@ -9,8 +10,7 @@ ghost use Rattle.bp_calls.specs.Space.{HasRoomWhereFree, LacksSpace};
 ghost use Rattle.bp_calls.specs.Steps.{CanEnter, LacksName, name_need};
 ghost use Rattle.bp_calls.specs.ThawedFor.{IsThawedFor};
 ghost use Rattle.bp_calls.specs.ThawsFor.{ThawsFor};
-ghost use Rattle.bp_changes.specs.Thawed.{AfterThaw};
-ghost use Rattle.bp_free.specs.Set.{IsLeast, members, without};
+ghost use Rattle.bp_free.specs.Set.{IsLeast, members};
 ghost use Rattle.bp_layout.specs.Directory.{IsName, empty_slot, slot_named};
 ghost use Rattle.bp_layout.specs.Free.{IsLeastFree};
 ghost use Rattle.bp_layout.specs.Inode.{IsDirectory, root_of, size_of};
@@ -23,7 +23,7 @@ ghost use Rattle.bp_layout.specs.WellFormed.{IsWellFormed};
 ghost use Rattle.bp_limits.specs.Limits.{max_height};
 ghost use Rattle.bp_shapes.specs.Sets.{IsExact, kept_of};
 ghost use Rattle.bp_thaw.specs.Thaws.{paths_in};
-ghost use Rattle.bp_commit.specs.Performs.{Performs, PerformsThawed, PerformsWithin};
+ghost use Rattle.bp_commit.specs.Performs.{PerformsThawed, PerformsWithin};
 ghost use Rattle.pm_region.specs.Memory.{current_words};
 
 use crate::entering::{enter_behind, enter_slot, entering};
@@ -176,10 +176,7 @@ fn grow_and_enter<R: Region>(
     requires slot { slot ≡ empty_slot (current_words (R.memory parts.old.region)) dir }
     requires none { members parts.old.inodes ≡ [] }
     requires thawed { IsThawedFor (kept_of parts.old) (R.memory parts.old.region) parts.old.blocks (enters dir grown) }
-    ensures performs { PerformsThawed (kept_of parts.old) (R.memory parts.old.region) (R.memory parts.new.region)
-        (enters dir grown) (EntersName dir name.now kind) }
-    ensures exact { IsExact (current_words (R.memory parts.new.region)) parts.new }
-    ensures frozen { parts.new.frozen ≡ parts.old.frozen }
+    ensures { CommitsChange R.memory parts.old parts.new (enters dir grown) (EntersName dir name.now kind) }
 {
     grow(parts);
     enter(parts, dir, slot, name, kind);
@@ -227,16 +224,7 @@ pub fn create_in<R: Region>(
     requires room { (free : Option ℕ) → IsLeastFree (current_words (R.memory parts.old.region)) free
         → HasRoomWhereFree (R.memory parts.old.region) (kept_of parts.old) parts.old.blocks
         (enters dir (entrant_of free)) }
-    ensures performs { OnOk result ((free : Option ℕ) → IsLeastFree (current_words (R.memory parts.old.region)) free
-        → Performs (kept_of parts.old) (R.memory parts.old.region) (R.memory parts.new.region)
-        (enters dir (entrant_of free)) (AfterThaw (EntersName dir name.now kind))) }
-    ensures frozen { parts.new.frozen ≡ parts.old.frozen }
-    ensures exact { IsExact (current_words (R.memory parts.new.region)) parts.new }
-    ensures refused { IfErr result (λ lacks. (free : Option ℕ)
-        → IsLeastFree (current_words (R.memory parts.old.region)) free
-        → LacksSpace (current_words (R.memory parts.old.region)) (kept_of parts.old)
-        (enters dir (entrant_of free)) lacks) }
-    ensures same { OnErr result (parts.new ≡ parts.old) }
+    ensures { CreatesOrLacksSpace R.memory parts.old parts.new result dir name.now kind }
 {
     match thaw_new(parts, dir, slot) {
         Ok(()) => {
@@ -269,16 +257,7 @@ pub fn create<R: Region>(
     requires room { (free : Option ℕ) → IsLeastFree (current_words (R.memory parts.old.region)) free
         → HasRoomWhereFree (R.memory parts.old.region) (kept_of parts.old) parts.old.blocks
         (enters dir (entrant_of free)) }
-    ensures performs { OnOk result ((free : Option ℕ) → IsLeastFree (current_words (R.memory parts.old.region)) free
-        → Performs (kept_of parts.old) (R.memory parts.old.region) (R.memory parts.new.region)
-        (enters dir (entrant_of free)) (AfterThaw (EntersName dir name.now kind))) }
-    ensures frozen { parts.new.frozen ≡ parts.old.frozen }
-    ensures exact { IsExact (current_words (R.memory parts.new.region)) parts.new }
-    ensures refused { IfErr result (λ lacks. (free : Option ℕ)
-        → IsLeastFree (current_words (R.memory parts.old.region)) free
-        → LacksSpace (current_words (R.memory parts.old.region)) (kept_of parts.old)
-        (enters dir (entrant_of free)) lacks) }
-    ensures same { OnErr result (parts.new ≡ parts.old) }
+    ensures { CreatesOrLacksSpace R.memory parts.old parts.new result dir name.now kind }
 {
     let slot = free_slot(&parts.region, tree_of(&parts.region, dir));
     create_in(parts, dir, slot, name, kind)

@@ -1,6 +1,7 @@
 //! Names more for files.
 
 ghost use Rattle.std.specs.Prelude.{Some, ◌≡◌, ℕ, ◌+◌, ◌*◌, ◌≤◌, Bool, Option, None, IfErr, OnErr, OnOk};
+ghost use Rattle.bp_calls.specs.Commits.{CommitsChange, CommitsOrLacksSpace};
 ghost use Rattle.bp_calls.specs.Created.{CountsMore, LinksEntry};
 ghost use Rattle.bp_calls.specs.Growth.{stores_behind_growth};
 ghost use Rattle.bp_calls.specs.Mounted.{IsMounted};
@@ -8,7 +9,6 @@ ghost use Rattle.bp_calls.specs.Space.{HasRoomWhereFree, LacksSpace};
 ghost use Rattle.bp_calls.specs.Steps.{CanLink, CanLinkBehind, CanShare, HasLooseWord, entering_room, name_need};
 ghost use Rattle.bp_calls.specs.ThawedFor.{IsThawedFor};
 ghost use Rattle.bp_calls.specs.ThawsFor.{ThawsFor};
-ghost use Rattle.bp_changes.specs.Thawed.{AfterThaw};
 ghost use Rattle.bp_free.specs.Set.{Set};
 ghost use Rattle.bp_layout.specs.Directory.{IsName, empty_slot, slot_named};
 ghost use Rattle.bp_layout.specs.Inode.{IsDirectory, IsFile};
@@ -17,7 +17,7 @@ ghost use Rattle.bp_layout.specs.Need.Entrant.{linked};
 ghost use Rattle.bp_layout.specs.Reached.{IsReached};
 ghost use Rattle.bp_layout.specs.Thaw.{targets};
 ghost use Rattle.bp_shapes.specs.Sets.{AreExact, IsExact, kept_of};
-ghost use Rattle.bp_commit.specs.Performs.{Performs, PerformsThawed, PerformsWithin};
+ghost use Rattle.bp_commit.specs.Performs.{PerformsWithin};
 ghost use Rattle.bp_limits.specs.Limits.{entry_words};
 ghost use Rattle.pm_region.specs.Memory.{current_words, room_in};
 
@@ -111,10 +111,7 @@ fn share<R: Region>(parts: &mut Parts<R>, dir: u32, slot: Option<u64>, name: &[u
     requires can { CanShare (kept_of parts.old) (R.memory parts.old.region) parts.old.blocks parts.old.inodes dir i name.now }
     requires exact { IsExact (current_words (R.memory parts.old.region)) parts.old }
     requires slot { slot ≡ empty_slot (current_words (R.memory parts.old.region)) dir }
-    ensures performs { PerformsThawed (kept_of parts.old) (R.memory parts.old.region) (R.memory parts.new.region)
-        (enters dir linked) (LinksEntry dir name.now i) }
-    ensures exact { IsExact (current_words (R.memory parts.new.region)) parts.new }
-    ensures frozen { parts.new.frozen ≡ parts.old.frozen }
+    ensures { CommitsChange R.memory parts.old parts.new (enters dir linked) (LinksEntry dir name.now i) }
 {
     let names = parts.counts.names(i);
     parts.counts.set(i, names + 1);
@@ -147,13 +144,7 @@ pub fn link_in<R: Region>(
     requires there { IsReached (current_words (R.memory parts.old.region)) i }
     requires file { IsFile (current_words (R.memory parts.old.region)) i }
     requires room { HasRoomWhereFree (R.memory parts.old.region) (kept_of parts.old) parts.old.blocks (enters dir linked) }
-    ensures performs { OnOk result (Performs (kept_of parts.old) (R.memory parts.old.region) (R.memory parts.new.region)
-        (enters dir linked) (AfterThaw (LinksEntry dir name.now i))) }
-    ensures frozen { parts.new.frozen ≡ parts.old.frozen }
-    ensures exact { IsExact (current_words (R.memory parts.new.region)) parts.new }
-    ensures refused { IfErr result (λ lacks. LacksSpace (current_words (R.memory parts.old.region)) (kept_of parts.old)
-        (enters dir linked) lacks) }
-    ensures same { OnErr result (parts.new ≡ parts.old) }
+    ensures { CommitsOrLacksSpace R.memory parts.old parts.new result (enters dir linked) (LinksEntry dir name.now i) }
 {
     match thaw_linked(parts, dir, slot) {
         Ok(()) => {

@@ -1,16 +1,15 @@
 //! A name leaves its directory.
 
 ghost use Rattle.std.specs.Prelude.{◌≡◌, ◌≤◌, [], IfErr, OnErr, OnOk};
+ghost use Rattle.bp_calls.specs.Commits.{CommitsChange, CommitsOrLacksSpace};
 ghost use Rattle.bp_calls.specs.Mounted.{IsMounted};
 ghost use Rattle.bp_calls.specs.Space.{HasRoomWhereFree, LacksSpace};
 ghost use Rattle.bp_calls.specs.ThawsFor.{ThawsFor};
 ghost use Rattle.bp_changes.specs.Effects.{CanUnlink, RemovesEntry};
-ghost use Rattle.bp_changes.specs.Thawed.{AfterThaw};
 ghost use Rattle.bp_layout.specs.Directory.{inumber_at};
 ghost use Rattle.bp_layout.specs.Need.Change.{leaves};
 ghost use Rattle.bp_layout.specs.Thaw.{targets, thawed};
-ghost use Rattle.bp_shapes.specs.Sets.{IsExact, kept_of};
-ghost use Rattle.bp_commit.specs.Performs.{Performs, PerformsThawed};
+ghost use Rattle.bp_shapes.specs.Sets.{kept_of};
 ghost use Rattle.pm_region.specs.Memory.{current_words, room_in};
 
 use crate::giving::give_back;
@@ -53,10 +52,7 @@ fn take_out<R: Region>(parts: &mut Parts<R>, dir: u32, slot: u64)
         (inumber_at (current_words (R.memory parts.old.region)) dir slot) }
     requires clear { thawed (current_words (R.memory parts.old.region)) (kept_of parts.old) (leaves dir slot) ≡ [] }
     requires room { 3 ≤ room_in (R.memory parts.old.region) }
-    ensures performs { PerformsThawed (kept_of parts.old) (R.memory parts.old.region) (R.memory parts.new.region)
-        (leaves dir slot) (λ image after. RemovesEntry image after dir slot) }
-    ensures frozen { parts.new.frozen ≡ parts.old.frozen }
-    ensures exact { IsExact (current_words (R.memory parts.new.region)) parts.new }
+    ensures { CommitsChange R.memory parts.old parts.new (leaves dir slot) (λ image after. RemovesEntry image after dir slot) }
 {
     let directory = tree_of(&parts.region, dir);
     let entry = entry_place(&parts.region, directory, slot, 0);
@@ -87,13 +83,8 @@ pub fn remove<R: Region>(parts: &mut Parts<R>, dir: u32, slot: u64) -> Result<()
     requires can { CanUnlink (current_words (R.memory parts.old.region)) dir slot
         (inumber_at (current_words (R.memory parts.old.region)) dir slot) }
     requires room { HasRoomWhereFree (R.memory parts.old.region) (kept_of parts.old) parts.old.blocks (leaves dir slot) }
-    ensures performs { OnOk result (Performs (kept_of parts.old) (R.memory parts.old.region) (R.memory parts.new.region)
-        (leaves dir slot) (AfterThaw (λ image after. RemovesEntry image after dir slot))) }
-    ensures frozen { parts.new.frozen ≡ parts.old.frozen }
-    ensures exact { IsExact (current_words (R.memory parts.new.region)) parts.new }
-    ensures refused { IfErr result (LacksSpace (current_words (R.memory parts.old.region)) (kept_of parts.old)
-        (leaves dir slot)) }
-    ensures same { OnErr result (parts.new ≡ parts.old) }
+    ensures { CommitsOrLacksSpace R.memory parts.old parts.new result (leaves dir slot)
+        (λ image after. RemovesEntry image after dir slot) }
 {
     match thaw_entry(parts, dir, slot) {
         Ok(()) => {

@@ -1,10 +1,10 @@
 //! A file gets another size.
 
 ghost use Rattle.std.specs.Prelude.{◌≡◌, ◌≢◌, ◌<◌, ◌≤◌, [], IfErr, OnErr, OnOk, length};
+ghost use Rattle.bp_calls.specs.Commits.{CommitsChange, CommitsOrLacksSpace};
 ghost use Rattle.bp_calls.specs.Mounted.{IsMounted};
 ghost use Rattle.bp_calls.specs.Space.{HasRoomThawed, HasRoomWhereFree, LacksSpace};
 ghost use Rattle.bp_calls.specs.ThawsFor.{ThawsFor};
-ghost use Rattle.bp_changes.specs.Thawed.{AfterThaw};
 ghost use Rattle.bp_layout.specs.Thaw.{targets, thawed};
 ghost use Rattle.bp_calls.specs.CanGrow.{CanGrowFile};
 ghost use Rattle.bp_calls.specs.Resized.{ResizesFile};
@@ -16,7 +16,6 @@ ghost use Rattle.bp_layout.specs.Reached.{IsReached};
 ghost use Rattle.bp_layout.specs.Formatted.{version_of};
 ghost use Rattle.bp_limits.specs.Limits.{greatest_size};
 ghost use Rattle.bp_shapes.specs.Sets.{IsExact, kept_of};
-ghost use Rattle.bp_commit.specs.Performs.{Performs, PerformsThawed};
 ghost use Rattle.pm_region.specs.Memory.{current_words, room_in};
 
 use crate::giving::give_back;
@@ -35,10 +34,7 @@ fn lengthen<R: Region>(parts: &mut Parts<R>, i: u32, size: u64)
     requires can { CanGrowFile (kept_of parts.old) (R.memory parts.old.region) parts.old.blocks parts.old.inodes i size }
     requires exact { IsExact (current_words (R.memory parts.old.region)) parts.old }
     requires enough { need (current_words (R.memory parts.old.region)) (resizes i size) ≤ length (members parts.old.blocks) }
-    ensures performs { PerformsThawed (kept_of parts.old) (R.memory parts.old.region) (R.memory parts.new.region)
-        (resizes i size) (ResizesFile i size) }
-    ensures frozen { parts.new.frozen ≡ parts.old.frozen }
-    ensures exact { IsExact (current_words (R.memory parts.new.region)) parts.new }
+    ensures { CommitsChange R.memory parts.old parts.new (resizes i size) (ResizesFile i size) }
 {
     let size_place = place(&parts.region, i, SIZE_FIELD);
     let at = root_path(&parts.region, i);
@@ -80,10 +76,7 @@ fn cut<R: Region>(parts: &mut Parts<R>, i: u32, size: u64)
     requires smaller { size < size_of (current_words (R.memory parts.old.region)) i }
     requires clear { thawed (current_words (R.memory parts.old.region)) (kept_of parts.old) (resizes i size) ≡ [] }
     requires room { 3 ≤ room_in (R.memory parts.old.region) }
-    ensures performs { PerformsThawed (kept_of parts.old) (R.memory parts.old.region) (R.memory parts.new.region)
-        (resizes i size) (ResizesFile i size) }
-    ensures frozen { parts.new.frozen ≡ parts.old.frozen }
-    ensures exact { IsExact (current_words (R.memory parts.new.region)) parts.new }
+    ensures { CommitsChange R.memory parts.old parts.new (resizes i size) (ResizesFile i size) }
 {
     let tree = tree_of(&parts.region, i);
     let size_place = place(&parts.region, i, SIZE_FIELD);
@@ -103,13 +96,7 @@ fn shrink_file<R: Region>(parts: &mut Parts<R>, i: u32, size: u64) -> Result<(),
     requires file { IsFile (current_words (R.memory parts.old.region)) i }
     requires smaller { size < size_of (current_words (R.memory parts.old.region)) i }
     requires room { HasRoomWhereFree (R.memory parts.old.region) (kept_of parts.old) parts.old.blocks (resizes i size) }
-    ensures performs { OnOk result (Performs (kept_of parts.old) (R.memory parts.old.region) (R.memory parts.new.region)
-        (resizes i size) (AfterThaw (ResizesFile i size))) }
-    ensures frozen { parts.new.frozen ≡ parts.old.frozen }
-    ensures exact { IsExact (current_words (R.memory parts.new.region)) parts.new }
-    ensures refused { IfErr result (LacksSpace (current_words (R.memory parts.old.region)) (kept_of parts.old)
-        (resizes i size)) }
-    ensures same { OnErr result (parts.new ≡ parts.old) }
+    ensures { CommitsOrLacksSpace R.memory parts.old parts.new result (resizes i size) (ResizesFile i size) }
 {
     match thaw_size(parts, i, size) {
         Ok(()) => {
@@ -163,13 +150,7 @@ fn grow_file<R: Region>(parts: &mut Parts<R>, i: u32, size: u64) -> Result<(), N
     requires longer { size_of (current_words (R.memory parts.old.region)) i < size }
     requires fits { size ≤ greatest_size (version_of (current_words (R.memory parts.old.region))) }
     requires room { HasRoomWhereFree (R.memory parts.old.region) (kept_of parts.old) parts.old.blocks (resizes i size) }
-    ensures performs { OnOk result (Performs (kept_of parts.old) (R.memory parts.old.region) (R.memory parts.new.region)
-        (resizes i size) (AfterThaw (ResizesFile i size))) }
-    ensures frozen { parts.new.frozen ≡ parts.old.frozen }
-    ensures exact { IsExact (current_words (R.memory parts.new.region)) parts.new }
-    ensures refused { IfErr result (LacksSpace (current_words (R.memory parts.old.region)) (kept_of parts.old)
-        (resizes i size)) }
-    ensures same { OnErr result (parts.new ≡ parts.old) }
+    ensures { CommitsOrLacksSpace R.memory parts.old parts.new result (resizes i size) (ResizesFile i size) }
 {
     match thaw_end(parts, i, size) {
         Ok(()) => {
@@ -194,13 +175,7 @@ pub fn truncate<R: Region>(parts: &mut Parts<R>, i: u32, size: u64) -> Result<()
     requires fits { size ≤ greatest_size (version_of (current_words (R.memory parts.old.region))) }
     requires changed { size ≢ size_of (current_words (R.memory parts.old.region)) i }
     requires room { HasRoomWhereFree (R.memory parts.old.region) (kept_of parts.old) parts.old.blocks (resizes i size) }
-    ensures performs { OnOk result (Performs (kept_of parts.old) (R.memory parts.old.region) (R.memory parts.new.region)
-        (resizes i size) (AfterThaw (ResizesFile i size))) }
-    ensures frozen { parts.new.frozen ≡ parts.old.frozen }
-    ensures exact { IsExact (current_words (R.memory parts.new.region)) parts.new }
-    ensures refused { IfErr result (LacksSpace (current_words (R.memory parts.old.region)) (kept_of parts.old)
-        (resizes i size)) }
-    ensures same { OnErr result (parts.new ≡ parts.old) }
+    ensures { CommitsOrLacksSpace R.memory parts.old parts.new result (resizes i size) (ResizesFile i size) }
 {
     let tree = tree_of(&parts.region, i);
     if size < tree.size {

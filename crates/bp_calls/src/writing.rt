@@ -1,11 +1,11 @@
 //! Bytes into a file: three ways, by where they lie to its size.
 
 ghost use Rattle.std.specs.Prelude.{◌≡◌, ◌+◌, ◌<◌, ◌≤◌, [], length, true, IfErr, OnErr, OnOk};
+ghost use Rattle.bp_calls.specs.Commits.{CommitsChange, CommitsOrLacksBlocks, CommitsOrLacksSpace};
 ghost use Rattle.bp_calls.specs.CanWrite.{CanWrite, CanWriteThawed};
 ghost use Rattle.bp_calls.specs.Mounted.{IsMounted};
-ghost use Rattle.bp_changes.specs.Thawed.{AfterThaw};
 ghost use Rattle.bp_shapes.specs.Sets.{IsExact, kept_of};
-ghost use Rattle.bp_calls.specs.Space.{HasRoomThawed, HasRoomWhereFree, LacksBlocks, LacksSpace};
+ghost use Rattle.bp_calls.specs.Space.{HasRoomThawed, HasRoomWhereFree, LacksSpace};
 ghost use Rattle.bp_calls.specs.ThawsFor.{ThawsFor};
 ghost use Rattle.bp_free.specs.Set.{members};
 ghost use Rattle.bp_layout.specs.Thaw.{cover_now, targets, thawed};
@@ -13,7 +13,6 @@ ghost use Rattle.bp_calls.specs.WritesFile.{WritesFile};
 ghost use Rattle.bp_layout.specs.Inode.{root_of, size_of};
 ghost use Rattle.bp_layout.specs.Need.{need};
 ghost use Rattle.bp_layout.specs.Need.Change.{writes};
-ghost use Rattle.bp_commit.specs.Performs.{Performs, PerformsThawed};
 ghost use Rattle.pm_region.specs.Memory.{current_words};
 
 mod across;
@@ -158,10 +157,7 @@ fn write_behind<R: Region>(parts: &mut Parts<R>, i: u32, off: u64, bytes: &[u8])
     requires enough { need (current_words (R.memory parts.old.region)) (writes i off (length bytes.now))
         ≤ length (members parts.old.blocks) }
     requires behind { size_of (current_words (R.memory parts.old.region)) i ≤ off }
-    ensures performs { PerformsThawed (kept_of parts.old) (R.memory parts.old.region) (R.memory parts.new.region)
-        (writes i off (length bytes.now)) (WritesFile i off bytes.now) }
-    ensures frozen { parts.new.frozen ≡ parts.old.frozen }
-    ensures exact { IsExact (current_words (R.memory parts.new.region)) parts.new }
+    ensures { CommitsChange R.memory parts.old parts.new (writes i off (length bytes.now)) (WritesFile i off bytes.now) }
 {
     let end = off + bytes.len() as u64;
     let root = root_path(&parts.region, i);
@@ -188,14 +184,7 @@ fn write_below<R: Region>(
     requires can { CanWriteThawed (kept_of parts.old) (R.memory parts.old.region) parts.old.blocks parts.old.inodes i off bytes.now }
     requires exact { IsExact (current_words (R.memory parts.old.region)) parts.old }
     requires below { off + length bytes.now ≤ size_of (current_words (R.memory parts.old.region)) i }
-    ensures performs { OnOk result (PerformsThawed (kept_of parts.old) (R.memory parts.old.region) (R.memory parts.new.region)
-        (writes i off (length bytes.now)) (WritesFile i off bytes.now)) }
-    ensures frozen { parts.new.frozen ≡ parts.old.frozen }
-    ensures exact { IsExact (current_words (R.memory parts.new.region)) parts.new }
-    ensures refused { IfErr result (LacksBlocks (current_words (R.memory parts.old.region)) (kept_of parts.old)
-        (need (current_words (R.memory parts.old.region)) (writes i off (length bytes.now)))) }
-    ensures free { IfErr result (λ lacks. lacks.free ≡ length (members parts.old.blocks)) }
-    ensures same { OnErr result (parts.new ≡ parts.old) }
+    ensures { CommitsOrLacksBlocks R.memory parts.old parts.new result (writes i off (length bytes.now)) (WritesFile i off bytes.now) }
 {
     let runs = [run_for(&parts.region, i, tree, off, bytes)];
     let touched = touched_by(&runs);
@@ -219,14 +208,7 @@ fn write_longer<R: Region>(
     requires can { CanWriteThawed (kept_of parts.old) (R.memory parts.old.region) parts.old.blocks parts.old.inodes i off bytes.now }
     requires exact { IsExact (current_words (R.memory parts.old.region)) parts.old }
     requires past { size_of (current_words (R.memory parts.old.region)) i < off + length bytes.now }
-    ensures performs { OnOk result (PerformsThawed (kept_of parts.old) (R.memory parts.old.region) (R.memory parts.new.region)
-        (writes i off (length bytes.now)) (WritesFile i off bytes.now)) }
-    ensures frozen { parts.new.frozen ≡ parts.old.frozen }
-    ensures exact { IsExact (current_words (R.memory parts.new.region)) parts.new }
-    ensures refused { IfErr result (LacksBlocks (current_words (R.memory parts.old.region)) (kept_of parts.old)
-        (need (current_words (R.memory parts.old.region)) (writes i off (length bytes.now)))) }
-    ensures free { IfErr result (λ lacks. lacks.free ≡ length (members parts.old.blocks)) }
-    ensures same { OnErr result (parts.new ≡ parts.old) }
+    ensures { CommitsOrLacksBlocks R.memory parts.old parts.new result (writes i off (length bytes.now)) (WritesFile i off bytes.now) }
 {
     if tree.size > off {
         return write_across(parts, i, tree, off, bytes);
@@ -254,14 +236,7 @@ fn write_thawed<R: Region>(
 ) -> Result<(), NoSpace>
     requires can { CanWriteThawed (kept_of parts.old) (R.memory parts.old.region) parts.old.blocks parts.old.inodes i off bytes.now }
     requires exact { IsExact (current_words (R.memory parts.old.region)) parts.old }
-    ensures performs { OnOk result (PerformsThawed (kept_of parts.old) (R.memory parts.old.region) (R.memory parts.new.region)
-        (writes i off (length bytes.now)) (WritesFile i off bytes.now)) }
-    ensures frozen { parts.new.frozen ≡ parts.old.frozen }
-    ensures exact { IsExact (current_words (R.memory parts.new.region)) parts.new }
-    ensures refused { IfErr result (LacksBlocks (current_words (R.memory parts.old.region)) (kept_of parts.old)
-        (need (current_words (R.memory parts.old.region)) (writes i off (length bytes.now)))) }
-    ensures free { IfErr result (λ lacks. lacks.free ≡ length (members parts.old.blocks)) }
-    ensures same { OnErr result (parts.new ≡ parts.old) }
+    ensures { CommitsOrLacksBlocks R.memory parts.old parts.new result (writes i off (length bytes.now)) (WritesFile i off bytes.now) }
 {
     let tree = tree_of(&parts.region, i);
     if off + bytes.len() as u64 <= tree.size {
@@ -285,13 +260,7 @@ fn thaw_and_write<R: Region>(
     requires can { CanWrite (current_words (R.memory parts.old.region)) i off bytes.now }
     requires room { HasRoomWhereFree (R.memory parts.old.region) (kept_of parts.old) parts.old.blocks
         (writes i off (length bytes.now)) }
-    ensures performs { OnOk result (Performs (kept_of parts.old) (R.memory parts.old.region) (R.memory parts.new.region)
-        (writes i off (length bytes.now)) (AfterThaw (WritesFile i off bytes.now))) }
-    ensures frozen { parts.new.frozen ≡ parts.old.frozen }
-    ensures exact { IsExact (current_words (R.memory parts.new.region)) parts.new }
-    ensures refused { IfErr result (LacksSpace (current_words (R.memory parts.old.region)) (kept_of parts.old)
-        (writes i off (length bytes.now))) }
-    ensures same { OnErr result (parts.new ≡ parts.old) }
+    ensures { CommitsOrLacksSpace R.memory parts.old parts.new result (writes i off (length bytes.now)) (WritesFile i off bytes.now) }
 {
     match thaw_write(parts, i, off, bytes) {
         Ok(()) => write_thawed(parts, i, off, bytes),
@@ -318,13 +287,7 @@ fn write_within<R: Region>(
     requires can { CanWrite (current_words (R.memory parts.old.region)) i off bytes.now }
     requires room { HasRoomWhereFree (R.memory parts.old.region) (kept_of parts.old) parts.old.blocks
         (writes i off (length bytes.now)) }
-    ensures performs { OnOk result (Performs (kept_of parts.old) (R.memory parts.old.region) (R.memory parts.new.region)
-        (writes i off (length bytes.now)) (AfterThaw (WritesFile i off bytes.now))) }
-    ensures frozen { parts.new.frozen ≡ parts.old.frozen }
-    ensures exact { IsExact (current_words (R.memory parts.new.region)) parts.new }
-    ensures refused { IfErr result (LacksSpace (current_words (R.memory parts.old.region)) (kept_of parts.old)
-        (writes i off (length bytes.now))) }
-    ensures same { OnErr result (parts.new ≡ parts.old) }
+    ensures { CommitsOrLacksSpace R.memory parts.old parts.new result (writes i off (length bytes.now)) (WritesFile i off bytes.now) }
 {
     let runs = [run_for(&parts.region, i, tree, off, bytes)];
     let touched = touched_by(&runs);
@@ -348,13 +311,7 @@ pub fn write<R: Region>(parts: &mut Parts<R>, i: u32, off: u64, bytes: &[u8]) ->
     requires can { CanWrite (current_words (R.memory parts.old.region)) i off bytes.now }
     requires room { HasRoomWhereFree (R.memory parts.old.region) (kept_of parts.old) parts.old.blocks
         (writes i off (length bytes.now)) }
-    ensures performs { OnOk result (Performs (kept_of parts.old) (R.memory parts.old.region) (R.memory parts.new.region)
-        (writes i off (length bytes.now)) (AfterThaw (WritesFile i off bytes.now))) }
-    ensures frozen { parts.new.frozen ≡ parts.old.frozen }
-    ensures exact { IsExact (current_words (R.memory parts.new.region)) parts.new }
-    ensures refused { IfErr result (LacksSpace (current_words (R.memory parts.old.region)) (kept_of parts.old)
-        (writes i off (length bytes.now))) }
-    ensures same { OnErr result (parts.new ≡ parts.old) }
+    ensures { CommitsOrLacksSpace R.memory parts.old parts.new result (writes i off (length bytes.now)) (WritesFile i off bytes.now) }
 {
     let tree = tree_of(&parts.region, i);
     if off + bytes.len() as u64 <= tree.size {

@@ -1,5 +1,5 @@
 -- With how many slots the paths that tell begin alike.
-use Rattle.std.proofs.Common.{◌≡◌, ◌≢◌, ◌⊎◌, ℕ, zero, suc, ◌+◌, ◌-◌, ◌*◌, ◌/◌, ◌^◌, ◌<◌, ◌≤◌, List, ◌∷◌, length, refl, sym, ◌∙◌, ap, subst, arith, inl, inr, pow-suc}
+use Rattle.std.proofs.Common.{◌≡◌, ◌≢◌, ◌⊎◌, ℕ, zero, suc, ◌+◌, ◌-◌, ◌*◌, ◌/◌, ◌^◌, ◌<◌, ◌≤◌, List, ◌∷◌, length, min, refl, sym, ◌∙◌, ap, subst, arith, inl, inr, pow-suc}
 use Rattle.std.specs.Prelude.{◌↔◌}
 use Rattle.std.specs.List.{slice_index}
 use Rattle.std.proofs.Math.Nat.{div-eq_of_lt}
@@ -83,13 +83,6 @@ ends-low run is = rw pow-suc (low (512 ^ run.height) is.covered)
     low : (n : ℕ) → run_end run ≤ 4096 * n → (run.off / 8 < n * 512) × ((run_end run - 1) / 8 < n * 512)
     low n covered = (omega (arith, covered, is.some), omega (arith, covered, is.some))
 
-pub run-upto : (run : Run) → IsRun run → (l : ℕ) → l ≤ suc run.height → run.off / 8 / 512 ^ l ≡ (run_end run - 1) / 8 / 512 ^ l → ((k : ℕ) → k < l → run.off / 8 / 512 ^ k ≢ (run_end run - 1) / 8 / 512 ^ k) →
-    (n : ℕ) → (n ≤ length run.root.items + (suc run.height - l)) ↔ BothBegin (run_path run (run.off / 8)) (run_path run ((run_end run - 1) / 8)) n
-run-upto run is = level-upto run (run.off / 8) ((run_end run - 1) / 8) (ends-low run is).0 (ends-low run is).1
-
-pub run-top : (run : Run) → IsRun run → run.off / 8 / 512 ^ suc run.height ≡ (run_end run - 1) / 8 / 512 ^ suc run.height
-run-top run is = level-top run (run.off / 8) ((run_end run - 1) / 8) (ends-low run is).0 (ends-low run is).1
-
 -- ---- all of them
 
 -- the first of them begin with the same slots, so many
@@ -134,6 +127,13 @@ begin-through first middle last most own before alike least low greatest n = (to
     of both =
         let here = begin-less middle first most n both.0 before in
         greatest n both.0 ((alike n).1 (record { here = here.here; there = both.1.here; same = here.same ∙ sym both.1.same }))
+
+-- of so many at most
+pub begin-least : (path other : WordPath) (most own least n : ℕ) → (n ≤ own) ↔ BothBegin path other n → least ≡ min most own → (n ≤ least) ↔ (n ≤ most) × BothBegin path other n
+begin-least path other most own least n alike is = (
+  λ few. (omega (arith, few, is), alike.0 (omega (arith, few, is))),
+  λ both. let low = both.0 in let here = alike.1 both.1 in omega (arith, is, low, here),
+)
 
 -- slot by slot, up to the first that differs or to the end
 pub begin-slots : (path first : WordPath) (most count : ℕ) → most ≤ length first → count ≤ most → count ≤ length path → trail_of path count ≡ trail_of first count →

@@ -40,3 +40,5 @@ pub mod LooseCover
 pub mod NodeLive
 pub mod WordLive
 pub mod TreeSizes
+pub mod WayLaws
+pub mod SkipLaws

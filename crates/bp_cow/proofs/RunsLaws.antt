@@ -1,9 +1,9 @@
 -- Lists of runs: their leaves and the ways to these, the paths that tell, and the words over which they are laid.
-use Rattle.std.proofs.Common.{◌≡◌, ◌⊎◌, ℕ, zero, suc, ◌+◌, ◌-◌, ◌*◌, ◌/◌, ◌%◌, ◌<◌, ◌≤◌, List, [], ◌∷◌, ◌++◌, length, drop, take, Bool, true, false, Some, refl, sym, ◌∙◌, ap, subst, add-one, arith, inl, inr}
+use Rattle.std.proofs.Common.{◌≡◌, ◌⊎◌, ℕ, zero, suc, ◌+◌, ◌-◌, ◌*◌, ◌/◌, ◌%◌, ◌<◌, ◌≤◌, List, [], ◌∷◌, ◌++◌, length, drop, take, min, Bool, true, false, Some, refl, sym, ◌∙◌, ap, subst, add-one, arith, inl, inr}
 use Rattle.std.specs.List.{slice_get}
 use Rattle.std.specs.Prelude.{nat_lt, bytes_eq, slice_index, slice_index_or, ◌==◌, if◌then◌else◌}
 use Rattle.std.proofs.lemmas.Bool.{cases_lt, lt-ltb, ltb-true}
-use Rattle.std.proofs.lemmas.List.{get_or-take, length-take}
+use Rattle.std.proofs.lemmas.List.{get_or-take, length-take, take_all}
 use Rattle.std.proofs.Math.ListN.{get_or-append}
 use Rattle.std.proofs.Math.Seq.{drop-cons, get_or-append_seam}
 use Rattle.std.proofs.lemmas.Slice.Eq.{bytes_eq-Decides}
@@ -47,6 +47,26 @@ pub leaves-part : (runs : List Run) (k : ℕ) → leaves_of (take k runs) ≤ le
 leaves-part runs zero = omega arith
 leaves-part [] (suc k) = omega arith
 leaves-part (run ∷ runs) (suc k) = omega (arith, leaves-part runs k)
+
+-- each run has a leaf
+pub leaves-some : (runs : List Run) (k : ℕ) → k ≤ length runs → k ≤ leaves_of (take k runs)
+leaves-some runs zero low = omega arith
+leaves-some [] (suc k) low = absurd (omega (arith, low))
+leaves-some (run ∷ runs) (suc k) low = omega (arith, leaves-some runs k (omega (arith, low)))
+
+pub some-runs : (runs : List Run) (i : ℕ) → i < leaves_of runs → 0 < length runs
+some-runs [] i low = absurd (omega (arith, low))
+some-runs (run ∷ runs) i low = omega arith
+
+-- so the way to a leaf is no way to one behind the run with the number of the way
+pub run-most : (runs : List Run) (i most : ℕ) → i < leaves_of runs → most ≡ min i (length runs - 1) → i < leaves_of (take (most + 1) runs)
+run-most runs i most low is = at (cases_lt i (length runs - 1))
+  where
+    at : (i < length runs - 1) ⊎ (length runs - 1 ≤ i) → i < leaves_of (take (most + 1) runs)
+    at (inl here) = omega (arith, is, here, leaves-some runs (most + 1) (omega (arith, is, here)))
+    at (inr past) =
+        let whole = ap leaves_of (take_all (most + 1) runs (omega (arith, is, past, some-runs runs i low))) in
+        omega (arith, low, whole)
 
 -- the ends of the first runs, and that of one run more
 pub ends-next : (runs : List Run) (ends : List ℕ) (end count : ℕ) → length ends ≡ count → ((k : ℕ) → k < count → slice_index ends k ≡ leaves_of (take (k + 1) runs)) → end ≡ leaves_of (take (count + 1) runs) →

@@ -16,7 +16,7 @@ use Rattle.bp_cow.specs.declared.touched.Run.{Run}
 use Rattle.bp_cow.specs.declared.touched.Touched.{Touched}
 use Rattle.bp_cow.specs.Job.{ways}
 use Rattle.bp_cow.specs.Touched.{IsRun, IsTouched, job_of, path_of, run_leaves, run_way, way_of, word_paths}
-use Rattle.bp_cow.specs.Ways.{AreFronts, IsShared}
+use Rattle.bp_cow.specs.Ways.{AreFresh, IsShared}
 use Rattle.bp_cow.proofs.CoverLaws.{run-slots}
 use Rattle.bp_cow.proofs.RunLaws.{length-run_path, length-run_way, slot-run_way}
 use Rattle.bp_cow.proofs.RunsLaws.{length-above, slot-above, way-behind, way-leaf, way-short, ways-by}
@@ -354,24 +354,33 @@ way-slots touched is i d here = ways-by touched (λ p. d < length p → slice_in
 
 -- ---- a list of how much the first ways share
 
+-- what is said of one way
+pub record IsFresh (touched : Touched) (i fresh : ℕ) : Type 0 where
+  pub few : fresh ≤ length ((job_of touched).way i) + 1
+  pub right : (d : ℕ) → (d < length ((job_of touched).way i) + 1 - fresh) ↔ IsShared (job_of touched).way i ((job_of touched).way i) d
+
 -- with the next way's behind it, it is right of one way more
-pub listed-next : (touched : Touched) (shared : List ℕ) (fronts : ℕ) → AreFronts touched shared
-    → ((d : ℕ) → (d < fronts) ↔ IsShared (job_of touched).way (length shared) ((job_of touched).way (length shared)) d)
-    → AreFronts touched (shared ++ fronts ∷ [])
-listed-next touched shared fronts right last i d low = at (cases_lt i (length shared))
+pub listed-next : (touched : Touched) (before : List ℕ) (fresh : ℕ) → AreFresh touched before → IsFresh touched (length before) fresh → AreFresh touched (before ++ fresh ∷ [])
+listed-next touched before fresh are last = record { few = λ i low. (at i low (cases_lt i (length before))).few; right = λ i d low. (at i low (cases_lt i (length before))).right d }
   where
-    at : (i < length shared) ⊎ (length shared ≤ i) → (d < slice_index (shared ++ fronts ∷ []) i) ↔ IsShared (job_of touched).way i ((job_of touched).way i) d
-    at (inl here) = subst (λ n. (d < n) ↔ IsShared (job_of touched).way i ((job_of touched).way i) d) (sym (get_or-append shared (fronts ∷ []) 0 i here)) (right i d here)
-    at (inr past) =
-        let end : length shared ≡ i = omega (arith, past, low, length-append shared (fronts ∷ [])) in
-        subst (λ k. (d < slice_index (shared ++ fronts ∷ []) k) ↔ IsShared (job_of touched).way k ((job_of touched).way k) d) end
-        (subst (λ n. (d < n) ↔ IsShared (job_of touched).way (length shared) ((job_of touched).way (length shared)) d) (sym (get_or-append_seam shared fronts [] 0)) (last d))
+    at : (i : ℕ) → i < length (before ++ fresh ∷ []) → (i < length before) ⊎ (length before ≤ i) → IsFresh touched i (slice_index (before ++ fresh ∷ []) i)
+    at i low (inl here) = subst (IsFresh touched i) (sym (get_or-append before (fresh ∷ []) 0 i here)) (record { few = are.few i here; right = λ d. are.right i d here })
+    at i low (inr past) =
+        let end : length before ≡ i = omega (arith, past, low, length-append before (fresh ∷ [])) in
+        subst (λ k. IsFresh touched k (slice_index (before ++ fresh ∷ []) k)) end (subst (IsFresh touched (length before)) (sym (get_or-append_seam before fresh [] 0)) last)
+
+-- the fronts that begin no earlier way are the rest
+pub fresh-rest : (touched : Touched) (i len shared : ℕ) → len ≡ length ((job_of touched).way i) → shared ≤ len + 1
+    → ((d : ℕ) → (d < shared) ↔ IsShared (job_of touched).way i ((job_of touched).way i) d) → IsFresh touched i (len + 1 - shared)
+fresh-rest touched i len shared is few right = record {
+  few = omega (arith, is);
+  right = λ d. let back : shared ≡ length ((job_of touched).way i) + 1 - (len + 1 - shared) = omega (arith, is, few) in subst (λ n. (d < n) ↔ IsShared (job_of touched).way i ((job_of touched).way i) d) back (right d);
+}
 
 -- no way shares more fronts than it has
-pub shared-small : (touched : Touched) → IsTouched touched → (i fronts : ℕ) → i < ways (job_of touched)
-    → ((d : ℕ) → (d < fronts) ↔ IsShared (job_of touched).way i ((job_of touched).way i) d) → fronts ≤ 12
-shared-small touched is i fronts here right = at (cases_lt 12 fronts)
+pub shared-few : (touched : Touched) (i shared : ℕ) → ((d : ℕ) → (d < shared) ↔ IsShared (job_of touched).way i ((job_of touched).way i) d) → shared ≤ length ((job_of touched).way i) + 1
+shared-few touched i shared right = at (cases_lt (length ((job_of touched).way i) + 1) shared)
   where
-    at : (12 < fronts) ⊎ (fronts ≤ 12) → fronts ≤ 12
-    at (inl more) = let shared = (right 12).0 more in absurd (omega (arith, shared.here, way-short touched is i here))
+    at : (length ((job_of touched).way i) + 1 < shared) ⊎ (shared ≤ length ((job_of touched).way i) + 1) → shared ≤ length ((job_of touched).way i) + 1
+    at (inl more) = let s = (right (length ((job_of touched).way i) + 1)).0 more in let here = s.here in absurd (omega (arith, here))
     at (inr few) = few

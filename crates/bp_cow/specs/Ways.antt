@@ -1,5 +1,5 @@
 -- A way as code holds it, and how much of it earlier ways share.
-use Rattle.std.specs.Prelude.{◌≡◌, ℕ, ◌+◌, ◌<◌, ◌≤◌, ◌↔◌, List, IfSome, None, length, slice_index, take}
+use Rattle.std.specs.Prelude.{◌≡◌, ℕ, ◌+◌, ◌-◌, ◌<◌, ◌≤◌, ◌↔◌, List, IfSome, None, length, slice_index, take}
 use Rattle.bp_layout.specs.WordPaths.{WordPath}
 use Rattle.bp_shapes.specs.Trail.{trail_of}
 use Rattle.bp_cow.specs.Job.{ways}
@@ -7,6 +7,7 @@ use Rattle.bp_cow.specs.Leaves.{IsLeaf}
 use Rattle.bp_cow.specs.Touched.{job_of, leaves_of, word_paths}
 use Rattle.bp_cow.specs.declared.touched.Run.{Run}
 use Rattle.bp_cow.specs.declared.touched.Touched.{Touched}
+use Rattle.bp_cow.specs.declared.ways.Ends.{Ends}
 use Rattle.bp_cow.specs.declared.ways.Shared.{Shared}
 use Rattle.bp_cow.specs.declared.ways.Way.{Way}
 
@@ -18,26 +19,36 @@ pub record IsShared (way : ℕ → WordPath) (count : ℕ) (path : WordPath) (de
   pub there : depth ≤ length (way which)
   pub same : trail_of path depth ≡ trail_of (way which) depth
 
--- how many fronts of each of the first ways begin an earlier way
-abbrev pub AreFronts : Touched → List ℕ → Type 0
-AreFronts touched fronts =
-    (i d : ℕ) → i < length fronts → (d < slice_index fronts i) ↔ IsShared (job_of touched).way i ((job_of touched).way i) d
+-- each front of a way begins an earlier one
+abbrev pub AddsNoBlock : Touched → ℕ → Type 0
+AddsNoBlock touched i =
+    (d : ℕ) → d ≤ length ((job_of touched).way i) → IsShared (job_of touched).way i ((job_of touched).way i) d
 
--- of each run how many ways there are to its leaves and to those of the runs before it
-pub record AreEnds (runs : List Run) (ends : List ℕ) : Type 0 where
-  pub each : length ends ≡ length runs
-  pub right : (k : ℕ) → k < length runs → slice_index ends k ≡ leaves_of (take (k + 1) runs)
+-- how many fronts of each of the first ways begin no earlier one: those that do come before them
+pub record AreFresh (touched : Touched) (fresh : List ℕ) : Type 0 where
+  pub few : (i : ℕ) → i < length fresh → slice_index fresh i ≤ length ((job_of touched).way i) + 1
+  pub right : (i d : ℕ) → i < length fresh → (d < length ((job_of touched).way i) + 1 - slice_index fresh i)
+      ↔ IsShared (job_of touched).way i ((job_of touched).way i) d
+
+-- how many ways there are to leaves, and of each run, but for the last one maybe, how many to its leaves and to those of the
+-- runs before it
+pub record AreEnds (runs : List Run) (ends : Ends) : Type 0 where
+  pub leaves : ends.leaves ≡ leaves_of runs
+  pub each : length runs ≤ length ends.inner.items + 1
+  pub right : (k : ℕ) → k < length ends.inner.items → slice_index ends.inner.items k ≡ leaves_of (take (k + 1) runs)
 
 -- what was found of the ways is right
 pub record AreShared (touched : Touched) (shared : Shared) : Type 0 where
-  pub fronts : AreFronts touched shared.fronts.items
-  pub ends : AreEnds touched.runs.now shared.ends.items
+  pub fresh : AreFresh touched shared.fresh.items
+  pub ends : AreEnds touched.runs.now shared.ends
 
--- A way of touched words, with its length, the leaf to which it leads, and how many of its fronts begin an earlier way.
+-- A way of touched words, with its length, the leaf or the word to which it leads, and how many of its fronts begin an
+-- earlier way.
 pub record IsWay (touched : Touched) (way : Way) : Type 0 where
   pub here : way.index < ways (job_of touched)
   pub len : way.len ≡ length ((job_of touched).way way.index)
   pub leaf : IfSome way.leaf (λ leaf.
       IsLeaf touched.runs.now touched.runs.now (word_paths touched) way.index leaf.run.now leaf.index)
   pub none : way.leaf ≡ None → leaves_of touched.runs.now ≤ way.index
+  pub word : way.word ≡ way.index - leaves_of touched.runs.now
   pub shared : (d : ℕ) → (d < way.shared) ↔ IsShared (job_of touched).way way.index ((job_of touched).way way.index) d

@@ -17,7 +17,7 @@ ghost use Rattle.bp_cow.specs.Ways.{AreShared};
 ghost use Rattle.bp_shapes.specs.Sets.{kept_of};
 
 use crate::build::make;
-use crate::covering::{FoundWays, find_ways};
+use crate::covering::FoundWays;
 use crate::giving::give_back;
 use crate::touched::Touched;
 use crate::ways::Shared;
@@ -109,7 +109,10 @@ fn commit_one<R: Region>(region: &mut R, touched: &Touched<'_>, place: u32)
     commit_word(region, place, touched.only_value(old));
 }
 
-/// What [`commit`] does, for a caller that has found the ways to the touched words.
+/// Gives the touched words their values by one store at the word of the cover, alone in its epoch: of the value,
+/// where the cover is the only touched word, and else of a pointer to copies of the blocks from there to the touched
+/// words. As many blocks are taken as `copies_below` tells. Those that were copied are given back in the end, but for the
+/// blocks that are kept, to which no store goes. The caller has found the ways to the touched words (`find_ways`).
 pub fn commit_at<R: Region>(parts: &mut Parts<R>, touched: &Touched<'_>, found: &FoundWays)
     ghost bound: { ℕ → ℕ }
     requires can { CanCommitIn bound (kept_of parts.old) (R.memory parts.old.region) touched.now parts.old.blocks }
@@ -128,23 +131,4 @@ pub fn commit_at<R: Region>(parts: &mut Parts<R>, touched: &Touched<'_>, found: 
     } else {
         commit_copies(parts, touched, &found.shared, cover.len, cover.place);
     }
-}
-
-/// Gives the touched words their values by one store at the word of the cover, alone in its epoch: of the value,
-/// where the cover is the only touched word, and else of a pointer to copies of the blocks from there to the touched
-/// words. As many blocks are taken as `need_cover` tells. Those that were copied are given back in the end, but for the
-/// blocks that are kept, to which no store goes.
-pub fn commit<R: Region>(parts: &mut Parts<R>, touched: &Touched<'_>)
-    ghost bound: { ℕ → ℕ }
-    requires can { CanCommitIn bound (kept_of parts.old) (R.memory parts.old.region) touched.now parts.old.blocks }
-    requires kept { TellsKept (kept_of parts.old) (current_words (R.memory parts.old.region)) parts.old.frozen }
-    ensures commits { CommitsTouched bound (kept_of parts.old) touched.now
-        (R.memory parts.old.region) (R.memory parts.new.region) parts.old.blocks parts.new.blocks }
-    ensures size { length parts.new.blocks ≡ length parts.old.blocks }
-    ensures inodes { parts.new.inodes ≡ parts.old.inodes }
-    ensures counts { parts.new.counts ≡ parts.old.counts }
-    ensures frozen { parts.new.frozen ≡ parts.old.frozen }
-{
-    let found = find_ways(&parts.region, touched);
-    commit_at(parts, touched, &found);
 }

@@ -1,12 +1,11 @@
 //! The cover: the longest path that exists and with which all touched paths begin.
 
-ghost use Rattle.std.specs.Prelude.{◌≡◌, ◌↔◌, ℕ, ◌-◌, ◌/◌, ◌<◌, ◌≤◌, length, slice_index};
+ghost use Rattle.std.specs.Prelude.{◌≡◌, ◌↔◌, ℕ, ◌+◌, ◌-◌, ◌/◌, ◌^◌, ◌<◌, ◌≤◌, length, slice_index, IfSome};
 ghost use Rattle.bp_limits.specs.Limits.{block_words};
-ghost use Rattle.bp_shapes.specs.Trail.{block_on, trail_of};
 ghost use Rattle.pm_region.specs.Memory.{current_words};
 ghost use Rattle.bp_cow.specs.Cover.{end_path, ends, BeginAlike, BothBegin, LeadsInside, commit_cover};
 ghost use Rattle.bp_cow.specs.Touched.{IsRun, IsTouched, run_end, run_path};
-ghost use Rattle.bp_cow.specs.Found.{AreWaysIn, IsAt, IsCoverIn};
+ghost use Rattle.bp_cow.specs.Found.{AreWaysIn, IsCoverIn};
 
 use crate::touched::{Run, Touched};
 use crate::ways::Shared;
@@ -15,6 +14,21 @@ use bp_tree::Slots;
 use pm_region::Region;
 
 impl Run<'_> {
+    /// How many slots the paths of two words of its tree have alike at their beginning.
+    fn alike_words(&self, first: u64, last: u64) -> usize
+        requires run { IsRun self.now }
+        requires first { first < block_words ^ (self.now.height + 1) }
+        requires last { last < block_words ^ (self.now.height + 1) }
+        ensures { (n : ℕ) → (n ≤ result) ↔ BothBegin (run_path self.now first) (run_path self.now last) n }
+    {
+        for level in 0..self.height + 1 {
+            if first >> (9 * level) == last >> (9 * level) {
+                return self.root.len() + (self.height + 1 - level) as usize;
+            }
+        }
+        self.root.len()
+    }
+
     /// How many slots the paths of its first and of its last word have alike at their beginning.
     fn alike(&self) -> usize
         requires { IsRun self.now }
@@ -22,12 +36,22 @@ impl Run<'_> {
             (run_path self.now ((run_end self.now - 1) / 8)) n }
     {
         let (first, last) = (self.end_word(true), self.end_word(false));
-        for level in 0..self.height + 1 {
-            if first >> (9 * level) == last >> (9 * level) {
-                return self.root.len() + (self.height + 1 - level) as usize;
-            }
+        self.alike_words(first, last)
+    }
+
+    /// How many slots the paths of its first word and of that of another run have alike at their beginning, where both lie in
+    /// one tree.
+    fn alike_with(&self, other: &Run<'_>) -> Option<usize>
+        requires run { IsRun self.now }
+        requires other { IsRun other.now }
+        ensures { IfSome result (λ alike. (n : ℕ) → (n ≤ alike) ↔ BothBegin (run_path self.now (self.now.off / 8))
+            (run_path other.now (other.now.off / 8)) n) }
+    {
+        if self.height == other.height && self.is_under(&other.root) {
+            let (first, last) = (self.end_word(true), other.end_word(true));
+            return Some(self.alike_words(first, last));
         }
-        self.root.len()
+        None
     }
 }
 
@@ -79,8 +103,15 @@ impl Touched<'_> {
         requires before { BothBegin (end_path self.now (i - 1)) (end_path self.now 0) most }
         ensures { (n : ℕ) → (n ≤ result) ↔ (n ≤ most) × BothBegin (end_path self.now i) (end_path self.now 0) n }
     {
-        if i % 2 == 1 && i < 2 * self.runs.len() {
-            return most.min(self.runs[i / 2].alike());
+        let of_runs = 2 * self.runs.len();
+        if i < of_runs {
+            let run = &self.runs[i / 2];
+            if i % 2 == 1 {
+                return most.min(run.alike());
+            }
+            if let Some(alike) = run.alike_with(&self.runs[0]) {
+                return most.min(alike);
+            }
         }
         let end = most.min(self.end_len(i));
         for depth in 0..end {
@@ -157,8 +188,15 @@ pub fn find_ways<R: Region>(region: &R, touched: &Touched<'_>) -> FoundWays
     requires in_range { LeadsInside (current_words (R.memory region.now)) touched.now }
     ensures { AreWaysIn (current_words (R.memory region.now)) touched.now result }
 {
+    let cover = find_cover(region, touched);
+    if touched.runs.len() < 2 {
+        return FoundWays {
+            cover,
+            shared: touched.few_shared(),
+        };
+    }
     FoundWays {
-        cover: find_cover(region, touched),
+        cover,
         shared: touched.all_shared(),
     }
 }

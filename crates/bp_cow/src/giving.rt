@@ -122,11 +122,14 @@ pub(crate) fn give_back<R: Region>(
     ensures back { IsBack (planned plan touched.now) from (ways (job_of touched.now)) from plan.free_after (has blocks.new) }
     ensures size { length blocks.new ≡ length blocks.old }
 {
-    let ways = touched.ways();
+    let ways = touched.ways(&shared.ends);
     if top != 0 {
         give_loose(blocks, frozen, top);
     }
     for i in 0..ways {
+        if touched.adds_no_block(i, shared) {
+            continue;
+        }
         give_way(
             region,
             blocks,

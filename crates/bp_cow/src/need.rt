@@ -10,7 +10,7 @@ ghost use Rattle.bp_cow.specs.Ways.{AreShared, IsWay};
 
 use crate::covering::{FoundWays, find_ways};
 use crate::touched::Touched;
-use crate::ways::{Way, is_new};
+use crate::ways::{Shared, Way, is_new};
 use pm_region::Region;
 
 /// How many blocks on a way are copied for it and for no earlier one, below a number of slots.
@@ -34,6 +34,20 @@ fn turned_for(touched: &Touched<'_>, way: &Way<'_>, from: usize) -> u32
     count
 }
 
+/// How many blocks on a way are copied for it and for no earlier one, given what was found of the ways.
+fn turned_at(touched: &Touched<'_>, shared: &Shared, i: usize, from: usize) -> u32
+    requires touched { IsTouched touched.now }
+    requires shared { AreShared touched.now shared.now }
+    requires i { i < ways (job_of touched.now) }
+    ensures result { result ≡ turned_for (job_of touched.now) from i (length ((job_of touched.now).way i)) }
+    ensures few { result ≤ 11 }
+{
+    if touched.adds_no_block(i, shared) {
+        return 0;
+    }
+    turned_for(touched, &touched.way(i, shared), from)
+}
+
 /// How many blocks a commit of the touched words copies, and takes, given what was found of their ways.
 pub fn copies_below(touched: &Touched<'_>, found: &FoundWays) -> u32
     requires touched { IsTouched touched.now }
@@ -44,10 +58,10 @@ pub fn copies_below(touched: &Touched<'_>, found: &FoundWays) -> u32
     if touched.way_len(0, &found.shared) < from {
         return 0;
     }
-    let ways = touched.ways();
+    let ways = touched.ways(&found.shared.ends);
     let mut count = 1;
     for i in 0..ways {
-        count += turned_for(touched, &touched.way(i, &found.shared), from);
+        count += turned_at(touched, &found.shared, i, from);
     }
     count
 }

@@ -1,6 +1,7 @@
 -- The entries of a directory are told one after the other.
-use Rattle.std.proofs.Common.{◌≡◌, ℕ, ◌+◌, ◌≤◌, List, ◌++◌, length, flat_map, Option, Some, sym, ◌∙◌, ap, subst, append_assoc, append-nil}
+use Rattle.std.proofs.Common.{◌≡◌, ℕ, ◌+◌, ◌≤◌, List, ◌++◌, length, flat_map, Some, sym, ◌∙◌, ap, subst, append_assoc, append-nil}
 use Rattle.std.specs.Prelude.{Ok, Err, slice_get}
+use Rattle.bp_io.specs.Streams.{SinkView}
 use Rattle.bp_layout.specs.Directory.{Name}
 use Rattle.bp_layout.specs.Inode.{IsDirectory, IsFile}
 use Rattle.bp_layout.specs.Lookup.{node_of}
@@ -18,36 +19,36 @@ use Rattle.bp_export.proofs.GoingLaws.{goes_before, goes_nothing, goes_nowhere, 
 use Rattle.bp_export.proofs.Places.{behind, below_node, calls-append, child_place, entries_all, inner_place, is_dir, next_directory, next_file, told_directory, told_file, whole}
 
 -- another answer after the same
-pub tours_as : {S T : Type 0} (image : Image) (counts : List ℕ) (i : ℕ) (place : Place) (v : S) (w : T) (after : Firsts) (a b : List ℕ) (t u : Option (List ℕ)) (f g : ℕ) →
-    Tours image counts (itself image i) place (Ok v) after a b t u f g → Tours image counts (itself image i) place (Ok w) after a b t u f g
-tours_as image counts i place v w after a b t u f g tours = record { goes = tours.goes; remembers = tours.remembers }
+pub tours_as : {S T : Type 0} (image : Image) (counts : List ℕ) (i : ℕ) (place : Place) (v : S) (w : T) (after : Firsts) (a b : List ℕ) (t u : SinkView) →
+    Tours image counts (itself image i) place (Ok v) after a b t u → Tours image counts (itself image i) place (Ok w) after a b t u
+tours_as image counts i place v w after a b t u tours = record { goes = tours.goes; remembers = tours.remembers }
 
-pub tours_stop : (S T : Type 0) (image : Image) (counts : List ℕ) (i : ℕ) (place : Place) (e d : Fault) → d ≡ e → (after : Firsts) (a b : List ℕ) (t u : Option (List ℕ)) (f g : ℕ) →
-    Tours {T = S} image counts (itself image i) place (Err e) after a b t u f g → Tours {T = T} image counts (itself image i) place (Err d) after a b t u f g
-tours_stop S T image counts i place e d same after a b t u f g tours =
-    subst (λ (fault : Fault). Tours {T = T} image counts (itself image i) place (Err fault) after a b t u f g) (sym same) (record { goes = goes_stop S T e _ a b t u f g tours.goes; remembers = tt })
+pub tours_stop : (S T : Type 0) (image : Image) (counts : List ℕ) (i : ℕ) (place : Place) (e d : Fault) → d ≡ e → (after : Firsts) (a b : List ℕ) (t u : SinkView) →
+    Tours {T = S} image counts (itself image i) place (Err e) after a b t u → Tours {T = T} image counts (itself image i) place (Err d) after a b t u
+tours_stop S T image counts i place e d same after a b t u tours =
+    subst (λ (fault : Fault). Tours {T = T} image counts (itself image i) place (Err fault) after a b t u) (sym same) (record { goes = goes_stop S T e _ a b t u tours.goes; remembers = tt })
 
 module _ (image : Image) (counts : List ℕ) (i : ℕ) (text : List ℕ) (before : Firsts) (place : Place) (stands : StandsAt image counts inside i text before place)
-    (a : List ℕ) (t : Option (List ℕ)) (f : ℕ) where
+    (a : List ℕ) (t : SinkView) where
   abbrev calls : List Entry → List Call
   calls es = flat_map (calls_at place.tree) es
 
   -- so many entries are told
-  abbrev pub ToldTo : ℕ → Firsts → List ℕ → Option (List ℕ) → ℕ → Type 0
-  ToldTo k firsts b u g = Tours {T = Unit {0}} image counts (up_to k) place (Ok tt) firsts a b t u f g
+  abbrev pub ToldTo : ℕ → Firsts → List ℕ → SinkView → Type 0
+  ToldTo k firsts b u = Tours {T = Unit {0}} image counts (up_to k) place (Ok tt) firsts a b t u
 
-  pub none_told : ToldTo 0 before a t f
+  pub none_told : ToldTo 0 before a t
   none_told = record {
-    goes = goes_nothing (tt {0}) a t f;
+    goes = goes_nothing (tt {0}) a t;
     remembers = subst (RemembersFirsts image counts before) (sym (append-nil place.told)) stands.remembers;
   }
 
   -- memory was out, or the walk ended in an entry
-  pub ends_early : (T : Type 0) (k : ℕ) (b c : List ℕ) (u w : Option (List ℕ)) (g h : ℕ) (firsts after : Firsts) (more rest : List Entry) (e : Fault) → ToldTo k firsts b u g → inside place.tree place.path ≡ up_to k place.tree place.path ++ (more ++ rest) →
-      Goes {T = Unit {0}} (calls more) (Err e) b c u w g h → Tours {T = T} image counts inside place (Err e) after a c t w f h
-  ends_early T k b c u w g h firsts after more rest e told is goes = record {
-    goes = subst (λ (l : List Call). Goes {T = T} l (Err e) a c t w f h) (sym all)
-        (goes_before (Unit {0}) T e (calls (up_to k place.tree place.path) ++ calls more) (calls rest) a c t w f h (goes_then {T = Unit {0}} (tt {0}) (Err e) (calls (up_to k place.tree place.path)) (calls more) a b c t u w f g h told.goes goes));
+  pub ends_early : (T : Type 0) (k : ℕ) (b c : List ℕ) (u w : SinkView) (firsts after : Firsts) (more rest : List Entry) (e : Fault) → ToldTo k firsts b u → inside place.tree place.path ≡ up_to k place.tree place.path ++ (more ++ rest) →
+      Goes {T = Unit {0}} (calls more) (Err e) b c u w → Tours {T = T} image counts inside place (Err e) after a c t w
+  ends_early T k b c u w firsts after more rest e told is goes = record {
+    goes = subst (λ (l : List Call). Goes {T = T} l (Err e) a c t w) (sym all)
+        (goes_before (Unit {0}) T e (calls (up_to k place.tree place.path) ++ calls more) (calls rest) a c t w (goes_then {T = Unit {0}} (tt {0}) (Err e) (calls (up_to k place.tree place.path)) (calls more) a b c t u w told.goes goes));
     remembers = tt;
   }
     where
@@ -57,20 +58,20 @@ module _ (image : Image) (counts : List ℕ) (i : ℕ) (text : List ℕ) (before
           ∙ sym (append_assoc (calls (up_to k place.tree place.path)) (calls more) (calls rest))
 
   -- before anything was told
-  pub ends_at_once : (T : Type 0) (e : Fault) → e ≡ Memory → (after : Firsts) → Tours {T = T} image counts inside place (Err e) after a a t t f f
-  ends_at_once T e is after = record { goes = goes_nowhere T e is (calls (inside place.tree place.path)) a t f; remembers = tt }
+  pub ends_at_once : (T : Type 0) (e : Fault) → e ≡ Memory → (after : Firsts) → Tours {T = T} image counts inside place (Err e) after a a t t
+  ends_at_once T e is after = record { goes = goes_nowhere T e is (calls (inside place.tree place.path)) a t; remembers = tt }
 
   module _ (rows : List (ℕ × Name)) (are : AreEntries image i rows) where
     -- at the end
-    pub all_told : (k : ℕ) → length rows ≤ k → (firsts : Firsts) (b : List ℕ) (u : Option (List ℕ)) (g : ℕ) → ToldTo k firsts b u g → Tours {T = Unit {0}} image counts inside place (Ok tt) firsts a b t u f g
-    all_told k end firsts b u g told =
+    pub all_told : (k : ℕ) → length rows ≤ k → (firsts : Firsts) (b : List ℕ) (u : SinkView) → ToldTo k firsts b u → Tours {T = Unit {0}} image counts inside place (Ok tt) firsts a b t u
+    all_told k end firsts b u told =
         let is : up_to k place.tree place.path ≡ inside place.tree place.path = entries_all image counts i text before place stands rows are k end in
         record {
-          goes = subst (λ (es : List Entry). Goes {T = Unit {0}} (calls es) (Ok tt) a b t u f g) is told.goes;
+          goes = subst (λ (es : List Entry). Goes {T = Unit {0}} (calls es) (Ok tt) a b t u) is told.goes;
           remembers = subst (λ (es : List Entry). RemembersFirsts image counts firsts (place.told ++ es)) is told.remembers;
         }
 
-    module _ (k j : ℕ) (name : Name) (at : slice_get rows k ≡ Some (j, name)) (firsts : Firsts) (b : List ℕ) (u : Option (List ℕ)) (g : ℕ) (told : ToldTo k firsts b u g) where
+    module _ (k j : ℕ) (name : Name) (at : slice_get rows k ≡ Some (j, name)) (firsts : Firsts) (b : List ℕ) (u : SinkView) (told : ToldTo k firsts b u) where
       abbrev here : Place
       here = child_place image counts i text before place stands rows are k j name at
 
@@ -87,33 +88,33 @@ module _ (image : Image) (counts : List ℕ) (i : ℕ) (text : List ℕ) (before
       rest = below_node image counts i text before place stands rows are k j name at (node_of image j)
 
       -- no memory for the text of its path
-      pub text_fails : (T : Type 0) (e : Fault) → e ≡ Memory → (after : Firsts) → Tours {T = T} image counts inside place (Err e) after a b t u f g
+      pub text_fails : (T : Type 0) (e : Fault) → e ≡ Memory → (after : Firsts) → Tours {T = T} image counts inside place (Err e) after a b t u
       text_fails T e is after =
-          ends_early T k b b u u g g firsts after (entry ++ rest) behind_it e told (whole image counts i text before place stands rows are k j name at) (goes_nowhere (Unit {0}) e is (calls (entry ++ rest)) b u g)
+          ends_early T k b b u u firsts after (entry ++ rest) behind_it e told (whole image counts i text before place stands rows are k j name at) (goes_nowhere (Unit {0}) e is (calls (entry ++ rest)) b u)
 
-      module _ (c : List ℕ) (w : Option (List ℕ)) (h : ℕ) where
-        pub entry_fails : (S T : Type 0) (e d : Fault) → d ≡ e → (after : Firsts) → Tours {T = S} image counts (itself image j) here (Err e) after b c u w g h → Tours {T = T} image counts inside place (Err d) after a c t w f h
+      module _ (c : List ℕ) (w : SinkView) where
+        pub entry_fails : (S T : Type 0) (e d : Fault) → d ≡ e → (after : Firsts) → Tours {T = S} image counts (itself image j) here (Err e) after b c u w → Tours {T = T} image counts inside place (Err d) after a c t w
         entry_fails S T e d same after tours =
-            subst (λ (fault : Fault). Tours {T = T} image counts inside place (Err fault) after a c t w f h) (sym same)
-            (ends_early T k b c u w g h firsts after entry (rest ++ behind_it) e told (whole image counts i text before place stands rows are k j name at ∙ ap (λ es. up_to k place.tree place.path ++ es) (append_assoc entry rest behind_it))
-            (goes_stop S (Unit {0}) e (calls entry) b c u w g h tours.goes))
+            subst (λ (fault : Fault). Tours {T = T} image counts inside place (Err fault) after a c t w) (sym same)
+            (ends_early T k b c u w firsts after entry (rest ++ behind_it) e told (whole image counts i text before place stands rows are k j name at ∙ ap (λ es. up_to k place.tree place.path ++ es) (append_assoc entry rest behind_it))
+            (goes_stop S (Unit {0}) e (calls entry) b c u w tours.goes))
 
-        module _ {S : Type 0} (v : S) (middle : Firsts) (tours : Tours image counts (itself image j) here (Ok v) middle b c u w g h) where
-          goes_on : Goes {T = Unit {0}} (calls (up_to k place.tree place.path) ++ calls entry) (Ok tt) a c t w f h
-          goes_on = goes_then {T = Unit {0}} (tt {0}) (Ok (tt {0})) (calls (up_to k place.tree place.path)) (calls entry) a b c t u w f g h told.goes tours.goes
+        module _ {S : Type 0} (v : S) (middle : Firsts) (tours : Tours image counts (itself image j) here (Ok v) middle b c u w) where
+          goes_on : Goes {T = Unit {0}} (calls (up_to k place.tree place.path) ++ calls entry) (Ok tt) a c t w
+          goes_on = goes_then {T = Unit {0}} (tt {0}) (Ok (tt {0})) (calls (up_to k place.tree place.path)) (calls entry) a b c t u w told.goes tours.goes
 
-          pub file_told : IsFile image j → ToldTo (k + 1) middle c w h
+          pub file_told : IsFile image j → ToldTo (k + 1) middle c w
           file_told kind = record {
-            goes = subst (λ (l : List Call). Goes {T = Unit {0}} l (Ok tt) a c t w f h)
+            goes = subst (λ (l : List Call). Goes {T = Unit {0}} l (Ok tt) a c t w)
                 (sym (ap calls (next_file image counts i text before place stands rows are k j name at kind) ∙ calls-append place.tree (up_to k place.tree place.path) entry)) goes_on;
             remembers = subst (RemembersFirsts image counts middle) (sym (told_file image counts i text before place stands rows are k j name at kind)) tours.remembers;
           }
 
-          module _ (kind : IsDirectory image j) (d : List ℕ) (x : Option (List ℕ)) (m : ℕ) (after : Firsts) where
-            pub directory_told : {T : Type 0} (z : T) → Tours image counts inside inner (Ok z) after c d w x h m → ToldTo (k + 1) after d x m
+          module _ (kind : IsDirectory image j) (d : List ℕ) (x : SinkView) (after : Firsts) where
+            pub directory_told : {T : Type 0} (z : T) → Tours image counts inside inner (Ok z) after c d w x → ToldTo (k + 1) after d x
             directory_told z below = record {
-              goes = subst (λ (l : List Call). Goes {T = Unit {0}} l (Ok tt) a d t x f m) (sym all)
-                  (goes_then {T = Unit {0}} (tt {0}) (Ok (tt {0})) (calls (up_to k place.tree place.path) ++ calls entry) (calls (inside place.tree inner.path)) a c d t w x f h m goes_on below.goes);
+              goes = subst (λ (l : List Call). Goes {T = Unit {0}} l (Ok tt) a d t x) (sym all)
+                  (goes_then {T = Unit {0}} (tt {0}) (Ok (tt {0})) (calls (up_to k place.tree place.path) ++ calls entry) (calls (inside place.tree inner.path)) a c d t w x goes_on below.goes);
               remembers = subst (RemembersFirsts image counts after) (sym (told_directory image counts i text before place stands rows are k j name at kind)) below.remembers;
             }
               where
@@ -124,12 +125,12 @@ module _ (image : Image) (counts : List ℕ) (i : ℕ) (text : List ℕ) (before
                     ∙ ap (λ l. calls (up_to k place.tree place.path) ++ l) (calls-append place.tree entry (inside place.tree inner.path))
                     ∙ sym (append_assoc (calls (up_to k place.tree place.path)) (calls entry) (calls (inside place.tree inner.path)))
 
-            pub directory_fails : (U T : Type 0) (e n : Fault) → n ≡ e → Tours {T = U} image counts inside inner (Err e) after c d w x h m → Tours {T = T} image counts inside place (Err n) after a d t x f m
+            pub directory_fails : (U T : Type 0) (e n : Fault) → n ≡ e → Tours {T = U} image counts inside inner (Err e) after c d w x → Tours {T = T} image counts inside place (Err n) after a d t x
             directory_fails U T e n same below =
-                subst (λ (fault : Fault). Tours {T = T} image counts inside place (Err fault) after a d t x f m) (sym same)
-                (ends_early T k b d u x g m firsts after (entry ++ inside place.tree inner.path) behind_it e told here_whole
-                (subst (λ (l : List Call). Goes {T = Unit {0}} l (Err e) b d u x g m) (sym (calls-append place.tree entry (inside place.tree inner.path)))
-                (goes_then {T = Unit {0}} v (Err e) (calls entry) (calls (inside place.tree inner.path)) b c d u w x g h m tours.goes (goes_stop U (Unit {0}) e (calls (inside place.tree inner.path)) c d w x h m below.goes))))
+                subst (λ (fault : Fault). Tours {T = T} image counts inside place (Err fault) after a d t x) (sym same)
+                (ends_early T k b d u x firsts after (entry ++ inside place.tree inner.path) behind_it e told here_whole
+                (subst (λ (l : List Call). Goes {T = Unit {0}} l (Err e) b d u x) (sym (calls-append place.tree entry (inside place.tree inner.path)))
+                (goes_then {T = Unit {0}} v (Err e) (calls entry) (calls (inside place.tree inner.path)) b c d u w x tours.goes (goes_stop U (Unit {0}) e (calls (inside place.tree inner.path)) c d w x below.goes))))
               where
                 here_whole : inside place.tree place.path ≡ up_to k place.tree place.path ++ ((entry ++ inside place.tree inner.path) ++ behind_it)
                 here_whole =

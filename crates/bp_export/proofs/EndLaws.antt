@@ -1,9 +1,10 @@
 -- How an export ends by how its walk does.
-use Rattle.std.proofs.Common.{◌≡◌, ℕ, List, [], ◌++◌, Option, refl, sym, ◌∙◌, ap, subst, append_assoc}
+use Rattle.std.proofs.Common.{◌≡◌, ℕ, List, [], ◌++◌, refl, sym, ◌∙◌, ap, subst, append_assoc}
 use Rattle.std.specs.Prelude.{Result, Ok, Err}
 use Rattle.std.specs.Io.KnownBytes.{Appends}
 use Rattle.std.proofs.KnownBytes.{Appends-trans}
 use Rattle.bp_io.specs.Causes.{Rose}
+use Rattle.bp_io.specs.Streams.{SinkView}
 use Rattle.bp_plain.specs.Calls.{Call}
 use Rattle.bp_plain.specs.Export.{HasShortPaths, export_calls}
 use Rattle.bp_plain.specs.PlainTree.{FileTree}
@@ -14,9 +15,9 @@ use Rattle.bp_export.specs.Exports.{EndsExport, Goes, PassesFront}
 use Rattle.bp_export.specs.declared.fault.Fault.{Fault}
 use Rattle.bp_export.specs.declared.fault.Fault.TheVariants.{Deep, Memory, Sink}
 
-module _ (T : Type 0) (tree : FileTree) (t : Option (List ℕ)) (f : ℕ) where
+module _ (T : Type 0) (tree : FileTree) (t : SinkView) where
   -- some path can't be spelled
-  pub ends_deep : (HasShortPaths tree → ⊥) → EndsExport {T = T} tree (Err Deep) t t f f
+  pub ends_deep : (HasShortPaths tree → ⊥) → EndsExport {T = T} tree (Err Deep) t t
   ends_deep deep = record {
     all = tt;
     deep = (λ is short. deep short, λ other. refl);
@@ -28,8 +29,8 @@ module _ (T : Type 0) (tree : FileTree) (t : Option (List ℕ)) (f : ℕ) where
   }
 
   module _ (short : HasShortPaths tree) where
-    pub ends_memory : (a : List ℕ) (u : Option (List ℕ)) (g : ℕ) → PassesFront (export_text tree) [] a t u → g ≡ f → EndsExport {T = T} tree (Err Memory) t u f g
-    ends_memory a u g front same = record {
+    pub ends_memory : (a : List ℕ) (u : SinkView) → PassesFront (export_text tree) [] a t.taken u.taken → u.faults ≡ t.faults → EndsExport {T = T} tree (Err Memory) t u
+    ends_memory a u front same = record {
       all = tt;
       deep = (λ is. absurd (cc), λ other. absurd (other short));
       untold = λ is. absurd (cc);
@@ -44,8 +45,8 @@ module _ (T : Type 0) (tree : FileTree) (t : Option (List ℕ)) (f : ℕ) where
       same = λ other. same;
     }
 
-    pub ends_sink : (u : Option (List ℕ)) (g : ℕ) → TakesPart (export_text tree) t u → Rose f g → EndsExport {T = T} tree (Err Sink) t u f g
-    ends_sink u g part rose = record {
+    pub ends_sink : (u : SinkView) → TakesPart (export_text tree) t.taken u.taken → Rose t.faults u.faults → EndsExport {T = T} tree (Err Sink) t u
+    ends_sink u part rose = record {
       all = tt;
       deep = (λ is. absurd (cc), λ other. absurd (other short));
       untold = λ is. absurd (cc);
@@ -55,8 +56,8 @@ module _ (T : Type 0) (tree : FileTree) (t : Option (List ℕ)) (f : ℕ) where
       same = λ other. absurd (other refl);
     }
 
-    pub ends_whole : (done : T) (u : Option (List ℕ)) (g : ℕ) → Appends t u (export_text tree) → g ≡ f → EndsExport tree (Ok done) t u f g
-    ends_whole done u g all same = record {
+    pub ends_whole : (done : T) (u : SinkView) → Appends t.taken u.taken (export_text tree) → u.faults ≡ t.faults → EndsExport tree (Ok done) t u
+    ends_whole done u all same = record {
       all = all;
       deep = (λ is. absurd (cc), λ other. absurd (other short));
       untold = λ is. absurd (cc);
@@ -67,22 +68,22 @@ module _ (T : Type 0) (tree : FileTree) (t : Option (List ℕ)) (f : ℕ) where
     }
 
     -- a walk that ended before its end
-    pub ends_walk : (S : Type 0) (e : Fault) (a : List ℕ) (u : Option (List ℕ)) (g : ℕ) → Goes {T = S} (export_calls tree) (Err e) [] a t u f g → EndsExport {T = T} tree (Err e) t u f g
-    ends_walk S Memory a u g goes = ends_memory a u g goes.0 goes.1
-    ends_walk S Sink a u g goes = ends_sink u g goes.0 goes.1
-    ends_walk S Deep a u g goes = absurd goes
+    pub ends_walk : (S : Type 0) (e : Fault) (a : List ℕ) (u : SinkView) → Goes {T = S} (export_calls tree) (Err e) [] a t u → EndsExport {T = T} tree (Err e) t u
+    ends_walk S Memory a u goes = ends_memory a u goes.0 goes.1
+    ends_walk S Sink a u goes = ends_sink u goes.0 goes.1
+    ends_walk S Deep a u goes = absurd goes
 
     -- what waited at its end was handed over, or a part of it
-    pub ends_handed : {S : Type 0} (v : S) (done : T) (a : List ℕ) (u w : Option (List ℕ)) (g h : ℕ) → Goes (export_calls tree) (Ok v) [] a t u f g → Appends u w a → h ≡ g → EndsExport tree (Ok done) t w f h
-    ends_handed v done a u w g h goes took same =
-        ends_whole done w h (subst (Appends t w) (sym goes.0.whole) (Appends-trans t u w goes.0.sent a goes.0.took took)) (same ∙ goes.1)
+    pub ends_handed : {S : Type 0} (v : S) (done : T) (a : List ℕ) (u w : SinkView) → Goes (export_calls tree) (Ok v) [] a t u → Appends u.taken w.taken a → w.faults ≡ u.faults → EndsExport tree (Ok done) t w
+    ends_handed v done a u w goes took same =
+        ends_whole done w (subst (Appends t.taken w.taken) (sym goes.0.whole) (Appends-trans t.taken u.taken w.taken goes.0.sent a goes.0.took took)) (same ∙ goes.1)
 
-    pub ends_unhanded : {S : Type 0} (v : S) (e : Fault) → e ≡ Sink → (a : List ℕ) (u w : Option (List ℕ)) (g h : ℕ) → Goes (export_calls tree) (Ok v) [] a t u f g → TakesPart a u w → Rose g h → EndsExport {T = T} tree (Err e) t w f h
-    ends_unhanded v e is a u w g h goes part rose =
-        subst (λ (fault : Fault). EndsExport {T = T} tree (Err fault) t w f h) (sym is)
-        (ends_sink w h (passed_part (export_text tree) [] a t u w goes.0 part) (subst (λ n. Rose n h) goes.1 rose))
+    pub ends_unhanded : {S : Type 0} (v : S) (e : Fault) → e ≡ Sink → (a : List ℕ) (u w : SinkView) → Goes (export_calls tree) (Ok v) [] a t u → TakesPart a u.taken w.taken → Rose u.faults w.faults → EndsExport {T = T} tree (Err e) t w
+    ends_unhanded v e is a u w goes part rose =
+        subst (λ (fault : Fault). EndsExport {T = T} tree (Err fault) t w) (sym is)
+        (ends_sink w (passed_part (export_text tree) [] a t.taken u.taken w.taken goes.0 part) (subst (λ n. Rose n w.faults) goes.1 rose))
 
 -- the walk from the root, before which nothing waits
-pub from_root : {T : Type 0} (r : Result T Fault) (tree : FileTree) (calls : List Call) (b a : List ℕ) (t u : Option (List ℕ)) (f g : ℕ) → calls ≡ export_calls tree → b ≡ [] → Goes calls r b a t u f g → Goes (export_calls tree) r [] a t u f g
-from_root r tree calls b a t u f g all none goes =
-    subst (λ (l : List Call). Goes l r [] a t u f g) all (subst (λ (l : List ℕ). Goes calls r l a t u f g) none goes)
+pub from_root : {T : Type 0} (r : Result T Fault) (tree : FileTree) (calls : List Call) (b a : List ℕ) (t u : SinkView) → calls ≡ export_calls tree → b ≡ [] → Goes calls r b a t u → Goes (export_calls tree) r [] a t u
+from_root r tree calls b a t u all none goes =
+    subst (λ (l : List Call). Goes l r [] a t u) all (subst (λ (l : List ℕ). Goes calls r l a t u) none goes)

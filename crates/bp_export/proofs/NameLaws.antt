@@ -1,7 +1,8 @@
 -- The lines of a file at one of its paths.
-use Rattle.std.proofs.Common.{◌≡◌, ℕ, ◌*◌, ◌<◌, ◌≤◌, List, [], ◌∷◌, ◌++◌, length, slice_index, flat_map, Option, None, Some, sym, ◌∙◌, ap, subst, subst₂, append-nil}
+use Rattle.std.proofs.Common.{◌≡◌, ℕ, ◌*◌, ◌<◌, ◌≤◌, List, [], ◌∷◌, ◌++◌, length, slice_index, flat_map, None, Some, sym, ◌∙◌, ap, subst, subst₂, append-nil}
 use Rattle.std.specs.Prelude.{All, Result, Ok, Err, OnOk}
 use Rattle.std.proofs.lemmas.List.Elements.{All-head}
+use Rattle.bp_io.specs.Streams.{SinkView}
 use Rattle.bp_io.specs.declared.faults.Failed.{Failed}
 use Rattle.bp_layout.specs.Inode.{IsDirectory, IsFile, root_of, size_of}
 use Rattle.bp_layout.specs.Lookup.{file_at, node_of}
@@ -105,23 +106,23 @@ module _ (image : Image) (wf : IsWellFormed image) (counts : List ℕ) (i : ℕ)
 
     -- ---- how it ends
 
-    module _ (b c : List ℕ) (t u : Option (List ℕ)) (f g : ℕ) where
-      pub toured : {S T : Type 0} (v : S) (w : T) (calls : List Call) → calls_here place ≡ calls → Tells calls (Ok v) b c t u f g → (after : Firsts) → RemembersFirsts image counts after (place.told ++ itself image i place.tree place.path)
-          → Tours image counts (itself image i) place (Ok w) after b c t u f g
+    module _ (b c : List ℕ) (t u : SinkView) where
+      pub toured : {S T : Type 0} (v : S) (w : T) (calls : List Call) → calls_here place ≡ calls → Tells calls (Ok v) b c t u → (after : Firsts) → RemembersFirsts image counts after (place.told ++ itself image i place.tree place.path)
+          → Tours image counts (itself image i) place (Ok w) after b c t u
       toured {S} {T} v w calls is tells after remembers =
-          record { goes = subst (λ (l : List Call). Goes {T = T} l (Ok w) b c t u f g) (sym is) (goes_told v w calls b c t u f g tells); remembers = remembers }
+          record { goes = subst (λ (l : List Call). Goes {T = T} l (Ok w) b c t u) (sym is) (goes_told v w calls b c t u tells); remembers = remembers }
 
-      pub untoured : (S T : Type 0) (failed : Failed) (e : Fault) → e ≡ Sink → (calls : List Call) → calls_here place ≡ calls → Tells {T = S} calls (Err failed) b c t u f g → (after : Firsts)
-          → Tours {T = T} image counts (itself image i) place (Err e) after b c t u f g
+      pub untoured : (S T : Type 0) (failed : Failed) (e : Fault) → e ≡ Sink → (calls : List Call) → calls_here place ≡ calls → Tells {T = S} calls (Err failed) b c t u → (after : Firsts)
+          → Tours {T = T} image counts (itself image i) place (Err e) after b c t u
       untoured S T failed e is_sink calls is tells after =
-          record { goes = subst (λ (l : List Call). Goes {T = T} l (Err e) b c t u f g) (sym is) (goes_untold S T failed e is_sink calls b c c t u f g tells); remembers = tt }
+          record { goes = subst (λ (l : List Call). Goes {T = T} l (Err e) b c t u) (sym is) (goes_untold S T failed e is_sink calls b c c t u tells); remembers = tt }
 
-    pub unremembered : (T : Type 0) (e : Fault) → e ≡ Memory → (after : Firsts) (b : List ℕ) (t : Option (List ℕ)) (f : ℕ) → Tours {T = T} image counts (itself image i) place (Err e) after b b t t f f
-    unremembered T e is after b t f = record { goes = goes_nowhere T e is (calls_here place) b t f; remembers = tt }
+    pub unremembered : (T : Type 0) (e : Fault) → e ≡ Memory → (after : Firsts) (b : List ℕ) (t : SinkView) → Tours {T = T} image counts (itself image i) place (Err e) after b b t t
+    unremembered T e is after b t = record { goes = goes_nowhere T e is (calls_here place) b t; remembers = tt }
 
     -- the same of an answer that is this one
-    pub tours_end : {T : Type 0} (r : Result T Fault) (e : Fault) → r ≡ Err e → (after : Firsts) (b c : List ℕ) (t u : Option (List ℕ)) (f g : ℕ) → Tours {T = T} image counts (itself image i) place (Err e) after b c t u f g → Tours image counts (itself image i) place r after b c t u f g
-    tours_end {T} r e is after b c t u f g tours = subst (λ (x : Result T Fault). Tours image counts (itself image i) place x after b c t u f g) (sym is) tours
+    pub tours_end : {T : Type 0} (r : Result T Fault) (e : Fault) → r ≡ Err e → (after : Firsts) (b c : List ℕ) (t u : SinkView) → Tours {T = T} image counts (itself image i) place (Err e) after b c t u → Tours image counts (itself image i) place r after b c t u
+    tours_end {T} r e is after b c t u tours = subst (λ (x : Result T Fault). Tours image counts (itself image i) place x after b c t u) (sym is) tours
 
     -- ---- a file that is made at the path at hand
 
@@ -135,10 +136,10 @@ module _ (image : Image) (wf : IsWellFormed image) (counts : List ℕ) (i : ℕ)
       pub fits_from : All FitsText (calls_for text (file (content image root size)))
       fits_from = subst₂ (λ r s. All FitsText (calls_for text (file (content image r s)))) (sym root_is) (sym size_is) (fits_made below kind new)
 
-      pub toured_from : {T : Type 0} (r : Result T Fault) (b c : List ℕ) (t u : Option (List ℕ)) (f g : ℕ) → Goes (calls_for text (file (content image root size))) r b c t u f g → (after : Firsts) → RemembersFirsts image counts after (place.told ++ itself image i place.tree place.path)
-          → Tours image counts (itself image i) place r after b c t u f g
-      toured_from {T} r b c t u f g goes after remembers =
-          record { goes = subst (λ (l : List Call). Goes {T = T} l r b c t u f g) (sym made_from) goes; remembers = where_ok r }
+      pub toured_from : {T : Type 0} (r : Result T Fault) (b c : List ℕ) (t u : SinkView) → Goes (calls_for text (file (content image root size))) r b c t u → (after : Firsts) → RemembersFirsts image counts after (place.told ++ itself image i place.tree place.path)
+          → Tours image counts (itself image i) place r after b c t u
+      toured_from {T} r b c t u goes after remembers =
+          record { goes = subst (λ (l : List Call). Goes {T = T} l r b c t u) (sym made_from) goes; remembers = where_ok r }
         where
           where_ok : (r : Result T Fault) → OnOk r (RemembersFirsts image counts after (place.told ++ itself image i place.tree place.path))
           where_ok (Ok v) = remembers

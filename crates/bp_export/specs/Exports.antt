@@ -2,6 +2,7 @@
 use Rattle.std.specs.Prelude.{◌≡◌, ◌↔◌, ℕ, List, ◌++◌, Option, Result, Ok, Err, IsErrOf, OnOk}
 use Rattle.std.specs.Io.KnownBytes.{Appends}
 use Rattle.bp_io.specs.Causes.{Rose}
+use Rattle.bp_io.specs.Streams.{SinkView}
 use Rattle.bp_plain.specs.Calls.{Call}
 use Rattle.bp_plain.specs.Export.{HasShortPaths}
 use Rattle.bp_plain.specs.PlainTree.{FileTree}
@@ -22,14 +23,14 @@ pub record PassesFront (text before after : List ℕ) (taken now : Option (List 
 
 -- The lines of all these calls were added to what waited; or a front of them, where memory was out; or the sink failed, and
 -- took a proper front of what waited and of them. The sink failed in that case alone.
-abbrev pub Goes : {T : Type 0} → List Call → Result T Fault → List ℕ → List ℕ → Option (List ℕ) → Option (List ℕ) → ℕ → ℕ → Type 0
-Goes calls (Ok done) before after taken now faults later =
-    PassesOn (call_lines calls) before after taken now × (later ≡ faults)
-Goes calls (Err Memory) before after taken now faults later =
-    PassesFront (call_lines calls) before after taken now × (later ≡ faults)
-Goes calls (Err Sink) before after taken now faults later =
-    TakesPart (before ++ call_lines calls) taken now × Rose faults later
-Goes calls (Err Deep) before after taken now faults later = ⊥
+abbrev pub Goes : {T : Type 0} → List Call → Result T Fault → List ℕ → List ℕ → SinkView → SinkView → Type 0
+Goes calls (Ok done) before after old new =
+    PassesOn (call_lines calls) before after old.taken new.taken × (new.faults ≡ old.faults)
+Goes calls (Err Memory) before after old new =
+    PassesFront (call_lines calls) before after old.taken new.taken × (new.faults ≡ old.faults)
+Goes calls (Err Sink) before after old new =
+    TakesPart (before ++ call_lines calls) old.taken new.taken × Rose old.faults new.faults
+Goes calls (Err Deep) before after old new = ⊥
 
 -- ---- a whole export
 
@@ -42,11 +43,11 @@ pub record TakesFront (text : List ℕ) (taken now : Option (List ℕ)) : Type 0
 
 -- What a sink took of the script of a tree, and whether it failed: all of it; nothing, where some path can't be spelled; a front,
 -- where memory was out; a proper front, where the sink failed.
-pub record EndsExport {T : Type 0} (tree : FileTree) (result : Result T Fault) (taken now : Option (List ℕ)) (faults faults_now : ℕ) : Type 0 where
-  pub all : OnOk result (Appends taken now (export_text tree))
+pub record EndsExport {T : Type 0} (tree : FileTree) (result : Result T Fault) (old new : SinkView) : Type 0 where
+  pub all : OnOk result (Appends old.taken new.taken (export_text tree))
   pub deep : IsErrOf result Deep ↔ ¬ HasShortPaths tree
-  pub untold : IsErrOf result Deep → now ≡ taken
-  pub some : IsErrOf result Memory → TakesFront (export_text tree) taken now
-  pub part : IsErrOf result Sink → TakesPart (export_text tree) taken now
-  pub cause : IsErrOf result Sink → Rose faults faults_now
-  pub same : (IsErrOf result Sink → ⊥) → faults_now ≡ faults
+  pub untold : IsErrOf result Deep → new.taken ≡ old.taken
+  pub some : IsErrOf result Memory → TakesFront (export_text tree) old.taken new.taken
+  pub part : IsErrOf result Sink → TakesPart (export_text tree) old.taken new.taken
+  pub cause : IsErrOf result Sink → Rose old.faults new.faults
+  pub same : (IsErrOf result Sink → ⊥) → new.faults ≡ old.faults

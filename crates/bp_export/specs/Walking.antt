@@ -1,6 +1,7 @@
 -- A walk over the tree of an image: where it stands, and what it remembers.
 use Rattle.std.specs.Prelude.{◌≡◌, ◌<◌, ◌≤◌, ℕ, List, [], ◌∷◌, ◌++◌, length, map, take, find, flat_map, slice_index, All, Bool, OnOk, Option, Result, Some, option_map}
 use Rattle.std.specs.FinMap.{get, entries}
+use Rattle.bp_io.specs.Streams.{SinkView}
 use Rattle.bp_limits.specs.Limits.{max_path}
 use Rattle.bp_layout.specs.Directory.{Name}
 use Rattle.bp_layout.specs.Lookup.{Node, Path, are_one, file_at, lookup, node_of}
@@ -76,6 +77,6 @@ pub record StandsAt (image : Image) (counts : List ℕ) (next : PathMap → Path
   pub remembers : RemembersFirsts image counts firsts place.told
 
 -- What is next there was told, so far as it goes, and where it all was, the first paths among it are remembered too.
-pub record Tours {T : Type 0} (image : Image) (counts : List ℕ) (next : PathMap → Path → List (Path × Node)) (place : Place) (result : Result T Fault) (firsts : Firsts) (before after : List ℕ) (taken now : Option (List ℕ)) (faults later : ℕ) : Type 0 where
-  pub goes : Goes (flat_map (calls_at place.tree) (next place.tree place.path)) result before after taken now faults later
+pub record Tours {T : Type 0} (image : Image) (counts : List ℕ) (next : PathMap → Path → List (Path × Node)) (place : Place) (result : Result T Fault) (firsts : Firsts) (before after : List ℕ) (old new : SinkView) : Type 0 where
+  pub goes : Goes (flat_map (calls_at place.tree) (next place.tree place.path)) result before after old new
   pub remembers : OnOk result (RemembersFirsts image counts firsts (place.told ++ next place.tree place.path))

@@ -44,8 +44,7 @@ fn export_stretch<R: Region, K: Sink>(
         IfOk result (λ end. end ≡
         (if is_zeros (stretch bytes leaf) then None else Some (min (block_size * leaf + block_size) tree.size))) }
     ensures lines { let bytes = content (current_words (R.memory region.now)) tree.root tree.size in
-        Tells (write_of path.now bytes leaf) result (waiting replies.old) (waiting replies.new) (K.taken out.old) (K.taken out.new)
-        (K.faults out.old) (K.faults out.new) }
+        Tells (write_of path.now bytes leaf) result (waiting replies.old) (waiting replies.new) (K.view out.old) (K.view out.new) }
     ensures room { length block.new ≡ block_size }
 {
     let off = BLOCK_SIZE * leaf;
@@ -75,8 +74,7 @@ fn export_leaves<R: Region, K: Sink>(
     ensures told { let bytes = content (current_words (R.memory region.now)) tree.root tree.size in
         IfOk result (λ told. size_behind path.now told tree.size ≡ size_of path.now bytes) }
     ensures lines { let bytes = content (current_words (R.memory region.now)) tree.root tree.size in
-        Tells (writes_of path.now bytes) result (waiting replies.old) (waiting replies.new) (K.taken out.old) (K.taken out.new)
-        (K.faults out.old) (K.faults out.new) }
+        Tells (writes_of path.now bytes) result (waiting replies.old) (waiting replies.new) (K.view out.old) (K.view out.new) }
     ensures room { length block.new ≡ block_size }
 {
     let mut told = 0;
@@ -98,8 +96,7 @@ fn export_size<K: Sink>(
     out: &mut K,
 ) -> Result<(), Failed>
     requires { All FitsText (size_behind path.now told size) }
-    ensures { Tells (size_behind path.now told size) result (waiting replies.old) (waiting replies.new)
-        (K.taken out.old) (K.taken out.new) (K.faults out.old) (K.faults out.new) }
+    ensures { Tells (size_behind path.now told size) result (waiting replies.old) (waiting replies.new) (K.view out.old) (K.view out.new) }
 {
     if told == size {
         return Ok(());
@@ -126,8 +123,7 @@ pub(crate) fn export_file<R: Region, K: Sink>(
     requires short { let bytes = content (current_words (R.memory region.now)) tree.root tree.size in
         All FitsText (calls_for path.now (file bytes)) }
     ensures lines { let bytes = content (current_words (R.memory region.now)) tree.root tree.size in
-        Tells (calls_for path.now (file bytes)) result (waiting replies.old) (waiting replies.new) (K.taken out.old) (K.taken out.new)
-        (K.faults out.old) (K.faults out.new) }
+        Tells (calls_for path.now (file bytes)) result (waiting replies.old) (waiting replies.new) (K.view out.old) (K.view out.new) }
     ensures room { length block.new ≡ block_size }
 {
     tell(Call::Create(path), replies, out)?;

@@ -22,8 +22,7 @@ pub(crate) fn tell<K: Sink>(
     out: &mut K,
 ) -> Result<(), Failed>
     requires { FitsText (call_of call) }
-    ensures { Tells (call_of call.entry ∷ []) result (waiting replies.old) (waiting replies.new) (K.taken out.old) (K.taken out.new)
-        (K.faults out.old) (K.faults out.new) }
+    ensures { Tells (call_of call.entry ∷ []) result (waiting replies.old) (waiting replies.new) (K.view out.old) (K.view out.new) }
 {
     replies.tell(&Said::Call(call), out)
 }

@@ -59,7 +59,7 @@ fn export_new<R: Region, K: Sink>(
         All FitsText (calls_for work.old.path.items (file bytes)) }
     ensures goes { let bytes = content (current_words (R.memory region.now)) tree.root tree.size in
         Goes (calls_for work.old.path.items (file bytes)) result (waiting work.old.replies) (waiting work.new.replies)
-        (K.taken out.old) (K.taken out.new) (K.faults out.old) (K.faults out.new) }
+        (K.view out.old) (K.view out.new) }
     ensures path { work.new.path.items ≡ work.old.path.items }
     ensures firsts { work.new.firsts ≡ work.old.firsts }
 {
@@ -101,7 +101,7 @@ fn export_name<R: Region, K: Sink>(
     ensures tours { let words = current_words (R.memory region.now) in
         (place : Place) → StandsAt words counts.now (itself words i) i work.old.path.items work.old.firsts place
         → Tours words counts.now (itself words i) place result work.new.firsts (waiting work.old.replies)
-        (waiting work.new.replies) (K.taken out.old) (K.taken out.new) (K.faults out.old) (K.faults out.new) }
+        (waiting work.new.replies) (K.view out.old) (K.view out.new) }
     ensures path { work.new.path.items ≡ work.old.path.items }
 {
     if counts.names(i) <= 1 {
@@ -141,7 +141,7 @@ fn export_entry<R: Region, K: Sink>(
     ensures tours { let words = current_words (R.memory region.now) in
         (place : Place) → StandsAt words counts.now (itself words i) i work.old.path.items work.old.firsts place
         → Tours words counts.now (itself words i) place result work.new.firsts (waiting work.old.replies)
-        (waiting work.new.replies) (K.taken out.old) (K.taken out.new) (K.faults out.old) (K.faults out.new) }
+        (waiting work.new.replies) (K.view out.old) (K.view out.new) }
     ensures kind { IfOk result (λ kind. kind_word kind ≡ kind_of (current_words (R.memory region.now)) i) }
     ensures path { work.new.path.items ≡ work.old.path.items }
 {
@@ -176,7 +176,7 @@ fn export_below<R: Region, K: Sink>(
     ensures tours { let words = current_words (R.memory region.now) in
         (place : Place) → StandsAt words counts.now inside i work.old.path.items work.old.firsts place
         → Tours words counts.now inside place result work.new.firsts (waiting work.old.replies)
-        (waiting work.new.replies) (K.taken out.old) (K.taken out.new) (K.faults out.old) (K.faults out.new) }
+        (waiting work.new.replies) (K.view out.old) (K.view out.new) }
     ensures path { OnOk result (work.new.path.items ≡ work.old.path.items) }
 {
     let entries = Entries::of(alloc, region, i)?;
@@ -210,7 +210,7 @@ pub fn export<R: Region, K: Sink>(
     requires counts { AreCounts (current_words (R.memory region.now)) counts.now }
     requires inodes { length counts.now ≡ block_inodes * block_count (current_words (R.memory region.now)) }
     ensures { (tree : FileTree) → Stands (current_words (R.memory region.now)) tree
-        → EndsExport tree result (K.taken out.old) (K.taken out.new) (K.faults out.old) (K.faults out.new) }
+        → EndsExport tree result (K.view out.old) (K.view out.new) }
 {
     if has_long_path(region, ROOT_INUMBER, MAX_PATH) {
         return Err(Fault::Deep);

@@ -30,9 +30,7 @@ impl<'a> FairSource<'a> {
 impl Source for FairSource<'_> {
     ghost use Rattle.bp_io.specs.Memory.{fair_left};
 
-    ghost left = { λ s. Some (fair_left s) };
-
-    ghost faults = { λ s. 0 };
+    ghost view = { λ s. record { left = Some (fair_left s); faults = 0 } };
 
     fn read(&mut self, into: &mut [u8]) -> Result<usize, Failed>
         ensures bound { ReadsAtMost result into.new }
@@ -82,9 +80,7 @@ impl<'a> MemSource<'a> {
 impl Source for MemSource<'_> {
     ghost use Rattle.bp_io.specs.Memory.{mem_left, source_most, source_plan, source_faults};
 
-    ghost left = { λ s. Some (mem_left s) };
-
-    ghost faults = { λ s. source_faults s };
+    ghost view = { λ s. record { left = Some (mem_left s); faults = source_faults s } };
 
     fn read(&mut self, into: &mut [u8]) -> Result<usize, Failed>
         ensures bound { ReadsAtMost result into.new }
@@ -149,9 +145,7 @@ impl<'a> MemSink<'a> {
 impl Sink for MemSink<'_> {
     ghost use Rattle.bp_io.specs.Memory.{mem_taken, sink_room, sink_plan, sink_faults};
 
-    ghost taken = { λ s. Some (mem_taken s) };
-
-    ghost faults = { λ s. sink_faults s };
+    ghost view = { λ s. record { taken = Some (mem_taken s); faults = sink_faults s } };
 
     fn write(&mut self, piece: &[u8]) -> Result<usize, Failed>
         ensures bound { WritesAtMost result piece.now }
@@ -210,9 +204,7 @@ impl NullSink {
 impl Sink for NullSink {
     ghost use Rattle.bp_io.specs.Memory.{null_count};
 
-    ghost taken = { λ s. None };
-
-    ghost faults = { λ s. 0 };
+    ghost view = { λ s. record { taken = None; faults = 0 } };
 
     fn write(&mut self, piece: &[u8]) -> Result<usize, Failed>
         ensures whole { result ≡ Ok (length piece.now) }

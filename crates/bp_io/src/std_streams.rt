@@ -19,8 +19,8 @@ pub struct StdSource<R: Read> {
 impl<R: Read> StdSource<R> {
     /// A source over this reader, from where it stands.
     pub fn new(reader: R) -> Self
-        ensures left { ⟦<StdSource<R> as Source>⟧.left result ≡ R.remaining reader }
-        ensures faults { ⟦<StdSource<R> as Source>⟧.faults result ≡ 0 }
+        ensures left { (⟦<StdSource<R> as Source>⟧.view result).left ≡ R.remaining reader }
+        ensures faults { (⟦<StdSource<R> as Source>⟧.view result).faults ≡ 0 }
     {
         StdSource {
             reader,
@@ -51,9 +51,7 @@ fn read_retrying<R: Read>(reader: &mut R, into: &mut [u8]) -> io::Result<usize>
 /// One read of the reader for each call, repeated where a signal interrupted it. Every other error
 /// of the reader is a fault.
 impl<R: Read> Source for StdSource<R> {
-    ghost left = { λ s. R.remaining s.reader };
-
-    ghost faults = { λ s. s.faults.count };
+    ghost view = { λ s. record { left = R.remaining s.reader; faults = s.faults.count } };
 
     fn read(&mut self, into: &mut [u8]) -> Result<usize, Failed> {
         match read_retrying(&mut self.reader, into) {
@@ -74,8 +72,8 @@ pub struct StdSink<W: Write> {
 impl<W: Write> StdSink<W> {
     /// A sink over this writer, from where it stands.
     pub fn new(writer: W) -> Self
-        ensures taken { ⟦<StdSink<W> as Sink>⟧.taken result ≡ W.contents writer }
-        ensures faults { ⟦<StdSink<W> as Sink>⟧.faults result ≡ 0 }
+        ensures taken { (⟦<StdSink<W> as Sink>⟧.view result).taken ≡ W.contents writer }
+        ensures faults { (⟦<StdSink<W> as Sink>⟧.view result).faults ≡ 0 }
     {
         StdSink {
             writer,
@@ -106,9 +104,7 @@ fn write_retrying<W: Write>(writer: &mut W, piece: &[u8]) -> io::Result<usize>
 /// One write of the writer for each call, repeated where a signal interrupted it. Every other error
 /// of the writer is a fault, and so is that it takes no byte of a piece that is not empty.
 impl<W: Write> Sink for StdSink<W> {
-    ghost taken = { λ s. W.contents s.writer };
-
-    ghost faults = { λ s. s.faults.count };
+    ghost view = { λ s. record { taken = W.contents s.writer; faults = s.faults.count } };
 
     fn write(&mut self, piece: &[u8]) -> Result<usize, Failed> {
         match write_retrying(&mut self.writer, piece) {

@@ -38,10 +38,10 @@ pub const SUPER_ROOT: u32 = 2;
 /// The place of the size of the inode file.
 pub const SUPER_SIZE: u32 = 3;
 
-/// The place that version 2 keeps for the root word of a second inode file. There is none, so that the word is 0.
+/// The place of the root word of the snapshot's inode file, in version 2.
 pub const SUPER_SECOND_ROOT: u32 = 4;
 
-/// The place that version 2 keeps for the size of a second inode file, which is 0 too.
+/// The place of the size of the snapshot's inode file, in version 2: 0 where there is no snapshot.
 pub const SUPER_SECOND_SIZE: u32 = 5;
 
 // ---- inodes and directories

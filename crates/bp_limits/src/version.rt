@@ -11,7 +11,7 @@ use crate::{MAX_HEIGHT, MAX_SIZE, MAX_WRITE};
 pub enum Version {
     /// The first one.
     One,
-    /// With higher trees and longer writes.
+    /// With higher trees, longer writes and a snapshot.
     Two,
 }
 

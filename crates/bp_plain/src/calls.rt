@@ -27,7 +27,7 @@ pub enum Call<'a> {
     Create(&'a [u8]),
     /// Makes an empty directory at a path.
     Mkdir(&'a [u8]),
-    /// Removes the file at a path.
+    /// Takes this name from a file, and removes the file with its last name.
     Unlink(&'a [u8]),
     /// Removes the empty directory at a path.
     Rmdir(&'a [u8]),

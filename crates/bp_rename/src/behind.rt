@@ -1,9 +1,9 @@
 //! A name moves to another directory, none of whose entries is empty.
 
-ghost use Rattle.std.specs.Prelude.{◌≡◌, ◌≢◌, ◌+◌, None, IfErr, OnErr, OnOk};
-ghost use Rattle.bp_calls.specs.Space.{HasRoomWhereFree, LacksSpace};
+ghost use Rattle.std.specs.Prelude.{◌≡◌, ◌≢◌, ◌+◌, None};
+ghost use Rattle.bp_calls.specs.Commits.{CommitsChange, CommitsOrLacksSpace};
+ghost use Rattle.bp_calls.specs.Space.{HasRoomWhereFree};
 ghost use Rattle.bp_calls.specs.ThawedFor.{IsThawedFor};
-ghost use Rattle.bp_changes.specs.Thawed.{AfterThaw};
 ghost use Rattle.bp_cow.specs.Found.{AreWaysIn};
 ghost use Rattle.bp_layout.specs.Directory.{empty_slot};
 ghost use Rattle.bp_layout.specs.Inode.{size_of};
@@ -14,7 +14,6 @@ ghost use Rattle.bp_rename.specs.Planned.{TouchesBehind};
 ghost use Rattle.bp_rename.specs.RenamesEntry.{RenamesEntry};
 ghost use Rattle.bp_rename.specs.TouchesTwo.{AreTwo, inumber_path, size_path};
 ghost use Rattle.bp_shapes.specs.Sets.{IsExact, kept_of};
-ghost use Rattle.bp_commit.specs.Performs.{Performs, PerformsThawed};
 ghost use Rattle.pm_region.specs.Memory.{current_words};
 
 use crate::moving::Move;
@@ -62,10 +61,9 @@ fn move_behind<R: Region>(
         (moves to_move.now.from_dir to_move.now.from_slot to_move.now.to_dir) }
     requires touches { TouchesBehind (current_words (R.memory parts.old.region)) to_move.now touched.now }
     requires found { AreWaysIn (current_words (R.memory parts.old.region)) touched.now found.now }
-    ensures performs { PerformsThawed (kept_of parts.old) (R.memory parts.old.region) (R.memory parts.new.region)
-        (moves to_move.now.from_dir to_move.now.from_slot to_move.now.to_dir) (RenamesEntry to_move.now) }
-    ensures frozen { parts.new.frozen ≡ parts.old.frozen }
-    ensures exact { IsExact (current_words (R.memory parts.new.region)) parts.new }
+    ensures { CommitsChange R.memory parts.old parts.new
+        (moves to_move.now.from_dir to_move.now.from_slot to_move.now.to_dir)
+        (RenamesEntry to_move.now) }
 {
     let source = tree_of(&parts.region, to_move.from_dir);
     let inode = inumber(&parts.region, source, to_move.from_slot) as u32;
@@ -89,13 +87,7 @@ pub(crate) fn rename_behind<R: Region>(
     requires none { empty_slot (current_words (R.memory parts.old.region)) to_move.now.to_dir ≡ None }
     requires exact { IsExact (current_words (R.memory parts.old.region)) parts.old }
     requires room { HasRoomWhereFree (R.memory parts.old.region) (kept_of parts.old) parts.old.blocks (change_of to_move.now) }
-    ensures performs { OnOk result (Performs (kept_of parts.old) (R.memory parts.old.region) (R.memory parts.new.region)
-        (change_of to_move.now) (AfterThaw (RenamesEntry to_move.now))) }
-    ensures frozen { parts.new.frozen ≡ parts.old.frozen }
-    ensures exact { IsExact (current_words (R.memory parts.new.region)) parts.new }
-    ensures refused { IfErr result (LacksSpace (current_words (R.memory parts.old.region)) (kept_of parts.old)
-        (change_of to_move.now)) }
-    ensures same { OnErr result (parts.new ≡ parts.old) }
+    ensures { CommitsOrLacksSpace R.memory parts.old parts.new result (change_of to_move.now) (RenamesEntry to_move.now) }
 {
     let target = tree_of(&parts.region, to_move.to_dir);
     let behind = need_prep(&parts.region, target, target.size, target.size + ENTRY_SIZE);

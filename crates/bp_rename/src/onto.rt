@@ -1,17 +1,16 @@
 //! A name moves onto another one, which it replaces.
 
-ghost use Rattle.std.specs.Prelude.{◌≡◌, Some, IfErr, OnErr, OnOk};
-ghost use Rattle.bp_calls.specs.Space.{HasRoomWhereFree, LacksSpace};
+ghost use Rattle.std.specs.Prelude.{◌≡◌, Some};
+ghost use Rattle.bp_calls.specs.Commits.{CommitsChange, CommitsOrLacksSpace};
+ghost use Rattle.bp_calls.specs.Space.{HasRoomWhereFree};
 ghost use Rattle.bp_calls.specs.ThawedFor.{IsThawedFor};
 ghost use Rattle.bp_changes.specs.Effects.{MovesEntry};
-ghost use Rattle.bp_changes.specs.Thawed.{AfterThaw};
 ghost use Rattle.bp_cow.specs.Found.{AreWaysIn};
 ghost use Rattle.bp_layout.specs.Need.Change.{replaces};
 ghost use Rattle.bp_rename.specs.CanRename.{CanRename, change_of, moved_inode};
 ghost use Rattle.bp_rename.specs.Planned.{TouchesOnto};
 ghost use Rattle.bp_rename.specs.RenamesEntry.{RenamesEntry};
 ghost use Rattle.bp_shapes.specs.Sets.{IsExact, kept_of};
-ghost use Rattle.bp_commit.specs.Performs.{Performs, PerformsThawed};
 ghost use Rattle.pm_region.specs.Memory.{current_words};
 ghost use Rattle.bp_rename.specs.TouchesTwo.{AreTwo, inumber_path};
 
@@ -58,12 +57,9 @@ fn move_onto<R: Region>(
         (replaces to_move.now.from_dir to_move.now.from_slot to_move.now.to_dir slot) }
     requires touches { TouchesOnto (current_words (R.memory parts.old.region)) to_move.now slot touched.now }
     requires found { AreWaysIn (current_words (R.memory parts.old.region)) touched.now found.now }
-    ensures performs { PerformsThawed (kept_of parts.old) (R.memory parts.old.region) (R.memory parts.new.region)
+    ensures { CommitsChange R.memory parts.old parts.new
         (replaces to_move.now.from_dir to_move.now.from_slot to_move.now.to_dir slot)
-        (λ image after. MovesEntry image after to_move.now.from_dir to_move.now.from_slot to_move.now.to_dir slot
-        (moved_inode image to_move.now)) }
-    ensures frozen { parts.new.frozen ≡ parts.old.frozen }
-    ensures exact { IsExact (current_words (R.memory parts.new.region)) parts.new }
+        (λ image after. MovesEntry image after to_move.now.from_dir to_move.now.from_slot to_move.now.to_dir slot (moved_inode image to_move.now)) }
 {
     let target = tree_of(&parts.region, to_move.to_dir);
     let replaced = inumber(&parts.region, target, slot) as u32;
@@ -97,13 +93,7 @@ pub(crate) fn rename_onto<R: Region>(
     requires onto { to_move.now.to_slot ≡ Some slot }
     requires exact { IsExact (current_words (R.memory parts.old.region)) parts.old }
     requires room { HasRoomWhereFree (R.memory parts.old.region) (kept_of parts.old) parts.old.blocks (change_of to_move.now) }
-    ensures performs { OnOk result (Performs (kept_of parts.old) (R.memory parts.old.region) (R.memory parts.new.region)
-        (change_of to_move.now) (AfterThaw (RenamesEntry to_move.now))) }
-    ensures frozen { parts.new.frozen ≡ parts.old.frozen }
-    ensures exact { IsExact (current_words (R.memory parts.new.region)) parts.new }
-    ensures refused { IfErr result (LacksSpace (current_words (R.memory parts.old.region)) (kept_of parts.old)
-        (change_of to_move.now)) }
-    ensures same { OnErr result (parts.new ≡ parts.old) }
+    ensures { CommitsOrLacksSpace R.memory parts.old parts.new result (change_of to_move.now) (RenamesEntry to_move.now) }
 {
     let words = words_onto(&parts.region, to_move, slot);
     let trees = trees_of_both(&parts.region, to_move.from_dir, to_move.to_dir);

@@ -1,14 +1,13 @@
 //! A name is spelled anew, within its directory.
 
-ghost use Rattle.std.specs.Prelude.{◌≡◌, ◌≤◌, None, length, IfErr, OnErr, OnOk};
-ghost use Rattle.bp_calls.specs.Space.{HasRoomWhereFree, LacksSpace};
-ghost use Rattle.bp_changes.specs.Thawed.{AfterThaw};
+ghost use Rattle.std.specs.Prelude.{◌≡◌, ◌≤◌, None, length};
+ghost use Rattle.bp_calls.specs.Commits.{CommitsOrLacksSpace};
+ghost use Rattle.bp_calls.specs.Space.{HasRoomWhereFree};
 ghost use Rattle.bp_limits.specs.Limits.{max_name};
 ghost use Rattle.bp_rename.specs.CanRename.{CanRename, change_of};
 ghost use Rattle.bp_rename.specs.RenamesEntry.{RenamesEntry};
 ghost use Rattle.bp_rename.specs.Respelled.{IsNameRun, IsRespelled, respelled_byte};
 ghost use Rattle.bp_shapes.specs.Sets.{IsExact, kept_of};
-ghost use Rattle.bp_commit.specs.Performs.{Performs};
 ghost use Rattle.pm_region.specs.Memory.{current_words};
 
 use crate::moving::Move;
@@ -78,13 +77,7 @@ pub(crate) fn rename_within<R: Region>(
     requires here { to_move.now.from_dir ≡ to_move.now.to_dir }
     requires exact { IsExact (current_words (R.memory parts.old.region)) parts.old }
     requires room { HasRoomWhereFree (R.memory parts.old.region) (kept_of parts.old) parts.old.blocks (change_of to_move.now) }
-    ensures performs { OnOk result (Performs (kept_of parts.old) (R.memory parts.old.region) (R.memory parts.new.region)
-        (change_of to_move.now) (AfterThaw (RenamesEntry to_move.now))) }
-    ensures frozen { parts.new.frozen ≡ parts.old.frozen }
-    ensures exact { IsExact (current_words (R.memory parts.new.region)) parts.new }
-    ensures refused { IfErr result (LacksSpace (current_words (R.memory parts.old.region)) (kept_of parts.old)
-        (change_of to_move.now)) }
-    ensures same { OnErr result (parts.new ≡ parts.old) }
+    ensures { CommitsOrLacksSpace R.memory parts.old parts.new result (change_of to_move.now) (RenamesEntry to_move.now) }
 {
     let bytes = respelled(to_move.name);
     let runs = [name_run(&parts.region, to_move, &bytes)];

@@ -57,10 +57,10 @@ impl Replies {
     ///
     /// `Failed` where the sink failed. It took a proper front then, and the rest is given up.
     pub fn hand_over<K: Sink>(&mut self, out: &mut K) -> Result<(), Failed>
-        ensures all { OnOk result (Appends (K.taken out.old) (K.taken out.new) (waiting self.old)) }
-        ensures some { OnErr result (TakesPart (waiting self.old) (K.taken out.old) (K.taken out.new)) }
+        ensures all { OnOk result (Appends (K.view out.old).taken (K.view out.new).taken (waiting self.old)) }
+        ensures some { OnErr result (TakesPart (waiting self.old) (K.view out.old).taken (K.view out.new).taken) }
         ensures none { waiting self.new ≡ [] }
-        ensures cause { HasCause (K.faults out.old) (K.faults out.new) result }
+        ensures cause { HasCause (K.view out.old).faults (K.view out.new).faults result }
     {
         let count = self.count;
         self.count = 0;
@@ -74,10 +74,10 @@ impl Replies {
     /// As of `hand_over`.
     pub fn hand_over_above<K: Sink>(&mut self, most: usize, out: &mut K) -> Result<(), Failed>
         ensures all { OnOk result (PassesOn [] (waiting self.old) (waiting self.new)
-            (K.taken out.old) (K.taken out.new)) }
-        ensures some { OnErr result (TakesPart (waiting self.old) (K.taken out.old) (K.taken out.new)) }
+            (K.view out.old).taken (K.view out.new).taken) }
+        ensures some { OnErr result (TakesPart (waiting self.old) (K.view out.old).taken (K.view out.new).taken) }
         ensures few { OnOk result (length (waiting self.new) ≤ most) }
-        ensures cause { HasCause (K.faults out.old) (K.faults out.new) result }
+        ensures cause { HasCause (K.view out.old).faults (K.view out.new).faults result }
     {
         if self.count > most {
             return self.hand_over(out);
@@ -102,10 +102,10 @@ impl Replies {
     pub fn tell<K: Sink>(&mut self, said: &Said<'_>, out: &mut K) -> Result<(), Failed>
         requires { FitsReply said.now }
         ensures all { OnOk result (PassesOn (said_text said.now) (waiting self.old) (waiting self.new)
-            (K.taken out.old) (K.taken out.new)) }
+            (K.view out.old).taken (K.view out.new).taken) }
         ensures some { OnErr result (TakesPart (waiting self.old ++ said_text said.now)
-            (K.taken out.old) (K.taken out.new)) }
-        ensures cause { HasCause (K.faults out.old) (K.faults out.new) result }
+            (K.view out.old).taken (K.view out.new).taken) }
+        ensures cause { HasCause (K.view out.old).faults (K.view out.new).faults result }
     {
         self.hand_over_above(GATHERED, out)?;
         self.add(said);

@@ -13,9 +13,9 @@ use bp_io::{Failed, Sink};
 ///
 /// `Failed` where the sink failed. It took a proper front of them then.
 pub fn send<K: Sink>(out: &mut K, bytes: &[u8]) -> Result<(), Failed>
-    ensures all { OnOk result (Appends (K.taken out.old) (K.taken out.new) bytes.now) }
-    ensures some { OnErr result (TakesPart bytes.now (K.taken out.old) (K.taken out.new)) }
-    ensures cause { HasCause (K.faults out.old) (K.faults out.new) result }
+    ensures all { OnOk result (Appends (K.view out.old).taken (K.view out.new).taken bytes.now) }
+    ensures some { OnErr result (TakesPart bytes.now (K.view out.old).taken (K.view out.new).taken) }
+    ensures cause { HasCause (K.view out.old).faults (K.view out.new).faults result }
 {
     let mut at = 0;
     while at < bytes.len() {

@@ -137,7 +137,8 @@ fn serve_file<K: Sink>(
     match open(alloc, "f", files) {
         Ok(mut volume) => {
             let mut source = FairSource::new(script.as_bytes());
-            serve(alloc, &mut volume, work, &mut source, out, files);
+            // A serving that broke off shows by what the sink took.
+            let _ = serve(alloc, &mut volume, work, &mut source, out, files);
             Some(volume)
         }
         Err(_) => None,

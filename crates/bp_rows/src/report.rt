@@ -1,9 +1,14 @@
 //! What is written of a call.
 
+use bp_session::Broken;
 use std::alloc::AllocError;
 
-/// Writes what was told, two blanks before each line, and the status.
-pub fn tell(report: &mut String, told: &[u8], status: u8) -> Result<(), AllocError> {
+/// Writes what was told, two blanks before each line, and whether all was served.
+pub fn tell(
+    report: &mut String,
+    told: &[u8],
+    served: Result<(), Broken>,
+) -> Result<(), AllocError> {
     match str::from_utf8(told) {
         Ok(text) => {
             for line in text.lines() {
@@ -14,5 +19,8 @@ pub fn tell(report: &mut String, told: &[u8], status: u8) -> Result<(), AllocErr
         }
         Err(_) => report.push_str("  no text\n")?,
     }
-    writeln!(report, "status {status}")
+    match served {
+        Ok(()) => report.push_str("served\n"),
+        Err(broken) => writeln!(report, "broken off: {broken:?}"),
+    }
 }

@@ -15,7 +15,7 @@ use std::alloc::{AllocError, Global};
 /// The room of a sink, in bytes.
 const ROOM: usize = 4096;
 
-/// Serves a script, and writes its replies and its status.
+/// Serves a script, and writes its replies and whether all was served.
 pub fn serve_script<R: Region>(
     alloc: Global,
     volume: &mut Volume<R>,
@@ -31,11 +31,11 @@ pub fn serve_script<R: Region>(
 {
     let mut source = FairSource::new(script.as_bytes());
     let mut sink = MemSink::new(alloc, ROOM, &[])?;
-    let status = serve(alloc, volume, work, &mut source, &mut sink, files);
-    tell(report, sink.bytes(), status)
+    let served = serve(alloc, volume, work, &mut source, &mut sink, files);
+    tell(report, sink.bytes(), served)
 }
 
-/// Sets the line and serves it, and writes its length, its reply and its status.
+/// Sets the line and serves it, and writes its length, its reply and whether it was served.
 pub fn serve_bytes<R: Region>(
     alloc: Global,
     volume: &mut Volume<R>,
@@ -52,8 +52,8 @@ pub fn serve_bytes<R: Region>(
     work.set_line(line);
     tell_line(work, report)?;
     let mut sink = MemSink::new(alloc, ROOM, &[])?;
-    let status = serve_line(alloc, volume, work, &mut sink, files);
-    tell(report, sink.bytes(), status)
+    let served = serve_line(alloc, volume, work, &mut sink, files);
+    tell(report, sink.bytes(), served)
 }
 
 fn tell_line(work: &Work, report: &mut String) -> Result<(), AllocError> {

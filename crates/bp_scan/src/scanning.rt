@@ -102,8 +102,8 @@ fn scan_with<R: Region>(region: &R, work: &mut Scan) -> Result<Totals, MountFaul
 
 /// Reads the first tree of the image in a region of 8 to 65,536 blocks of 512 words: puts the blocks and the inodes that it
 /// lacks into the sets and the number of names of each inode into the counts, whatever they had, and tells what it holds in
-/// all. It takes time linear in the words that are in use and in the room of sets and counts, but for the sort of each
-/// directory's names. [`scan_whole`](crate::scan_whole) reads a second tree too.
+/// all. It takes time linear in the words that are in use and in the room of sets and counts, but for a directory whose
+/// names' hashes meet, which are sorted. [`scan_whole`](crate::scan_whole) reads a second tree too.
 ///
 /// # Errors
 ///

@@ -1,10 +1,9 @@
 -- One line, by its case.
 use Rattle.std.proofs.Common.{zero, suc, refl, sym, ◌∙◌, ap, arith, ◌≡◌, ◌≤◌, ◌<◌, ◌+◌, ◌*◌, ℕ, List, [], ◌∷◌, ◌++◌, length, take, true, false, inl, inr}
-use Rattle.std.specs.Prelude.{Bool, None, Some, ◌&&◌, nat_lt, not, slice_get, if◌then◌else◌}
+use Rattle.std.specs.Prelude.{None, Some, nat_lt, slice_get, if◌then◌else◌}
 use Rattle.pm_epochs.proofs.CrashLaws.{barriers-append, length-words_after, marks-append}
 use Rattle.pm_epochs.specs.declared.event.Event.{Event}
-use Rattle.pm_epochs.specs.declared.event.Event.TheVariants.{Barrier, Mark, Store}
-use Rattle.pm_epochs.specs.Log.{barriers, marks, words_after}
+use Rattle.pm_epochs.specs.Log.{barriers, marks}
 use Rattle.pm_epochs.specs.Replay.{PowerCut, kept_calls, kept_stores}
 use Rattle.pm_region.specs.Memory.{Memory, crashed, current_words, drained, with_room, room_in}
 use Rattle.bp_layout.specs.Words.{Image}
@@ -23,12 +22,12 @@ use Rattle.bp_replay.specs.Storm.{storm_cut}
 use Rattle.bp_script.specs.Commands.{Command, command_of, in_grammar, mask_in}
 use Rattle.bp_script.specs.Commands.Command.{file_call, sync, space, crash, storm, cache, log, too_long}
 use Rattle.bp_script.specs.Texts.LineReply.{synced}
-use Rattle.bp_session.specs.Files.{Holds, HoldsAs, HoldsBytes}
-use Rattle.bp_session.specs.Acting.{CrashesByCaches, CrashesTo, Does, HasCrashed, is_base_saved_behind, drains_stores, has_store, may_change_base, reply_of, state, to_save}
+use Rattle.bp_session.specs.Files.{Holds, HoldsBytes}
+use Rattle.bp_session.specs.Acting.{CrashesByCaches, CrashesTo, Does, HasCrashed, reply_of, state, to_save}
 use Rattle.bp_session.specs.Serving.{Acts, SyncFails}
 use Rattle.bp_session.specs.Session.{Crashes, SessionLine, caches_cut}
 use Rattle.bp_session.specs.declared.outcome.Outcome.{Outcome}
-use Rattle.bp_session.specs.declared.outcome.Outcome.TheVariants.{Answered, Synced, Counted, Kept, Logged, BadChoice, BadSyntax, TooLong, NoMemory}
+use Rattle.bp_session.specs.declared.outcome.Outcome.TheVariants.{Answered, Synced, Counted, Kept, Logged, BadChoice, TooLong, NoMemory}
 use Rattle.bp_session.proofs.BlockLaws.{length-image_bytes}
 
 -- ---- sizes
@@ -36,7 +35,7 @@ use Rattle.bp_session.proofs.BlockLaws.{length-image_bytes}
 pub size-drained : (memory : Memory) → length (drained memory).base ≡ length memory.base
 size-drained memory = length-words_after memory.base memory.events
 
-size-with_room : (wanted : ℕ) (memory : Memory) → length (with_room wanted memory).base ≡ length memory.base
+pub size-with_room : (wanted : ℕ) (memory : Memory) → length (with_room wanted memory).base ≡ length memory.base
 size-with_room wanted memory = elim (nat_lt (room_in memory) wanted) as (λ full. length (if full then drained memory else memory).base ≡ length memory.base) [
   | true ↦ size-drained memory
   | false ↦ refl
@@ -61,45 +60,6 @@ one_more_event [] i event at = absurd (let no : None ≡ Some event = at in cc)
 one_more_event (first ∷ events) zero event at = let same : first ≡ event = cc in rw same refl
 one_more_event (first ∷ events) (suc i) event at = let next : suc i + 1 ≡ suc (i + 1) = omega arith in rw next (ap (λ l. first ∷ l) (one_more_event events i event at))
 
-words_unstored : (words : Image) (events : List Event) → has_store events ≡ false → words_after words events ≡ words
-words_unstored words [] none = refl
-words_unstored words (Store word value ∷ events) none = absurd (let no : true ≡ false = none in cc)
-words_unstored words (Barrier ∷ events) none = words_unstored words events none
-words_unstored words (Mark ∷ events) none = words_unstored words events none
-
-base-with_room : (memory : Memory) → drains_stores memory ≡ false → (with_room call_room memory).base ≡ memory.base
-base-with_room memory none = go (nat_lt (room_in memory) call_room) none
-  where
-    go : (full : Bool) → (full && has_store memory.events) ≡ false → (if full then drained memory else memory).base ≡ memory.base
-    go true none = words_unstored memory.base memory.events none
-    go false none = refl
-
--- a call that didn't drain a store first
-base-file_call : (old : Memory) (call : Call) (answer : Answer) (new : Memory) → FileCall old call answer new → drains_stores old ≡ false → new.base ≡ old.base
-base-file_call old call answer new done none = ap (λ (m : Memory). m.base) done.adds ∙ base-with_room old none
-
-pub store_at : (events : List Event) (i : ℕ) (event : Event) → slice_get events i ≡ Some event → has_store (event ∷ []) ≡ true → has_store events ≡ true
-store_at [] i event at is = absurd (let no : None ≡ Some event = at in cc)
-store_at (Store word value ∷ events) i event at is = refl
-store_at (Barrier ∷ events) zero event at is = let same : Barrier ≡ event = cc in absurd (let no : false ≡ true = rw (← same) at is in cc)
-store_at (Barrier ∷ events) (suc i) event at is = store_at events i event at is
-store_at (Mark ∷ events) zero event at is = let same : Mark ≡ event = cc in absurd (let no : false ≡ true = rw (← same) at is in cc)
-store_at (Mark ∷ events) (suc i) event at is = store_at events i event at is
-
-pub no_store_in : (event : Event) → ((word value : ℕ) → event ≡ Store word value → ⊥) → has_store (event ∷ []) ≡ false
-no_store_in (Store word value) other = absurd (other word value refl)
-no_store_in Barrier other = refl
-no_store_in Mark other = refl
-
-pub no_store_next : (events : List Event) (i : ℕ) (event : Event) → slice_get events i ≡ Some event → has_store (event ∷ []) ≡ false → has_store (take i events) ≡ false → has_store (take (i + 1) events) ≡ false
-no_store_next events i event at other none = rw (one_more_event events i event at) (go (take i events) none)
-  where
-    go : (first : List Event) → has_store first ≡ false → has_store (first ++ event ∷ []) ≡ false
-    go [] none = other
-    go (Store word value ∷ first) none = none
-    go (Barrier ∷ first) none = go first none
-    go (Mark ∷ first) none = go first none
-
 -- ---- what a line did
 
 pub does_call : (old new : Memory) (call : Call) (answer : Answer) → FileCall old call answer new → Does old (file_call call) Answered answer new
@@ -110,7 +70,7 @@ does_call old new call answer done = record {
   is_sync = λ e. absurd (let no : ◌≡◌ {A = Outcome} Answered Synced = e in cc);
   synced = λ e. absurd (let no : file_call call ≡ sync = e in cc);
   others = λ _ saved. refl;
-  base = λ none. base-file_call old call answer new done none;
+  base = ap (λ (m : Memory). m.base) done.adds;
 }
 
 pub does_sync : (old new : Memory) (answer : Answer) → new ≡ drained old → Does old sync Synced answer new
@@ -121,7 +81,7 @@ does_sync old new answer done = record {
   is_sync = λ _. refl;
   synced = λ _. refl;
   others = λ other. absurd (other refl);
-  base = λ e. absurd (let no : true ≡ false = e in cc);
+  base = tt;
 }
 
 pub does_space : (memory : Memory) (free live : ℕ) (answer : Answer) → HasSpace (current_words memory) free → HasLive (current_words memory) live → Does memory space (Counted free live) answer memory
@@ -132,7 +92,7 @@ does_space memory free live answer has_free has_live = record {
   is_sync = λ e. absurd (let no : ◌≡◌ {A = Outcome} (Counted free live) Synced = e in cc);
   synced = λ e. absurd (let no : space ≡ sync = e in cc);
   others = λ _ saved. refl;
-  base = λ _. refl;
+  base = refl;
 }
 
 -- a crash to a cut, by whatever command
@@ -150,7 +110,7 @@ module _ (old new : Memory) (cut : PowerCut) (outcome : Outcome) (answer : Answe
     is_sync = λ e. absurd (let no : ◌≡◌ {A = Outcome} (Kept (kept_calls old.events cut) (marks old.events)) Synced = sym does.told ∙ e in cc);
     synced = λ e. absurd (other e);
     others = λ _ saved. same saved;
-    base = λ e. absurd (let no : true ≡ false = rw does.told at e in cc);
+    base = rw does.told tt;
   }
 
 pub does_crash : (old new : Memory) (wanted : Wanted) (outcome : Outcome) (answer : Answer) → CrashesTo old (cut_for old.events wanted) outcome new → Does old (crash wanted) outcome answer new
@@ -163,7 +123,7 @@ does_crash old new wanted outcome answer (inr does) = record {
   is_sync = λ e. absurd (let no : ◌≡◌ {A = Outcome} BadChoice Synced = sym does.told ∙ e in cc);
   synced = λ e. absurd (let no : crash wanted ≡ sync = e in cc);
   others = λ _ saved. refl;
-  base = λ _. ap (λ (m : Memory). m.base) does.same;
+  base = rw does.told (ap (λ (m : Memory). m.base) does.same);
 }
 
 -- a mask has a place for each bit of its bytes, of two digits each
@@ -186,7 +146,7 @@ does_cache old new seed outcome answer (inr lacks) = record {
   is_sync = λ e. absurd (let no : ◌≡◌ {A = Outcome} NoMemory Synced = sym lacks.told ∙ e in cc);
   synced = λ e. absurd (let no : cache seed ≡ sync = e in cc);
   others = λ _ saved. refl;
-  base = λ _. ap (λ (m : Memory). m.base) lacks.same;
+  base = rw lacks.told (ap (λ (m : Memory). m.base) lacks.same);
 }
 
 pub does_log : (memory : Memory) (outcome : Outcome) (answer : Answer) → outcome ≡ Logged (length memory.events) (barriers memory.events) (marks memory.events) → Does memory log outcome answer memory
@@ -197,7 +157,7 @@ does_log memory outcome answer is = record {
   is_sync = λ e. absurd (let no : ◌≡◌ {A = Outcome} (Logged (length memory.events) (barriers memory.events) (marks memory.events)) Synced = sym is ∙ e in cc);
   synced = λ e. absurd (let no : log ≡ sync = e in cc);
   others = λ _ saved. refl;
-  base = λ _. refl;
+  base = rw is refl;
 }
 
 -- ---- the counts of a log
@@ -218,19 +178,8 @@ does_long memory answer = record {
   is_sync = λ e. absurd (let no : ◌≡◌ {A = Outcome} TooLong Synced = e in cc);
   synced = λ e. absurd (let no : too_long ≡ sync = e in cc);
   others = λ _ saved. refl;
-  base = λ _. refl;
+  base = refl;
 }
-
-pub saved_behind_other : (outcome : Outcome) (drained_stores is_base_saved : Bool) → ¬ (outcome ≡ Synced) → (is_base_saved && not (may_change_base outcome drained_stores)) ≡ is_base_saved_behind outcome drained_stores is_base_saved
-saved_behind_other Synced drained_stores is_base_saved other = absurd (other refl)
-saved_behind_other Answered drained_stores is_base_saved other = refl
-saved_behind_other (Counted free live) drained_stores is_base_saved other = refl
-saved_behind_other (Kept c n) drained_stores is_base_saved other = refl
-saved_behind_other (Logged events barriers calls) drained_stores is_base_saved other = refl
-saved_behind_other BadChoice drained_stores is_base_saved other = refl
-saved_behind_other NoMemory drained_stores is_base_saved other = refl
-saved_behind_other BadSyntax drained_stores is_base_saved other = refl
-saved_behind_other TooLong drained_stores is_base_saved other = refl
 
 -- ---- what is no sync
 
@@ -249,16 +198,6 @@ pub no_sync_log : ¬ (log ≡ sync)
 no_sync_log e = cc
 
 module _ (old new : Memory) (command : Command) (answer : Answer) where
-  -- a line that is no sync, over a file that stays
-  pub acts_done : (outcome : Outcome) (is_base_saved : Bool) (files : View) (name : List ℕ) (saved : Image) → Does old command outcome answer new → ¬ (outcome ≡ Synced) → HoldsAs is_base_saved files old.base name saved
-      → HoldsAs (is_base_saved && not (may_change_base outcome (drains_stores old))) files new.base name (to_save command old saved)
-  acts_done outcome is_base_saved files name saved does other held = rw (does.others other saved) (record { file = held.file; drained = go is_base_saved (may_change_base outcome (drains_stores old)) refl refl })
-    where
-      go : (flag moved : Bool) → is_base_saved ≡ flag → may_change_base outcome (drains_stores old) ≡ moved → (flag && not moved) ≡ true → Holds files name new.base
-      go true true is may e = absurd (let no : false ≡ true = e in cc)
-      go true false is may e = rw (does.base may) (held.drained is)
-      go false moved is may e = absurd (let no : false ≡ true = e in cc)
-
   -- only a sync comes to one
   pub not_left : {outcome : Outcome} {P : Type 0} → Does old command outcome answer new → ¬ (command ≡ sync) → outcome ≡ Synced → P
   not_left does other e = absurd (other (does.is_sync e))
@@ -268,10 +207,6 @@ module _ (old new : Memory) (command : Command) (answer : Answer) where
   module _ (is : command ≡ sync) (done : new ≡ drained old) where
     pub acts_synced : (saved : Image) (holds : Image → Type 0) → holds (current_words old) → Acts (state old saved) new holds command synced
     acts_synced saved holds file = rw is (record { after = current_words old; line = record { told = refl; done = ap (λ m. state m (current_words old)) done }; file = file })
-
-    -- the file behind a save
-    pub holds_synced : (now : View) (name : List ℕ) → Holds now name (current_words old) → HoldsAs true now new.base name (current_words old)
-    holds_synced now name file = record { file = file; drained = λ _. rw done file }
 
     pub fails_synced : (saved : Image) (partly : Image → Image → Type 0) → partly saved (current_words old) → SyncFails (state old saved) new partly command
     fails_synced saved partly file = record { is = is; drained = done; file = file }

@@ -9,6 +9,7 @@ use Rattle.std.specs.Io.KnownBytes.{Appends}
 use Rattle.std.proofs.KnownBytes.{Appends-trans}
 use Rattle.bp_io.specs.Causes.{Rose}
 use Rattle.bp_io.specs.Files.{KeepsOthers, StaysAttached, View}
+use Rattle.bp_io.specs.Streams.{SourceView}
 use Rattle.pm_region.specs.Memory.{Memory}
 use Rattle.bp_layout.specs.Words.{Image}
 use Rattle.bp_script.specs.Commands.{Command, command_of}
@@ -18,12 +19,13 @@ use Rattle.bp_session.specs.Acting.{state}
 use Rattle.bp_session.specs.Lines.{commands_from}
 use Rattle.bp_session.specs.Outside.{IsFirstFault, counts}
 use Rattle.bp_session.specs.Session.{State}
-use Rattle.bp_session.specs.Serving.{BreaksOff, Carries, DoesBreakOff, FailsLine, Input, Keeps, LineOutcome, Moment, PieceOutcome, ServeOutcome, StopsAtSave, SyncFails}
+use Rattle.bp_session.specs.Serving.{BreaksOff, Carries, DoesBreakOff, FailsLine, Keeps, LineOutcome, Moment, PieceOutcome, ServeOutcome, StopsAtSave, SyncFails}
 use Rattle.bp_replies.specs.Taking.{TakesPart}
 use Rattle.bp_session.specs.Gathering.{Clears, AwaitsReply, IsUnheard, IsUntold, LineGathers}
 use Rattle.bp_replies.specs.Gathering.{PassesOn}
 use Rattle.bp_replies.proofs.PassingLaws.{handed_behind, part_behind, passed_part, passes_behind, taken_behind, with_nothing, with_waiting}
 use Rattle.bp_session.proofs.OutcomeLaws.{files_fault, first_after, line_broken, line_stopped, line_whole, no_fault, piece_newline, piece_quiet, piece_then, sink_fault, stops_after}
+use Rattle.bp_session.proofs.ChangedLaws.{holds_lost}
 use Rattle.bp_session.proofs.OthersLaws.{others_same, others_then}
 use Rattle.bp_session.proofs.SavingLaws.{stays_attached, still_attached}
 use Rattle.bp_session.proofs.ServingLaws.{all_as, breaks_as, breaks_behind, breaks_line, commands_at_newline, serves_as, serves_one, session_append, text_none}
@@ -258,7 +260,7 @@ module _ (start : Moment) (most : ℕ) (held input middle a : List ℕ) (now : M
           broken = λ e. absurd (omega (arith, e));
           stopped = λ _ rest. rw (append_assoc input (10 ∷ []) rest) (stops_after most held input middle start behind new one.piece (10 ∷ rest) (record {
             stops = λ saved. rw (commands_at_newline middle rest) (stops_handed _ _ _ (command_of middle) (commands_from [] rest) _ _ (unsaved.fails.fails saved) (handed_behind a now.taken new.taken unsaved.taken));
-            cleared = unsaved.fails.cleared;
+            lost = unsaved.fails.lost;
           }));
           keeps_files = keeps_on 5 line.keeps;
           first = first_on 5 line.first;
@@ -383,7 +385,7 @@ module _ (command : Command) (old new : Moment) where
   alone_stopped : (b : List ℕ) → LineGathers 5 command [] b old new → LineOutcome 5 (command ∷ []) old new
   alone_stopped b line =
       let unsaved = line.stopped refl in
-      line_stopped _ _ _ (record { stops = λ saved. stops_handed _ _ _ _ [] _ _ (unsaved.fails.fails saved) unsaved.taken; cleared = unsaved.fails.cleared }) line.keeps (line.first.no_sink (inr (inr (inl refl)))) (line.first.files refl)
+      line_stopped _ _ _ (record { stops = λ saved. stops_handed _ _ _ _ [] _ _ (unsaved.fails.fails saved) unsaved.taken; lost = unsaved.fails.lost }) line.keeps (line.first.no_sink (inr (inr (inl refl)))) (line.first.files refl)
 
   pub line_alone : (status : ℕ) (b : List ℕ) → (status ≡ 0 → b ≡ []) → LineGathers status command [] b old new → LineOutcome status (command ∷ []) old new
   line_alone status b none line = go line.one_of
@@ -395,24 +397,21 @@ module _ (command : Command) (old new : Moment) where
 
 -- ---- what is taken of a file
 
--- a moment at which the file need not be taken to hold the words
-forgets : (old new : Moment) (saved image : Image) → Carries old new saved image → Carries old (record new { is_base_saved = false }) saved image
-forgets old new saved image carried name held = record { file = (carried name held).file; drained = λ e. absurd (never e) }
-  where
-    never : false ≡ true → ⊥
-    never e = cc
+-- a moment at which any block may lack words
+forgets : (old new : Moment) (saved image : Image) → Carries old new saved image → Carries old (record new { stale = [] }) saved image
+forgets old new saved image carried name held = holds_lost [] new.files new.memory.base name image (λ i. refl) (carried name held).file
 
-pub line_forgets : (status : ℕ) (commands : List Command) (old new : Moment) → LineOutcome status commands old new → LineOutcome status commands old (record new { is_base_saved = false })
+pub line_forgets : (status : ℕ) (commands : List Command) (old new : Moment) → LineOutcome status commands old new → LineOutcome status commands old (record new { stale = [] })
 line_forgets status commands old new line = record {
   whole = λ e saved. all_as _ _ _ _ _ _ (forgets old new saved) _ (line.whole e saved);
   broken = λ e saved. breaks_as _ _ _ _ _ _ (forgets old new saved) 0 0 _ (λ z. z) (line.broken e saved);
-  stopped = λ e. record { stops = (line.stopped e).stops; cleared = refl };
+  stopped = λ e. record { stops = (line.stopped e).stops; lost = λ i. refl };
   keeps = record { size = line.keeps.size; capacity = line.keeps.capacity; attached = line.keeps.attached; others = line.keeps.others; flushed = line.keeps.flushed };
   first = line.first;
   one_of = line.one_of;
 }
 
-pub serve_forgets : (status most : ℕ) (before after : Input) (old new : Moment) → ServeOutcome status most before after old new → ServeOutcome status most before after old (record new { is_base_saved = false })
+pub serve_forgets : (status most : ℕ) (before after : SourceView) (old new : Moment) → ServeOutcome status most before after old new → ServeOutcome status most before after old (record new { stale = [] })
 serve_forgets status most before after old new served = record {
   whole = λ e. let all = served.whole e in (all.0, all.1, all.2, all.3, λ saved. all_as _ _ _ _ _ _ (forgets old new saved) _ (all.4 saved));
   part = λ e. let part = served.part e in (part.0, part.1, part.2, λ saved. serves_as _ _ _ _ _ _ (forgets old new saved) _ _ _ (part.3 saved));
@@ -433,8 +432,8 @@ serve_forgets status most before after old new served = record {
         stopped.0,
         stopped.1,
         elim stopped.2 [
-          | inl all ↦ inl (λ rest. record { stops = (all rest).stops; cleared = refl })
-          | inr last ↦ inr (last.0, record { stops = last.1.stops; cleared = refl })
+          | inl all ↦ inl (λ rest. record { stops = (all rest).stops; lost = λ i. refl })
+          | inr last ↦ inr (last.0, record { stops = last.1.stops; lost = λ i. refl })
         ],
       );
   keeps = record { size = served.keeps.size; capacity = served.keeps.capacity; attached = served.keeps.attached; others = served.keeps.others; flushed = served.keeps.flushed };

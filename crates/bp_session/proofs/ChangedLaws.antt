@@ -1,18 +1,15 @@
 -- A file whose marked blocks are written holds the words as they are.
-use Rattle.std.proofs.Common.{zero, suc, refl, sym, ◌∙◌, ap, arith, ◌≡◌, ℕ, ◌+◌, ◌*◌, ◌/◌, ◌%◌, ◌<◌, ◌≤◌, List, length, take, drop, get_or, get_or-drop, Bool, true, false, inr}
-use Rattle.std.specs.Prelude.{None, Some, is_some, not, replicate}
-use Rattle.std.proofs.lemmas.List.{ext_get_or, get_or-replicate, get_or-take, length-drop, length-take-le}
-use Rattle.bp_io.specs.Files.{Known, View, block_bytes}
+use Rattle.std.proofs.Common.{refl, sym, ◌∙◌, ap, subst, arith, ◌≡◌, ℕ, ◌+◌, ◌*◌, ◌/◌, ◌%◌, ◌<◌, List, length, take, drop, get_or, get_or-drop, Bool, true, false, inr}
+use Rattle.std.specs.Prelude.{None, Some, is_some}
+use Rattle.std.proofs.lemmas.List.{ext_get_or, get_or-take, length-drop, length-take-le}
+use Rattle.bp_io.specs.Files.{Known, TellsFile, View, block_bytes}
 use Rattle.bp_layout.specs.Bytes.{image_bytes}
 use Rattle.bp_layout.specs.Words.{Image, word}
-use Rattle.bp_session.specs.Changed.{HasChanged, HoldsChanged, IsChanged, MarksChanges, is_marked}
-use Rattle.bp_session.specs.Files.{HasBytes, Holds, HoldsAs, StaysTold}
-use Rattle.pm_region.specs.Memory.{Memory}
-use Rattle.pm_region.specs.Safe.{IsSafe}
-use Rattle.bp_layout.specs.Whole.{SameFiles}
+use Rattle.bp_session.specs.Changed.{AreMarked, HasChanged, HoldsChanged, IsChanged, MarksChanges, is_marked}
+use Rattle.bp_session.specs.Files.{HasBytes, HasUnmarked, Holds, HoldsAs, StaysTold}
 use Rattle.bp_session.proofs.ActingLaws.{holds_bytes}
 use Rattle.bp_session.proofs.BlockLaws.{blocks-image_bytes, length-image_bytes}
-use Rattle.bp_session.proofs.SavingLaws.{block_is, size-current}
+use Rattle.bp_session.proofs.SavingLaws.{block_is}
 
 -- two lists of blocks with the same blocks
 in_block : (xs : List ℕ) (p : ℕ) → get_or xs p 0 ≡ get_or (block_bytes xs (p / 4096)) (p % 4096) 0
@@ -43,68 +40,79 @@ bytes_same : (first second : Image) (i n : ℕ) → length first ≡ 512 * n →
 bytes_same first second i n one two inside same =
     blocks-image_bytes second i 1 ∙ ap image_bytes (block_same first second i n one two inside same) ∙ sym (blocks-image_bytes first i 1)
 
+-- ---- the words of the last drain in a file
+
+off_before : (before after : List Bool) (i : ℕ) → (is_marked before i ≡ true → is_marked after i ≡ true) → is_marked after i ≡ false → is_marked before i ≡ false
+off_before before after i more off = go (is_marked before i) refl
+  where
+    go : (b : Bool) → is_marked before i ≡ b → is_marked before i ≡ false
+    go false e = e
+    go true e = absurd (let no : true ≡ false = sym (more e) ∙ off in cc)
+
+-- where these words change, and more is marked: each block in which they do
+module _ (before after : List Bool) (base next : Image) (n : ℕ) (one : length base ≡ 512 * n) (two : length next ≡ 512 * n)
+    (more : (i : ℕ) → is_marked before i ≡ true → is_marked after i ≡ true) (changes : MarksChanges after base next) where
+  unmarked_more : (bytes : List ℕ) → length bytes ≡ 4096 * n → HasUnmarked before base bytes → HasUnmarked after next bytes
+  unmarked_more bytes size held i inside off =
+      held i inside (off_before before after i (more i) off)
+      ∙ sym (bytes_same base next i n one two (omega (arith, inside, size)) (λ place within there. changes place within (ap (λ a. is_marked after a) there ∙ off)))
+
+  told_more : (known : Known) (image : Image) → length image ≡ 512 * n → HasBytes known (image_bytes image) → TellsFile known (HasUnmarked before base) → TellsFile known (HasUnmarked after next)
+  told_more None image size bytes held = tt
+  told_more (Some None) image size bytes held = tt
+  told_more (Some (Some found)) image size bytes held =
+      let same : found ≡ image_bytes image = bytes in
+      unmarked_more found (omega (arith, ap length same, length-image_bytes image, size)) held
+
+  pub holds_more : (files : View) (name : List ℕ) (image : Image) → files.blocks ≡ n → HoldsAs before files base name image → HoldsAs after files next name image
+  holds_more files name image is held = record { file = held.file; fresh = told_more (files.contents name) image (omega (arith, held.file.size, is)) held.file.bytes held.fresh }
+
+-- a file that holds just these words, whatever is marked
+pub holds_drained : (marks : List Bool) (files : View) (base : Image) (name : List ℕ) → Holds files name base → HoldsAs marks files base name base
+holds_drained marks files base name file = record { file = file; fresh = go (files.contents name) file.bytes }
+  where
+    go : (known : Known) → HasBytes known (image_bytes base) → TellsFile known (HasUnmarked marks base)
+    go None has = tt
+    go (Some None) has = tt
+    go (Some (Some found)) has = λ i inside off. ap (λ l. block_bytes l i) has
+
+-- .. and one where each block is marked, whatever it holds
+pub holds_lost : (marks : List Bool) (files : View) (base : Image) (name : List ℕ) (image : Image) → AreMarked marks → Holds files name image → HoldsAs marks files base name image
+holds_lost marks files base name image all file = record { file = file; fresh = go (files.contents name) }
+  where
+    go : (known : Known) → TellsFile known (HasUnmarked marks base)
+    go None = tt
+    go (Some None) = tt
+    go (Some (Some found)) = λ i inside off. absurd (let no : true ≡ false = sym (all i) ∙ off in cc)
+
 -- ---- what is saved
 
--- blocks are left only where the file is taken to hold the words of the last drain
-module _ (marks : List Bool) (is_base_saved : Bool) (base now : Image) (n : ℕ) (one : length base ≡ 512 * n) (two : length now ≡ 512 * n)
-    (left : (i : ℕ) → i < n → is_marked marks i ≡ false → is_base_saved ≡ true) (changes : MarksChanges marks base now) where
-  all_saved : (was found : List ℕ) → length was ≡ 4096 * n → (is_base_saved ≡ true → was ≡ image_bytes base) → IsChanged marks n was (image_bytes now) found → found ≡ image_bytes now
+-- blocks are left only where the file holds the words as they are
+module _ (marks : List Bool) (now : Image) (n : ℕ) (two : length now ≡ 512 * n) where
+  all_saved : (was found : List ℕ) → length was ≡ 4096 * n → HasUnmarked marks now was → IsChanged marks n was (image_bytes now) found → found ≡ image_bytes now
   all_saved was found size held is =
       by_blocks found (image_bytes now) n (is.size ∙ size) (omega (arith, length-image_bytes now, two)) (λ i low. go i low (omega (arith, is.size, size, low)) (is_marked marks i) refl)
     where
       go : (i : ℕ) → i < n → 4096 * i < length found → (b : Bool) → is_marked marks i ≡ b → block_bytes found i ≡ block_bytes (image_bytes now) i
       go i low inside true e = is.marked i low inside e
-      go i low inside false e =
-          is.others i inside (inr e) ∙ ap (λ l. block_bytes l i) (held (left i low e))
-          ∙ sym (bytes_same base now i n one two low (λ place within there. changes place within (ap (λ a. is_marked marks a) there ∙ e)))
+      go i low inside false e = is.others i inside (inr e) ∙ held i (omega (arith, low, size)) e
 
-  pub known_saved : (known new : Known) (was : List ℕ) → length was ≡ 4096 * n → HasBytes known was → (is_base_saved ≡ true → HasBytes known (image_bytes base)) → is_some new ≡ is_some known
-      → HasChanged new marks n was (image_bytes now) → HasBytes new (image_bytes now)
+  known_saved : (known new : Known) (was : List ℕ) → length was ≡ 4096 * n → HasBytes known was → TellsFile known (HasUnmarked marks now) → is_some new ≡ is_some known → HasChanged new marks n was (image_bytes now)
+      → HasBytes new (image_bytes now)
   known_saved None None was size first held told has = tt
   known_saved None (Some new) was size first held told has = absurd (let no : true ≡ false = told in cc)
   known_saved (Some None) new was size first held told has = absurd first
   known_saved (Some (Some old)) None was size first held told has = tt
   known_saved (Some (Some old)) (Some None) was size first held told has = has
-  known_saved (Some (Some old)) (Some (Some found)) was size first held told has = all_saved was found size (λ e. sym first ∙ held e) has
-
--- ---- the marks that a save begins with
-
-flag_of : (flag : Bool) → not flag ≡ false → flag ≡ true
-flag_of true e = refl
-flag_of false e = absurd (let no : true ≡ false = e in cc)
-
--- all blocks are marked where the file isn't taken to hold them
-pub left_saved : (flag : Bool) (marks : List Bool) (count : ℕ) → ((i : ℕ) → is_marked (replicate count (not flag)) i ≡ true → is_marked marks i ≡ true) → (i : ℕ) → i < count → is_marked marks i ≡ false → flag ≡ true
-left_saved flag marks count more i low off = go flag refl
-  where
-    go : (b : Bool) → flag ≡ b → flag ≡ true
-    go true e = e
-    go false e =
-        let on : is_marked (replicate count (not flag)) i ≡ true = get_or-replicate count i (not flag) false low ∙ ap not e in
-        absurd (let no : true ≡ false = sym (more i on) ∙ off in cc)
-
-replicate_off : (count i : ℕ) → is_marked (replicate count false) i ≡ false
-replicate_off zero i = refl
-replicate_off (suc count) zero = refl
-replicate_off (suc count) (suc i) = replicate_off count i
-
-pub all_off : (flag : Bool) (marks : List Bool) (count : ℕ) → marks ≡ replicate count (not flag) → flag ≡ true → (i : ℕ) → is_marked marks i ≡ false
-all_off flag marks count are on i = ap (λ l. is_marked l i) (are ∙ ap (λ b. replicate count (not b)) on) ∙ replicate_off count i
+  known_saved (Some (Some old)) (Some (Some found)) was size first held told has = all_saved was found size (subst (λ (l : List ℕ). HasUnmarked marks now l) first held) has
 
 -- ---- the whole
 
-pub fits_marks : (memory : Memory) → IsSafe SameFiles memory → length memory.base ≤ 512 * 65536
-fits_marks memory safe =
-    let sized = safe.well.first.new_well_formed.formatted.sized in
-    omega (arith, size-current memory, sized.whole, sized.at_most)
-
 -- what a save leaves of a file
-module _ (marks : List Bool) (flag : Bool) (base now : Image) (old new : View) (size : length base ≡ 512 * old.blocks) (same : length now ≡ length base) (fits : length base ≤ 512 * 65536)
-    (more : (i : ℕ) → is_marked (replicate 65536 (not flag)) i ≡ true → is_marked marks i ≡ true) (changes : MarksChanges marks base now) (told : StaysTold old new) (blocks : new.blocks ≡ old.blocks) where
-  pub saves_words : (name : List ℕ) (was : Image) → HoldsAs flag old base name was → HoldsChanged marks new name (image_bytes was) (image_bytes now) → Holds new name now
-  saves_words name was held saved = record {
-    attached = saved.attached;
-    size = omega (arith, same, size, blocks);
-    bytes = known_saved marks flag base now new.blocks (omega (arith, size, blocks)) (omega (arith, same, size, blocks)) (λ i low. left_saved flag marks 65536 more i (omega (arith, low, fits, size, blocks))) changes
-        (old.contents name) (new.contents name) (image_bytes was) saved.size held.file.bytes (λ e. (held.drained e).bytes) (told name (image_bytes was) (holds_bytes old name was held.file)) saved.has;
-  }
+pub saves_words : (marks : List Bool) (now : Image) (old new : View) → length now ≡ 512 * old.blocks → StaysTold old new → new.blocks ≡ old.blocks → (name : List ℕ) (was : Image)
+    → HoldsAs marks old now name was → HoldsChanged marks new name (image_bytes was) (image_bytes now) → Holds new name now
+saves_words marks now old new size told blocks name was held saved = record {
+  attached = saved.attached;
+  size = omega (arith, size, blocks);
+  bytes = known_saved marks now new.blocks (omega (arith, size, blocks)) (old.contents name) (new.contents name) (image_bytes was) saved.size held.file.bytes held.fresh (told name (image_bytes was) (holds_bytes old name was held.file)) saved.has;
+}

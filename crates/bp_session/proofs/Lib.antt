@@ -12,3 +12,4 @@ pub mod AheadLaws
 pub mod Runs
 pub mod OthersLaws
 pub mod ExportedLines
+pub mod StaleLaws

@@ -1,14 +1,15 @@
 -- The blocks to which a log stores.
-use Rattle.std.proofs.Common.{zero, suc, refl, sym, ◌∙◌, ap, arith, ◌≡◌, ℕ, ◌+◌, ◌-◌, ◌/◌, ◌<◌, ◌≤◌, List, [], ◌∷◌, length, set, Bool, true, false, inl, inr, subst}
-use Rattle.std.specs.Prelude.{◌⊎◌, Option, None, Some, slice_get}
-use Rattle.std.proofs.lemmas.Bool.{cases_eq, cases_lt}
-use Rattle.std.proofs.lemmas.List.{get_or-set_other, length-set}
+use Rattle.std.proofs.Common.{zero, suc, refl, sym, ◌∙◌, ap, arith, ◌≡◌, ℕ, ◌+◌, ◌-◌, ◌*◌, ◌/◌, ◌<◌, ◌≤◌, List, [], ◌∷◌, ◌++◌, drop, length, set, take, Bool, true, false, inl, inr, subst}
+use Rattle.std.specs.Prelude.{◌⊎◌, Option, None, Some, min, replicate, slice_get, if◌then◌else◌}
+use Rattle.std.proofs.lemmas.Bool.{cases_eq, cases_lt, le-ltb, lt-ltb}
+use Rattle.bp_limits.specs.Limits.{call_room}
+use Rattle.std.proofs.lemmas.List.{append-nil, drop_all, get_or-replicate, get_or-set_other, get_or-take, get_or_past, length-append, length-replicate, length-set, length-take, take_all, take_at}
 use Rattle.pm_epochs.specs.declared.event.Event.{Event}
 use Rattle.pm_epochs.specs.declared.event.Event.TheVariants.{Barrier, Mark, Store}
 use Rattle.pm_epochs.specs.Log.{stores, words_after}
-use Rattle.pm_region.specs.Memory.{AreInRow, AreWithin, Follows}
+use Rattle.pm_region.specs.Memory.{AreInRow, AreWithin, Follows, Memory, current_words, drained, room_in}
 use Rattle.bp_layout.specs.Words.{Image, word}
-use Rattle.bp_session.specs.Changed.{MarksChanges, is_marked}
+use Rattle.bp_session.specs.Changed.{AreMarked, AreUnmarked, MarksChanges, MarksDrain, is_marked}
 
 -- each word to which one of the first events stores, so many, lies in a block that is marked
 abbrev pub MarksStores : List Bool → List Event → ℕ → Type 0
@@ -142,3 +143,60 @@ none_at (Barrier ∷ events) zero at value none here = cc
 none_at (Mark ∷ events) zero at value none here = cc
 none_at (Barrier ∷ events) (suc i) at value none here = none_at events i at value none here
 none_at (Mark ∷ events) (suc i) at value none here = none_at events i at value none here
+
+-- the words of blocks that are marked, up to the last or to the end of the marks
+pub marked_within : (marks : List Bool) (first count end block : ℕ) → 0 < count → end ≡ min (length marks) ((first + (count - 1)) / 512 + 1) → end ≤ block
+    → ((k : ℕ) → first / 512 ≤ k → k < block → is_marked marks k ≡ true) → (word : ℕ) → first ≤ word → word < first + count → is_marked marks (word / 512) ≡ true
+marked_within marks first count end block some is past told word low high = at (cases_lt (word / 512) block)
+  where
+    at : (word / 512 < block) ⊎ (block ≤ word / 512) → is_marked marks (word / 512) ≡ true
+    at (inl before) = told (word / 512) (omega (arith, low)) before
+    at (inr behind) = get_or_past marks (word / 512) true (omega (arith, some, is, past, high, behind))
+
+-- ---- the marks of a drain that a call begins with
+
+pub drain_marks : (memory : Memory) (before after : List Bool) → room_in memory < call_room → length after ≡ length before → ((i : ℕ) → is_marked before i ≡ true → is_marked after i ≡ true)
+    → MarksChanges after memory.base (current_words memory) → (stores memory.events ≡ [] → after ≡ before) → MarksDrain memory before after
+drain_marks memory before after low size more changes none = record {
+  size = size;
+  more = more;
+  changes = subst (λ (full : Bool). MarksChanges after memory.base (if full then drained memory else memory).base) (sym (lt-ltb (room_in memory) call_room low)) changes;
+  none = λ drains. elim drains [ inl high ↦ absurd (omega (arith, high, low)) | inr empty ↦ none empty ];
+}
+
+pub drain_none : (memory : Memory) (marks : List Bool) → call_room ≤ room_in memory → MarksDrain memory marks marks
+drain_none memory marks high = record {
+  size = refl;
+  more = λ i on. on;
+  changes = subst (λ (full : Bool). MarksChanges marks memory.base (if full then drained memory else memory).base) (sym (le-ltb (room_in memory) call_room high)) (λ place inside off. refl);
+  none = λ _. refl;
+}
+
+-- ---- all marks at once
+
+pub all_marked : (marks : List Bool) → ((i : ℕ) → i < length marks → is_marked marks i ≡ true) → AreMarked marks
+all_marked marks each i = go (cases_lt i (length marks))
+  where
+    go : (i < length marks) ⊎ (length marks ≤ i) → is_marked marks i ≡ true
+    go (inl inside) = each i inside
+    go (inr behind) = get_or_past marks i true behind
+
+-- the first of marks of which none is
+pub front_unmarked : (count : ℕ) → AreUnmarked (take count (replicate 65536 false))
+front_unmarked count i low =
+    let size : length (take count (replicate 65536 false)) ≡ min count 65536 = length-take count (replicate 65536 false) ∙ ap (min count) (length-replicate 65536 false) in
+    get_or-take count (replicate 65536 false) i true (omega (arith, low, size)) ∙ get_or-replicate 65536 i false true (omega (arith, low, size))
+
+-- the first marks, so many, which were lent and came back before those behind them
+pub lent_back : (count lent : ℕ) (marks new : List Bool) → lent ≡ min count (length marks) → length new ≡ lent → take count (new ++ drop lent marks) ≡ new
+lent_back count lent marks new is size = at (cases_lt (length marks) count)
+  where
+    at : (length marks < count) ⊎ (count ≤ length marks) → take count (new ++ drop lent marks) ≡ new
+    at (inl short) =
+        let none : drop lent marks ≡ [] = drop_all lent marks (omega (arith, short, is)) in
+        rw none (take_all count (new ++ []) (omega (arith, length-append new [], size, short, is)) ∙ append-nil new)
+    at (inr fits) = take_at new (drop lent marks) count (omega (arith, size, fits, is))
+
+-- what is told of a file where no mark is, by those before a log without a store
+pub kept_still : {P : Type 0} (old new : List Bool) (words now : ℕ) → (AreUnmarked new → now ≤ 512 * length new → P) → new ≡ old → now ≡ words → AreUnmarked old → words ≤ 512 * length old → P
+kept_still old new words now kept same size none covers = kept (subst (λ (marks : List Bool). AreUnmarked marks) (sym same) none) (omega (arith, covers, size, ap length same))

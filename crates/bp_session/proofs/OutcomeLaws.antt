@@ -1,17 +1,34 @@
 -- Outcomes of serving, from line to line and piece to piece.
 use Rattle.std.proofs.Common.{refl, sym, ◌∙◌, subst, arith, ◌≡◌, ◌≤◌, ℕ, List, [], ◌∷◌, ◌++◌, length, inl, inr}
 use Rattle.std.proofs.lemmas.List.{append_assoc, append-nil}
-use Rattle.std.specs.Prelude.{◌⊎◌}
+use Rattle.std.specs.Prelude.{◌⊎◌, Err, Ok, OnOk, Result}
 use Rattle.std.specs.Io.KnownBytes.{Consumes, IsAtEnd}
 use Rattle.bp_io.specs.Causes.{Rose}
+use Rattle.bp_io.specs.Streams.{SourceView}
 use Rattle.bp_script.specs.Commands.{Command, command_of}
 use Rattle.bp_session.specs.Lines.{commands_from}
 use Rattle.bp_session.specs.Outside.{Faults, IsFirstFault, SinkTookAll, counts}
 use Rattle.bp_layout.specs.Words.{Image}
-use Rattle.bp_session.specs.Serving.{Carries, CarriesPartly, DoesAll, DoesBreakOff, DoesStop, Input, Keeps, LineOutcome, Moment, PieceOutcome, ServeOutcome}
+use Rattle.bp_session.specs.Serving.{Carries, CarriesPartly, DoesAll, DoesBreakOff, DoesStop, Keeps, LineOutcome, Moment, PieceOutcome, ServeOutcome}
+use Rattle.bp_session.specs.Statuses.{broken_status, status_of}
+use Rattle.bp_session.specs.declared.broken.Broken.{Broken}
+use Rattle.bp_session.specs.declared.broken.Broken.TheVariants.{Source, Sink, Files, LongInput}
 use Rattle.bp_session.proofs.OthersLaws.{others_same, others_then}
 use Rattle.bp_session.proofs.SavingLaws.{stays_attached, still_attached}
 use Rattle.bp_session.proofs.ServingLaws.{all_as, breaks_as, breaks_behind, breaks_in, commands_at_newline, commands_of_nothing, not_long, serves_as, serves_newline, serves_quietly, serves_then, serves_to_end, stops_as, stops_behind, stops_in, told_none}
+
+-- ---- statuses
+
+-- each cause that breaks serving off has a status of its own
+pub never_whole : (broken : Broken) → ¬ (broken_status broken ≡ 0)
+never_whole Source e = omega (arith, e)
+never_whole Sink e = omega (arith, e)
+never_whole Files e = omega (arith, e)
+never_whole LongInput e = omega (arith, e)
+
+pub where_whole : {T P : Type 0} (served : Result T Broken) → OnOk served P → status_of served ≡ 0 → P
+where_whole (Ok value) holds e = holds
+where_whole (Err broken) holds e = absurd (never_whole broken e)
 
 -- ---- faults
 
@@ -172,7 +189,7 @@ piece_newline status most held a b line = record {
   broken = λ e rest saved. rw (commands_at_newline held rest) (breaks_behind _ _ _ _ _ (commands_from [] rest) _ _ (breaks_as _ _ _ _ _ _ (λ image held. held) 0 most _ (λ _. refl) (line.broken e saved)));
   stopped = λ e rest. record {
     stops = λ saved. rw (commands_at_newline held rest) (stops_behind _ _ _ _ (commands_from [] rest) _ _ ((line.stopped e).stops saved));
-    cleared = (line.stopped e).cleared;
+    lost = (line.stopped e).lost;
   };
   keeps_files = line.keeps;
   first = line.first;
@@ -199,7 +216,7 @@ module _ (most : ℕ) (held i middle : List ℕ) (a b c : Moment) (one : PieceOu
     stops = λ saved.
         let first = one.whole refl saved in
         stops_in _ _ _ _ _ _ _ _ _ first _ _ j (stops_as _ _ _ _ _ _ (carries_on_partly a b c saved first.after first.file) _ (stopped.stops first.after));
-    cleared = stopped.cleared;
+    lost = stopped.lost;
   }
 
   pub all_after : (j : List ℕ) → DoesAll b c (commands_from middle j) → DoesAll a c (commands_from held (i ++ j))
@@ -232,7 +249,7 @@ piece_stops status most held i j keeps more a b other one = record {
 
 -- ---- a source
 
-module _ (most : ℕ) (before after : Input) (a b : Moment) where
+module _ (most : ℕ) (before after : SourceView) (a b : Moment) where
   -- the source failed
   pub serve_part : (input keeps : List ℕ) → Consumes before.left after.left input → PieceOutcome 0 most [] input keeps a b → Rose before.faults after.faults → ServeOutcome 3 most before after a b
   serve_part input keeps read part rose = record {

@@ -10,7 +10,7 @@ use Rattle.pm_epochs.proofs.CrashLaws.{length-words_after}
 use Rattle.bp_io.specs.Files.{block_bytes, blocks_of, with_blocks, IsMixed, Known, Becomes, BecomesMixed, Stays, StaysAttached, View}
 use Rattle.bp_session.proofs.BlockLaws.{length-image_bytes}
 use Rattle.bp_layout.specs.Words.{Image}
-use Rattle.bp_session.specs.Changed.{HasChanged, IsChanged, is_marked}
+use Rattle.bp_session.specs.Changed.{AreUnmarked, HasChanged, IsChanged, is_marked}
 use Rattle.bp_session.specs.Files.{HasBytes, HasBlocksOf, IsReady}
 
 -- ---- bytes before, within and behind those that are written
@@ -292,6 +292,6 @@ err_then (Ok done) f p = tt
 err_then (Err e) f p = f p
 
 -- ---- a run of marked blocks is none where no block is marked
-pub unmarked_run : (marks : List Bool) (first run : ℕ) → ((i : ℕ) → is_marked marks i ≡ false) → (run ≡ 0 → ⊥) → ((k : ℕ) → k < run → is_marked marks (first + k) ≡ true) → ⊥
-unmarked_run marks first zero none some on = some refl
-unmarked_run marks first (suc run) none some on = let no : true ≡ false = sym (on 0 (omega arith)) ∙ none (first + 0) in cc
+pub unmarked_run : (marks : List Bool) (first run : ℕ) → AreUnmarked marks → first < length marks → (run ≡ 0 → ⊥) → ((k : ℕ) → k < run → is_marked marks (first + k) ≡ true) → ⊥
+unmarked_run marks first zero none inside some on = some refl
+unmarked_run marks first (suc run) none inside some on = let no : true ≡ false = sym (on 0 (omega arith)) ∙ none (first + 0) (omega (arith, inside)) in cc

@@ -1,11 +1,9 @@
 -- What a line came to.
-use Rattle.std.specs.Prelude.{[], ◌∷◌, ◌≡◌, ◌⊎◌, ◌&&◌, ℕ, Bool, List, true, false, length, nat_lt, not}
+use Rattle.std.specs.Prelude.{◌≡◌, ◌⊎◌, ℕ, Bool, List, ⊤, false, length, true}
 use Rattle.bp_limits.specs.Limits.{call_room}
-use Rattle.pm_epochs.specs.declared.event.Event.{Event}
-use Rattle.pm_epochs.specs.declared.event.Event.TheVariants.{Barrier, Mark, Store}
 use Rattle.pm_epochs.specs.Log.{marks}
 use Rattle.pm_epochs.specs.Replay.{PowerCut, IsRight, kept_calls}
-use Rattle.pm_region.specs.Memory.{Memory, crashed, current_words, room_in}
+use Rattle.pm_region.specs.Memory.{Memory, crashed, current_words, with_room}
 use Rattle.bp_layout.specs.Words.{Image}
 use Rattle.bp_plain.specs.Calls.{Answer}
 use Rattle.bp_plain.specs.Calls.Answer.{refused}
@@ -14,6 +12,7 @@ use Rattle.bp_script.specs.Commands.{Command}
 use Rattle.bp_script.specs.Commands.Command.{file_call, sync, space, crash, storm, cache, log, bad_syntax, too_long}
 use Rattle.bp_script.specs.Texts.{LineReply}
 use Rattle.bp_script.specs.Texts.LineReply.{answered, synced, space_of, kept_of, log_of, bad_choice, syntax, long}
+use Rattle.bp_session.specs.Changed.{AreMarked, AreUnmarked, MarksDrain}
 use Rattle.bp_session.specs.Session.{SessionLine, State, caches_cut}
 use Rattle.bp_session.specs.declared.outcome.Outcome.{Outcome}
 use Rattle.bp_session.specs.declared.outcome.Outcome.TheVariants.{Answered, Synced, Counted, Kept, Logged, BadChoice, NoMemory, BadSyntax, TooLong}
@@ -46,34 +45,31 @@ to_save log memory saved = saved
 to_save bad_syntax memory saved = saved
 to_save too_long memory saved = saved
 
--- the log has a store
-abbrev pub has_store : List Event → Bool
-has_store [] = false
-has_store (Store word value ∷ events) = true
-has_store (Barrier ∷ events) = has_store events
-has_store (Mark ∷ events) = has_store events
+-- the words of the last drain behind a line that came to this: a call may drain first; of a sync and a crash this says
+-- nothing
+abbrev pub KeepsBase : Outcome → Memory → Memory → Type 0
+KeepsBase Answered old new = new.base ≡ (with_room call_room old).base
+KeepsBase Synced old new = ⊤
+KeepsBase (Kept c n) old new = ⊤
+KeepsBase outcome old new = new.base ≡ old.base
 
--- a call first drains a log that lacks room for one, and so may change the words of the last drain where that has a store
-abbrev pub drains_stores : Memory → Bool
-drains_stores memory = nat_lt (room_in memory) call_room && has_store memory.events
+-- the marks behind a line that came to this, while a sync is left to be done and a crash to be told: a call's drain adds
+-- to them
+abbrev pub NotesDrain : Outcome → Memory → List Bool → List Bool → Type 0
+NotesDrain Answered memory before after = MarksDrain memory before after
+NotesDrain outcome memory before after = after ≡ before
 
--- a line that may have changed the words of the last drain: a call that first drained stores, a crash, or a sync
-abbrev pub may_change_base : Outcome → Bool → Bool
-may_change_base Answered drained_stores = drained_stores
-may_change_base Synced drained_stores = true
-may_change_base (Counted free live) drained_stores = false
-may_change_base (Kept c n) drained_stores = true
-may_change_base (Logged events barriers calls) drained_stores = false
-may_change_base BadChoice drained_stores = false
-may_change_base NoMemory drained_stores = false
-may_change_base BadSyntax drained_stores = false
-may_change_base TooLong drained_stores = false
+-- a line that came to a crash
+abbrev pub is_crash : Outcome → Bool
+is_crash (Kept c n) = true
+is_crash outcome = false
 
--- whether a file that is taken to hold the words of the last drain holds them behind a line that came to this: a sync
--- saves them
-abbrev pub is_base_saved_behind : Outcome → Bool → Bool → Bool
-is_base_saved_behind Synced drained_stores is_base_saved = true
-is_base_saved_behind outcome drained_stores is_base_saved = is_base_saved && not (may_change_base outcome drained_stores)
+-- The marks behind a line that came to this: all behind a crash, none behind a sync, and else as before, but that a call's
+-- drain adds to them.
+pub record LeavesStale (outcome : Outcome) (memory : Memory) (before after : List Bool) : Type 0 where
+  pub crashed : is_crash outcome ≡ true → AreMarked after
+  pub synced : outcome ≡ Synced → AreUnmarked after
+  pub others : is_crash outcome ≡ false → ¬ (outcome ≡ Synced) → NotesDrain outcome memory before after
 
 -- A command was done and replied to, but for the file, which is to be saved where the outcome is a sync.
 pub record Does (old : Memory) (command : Command) (outcome : Outcome) (answer : Answer) (new : Memory) : Type 0 where
@@ -84,7 +80,7 @@ pub record Does (old : Memory) (command : Command) (outcome : Outcome) (answer :
   pub is_sync : outcome ≡ Synced → command ≡ sync
   pub synced : command ≡ sync → outcome ≡ Synced
   pub others : ¬ (outcome ≡ Synced) → (saved : Image) → to_save command old saved ≡ saved
-  pub base : may_change_base outcome (drains_stores old) ≡ false → new.base ≡ old.base
+  pub base : KeepsBase outcome old new
 
 -- A crash to this cut: the calls that are kept are counted, and the memory is what it leaves.
 pub record HasCrashed (old : Memory) (cut : PowerCut) (outcome : Outcome) (new : Memory) : Type 0 where

@@ -1,20 +1,44 @@
 -- Which blocks of a file a save writes: those that are marked.
-use Rattle.std.specs.Prelude.{◌≡◌, ◌⊎◌, ℕ, ◌*◌, ◌/◌, ◌<◌, ◌≤◌, List, Bool, true, false, Some, None, ⊤, length, slice_index_or}
-use Rattle.bp_limits.specs.Limits.{block_size, block_words}
+use Rattle.std.specs.Prelude.{◌≡◌, ◌⊎◌, ℕ, ◌*◌, ◌/◌, ◌<◌, ◌≤◌, List, [], Bool, true, false, Some, None, ⊤, length, slice_index_or, take}
+use Rattle.bp_limits.specs.Limits.{block_size, block_words, call_room}
 use Rattle.bp_io.specs.Files.{Known, View, block_bytes}
 use Rattle.bp_layout.specs.Words.{Image, word}
+use Rattle.bp_session.specs.declared.saving.Stale.{Stale}
+use Rattle.pm_epochs.specs.Log.{stores}
+use Rattle.pm_region.specs.Memory.{Memory, room_in, with_room}
 
+-- a block of a file; each behind those of which the marks tell counts as marked
 abbrev pub is_marked : List Bool → ℕ → Bool
-is_marked marks i = slice_index_or marks i false
+is_marked marks i = slice_index_or marks i true
 
--- no block is
+-- each block is
+abbrev pub AreMarked : List Bool → Type 0
+AreMarked marks = (i : ℕ) → is_marked marks i ≡ true
+
+-- none is of which they tell
 abbrev pub AreUnmarked : List Bool → Type 0
-AreUnmarked marks = (i : ℕ) → is_marked marks i ≡ false
+AreUnmarked marks = (i : ℕ) → i < length marks → is_marked marks i ≡ false
+
+-- the marks of the blocks that may lack words of the last drain
+abbrev pub stale_in : Stale → List Bool
+stale_in stale = take stale.count stale.marks
 
 -- each word of a block that is not marked is the same in both images
 abbrev pub MarksChanges : List Bool → Image → Image → Type 0
 MarksChanges marks old new =
     (place : ℕ) → place < length old → is_marked marks (place / block_words) ≡ false → word new place ≡ word old place
+
+-- a call drains no store first: the log has room for one, or no store
+abbrev pub DrainsNone : Memory → Type 0
+DrainsNone memory = (call_room ≤ room_in memory) ⊎ (stores memory.events ≡ [])
+
+-- The marks behind those before, where a call may begin with a drain: each block is marked too in which that changes a
+-- word of the last drain, and none where it drains no store.
+pub record MarksDrain (memory : Memory) (before after : List Bool) : Type 0 where
+  pub size : length after ≡ length before
+  pub more : (i : ℕ) → is_marked before i ≡ true → is_marked after i ≡ true
+  pub changes : MarksChanges after memory.base (with_room call_room memory).base
+  pub none : DrainsNone memory → after ≡ before
 
 -- Of the first blocks of a file those that are marked are the second list's, and all others are the first's.
 pub record IsChanged (marks : List Bool) (count : ℕ) (first second found : List ℕ) : Type 0 where

@@ -1,9 +1,10 @@
 -- Which words a file holds.
-use Rattle.std.specs.Prelude.{◌≡◌, ℕ, List, None, Some, ⊤, Bool, true, is_some, length, take, ◌*◌, ◌<◌, ◌^◌}
+use Rattle.std.specs.Prelude.{◌≡◌, ℕ, List, None, Some, ⊤, Bool, true, false, is_some, length, take, ◌*◌, ◌<◌, ◌^◌}
 use Rattle.bp_limits.specs.Limits.{block_size, block_words}
-use Rattle.bp_io.specs.Files.{IsMixed, Known, TellsFile, View}
+use Rattle.bp_io.specs.Files.{IsMixed, Known, TellsFile, View, block_bytes}
 use Rattle.bp_layout.specs.Words.{Image, word}
 use Rattle.bp_layout.specs.Bytes.{image_bytes}
+use Rattle.bp_session.specs.Changed.{is_marked}
 
 -- where it is told, the file of a name is there and has these bytes
 abbrev pub HasBytes : Known → List ℕ → Type 0
@@ -55,11 +56,15 @@ pub record Holds (files : View) (name : List ℕ) (image : Image) : Type 0 where
   pub size : length image ≡ block_words * files.blocks
   pub bytes : HasBytes (files.contents name) (image_bytes image)
 
--- It holds the first words, and where it is taken to hold those of the last drain, it does. Where its bytes are told,
--- both are the same then.
-pub record HoldsAs (is_base_saved : Bool) (files : View) (base : Image) (name : List ℕ) (image : Image) : Type 0 where
+-- each block that is not marked is the image's
+abbrev pub HasUnmarked : List Bool → Image → List ℕ → Type 0
+HasUnmarked marks image bytes = (i : ℕ) → block_size * i < length bytes → is_marked marks i ≡ false →
+    block_bytes bytes i ≡ block_bytes (image_bytes image) i
+
+-- It holds these words, and in each block that is not stale, where its bytes are told, those of the last drain.
+pub record HoldsAs (stale : List Bool) (files : View) (base : Image) (name : List ℕ) (image : Image) : Type 0 where
   pub file : Holds files name image
-  pub drained : is_base_saved ≡ true → Holds files name base
+  pub fresh : TellsFile (files.contents name) (HasUnmarked stale base)
 
 -- It is attached, and each of its blocks is that of the first words or of the second.
 pub record HoldsPartly (files : View) (name : List ℕ) (first second : Image) : Type 0 where

@@ -44,8 +44,8 @@ pub record IsUnsaved (command : Command) (before : List ℕ) (old new : Moment) 
   pub fails : FailsLine old command new
   pub taken : Appends old.taken new.taken before
 
--- What a line answers over what waits before and after it: 0 where its reply was added, 4 where the sink failed, 5
--- where a sync couldn't save.
+-- What a line does over what waits before and after it, by the status that it leads to: 0 where its reply was added, 4
+-- where the sink failed, 5 where a sync couldn't save.
 pub record LineGathers (status : ℕ) (command : Command) (before after : List ℕ) (old new : Moment) : Type 0 where
   pub whole : status ≡ 0 → IsAnswered command before after old new
   pub broken : status ≡ 4 → IsUntold command before old new ⊎ IsUnheard before old new

@@ -4,6 +4,7 @@ pub mod Session
 pub mod PlainSession
 pub mod Files
 pub mod Changed
+pub mod Statuses
 pub mod Serving
 pub mod Gathering
 pub mod Work

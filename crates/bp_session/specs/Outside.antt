@@ -3,6 +3,7 @@ use Rattle.std.specs.Prelude.{◌≡◌, ◌⊎◌, ℕ, Bool, List, take, Optio
 use Rattle.std.specs.Io.KnownBytes.{Appends}
 use Rattle.bp_io.specs.Causes.{Rose}
 use Rattle.bp_io.specs.Files.{Known, View}
+use Rattle.bp_io.specs.Streams.{SinkView, SourceView}
 use Rattle.bp_script.specs.Sayings.{notice_text}
 use Rattle.bp_script.specs.declared.notices.Notice.{Notice}
 
@@ -24,14 +25,14 @@ pub record Outside : Type 0 where
   pub is_flushed : Bool
   pub faults : Faults
 
-abbrev pub outside : Option (List ℕ) → ℕ → Option (List ℕ) → ℕ → View → List ℕ → Outside
-outside left source taken sink files name =
+abbrev pub outside : SourceView → SinkView → View → List ℕ → Outside
+outside source sink files name =
     record {
-      left = left;
-      taken = taken;
+      left = source.left;
+      taken = sink.taken;
       file = files.contents name;
       is_flushed = files.is_flushed;
-      faults = counts source sink files;
+      faults = counts source.faults sink.faults files;
     }
 
 abbrev pub SourceFailed : Outside → Outside → Type 0

@@ -1,8 +1,9 @@
 -- What serving some of an input does, from one moment to another.
-use Rattle.std.specs.Prelude.{All, ◌≡◌, ◌≤◌, ◌⊎◌, ℕ, ◌<◌, List, [], ◌∷◌, ◌++◌, Some, Bool, true, false, length, take, Option}
+use Rattle.std.specs.Prelude.{All, ◌≡◌, ◌≤◌, ◌⊎◌, ℕ, ◌<◌, List, [], ◌∷◌, ◌++◌, Some, Bool, true, length, take, Option}
 use Rattle.std.specs.Io.KnownBytes.{Appends, Consumes, IsAtEnd}
 use Rattle.bp_io.specs.Causes.{Rose}
 use Rattle.bp_io.specs.Files.{KeepsOthers, StaysAttached, View}
+use Rattle.bp_io.specs.Streams.{SinkView, SourceView}
 use Rattle.bp_limits.specs.Limits.{log_events, max_input}
 use Rattle.pm_region.specs.Memory.{Memory, current_words, drained}
 use Rattle.bp_layout.specs.Words.{Image}
@@ -11,6 +12,7 @@ use Rattle.bp_script.specs.Commands.Command.{sync}
 use Rattle.bp_script.specs.Texts.{LineReply, reply_text}
 use Rattle.bp_session.specs.Lines.{commands_from, text_of}
 use Rattle.bp_session.specs.Acting.{state}
+use Rattle.bp_session.specs.Changed.{AreMarked}
 use Rattle.bp_session.specs.Files.{HoldsAs, HoldsPartly, IsReady}
 use Rattle.bp_session.specs.Outside.{IsFirstFault, counts}
 use Rattle.bp_session.specs.Session.{State, SessionLine, Session}
@@ -91,26 +93,27 @@ pub record StopsAtSave (old : State) (memory : Memory) (holds_partly : Image →
 
 -- ---- what is told from one moment to another
 
--- The region, the files and the sink, as they are told at a moment, and whether the attached file is taken to hold the
+-- The region, the files and the sink, as they are told at a moment, and the blocks of the attached file that may lack
 -- words of the last drain.
 pub record Moment : Type 0 where
   pub memory : Memory
   pub files : View
   pub taken : Option (List ℕ)
   pub faults : ℕ
-  pub is_base_saved : Bool
+  pub stale : List Bool
 
-abbrev pub moment : Memory → View → Option (List ℕ) → ℕ → Moment
-moment memory files taken faults =
-    record { memory = memory; files = files; taken = taken; faults = faults; is_base_saved = false }
+-- .. where any block may
+abbrev pub moment : Memory → View → SinkView → Moment
+moment memory files sink =
+    record { memory = memory; files = files; taken = sink.taken; faults = sink.faults; stale = [] }
 
--- the same moment, where the attached file is taken to hold the words of the last drain if so
-abbrev pub saved_if : Bool → Moment → Moment
-saved_if is_base_saved now = record now { is_base_saved = is_base_saved }
+-- the same moment, where these blocks may
+abbrev pub with_stale : List Bool → Moment → Moment
+with_stale stale now = record now { stale = stale }
 
--- the file of this name holds these words, and where it is taken to hold those of the last drain, it does
+-- the file of this name holds these words, and in each block that is not stale those of the last drain
 abbrev pub HoldsAt : Moment → List ℕ → Image → Type 0
-HoldsAt now name image = HoldsAs now.is_base_saved now.files now.memory.base name image
+HoldsAt now name image = HoldsAs now.stale now.files now.memory.base name image
 
 -- whatever name's file holds the first words at one moment holds the second at the other
 abbrev pub Carries : Moment → Moment → Image → Image → Type 0
@@ -121,14 +124,6 @@ abbrev pub CarriesPartly : Moment → Moment → Image → Image → Image → T
 CarriesPartly old new saved first second =
     (name : List ℕ) → HoldsAt old name saved → HoldsPartly new.files name first second
 
--- What a source has left, and how often it has failed.
-pub record Input : Type 0 where
-  pub left : Option (List ℕ)
-  pub faults : ℕ
-
-abbrev pub told : Option (List ℕ) → ℕ → Input
-told left faults = record { left = left; faults = faults }
-
 -- ---- what is done, whatever the attached file holds
 
 -- The command was done.
@@ -136,10 +131,10 @@ abbrev pub DoesLine : Moment → Command → LineReply → Moment → Type 0
 DoesLine old command reply new =
     (saved : Image) → Acts (state old.memory saved) new.memory (Carries old new saved) command reply
 
--- A sync couldn't save, and the file is not taken to hold the words.
+-- A sync couldn't save, and any block of the file may lack words.
 pub record FailsLine (old : Moment) (command : Command) (new : Moment) : Type 0 where
   pub fails : (saved : Image) → SyncFails (state old.memory saved) new.memory (CarriesPartly old new saved) command
-  pub cleared : new.is_base_saved ≡ false
+  pub lost : AreMarked new.stale
 
 -- The lines that this input ends were answered.
 abbrev pub DoesPart : List ℕ → List ℕ → List ℕ → Moment → Moment → Type 0
@@ -156,11 +151,11 @@ abbrev pub DoesBreakOff : ℕ → Moment → Moment → List Command → Type 0
 DoesBreakOff most old new commands = (saved : Image) →
     BreaksOff most (state old.memory saved) new.memory (Carries old new saved) commands old.taken new.taken
 
--- .. or a sync among them couldn't save, and the file is not taken to hold the words.
+-- .. or a sync among them couldn't save, and any block of the file may lack words.
 pub record DoesStop (old new : Moment) (commands : List Command) : Type 0 where
   pub stops : (saved : Image) →
       StopsAtSave (state old.memory saved) new.memory (CarriesPartly old new saved) commands old.taken new.taken
-  pub cleared : new.is_base_saved ≡ false
+  pub lost : AreMarked new.stale
 
 -- The region keeps its size and the room of its log, the same file is attached, no other one changes, and what was
 -- flushed before is flushed where no sync failed.
@@ -182,7 +177,8 @@ pub record ServesAgain (old new : Memory) (files : View) : Type 0 where
   pub ready : IsReady new.base files
   pub capacity : new.capacity ≡ old.capacity
 
--- What serving commands answers: 0 where all were answered, 4 where a reply broke off, 5 where a sync couldn't save.
+-- What serving commands does, by the status that it leads to: 0 where all were answered, 4 where a reply broke off, 5
+-- where a sync couldn't save.
 pub record LineOutcome (status : ℕ) (commands : List Command) (old new : Moment) : Type 0 where
   pub whole : status ≡ 0 → DoesAll old new commands
   pub broken : status ≡ 4 → DoesBreakOff 0 old new commands
@@ -191,7 +187,7 @@ pub record LineOutcome (status : ℕ) (commands : List Command) (old new : Momen
   pub first : IsFirstFault status (counts 0 old.faults old.files) (counts 0 new.faults new.files)
   pub one_of : (status ≡ 0) ⊎ (status ≡ 4) ⊎ (status ≡ 5)
 
--- What serving a piece of an input answers, after what was held of a line, where so many bytes of replies may wait: a
+-- What serving a piece of an input does, after what was held of a line, where so many bytes of replies may wait: a
 -- line that a fault ends is whole, whatever follows.
 pub record PieceOutcome (status most : ℕ) (held input keeps : List ℕ) (old new : Moment) : Type 0 where
   pub whole : status ≡ 0 → DoesPart held input keeps old new
@@ -207,9 +203,9 @@ abbrev pub OfLines : Option (List ℕ) → List ℕ → (List Command → Type 0
 OfLines left input P =
     ((rest : List ℕ) → P (commands_from [] (input ++ rest))) ⊎ (IsAtEnd left × P (commands_from [] input))
 
--- What serving a source answers: as above; 3 where the source failed, and 6 where the most bytes were taken and one
+-- What serving a source does: as above; 3 where the source failed, and 6 where the most bytes were taken and one
 -- read gave more.
-pub record ServeOutcome (status most : ℕ) (before after : Input) (old new : Moment) : Type 0 where
+pub record ServeOutcome (status most : ℕ) (before after : SourceView) (old new : Moment) : Type 0 where
   pub whole : status ≡ 0 → (input : List ℕ) × Consumes before.left after.left input × IsAtEnd after.left
       × (length input ≤ max_input) × DoesAll old new (commands_from [] input)
   pub part : status ≡ 3 → (input : List ℕ) × (keeps : List ℕ) × Consumes before.left after.left input

@@ -1,25 +1,29 @@
 //! What one line does.
 
-ghost use Rattle.std.specs.Prelude.{◌&&◌, ◌≡◌, ◌≤◌, [], IfErr, IfOk, OnOk, length, not, true};
+ghost use Rattle.std.specs.Prelude.{◌≡◌, ◌≤◌, ◌*◌, [], IfErr, IfOk, OnOk, false, length, true};
 ghost use Rattle.pm_epochs.specs.Log.{barriers, marks, stores};
 ghost use Rattle.bp_io.specs.Files.{KeepsFiles, KeepsOthers, StaysAttached};
-ghost use Rattle.bp_limits.specs.Limits.{log_events, max_mask};
+ghost use Rattle.bp_limits.specs.Limits.{block_words, log_events, max_mask};
 ghost use Rattle.bp_replay.specs.Storm.{storm_cut};
 ghost use Rattle.bp_replay.specs.Wanted.{cut_for, mask_places, wanted_by};
 ghost use Rattle.bp_script.specs.Commands.Command.{sync};
 ghost use Rattle.bp_script.specs.Commands.{command_of};
-ghost use Rattle.bp_session.specs.Acting.{CrashesTo, Does, HasCrashed, drains_stores, has_store, is_base_saved_behind, may_change_base, reply_of};
+ghost use Rattle.bp_session.specs.Acting.{CrashesTo, Does, HasCrashed, LeavesStale, NotesDrain, is_crash, reply_of};
+ghost use Rattle.bp_session.specs.Changed.{AreMarked, AreUnmarked};
 ghost use Rattle.bp_session.specs.Gathering.{Clears, LineGathers};
-ghost use Rattle.bp_session.specs.Serving.{CanServe, DoesLine, moment, saved_if};
+ghost use Rattle.bp_session.specs.Serving.{CanServe, DoesLine, moment, with_stale};
+ghost use Rattle.bp_session.specs.Statuses.{broken_status};
+ghost use Rattle.bp_session.specs.declared.broken.Broken.TheVariants as cause;
 ghost use Rattle.bp_session.specs.declared.outcome.Outcome.TheVariants.{Logged, Synced};
 ghost use Rattle.bp_session.specs.Work.{answer_in, line_in, waiting_in};
 
+use crate::broken::Broken;
 use crate::caching::crash_by_caches;
 use crate::outcome::Outcome;
-use crate::saving::sync_and_save;
+use crate::saving::{mark_drain, mark_each, sync_marked};
 use crate::work::LineBuffers;
 use bp_io::{Failed, Files, Sink};
-use bp_limits::{CALL_ROOM, MAX_LINE};
+use bp_limits::MAX_LINE;
 use bp_replay::{Cut, choice_of, storm};
 use bp_script::{Line, Syntax};
 use bp_volume::Volume;
@@ -100,16 +104,18 @@ fn count_log<R: Region>(region: &R) -> Outcome
 }
 
 /// Does what the line of the buffers asks for, as `act` does, but leaves a sync to be done: at `Outcome::Synced`
-/// nothing is written back yet.
+/// nothing is written back yet. The blocks are marked to which a log stored that a call drained.
 fn act_but_sync<R: Region>(
     alloc: Global,
     volume: &mut Volume<R>,
     buffers: &mut LineBuffers,
+    stale: &mut [bool],
 ) -> Outcome
     requires { volume.old.capacity ≤ log_events }
     ensures does { ¬ (result ≡ Synced) →
         Does volume.old (command_of (line_in buffers.old)) result (answer_in buffers.new) volume.new }
     ensures left { result ≡ Synced → (command_of (line_in buffers.old) ≡ sync) × (volume.new ≡ volume.old) }
+    ensures notes { NotesDrain result volume.old stale.old stale.new }
     ensures line { line_in buffers.new ≡ line_in buffers.old }
     ensures waiting { waiting_in buffers.new ≡ waiting_in buffers.old }
 {
@@ -118,6 +124,7 @@ fn act_but_sync<R: Region>(
     }
     match buffers.decoded.line(&buffers.line) {
         Ok(Line::Call(call)) => {
+            mark_drain(volume.region(), stale);
             volume.apply(alloc, &call, &mut buffers.reply);
             Outcome::Answered
         }
@@ -154,7 +161,7 @@ pub fn act<R: Region>(alloc: Global, volume: &mut Volume<R>, buffers: &mut LineB
     ensures line { line_in buffers.new ≡ line_in buffers.old }
     ensures waiting { waiting_in buffers.new ≡ waiting_in buffers.old }
 {
-    match act_but_sync(alloc, volume, buffers) {
+    match act_but_sync(alloc, volume, buffers, &mut []) {
         Outcome::Synced => {
             volume.sync();
             Outcome::Synced
@@ -163,74 +170,55 @@ pub fn act<R: Region>(alloc: Global, volume: &mut Volume<R>, buffers: &mut LineB
     }
 }
 
-/// Whether the log of a region has a store.
-fn has_store<R: Region>(region: &R) -> bool
-    ensures { result ≡ has_store (R.memory region.now).events }
-{
-    for i in 0..region.event_count() {
-        if let Event::Store { .. } = region.event(i) {
-            return true;
-        }
-    }
-    false
-}
-
-/// Whether the next call over a region first drains stores: it drains a log that lacks room for a call.
-fn drains_stores<R: Region>(region: &R) -> bool
-    ensures { result ≡ drains_stores (R.memory region.now) }
-{
-    region.room() < CALL_ROOM && has_store(region)
-}
-
-/// Whether a line may have changed the words of the last drain, where a call first drained stores or not.
-fn may_change_base(outcome: Outcome, drained_stores: bool) -> bool
-    ensures { result ≡ may_change_base outcome drained_stores }
+/// Whether a line came to a crash.
+fn is_crash(outcome: Outcome) -> bool
+    ensures { result ≡ is_crash outcome }
 {
     match outcome {
-        Outcome::Answered => drained_stores,
-        Outcome::Synced | Outcome::Kept { .. } => true,
+        Outcome::Kept { .. } => true,
         _ => false,
     }
 }
 
-/// Whether a file that held the words of the last drain before a line that is no sync holds them behind it.
-fn stays_saved(is_base_saved: bool, outcome: Outcome, drained_stores: bool) -> bool
-    ensures { result ≡ (is_base_saved && not (may_change_base outcome drained_stores)) }
+/// Marks each block where the region crashed: the words that a crash leaves are told by no log.
+fn mark_crash(outcome: Outcome, stale: &mut [bool])
+    ensures crashed { is_crash outcome ≡ true → AreMarked stale.new }
+    ensures others { is_crash outcome ≡ false → stale.new ≡ stale.old }
 {
-    is_base_saved && !may_change_base(outcome, drained_stores)
+    if is_crash(outcome) {
+        mark_each(stale, true);
+    }
 }
 
-/// Does what the line asks for. A sync is done behind the replies that wait, and saves the words to the attached file:
-/// where that is taken to hold those of the last drain, only the blocks to which a store went since. An error is the
-/// status: 4 where the sink failed before a sync was done, and 5 where the files did as it saved.
+/// Does what the line asks for. A sync is done behind the replies that wait, and saves to the attached file the blocks
+/// that are stale and those to which a store went since the last drain. It is broken off by the sink, before a sync is
+/// done, or by the files, as it saves.
 pub(crate) fn act_and_save<R: Region, K: Sink, F: Files>(
     alloc: Global,
     volume: &mut Volume<R>,
     buffers: &mut LineBuffers,
-    is_base_saved: &mut bool,
+    stale: &mut [bool],
     out: &mut K,
     files: &mut F,
-) -> Result<Outcome, u8>
+) -> Result<Outcome, Broken>
     requires { CanServe volume.old (F.view files.old) }
     ensures does { IfOk result (λ outcome. DoesLine
-        (saved_if is_base_saved.old (moment volume.old (F.view files.old) (K.taken out.old) (K.faults out.old)))
+        (with_stale stale.old (moment volume.old (F.view files.old) (K.view out.old)))
         (command_of (line_in buffers.old)) (reply_of outcome (answer_in buffers.new))
-        (saved_if is_base_saved.new (moment volume.new (F.view files.new) (K.taken out.new) (K.faults out.new)))) }
-    ensures flag { IfOk result (λ outcome.
-        is_base_saved.new ≡ is_base_saved_behind outcome (drains_stores volume.old) is_base_saved.old) }
-    ensures kept { is_base_saved.old ≡ true → stores volume.old.events ≡ [] →
-        KeepsFiles (F.view files.old) (F.view files.new) }
+        (with_stale stale.new (moment volume.new (F.view files.new) (K.view out.new)))) }
+    ensures stale { IfOk result (λ outcome. LeavesStale outcome volume.old stale.old stale.new) }
+    ensures kept { AreUnmarked stale.old → length volume.old.base ≤ block_words * length stale.old →
+        stores volume.old.events ≡ [] → KeepsFiles (F.view files.old) (F.view files.new) }
     ensures clears { OnOk result (Clears (command_of (line_in buffers.old)) (waiting_in buffers.old)
-        (waiting_in buffers.new) (K.taken out.old) (K.taken out.new) (F.view files.old) (F.view files.new)) }
-    ensures stops { IfErr result (λ status. LineGathers status (command_of (line_in buffers.old))
+        (waiting_in buffers.new) (K.view out.old).taken (K.view out.new).taken (F.view files.old) (F.view files.new)) }
+    ensures stops { IfErr result (λ broken. LineGathers (broken_status broken) (command_of (line_in buffers.old))
         (waiting_in buffers.old) (waiting_in buffers.new)
-        (saved_if is_base_saved.old (moment volume.old (F.view files.old) (K.taken out.old) (K.faults out.old)))
-        (saved_if is_base_saved.new (moment volume.new (F.view files.new) (K.taken out.new) (K.faults out.new)))) }
-    ensures some { IfErr result (λ status. ¬ (status ≡ 0)) }
-    ensures heard { IfErr result (λ status. waiting_in buffers.old ≡ [] → status ≡ 5) }
+        (with_stale stale.old (moment volume.old (F.view files.old) (K.view out.old)))
+        (with_stale stale.new (moment volume.new (F.view files.new) (K.view out.new)))) }
+    ensures heard { IfErr result (λ broken. waiting_in buffers.old ≡ [] → broken ≡ cause.Files) }
     ensures synced { OnOk result (command_of (line_in buffers.old) ≡ sync → (F.view files.new).is_flushed ≡ true) }
     ensures flushed { OnOk result ((F.view files.old).is_flushed ≡ true → (F.view files.new).is_flushed ≡ true) }
-    ensures sink { OnOk result (K.faults out.new ≡ K.faults out.old) }
+    ensures sink { OnOk result ((K.view out.new).faults ≡ (K.view out.old).faults) }
     ensures files { OnOk result ((F.view files.new).faults ≡ (F.view files.old).faults) }
     ensures size { length volume.new.base ≡ length volume.old.base }
     ensures capacity { volume.new.capacity ≡ volume.old.capacity }
@@ -238,23 +226,16 @@ pub(crate) fn act_and_save<R: Region, K: Sink, F: Files>(
     ensures attached { StaysAttached (F.view files.old) (F.view files.new) }
     ensures line { line_in buffers.new ≡ line_in buffers.old }
 {
-    let drained_stores = drains_stores(volume.region());
-    match act_but_sync(alloc, volume, buffers) {
+    match act_but_sync(alloc, volume, buffers, stale) {
         Outcome::Synced => match buffers.replies.hand_over(out) {
-            Ok(()) => match sync_and_save(volume, *is_base_saved, files) {
-                Ok(()) => {
-                    *is_base_saved = true;
-                    Ok(Outcome::Synced)
-                }
-                Err(Failed) => {
-                    *is_base_saved = false;
-                    Err(5)
-                }
+            Ok(()) => match sync_marked(volume, stale, files) {
+                Ok(()) => Ok(Outcome::Synced),
+                Err(Failed) => Err(Broken::Files),
             },
-            Err(Failed) => Err(4),
+            Err(Failed) => Err(Broken::Sink),
         },
         outcome => {
-            *is_base_saved = stays_saved(*is_base_saved, outcome, drained_stores);
+            mark_crash(outcome, stale);
             Ok(outcome)
         }
     }

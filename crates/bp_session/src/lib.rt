@@ -3,6 +3,7 @@
 
 mod acting;
 pub mod blocks;
+mod broken;
 mod caching;
 pub mod laws;
 mod outcome;
@@ -12,6 +13,7 @@ mod telling;
 mod work;
 
 pub use acting::act;
+pub use broken::Broken;
 pub use outcome::Outcome;
 pub use serving::{serve, serve_gathered, serve_line};
 pub use work::{LineBuffers, Work};

@@ -1,73 +1,147 @@
 //! A file takes the words of a region.
 
-ghost use Rattle.std.specs.Prelude.{[], ◌≡◌, ◌≤◌, ◌+◌, ◌*◌, ◌/◌, ◌<◌, List, ℕ, OnOk, OnErr, false, length, true};
+ghost use Rattle.std.specs.Prelude.{[], ◌≡◌, ◌≢◌, ◌↔◌, ◌≤◌, ◌+◌, ◌*◌, ◌/◌, ◌<◌, ◌^◌, List, ℕ, OnOk, OnErr, false, length, min, true};
 ghost use Rattle.bp_layout.specs.Words.{Image};
 ghost use Rattle.bp_io.specs.Causes.{HasCause};
 ghost use Rattle.bp_io.specs.Files.{KeepsFiles, KeepsOthers, StaysAttached};
 ghost use Rattle.bp_layout.specs.Bytes.{image_bytes};
-ghost use Rattle.bp_limits.specs.Limits.{block_words};
-ghost use Rattle.bp_session.specs.Changed.{AreUnmarked, HoldsChanged, MarksChanges, is_marked};
+ghost use Rattle.bp_limits.specs.Limits.{block_words, max_blocks};
+ghost use Rattle.bp_session.specs.Changed.{AreMarked, AreUnmarked, HoldsChanged, MarksChanges, MarksDrain, is_marked, stale_in};
 ghost use Rattle.bp_session.specs.Files.{HasBlocksOf, Holds, HoldsAs, HoldsBytes, HoldsPartly, IsReady, StaysTold};
 ghost use Rattle.pm_epochs.specs.Log.{stores};
 ghost use Rattle.pm_region.specs.Memory.{current_words, drained};
 
 use crate::blocks::{RUN_BLOCKS, read_blocks};
 use bp_io::{Failed, Files};
-use bp_limits::{BLOCK_SIZE, BLOCK_WORDS, MAX_BLOCKS};
+use bp_limits::{BLOCK_SIZE, BLOCK_WORDS, CALL_ROOM, MAX_BLOCKS};
 use bp_volume::Volume;
 use pm_epochs::Event;
-use pm_region::Region;
+use pm_region::{Region, Row};
 
 /// The bytes of a block, as a length.
 const BLOCK: usize = BLOCK_SIZE as usize;
 
-/// Marks the blocks that hold so many words in a row.
-fn mark_words(changed: &mut [bool; MAX_BLOCKS as usize], first: u32, count: usize)
-    requires some { 0 < count }
-    requires inside { first + count ≤ block_words * length changed.old }
-    ensures marked { (word : ℕ) → first ≤ word → word < first + count → is_marked changed.new (word / block_words) ≡ true }
-    ensures more { (i : ℕ) → is_marked changed.old i ≡ true → is_marked changed.new i ≡ true }
-    ensures size { length changed.new ≡ length changed.old }
-{
-    let last = (first as usize + (count - 1)) / BLOCK_WORDS as usize;
-    for block in (first / BLOCK_WORDS) as usize..last + 1 {
-        changed[block] = true;
+/// How many rows of stores a log may have for each block of the image and still be looked through for the blocks to which they
+/// went. Where it has more, writing all blocks costs little more than looking on.
+const MOST_ROWS_A_BLOCK: usize = 4;
+
+/// The blocks of a file that may lack words of the last drain: of the first ones, so many, those that are marked, and each
+/// behind them. It is large: make one for a run.
+#[derive(Drop)]
+pub struct Stale {
+    pub(crate) marks: [bool; MAX_BLOCKS as usize],
+    pub(crate) count: usize,
+}
+
+impl Stale {
+    /// None of so many blocks may, as of a file of that size that was just read. None has more than `MAX_BLOCKS`.
+    pub fn none(blocks: u32) -> Self
+        ensures none { AreUnmarked (stale_in result) }
+        ensures count { length (stale_in result) ≡ min blocks max_blocks }
+    {
+        Stale {
+            marks: [false; MAX_BLOCKS as usize],
+            count: blocks as usize,
+        }
     }
 }
 
-/// Marks the blocks to which a store of the log went.
-fn mark_stored<R: Region>(region: &R, changed: &mut [bool; MAX_BLOCKS as usize])
-    requires { length (R.memory region.now).base ≤ block_words * length changed.old }
-    ensures marks { MarksChanges changed.new (R.memory region.now).base (current_words (R.memory region.now)) }
-    ensures more { (i : ℕ) → is_marked changed.old i ≡ true → is_marked changed.new i ≡ true }
-    ensures none { stores (R.memory region.now).events ≡ [] → changed.new ≡ changed.old }
-    ensures size { length changed.new ≡ length changed.old }
+/// Whether a block is marked. Each behind the marks is.
+fn is_marked(marks: &[bool], block: u32) -> bool
+    ensures { result ≡ is_marked marks.now block }
 {
+    let block = block as usize;
+    block >= marks.len() || marks[block]
+}
+
+/// Marks each block, or none.
+pub(crate) fn mark_each(marks: &mut [bool], is_stale: bool)
+    ensures each { (i : ℕ) → i < length marks.new → is_marked marks.new i ≡ is_stale }
+    ensures size { length marks.new ≡ length marks.old }
+{
+    marks.fill(is_stale);
+}
+
+/// Marks the blocks that hold so many words in a row.
+fn mark_words(marks: &mut [bool], first: u32, count: usize)
+    requires some { 0 < count }
+    requires fits { first + count ≤ 2 ^ 32 }
+    ensures marked { (word : ℕ) → first ≤ word → word < first + count → is_marked marks.new (word / block_words) ≡ true }
+    ensures more { (i : ℕ) → is_marked marks.old i ≡ true → is_marked marks.new i ≡ true }
+    ensures size { length marks.new ≡ length marks.old }
+{
+    let last = (first as usize + (count - 1)) / BLOCK_WORDS as usize;
+    let end = marks.len().min(last + 1);
+    for block in (first / BLOCK_WORDS) as usize..end {
+        marks[block] = true;
+    }
+}
+
+/// Marks the blocks to which a store of the log went, by rows of stores, so many of them. False where the log has more.
+fn mark_rows<R: Region>(region: &R, marks: &mut [bool], most: usize) -> bool
+    ensures marks { result ≡ true → MarksChanges marks.new (R.memory region.now).base (current_words (R.memory region.now)) }
+    ensures more { (i : ℕ) → is_marked marks.old i ≡ true → is_marked marks.new i ≡ true }
+    ensures some { result ≡ false → stores (R.memory region.now).events ≢ [] }
+    ensures none { stores (R.memory region.now).events ≡ [] → marks.new ≡ marks.old }
+    ensures size { length marks.new ≡ length marks.old }
+{
+    // The number of a word fits its type.
+    let _words = region.words();
     let count = region.event_count();
+    let mut left = most;
     let mut i: usize = 0;
     while i < count {
-        let row = region.row_len(i);
-        match region.event(i) {
-            Event::Store { word, .. } => mark_words(changed, word, row),
+        let Row { event, len } = region.row(i);
+        match event {
+            Event::Store { word, .. } => {
+                if left == 0 {
+                    return false;
+                }
+                mark_words(marks, word, len);
+                left -= 1;
+            }
             Event::Barrier => {}
             Event::Mark => {}
         }
-        i += row;
+        i += len;
+    }
+    true
+}
+
+/// Marks the blocks to which a store of the log went, or all blocks where the log has more rows of stores a block than are
+/// looked at. A log without a store marks none.
+fn mark_stored<R: Region>(region: &R, marks: &mut [bool])
+    ensures marks { MarksChanges marks.new (R.memory region.now).base (current_words (R.memory region.now)) }
+    ensures more { (i : ℕ) → is_marked marks.old i ≡ true → is_marked marks.new i ≡ true }
+    ensures none { stores (R.memory region.now).events ≡ [] → marks.new ≡ marks.old }
+    ensures size { length marks.new ≡ length marks.old }
+{
+    let blocks = (region.words() / BLOCK_WORDS) as usize;
+    if !mark_rows(region, marks, MOST_ROWS_A_BLOCK * blocks) {
+        mark_each(marks, true);
+    }
+}
+
+/// Marks the blocks as `mark_stored` does, where the next call drains the log: it drains one that lacks room for a call.
+pub(crate) fn mark_drain<R: Region>(region: &R, marks: &mut [bool])
+    ensures { MarksDrain (R.memory region.now) marks.old marks.new }
+{
+    if region.room() < CALL_ROOM {
+        mark_stored(region, marks);
     }
 }
 
 /// How many blocks in a row are marked from one on, up to as many as are written in one call.
-fn marked_run(changed: &[bool], first: u32, count: u32) -> u32
-    requires inside { first < count }
-    requires covers { count ≤ length changed.now }
-    ensures marked { (k : ℕ) → k < result → is_marked changed.now (first + k) ≡ true }
-    ensures none { result ≡ 0 → is_marked changed.now first ≡ false }
+fn marked_run(marks: &[bool], first: u32, count: u32) -> u32
+    requires { first < count }
+    ensures marked { (k : ℕ) → k < result → is_marked marks.now (first + k) ≡ true }
+    ensures none { result ≡ 0 → is_marked marks.now first ≡ false }
     ensures fits { first + result ≤ count }
     ensures most { result ≤ RUN_BLOCKS }
 {
     let most = RUN_BLOCKS.min(count - first);
     let mut run = 0;
-    while run < most && changed[(first + run) as usize] {
+    while run < most && is_marked(marks, first + run) {
         run += 1;
     }
     run
@@ -76,16 +150,16 @@ fn marked_run(changed: &[bool], first: u32, count: u32) -> u32
 /// Writes each block that is marked to the attached file, in order.
 fn write_changed<R: Region, F: Files>(
     region: &R,
-    changed: &[bool],
+    marks: &[bool],
     files: &mut F,
 ) -> Result<(), Failed>
-    requires ready { IsReady (R.memory region.now).base (F.view files.old) }
-    requires covers { length (R.memory region.now).base ≤ block_words * length changed.now }
+    requires { IsReady (R.memory region.now).base (F.view files.old) }
     ensures saved { OnOk result ((name was : List ℕ) → HoldsBytes (F.view files.old) name was →
-        HoldsChanged changed.now (F.view files.new) name was (image_bytes (current_words (R.memory region.now)))) }
+        HoldsChanged marks.now (F.view files.new) name was (image_bytes (current_words (R.memory region.now)))) }
     ensures partly { OnErr result ((name was : List ℕ) → HoldsBytes (F.view files.old) name was →
         HasBlocksOf ((F.view files.new).contents name) was (image_bytes (current_words (R.memory region.now)))) }
-    ensures kept { AreUnmarked changed.now → F.view files.new ≡ F.view files.old }
+    ensures kept { AreUnmarked marks.now → length (R.memory region.now).base ≤ block_words * length marks.now →
+        F.view files.new ≡ F.view files.old }
     ensures told { StaysTold (F.view files.old) (F.view files.new) }
     ensures others { KeepsOthers (F.view files.old) (F.view files.new) }
     ensures attached { StaysAttached (F.view files.old) (F.view files.new) }
@@ -95,7 +169,7 @@ fn write_changed<R: Region, F: Files>(
     let mut bytes = [0u8; BLOCK * RUN_BLOCKS as usize];
     let mut first = 0;
     while first < count {
-        let run = marked_run(changed, first, count);
+        let run = marked_run(marks, first, count);
         if run == 0 {
             first += 1;
             continue;
@@ -121,40 +195,13 @@ fn flush<F: Files>(files: &mut F) -> Result<(), Failed>
 }
 
 /// Writes each block that is marked to the attached file, in order, and flushes it.
-fn save<R: Region, F: Files>(region: &R, changed: &[bool], files: &mut F) -> Result<(), Failed>
-    requires ready { IsReady (R.memory region.now).base (F.view files.old) }
-    requires covers { length (R.memory region.now).base ≤ block_words * length changed.now }
+fn save<R: Region, F: Files>(region: &R, marks: &[bool], files: &mut F) -> Result<(), Failed>
+    requires { IsReady (R.memory region.now).base (F.view files.old) }
     ensures saved { OnOk result ((name was : List ℕ) → HoldsBytes (F.view files.old) name was →
-        HoldsChanged changed.now (F.view files.new) name was (image_bytes (current_words (R.memory region.now)))) }
+        HoldsChanged marks.now (F.view files.new) name was (image_bytes (current_words (R.memory region.now)))) }
     ensures partly { OnErr result ((name was : List ℕ) → HoldsBytes (F.view files.old) name was →
         HasBlocksOf ((F.view files.new).contents name) was (image_bytes (current_words (R.memory region.now)))) }
-    ensures kept { AreUnmarked changed.now → KeepsFiles (F.view files.old) (F.view files.new) }
-    ensures flushed { OnOk result ((F.view files.new).is_flushed ≡ true) }
-    ensures told { StaysTold (F.view files.old) (F.view files.new) }
-    ensures others { KeepsOthers (F.view files.old) (F.view files.new) }
-    ensures attached { StaysAttached (F.view files.old) (F.view files.new) }
-    ensures cause { HasCause (F.view files.old).faults (F.view files.new).faults result }
-{
-    write_changed(region, changed, files)?;
-    flush(files)
-}
-
-/// Waits until all that the calls so far have done is written back, saves the words to the attached file, and flushes
-/// it. Where the file is taken to hold the words of the last drain, only the blocks are written to which a store went
-/// since.
-pub fn sync_and_save<R: Region, F: Files>(
-    volume: &mut Volume<R>,
-    is_base_saved: bool,
-    files: &mut F,
-) -> Result<(), Failed>
-    requires { IsReady volume.old.base (F.view files.old) }
-    ensures drained { volume.new ≡ drained volume.old }
-    ensures saved { OnOk result ((name : List ℕ) (was : Image) →
-        HoldsAs is_base_saved (F.view files.old) volume.old.base name was →
-        Holds (F.view files.new) name (current_words volume.old)) }
-    ensures partly { OnErr result ((name : List ℕ) (was : Image) → Holds (F.view files.old) name was →
-        HoldsPartly (F.view files.new) name was (current_words volume.old)) }
-    ensures kept { is_base_saved ≡ true → stores volume.old.events ≡ [] →
+    ensures kept { AreUnmarked marks.now → length (R.memory region.now).base ≤ block_words * length marks.now →
         KeepsFiles (F.view files.old) (F.view files.new) }
     ensures flushed { OnOk result ((F.view files.new).is_flushed ≡ true) }
     ensures told { StaysTold (F.view files.old) (F.view files.new) }
@@ -162,8 +209,73 @@ pub fn sync_and_save<R: Region, F: Files>(
     ensures attached { StaysAttached (F.view files.old) (F.view files.new) }
     ensures cause { HasCause (F.view files.old).faults (F.view files.new).faults result }
 {
-    let mut changed = [!is_base_saved; MAX_BLOCKS as usize];
-    mark_stored(volume.region(), &mut changed);
+    write_changed(region, marks, files)?;
+    flush(files)
+}
+
+/// Syncs and saves, as `sync_and_save` does, by the marks of the blocks. Where they tell of fewer than the file has, those
+/// behind are written too.
+pub(crate) fn sync_marked<R: Region, F: Files>(
+    volume: &mut Volume<R>,
+    stale: &mut [bool],
+    files: &mut F,
+) -> Result<(), Failed>
+    requires { IsReady volume.old.base (F.view files.old) }
+    ensures drained { volume.new ≡ drained volume.old }
+    ensures saved { OnOk result ((name : List ℕ) (was : Image) →
+        HoldsAs stale.old (F.view files.old) volume.old.base name was →
+        Holds (F.view files.new) name (current_words volume.old)) }
+    ensures partly { OnErr result ((name : List ℕ) (was : Image) → Holds (F.view files.old) name was →
+        HoldsPartly (F.view files.new) name was (current_words volume.old)) }
+    ensures kept { AreUnmarked stale.old → length volume.old.base ≤ block_words * length stale.old →
+        stores volume.old.events ≡ [] → KeepsFiles (F.view files.old) (F.view files.new) }
+    ensures cleared { OnOk result (AreUnmarked stale.new) }
+    ensures lost { OnErr result (AreMarked stale.new) }
+    ensures flushed { OnOk result ((F.view files.new).is_flushed ≡ true) }
+    ensures told { StaysTold (F.view files.old) (F.view files.new) }
+    ensures others { KeepsOthers (F.view files.old) (F.view files.new) }
+    ensures attached { StaysAttached (F.view files.old) (F.view files.new) }
+    ensures cause { HasCause (F.view files.old).faults (F.view files.new).faults result }
+{
+    mark_stored(volume.region(), stale);
     volume.sync();
-    save(volume.region(), &changed, files)
+    match save(volume.region(), stale, files) {
+        Ok(()) => {
+            mark_each(stale, false);
+            Ok(())
+        }
+        Err(Failed) => {
+            mark_each(stale, true);
+            Err(Failed)
+        }
+    }
+}
+
+/// Waits until all that the calls so far have done is written back, saves the words to the attached file, and flushes
+/// it. Only the blocks are written that are stale or to which a store went since the last drain; or all blocks, where the
+/// log has more than four rows of stores a block. None is stale then, and each where the save failed.
+pub fn sync_and_save<R: Region, F: Files>(
+    volume: &mut Volume<R>,
+    stale: &mut Stale,
+    files: &mut F,
+) -> Result<(), Failed>
+    requires { IsReady volume.old.base (F.view files.old) }
+    ensures drained { volume.new ≡ drained volume.old }
+    ensures saved { OnOk result ((name : List ℕ) (was : Image) →
+        HoldsAs (stale_in stale.old) (F.view files.old) volume.old.base name was →
+        Holds (F.view files.new) name (current_words volume.old)) }
+    ensures partly { OnErr result ((name : List ℕ) (was : Image) → Holds (F.view files.old) name was →
+        HoldsPartly (F.view files.new) name was (current_words volume.old)) }
+    ensures kept { AreUnmarked (stale_in stale.old) → length volume.old.base ≤ block_words * length (stale_in stale.old) →
+        stores volume.old.events ≡ [] → KeepsFiles (F.view files.old) (F.view files.new) }
+    ensures cleared { OnOk result (AreUnmarked (stale_in stale.new)) }
+    ensures lost { OnErr result (AreMarked (stale_in stale.new)) }
+    ensures flushed { OnOk result ((F.view files.new).is_flushed ≡ true) }
+    ensures told { StaysTold (F.view files.old) (F.view files.new) }
+    ensures others { KeepsOthers (F.view files.old) (F.view files.new) }
+    ensures attached { StaysAttached (F.view files.old) (F.view files.new) }
+    ensures cause { HasCause (F.view files.old).faults (F.view files.new).faults result }
+{
+    let count = stale.count.min(stale.marks.len());
+    sync_marked(volume, &mut stale.marks[..count], files)
 }

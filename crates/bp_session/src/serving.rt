@@ -1,22 +1,26 @@
 //! Lines of a source in any pieces, each with its reply to a sink.
 
 ghost use Rattle.memchr.specs.Find.{IsFirst, Nowhere, Passes, is_byte};
-ghost use Rattle.std.specs.Prelude.{◌≡◌, ◌≤◌, ◌∷◌, ◌++◌, List, ℕ, [], length, slice_range, take, true, vec_len};
+ghost use Rattle.std.specs.Prelude.{◌≡◌, ◌≤◌, ◌∷◌, ◌++◌, List, ℕ, [], OnOk, length, slice_range, take, true, vec_len};
 ghost use Rattle.std.specs.Io.{ReadsAtMost};
 ghost use Rattle.std.specs.Io.KnownBytes.{ReadConsumes};
 ghost use Rattle.bp_io.specs.Causes.{HasCause};
 ghost use Rattle.bp_script.specs.Commands.Command.{sync};
 ghost use Rattle.bp_script.specs.Commands.{command_of};
+ghost use Rattle.bp_session.specs.Changed.{stale_in};
 ghost use Rattle.bp_session.specs.Files.{IsReady};
 ghost use Rattle.bp_session.specs.Lines.{commands_from};
 ghost use Rattle.bp_session.specs.Gathering.{LineGathers};
 ghost use Rattle.bp_replies.specs.Room.{gathered_size};
 ghost use Rattle.bp_session.specs.Pieces.{piece_size};
 ghost use Rattle.bp_session.specs.Serving.{CanServe, LineOutcome, PieceOutcome, ServeOutcome, ServesAgain};
-ghost use Rattle.bp_session.specs.Serving.{moment, saved_if, told};
+ghost use Rattle.bp_session.specs.Serving.{moment, with_stale};
+ghost use Rattle.bp_session.specs.Statuses.{status_of};
 ghost use Rattle.bp_session.specs.Work.{held_line, held_replies, read_piece};
 
 use crate::acting::act_and_save;
+use crate::broken::Broken;
+use crate::saving::Stale;
 use crate::telling::tell_by;
 use crate::work::Work;
 use bp_io::{Failed, Files, Sink, Source};
@@ -33,29 +37,27 @@ fn answer_line<R: Region, K: Sink, F: Files>(
     volume: &mut Volume<R>,
     work: &mut Work,
     most: usize,
-    is_base_saved: &mut bool,
+    stale: &mut [bool],
     out: &mut K,
     files: &mut F,
-) -> u8
+) -> Result<(), Broken>
     requires { CanServe volume.old (F.view files.old) }
-    ensures outcome { LineGathers result (command_of (held_line work.old))
+    ensures outcome { LineGathers (status_of result) (command_of (held_line work.old))
         (held_replies work.old) (held_replies work.new)
-        (saved_if is_base_saved.old (moment volume.old (F.view files.old) (K.taken out.old) (K.faults out.old)))
-        (saved_if is_base_saved.new (moment volume.new (F.view files.new) (K.taken out.new) (K.faults out.new))) }
-    ensures few { result ≡ 0 → length (held_replies work.new) ≤ most }
-    ensures synced { held_replies work.old ≡ [] → ¬ (result ≡ 5) → command_of (held_line work.old) ≡ sync →
+        (with_stale stale.old (moment volume.old (F.view files.old) (K.view out.old)))
+        (with_stale stale.new (moment volume.new (F.view files.new) (K.view out.new))) }
+    ensures few { OnOk result (length (held_replies work.new) ≤ most) }
+    ensures synced { held_replies work.old ≡ [] → ¬ (status_of result ≡ 5) → command_of (held_line work.old) ≡ sync →
         (F.view files.new).is_flushed ≡ true }
     ensures ready { IsReady volume.new.base (F.view files.new) }
     ensures line { held_line work.new ≡ held_line work.old }
     ensures piece { read_piece work.new ≡ read_piece work.old }
 {
     let Work { buffers, .. } = work;
-    match act_and_save(alloc, volume, buffers, is_base_saved, out, files) {
-        Ok(outcome) => match tell_by(outcome, &buffers.reply, &mut buffers.replies, most, out) {
-            Ok(()) => 0,
-            Err(Failed) => 4,
-        },
-        Err(status) => status,
+    let outcome = act_and_save(alloc, volume, buffers, stale, out, files)?;
+    match tell_by(outcome, &buffers.reply, &mut buffers.replies, most, out) {
+        Ok(()) => Ok(()),
+        Err(Failed) => Err(Broken::Sink),
     }
 }
 
@@ -64,44 +66,43 @@ fn answer_alone<R: Region, K: Sink, F: Files>(
     alloc: Global,
     volume: &mut Volume<R>,
     work: &mut Work,
-    is_base_saved: &mut bool,
+    stale: &mut [bool],
     out: &mut K,
     files: &mut F,
-) -> u8
+) -> Result<(), Broken>
     requires { CanServe volume.old (F.view files.old) }
-    ensures outcome { LineOutcome result (command_of (held_line work.old) ∷ [])
-        (saved_if is_base_saved.old (moment volume.old (F.view files.old) (K.taken out.old) (K.faults out.old)))
-        (saved_if is_base_saved.new (moment volume.new (F.view files.new) (K.taken out.new) (K.faults out.new))) }
-    ensures synced { ¬ (result ≡ 5) → command_of (held_line work.old) ≡ sync → (F.view files.new).is_flushed ≡ true }
+    ensures outcome { LineOutcome (status_of result) (command_of (held_line work.old) ∷ [])
+        (with_stale stale.old (moment volume.old (F.view files.old) (K.view out.old)))
+        (with_stale stale.new (moment volume.new (F.view files.new) (K.view out.new))) }
+    ensures synced { ¬ (status_of result ≡ 5) → command_of (held_line work.old) ≡ sync → (F.view files.new).is_flushed ≡ true }
     ensures again { ServesAgain volume.old volume.new (F.view files.new) }
     ensures line { held_line work.new ≡ held_line work.old }
     ensures piece { read_piece work.new ≡ read_piece work.old }
 {
     work.buffers.replies.clear();
-    answer_line(alloc, volume, work, 0, is_base_saved, out, files)
+    answer_line(alloc, volume, work, 0, stale, out, files)
 }
 
-/// Serves the line that the work holds, and answers the status: 0 where its reply was taken whole, 4 where the sink
-/// failed, 5 where a sync could not save. A file is to be attached that has the volume's blocks and may be written.
-/// Nothing is taken of what it holds.
+/// Serves the line that the work holds, and hands its reply over. It is broken off by the sink, which did not take the
+/// reply whole, or by the files, where a sync could not save. A file is to be attached that has the volume's blocks and
+/// may be written. Nothing is taken of what it holds.
 pub fn serve_line<R: Region, K: Sink, F: Files>(
     alloc: Global,
     volume: &mut Volume<R>,
     work: &mut Work,
     out: &mut K,
     files: &mut F,
-) -> u8
+) -> Result<(), Broken>
     requires { CanServe volume.old (F.view files.old) }
-    ensures outcome { LineOutcome result (command_of (held_line work.old) ∷ [])
-        (moment volume.old (F.view files.old) (K.taken out.old) (K.faults out.old))
-        (moment volume.new (F.view files.new) (K.taken out.new) (K.faults out.new)) }
-    ensures synced { ¬ (result ≡ 5) → command_of (held_line work.old) ≡ sync → (F.view files.new).is_flushed ≡ true }
+    ensures outcome { LineOutcome (status_of result) (command_of (held_line work.old) ∷ [])
+        (moment volume.old (F.view files.old) (K.view out.old))
+        (moment volume.new (F.view files.new) (K.view out.new)) }
+    ensures synced { ¬ (status_of result ≡ 5) → command_of (held_line work.old) ≡ sync → (F.view files.new).is_flushed ≡ true }
     ensures again { ServesAgain volume.old volume.new (F.view files.new) }
     ensures line { held_line work.new ≡ held_line work.old }
     ensures piece { read_piece work.new ≡ read_piece work.old }
 {
-    let mut is_base_saved = false;
-    answer_alone(alloc, volume, work, &mut is_base_saved, out, files)
+    answer_alone(alloc, volume, work, &mut [], out, files)
 }
 
 /// Serves the line that a newline ends, and begins the next. Where more replies than so many bytes then wait, they are
@@ -111,23 +112,23 @@ fn end_line<R: Region, K: Sink, F: Files>(
     volume: &mut Volume<R>,
     work: &mut Work,
     most: usize,
-    is_base_saved: &mut bool,
+    stale: &mut [bool],
     out: &mut K,
     files: &mut F,
-) -> u8
+) -> Result<(), Broken>
     requires { CanServe volume.old (F.view files.old) }
-    ensures outcome { LineGathers result (command_of (held_line work.old))
+    ensures outcome { LineGathers (status_of result) (command_of (held_line work.old))
         (held_replies work.old) (held_replies work.new)
-        (saved_if is_base_saved.old (moment volume.old (F.view files.old) (K.taken out.old) (K.faults out.old)))
-        (saved_if is_base_saved.new (moment volume.new (F.view files.new) (K.taken out.new) (K.faults out.new))) }
-    ensures few { result ≡ 0 → length (held_replies work.new) ≤ most }
+        (with_stale stale.old (moment volume.old (F.view files.old) (K.view out.old)))
+        (with_stale stale.new (moment volume.new (F.view files.new) (K.view out.new))) }
+    ensures few { OnOk result (length (held_replies work.new) ≤ most) }
     ensures ready { IsReady volume.new.base (F.view files.new) }
     ensures line { held_line work.new ≡ [] }
     ensures piece { read_piece work.new ≡ read_piece work.old }
 {
-    let status = answer_line(alloc, volume, work, most, is_base_saved, out, files);
+    let served = answer_line(alloc, volume, work, most, stale, out, files);
     work.buffers.line.clear();
-    status
+    served
 }
 
 /// Goes on by bytes of the piece that have no newline.
@@ -164,32 +165,29 @@ fn take_piece<R: Region, K: Sink, F: Files>(
     work: &mut Work,
     count: usize,
     most: usize,
-    is_base_saved: &mut bool,
+    stale: &mut [bool],
     out: &mut K,
     files: &mut F,
-) -> u8
+) -> Result<(), Broken>
     requires serves { CanServe volume.old (F.view files.old) }
     requires inside { count ≤ piece_size }
-    ensures outcome { PieceOutcome result most
+    ensures outcome { PieceOutcome (status_of result) most
         (held_line work.old) (take count (read_piece work.old)) (held_line work.new)
-        (saved_if is_base_saved.old (moment volume.old (F.view files.old) (K.taken out.old) (K.faults out.old)))
-        (saved_if is_base_saved.new (moment volume.new (F.view files.new) (K.taken out.new) (K.faults out.new))) }
+        (with_stale stale.old (moment volume.old (F.view files.old) (K.view out.old)))
+        (with_stale stale.new (moment volume.new (F.view files.new) (K.view out.new))) }
     ensures again { ServesAgain volume.old volume.new (F.view files.new) }
 {
     let mut at: usize = 0;
     work.buffers.replies.clear();
     while let Some(end) = newline_in(&work.piece, at, count) {
         take_run(work, at, end);
-        let status = end_line(alloc, volume, work, most, is_base_saved, out, files);
-        if status != 0 {
-            return status;
-        }
+        end_line(alloc, volume, work, most, stale, out, files)?;
         at = end + 1;
     }
     take_run(work, at, count);
     match work.buffers.replies.hand_over(out) {
-        Ok(()) => 0,
-        Err(Failed) => 4,
+        Ok(()) => Ok(()),
+        Err(Failed) => Err(Broken::Sink),
     }
 }
 
@@ -198,27 +196,27 @@ fn finish<R: Region, K: Sink, F: Files>(
     alloc: Global,
     volume: &mut Volume<R>,
     work: &mut Work,
-    is_base_saved: &mut bool,
+    stale: &mut [bool],
     out: &mut K,
     files: &mut F,
-) -> u8
+) -> Result<(), Broken>
     requires { CanServe volume.old (F.view files.old) }
-    ensures { LineOutcome result (commands_from (held_line work.old) [])
-        (saved_if is_base_saved.old (moment volume.old (F.view files.old) (K.taken out.old) (K.faults out.old)))
-        (saved_if is_base_saved.new (moment volume.new (F.view files.new) (K.taken out.new) (K.faults out.new))) }
+    ensures { LineOutcome (status_of result) (commands_from (held_line work.old) [])
+        (with_stale stale.old (moment volume.old (F.view files.old) (K.view out.old)))
+        (with_stale stale.new (moment volume.new (F.view files.new) (K.view out.new))) }
 {
     if work.buffers.line.is_empty() {
-        return 0;
+        return Ok(());
     }
-    answer_alone(alloc, volume, work, is_base_saved, out, files)
+    answer_alone(alloc, volume, work, stale, out, files)
 }
 
 /// Reads a piece of the input.
 fn fill<S: Source>(src: &mut S, piece: &mut Vec<u8>) -> Result<usize, Failed>
     ensures len { vec_len piece.new ≡ vec_len piece.old }
     ensures bound { ReadsAtMost result piece.new.items }
-    ensures bytes { ReadConsumes (S.left src.old) (S.left src.new) result piece.new.items }
-    ensures cause { HasCause (S.faults src.old) (S.faults src.new) result }
+    ensures bytes { ReadConsumes (S.view src.old).left (S.view src.new).left result piece.new.items }
+    ensures cause { HasCause (S.view src.old).faults (S.view src.new).faults result }
 {
     src.read(piece)
 }
@@ -229,16 +227,16 @@ fn serve_by<R: Region, S: Source, K: Sink, F: Files>(
     volume: &mut Volume<R>,
     work: &mut Work,
     most: usize,
-    is_base_saved: &mut bool,
+    stale: &mut [bool],
     src: &mut S,
     out: &mut K,
     files: &mut F,
-) -> u8
+) -> Result<(), Broken>
     requires { CanServe volume.old (F.view files.old) }
-    ensures outcome { ServeOutcome result most
-        (told (S.left src.old) (S.faults src.old)) (told (S.left src.new) (S.faults src.new))
-        (saved_if is_base_saved.old (moment volume.old (F.view files.old) (K.taken out.old) (K.faults out.old)))
-        (saved_if is_base_saved.new (moment volume.new (F.view files.new) (K.taken out.new) (K.faults out.new))) }
+    ensures outcome { ServeOutcome (status_of result) most
+        (S.view src.old) (S.view src.new)
+        (with_stale stale.old (moment volume.old (F.view files.old) (K.view out.old)))
+        (with_stale stale.new (moment volume.new (F.view files.new) (K.view out.new))) }
     ensures again { ServesAgain volume.old volume.new (F.view files.new) }
 {
     work.buffers.line.clear();
@@ -246,26 +244,23 @@ fn serve_by<R: Region, S: Source, K: Sink, F: Files>(
     loop {
         let count = match fill(src, &mut work.piece) {
             Ok(count) => count,
-            Err(Failed) => return 3,
+            Err(Failed) => return Err(Broken::Source),
         };
         if count == 0 {
             break;
         }
         let served = count.min(MAX_INPUT as usize - taken);
-        let status = take_piece(alloc, volume, work, served, most, is_base_saved, out, files);
-        if status != 0 {
-            return status;
-        }
+        take_piece(alloc, volume, work, served, most, stale, out, files)?;
         if served < count {
-            return 6;
+            return Err(Broken::LongInput);
         }
         taken += count;
     }
-    finish(alloc, volume, work, is_base_saved, out, files)
+    finish(alloc, volume, work, stale, out, files)
 }
 
-/// Answers each line of a source, in whatever pieces it comes. No line that the work held before is served. Each reply
-/// is handed to the sink before the next line is served.
+/// Answers each line of a source, in whatever pieces it comes, up to its end, or to the first cause that breaks it off.
+/// No line that the work held before is served. Each reply is handed to the sink before the next line is served.
 pub fn serve<R: Region, S: Source, K: Sink, F: Files>(
     alloc: Global,
     volume: &mut Volume<R>,
@@ -273,16 +268,15 @@ pub fn serve<R: Region, S: Source, K: Sink, F: Files>(
     src: &mut S,
     out: &mut K,
     files: &mut F,
-) -> u8
+) -> Result<(), Broken>
     requires { CanServe volume.old (F.view files.old) }
-    ensures outcome { ServeOutcome result 0
-        (told (S.left src.old) (S.faults src.old)) (told (S.left src.new) (S.faults src.new))
-        (moment volume.old (F.view files.old) (K.taken out.old) (K.faults out.old))
-        (moment volume.new (F.view files.new) (K.taken out.new) (K.faults out.new)) }
+    ensures outcome { ServeOutcome (status_of result) 0
+        (S.view src.old) (S.view src.new)
+        (moment volume.old (F.view files.old) (K.view out.old))
+        (moment volume.new (F.view files.new) (K.view out.new)) }
     ensures again { ServesAgain volume.old volume.new (F.view files.new) }
 {
-    let mut is_base_saved = false;
-    serve_by(alloc, volume, work, 0, &mut is_base_saved, src, out, files)
+    serve_by(alloc, volume, work, 0, &mut [], src, out, files)
 }
 
 /// Answers each line of a source, as `serve` does, but for when replies are handed to the sink: they are gathered while
@@ -290,30 +284,31 @@ pub fn serve<R: Region, S: Source, K: Sink, F: Files>(
 /// failed, the volume may be ahead of the line whose reply broke off, by lines behind it of which none is a sync; no
 /// file is.
 ///
-/// Where the attached file is taken to hold the words of the last drain, a sync writes only the blocks to which a store
-/// went since. Whether it is, the caller says, as where it was just read, and is told at the end.
+/// A sync writes the blocks that are stale, which may lack words of the last drain, and those to which a store went since,
+/// as `sync_and_save` does. Which are stale the caller says, as none where the file was just read, and is told at the end.
 pub fn serve_gathered<R: Region, S: Source, K: Sink, F: Files>(
     alloc: Global,
     volume: &mut Volume<R>,
     work: &mut Work,
-    is_base_saved: &mut bool,
+    stale: &mut Stale,
     src: &mut S,
     out: &mut K,
     files: &mut F,
-) -> u8
+) -> Result<(), Broken>
     requires { CanServe volume.old (F.view files.old) }
-    ensures outcome { ServeOutcome result gathered_size
-        (told (S.left src.old) (S.faults src.old)) (told (S.left src.new) (S.faults src.new))
-        (saved_if is_base_saved.old (moment volume.old (F.view files.old) (K.taken out.old) (K.faults out.old)))
-        (saved_if is_base_saved.new (moment volume.new (F.view files.new) (K.taken out.new) (K.faults out.new))) }
+    ensures outcome { ServeOutcome (status_of result) gathered_size
+        (S.view src.old) (S.view src.new)
+        (with_stale (stale_in stale.old) (moment volume.old (F.view files.old) (K.view out.old)))
+        (with_stale (stale_in stale.new) (moment volume.new (F.view files.new) (K.view out.new))) }
     ensures again { ServesAgain volume.old volume.new (F.view files.new) }
 {
+    let count = stale.count.min(stale.marks.len());
     serve_by(
         alloc,
         volume,
         work,
         GATHERED,
-        is_base_saved,
+        &mut stale.marks[..count],
         src,
         out,
         files,

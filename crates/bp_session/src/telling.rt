@@ -21,10 +21,10 @@ use bp_script::Said;
 /// Tells a line for each name, and the line that ends a listing.
 fn tell_names<K: Sink>(listing: &Listing, replies: &mut Replies, out: &mut K) -> Result<(), Failed>
     ensures all { OnOk result (PassesOn (answer_text (names listing.now)) (waiting replies.old) (waiting replies.new)
-        (K.taken out.old) (K.taken out.new)) }
+        (K.view out.old).taken (K.view out.new).taken) }
     ensures some { OnErr result (TakesPart (waiting replies.old ++ answer_text (names listing.now))
-        (K.taken out.old) (K.taken out.new)) }
-    ensures cause { HasCause (K.faults out.old) (K.faults out.new) result }
+        (K.view out.old).taken (K.view out.new).taken) }
+    ensures cause { HasCause (K.view out.old).faults (K.view out.new).faults result }
 {
     for i in 0..listing.len() {
         let (kind, name) = listing.at(i);
@@ -36,10 +36,10 @@ fn tell_names<K: Sink>(listing: &Listing, replies: &mut Replies, out: &mut K) ->
 /// Tells the answer of a call.
 fn tell_answer<K: Sink>(reply: &Reply, replies: &mut Replies, out: &mut K) -> Result<(), Failed>
     ensures all { OnOk result (PassesOn (answer_text reply.now.answer) (waiting replies.old) (waiting replies.new)
-        (K.taken out.old) (K.taken out.new)) }
+        (K.view out.old).taken (K.view out.new).taken) }
     ensures some { OnErr result (TakesPart (waiting replies.old ++ answer_text reply.now.answer)
-        (K.taken out.old) (K.taken out.new)) }
-    ensures cause { HasCause (K.faults out.old) (K.faults out.new) result }
+        (K.view out.old).taken (K.view out.new).taken) }
+    ensures cause { HasCause (K.view out.old).faults (K.view out.new).faults result }
 {
     match reply.answer() {
         Answer::Names(listing) => tell_names(listing, replies, out),
@@ -83,10 +83,10 @@ fn tell<K: Sink>(
     out: &mut K,
 ) -> Result<(), Failed>
     ensures all { OnOk result (PassesOn (reply_text (reply_of outcome reply.now.answer))
-        (waiting replies.old) (waiting replies.new) (K.taken out.old) (K.taken out.new)) }
+        (waiting replies.old) (waiting replies.new) (K.view out.old).taken (K.view out.new).taken) }
     ensures some { OnErr result (TakesPart (waiting replies.old ++ reply_text (reply_of outcome reply.now.answer))
-        (K.taken out.old) (K.taken out.new)) }
-    ensures cause { HasCause (K.faults out.old) (K.faults out.new) result }
+        (K.view out.old).taken (K.view out.new).taken) }
+    ensures cause { HasCause (K.view out.old).faults (K.view out.new).faults result }
 {
     match outcome {
         Outcome::Answered => tell_answer(reply, replies, out),
@@ -104,11 +104,11 @@ pub(crate) fn tell_by<K: Sink>(
     out: &mut K,
 ) -> Result<(), Failed>
     ensures all { OnOk result (PassesOn (reply_text (reply_of outcome reply.now.answer))
-        (waiting replies.old) (waiting replies.new) (K.taken out.old) (K.taken out.new)) }
+        (waiting replies.old) (waiting replies.new) (K.view out.old).taken (K.view out.new).taken) }
     ensures some { OnErr result (TakesPart (waiting replies.old ++ reply_text (reply_of outcome reply.now.answer))
-        (K.taken out.old) (K.taken out.new)) }
+        (K.view out.old).taken (K.view out.new).taken) }
     ensures few { OnOk result (length (waiting replies.new) ≤ most) }
-    ensures cause { HasCause (K.faults out.old) (K.faults out.new) result }
+    ensures cause { HasCause (K.view out.old).faults (K.view out.new).faults result }
 {
     tell(outcome, reply, replies, out)?;
     replies.hand_over_above(most, out)

@@ -7,6 +7,7 @@ use Rattle.bp_export.specs.Exports.{EndsExport}
 use Rattle.bp_export.specs.declared.fault.Fault.{Fault}
 use Rattle.bp_export.specs.declared.fault.Fault.TheVariants as fault
 use Rattle.bp_io.specs.Causes.{Rose}
+use Rattle.bp_io.specs.Streams.{SinkView}
 use Rattle.bp_layout.specs.Whole.{IsFileSystem}
 use Rattle.bp_layout.specs.Words.{Image}
 use Rattle.bp_limits.specs.Limits.{max_path}
@@ -55,22 +56,22 @@ abbrev is_broken : {T : Type 0} → Result T Fault → Bool
 is_broken (Err fault.Sink) = true
 is_broken other = false
 
-module _ (tree : FileTree) (t u : Option (List ℕ)) (m n : ℕ) where
-  pub tells_all : {T : Type 0} (done : T) → EndsExport tree (Ok done) t u m n → TellsTree tree status.Done t u m n
+module _ (tree : FileTree) (t u : SinkView) where
+  pub tells_all : {T : Type 0} (done : T) → EndsExport tree (Ok done) t u → TellsTree tree status.Done t.taken u.taken t.faults u.faults
   tells_all done ends = (
     short_of tree (λ deep. true≢false (ap is_done (ends.deep.1 deep))),
     ends.all,
     ends.same (λ e. true≢false (ap is_done e)),
   )
 
-  pub tells_front : {T : Type 0} → EndsExport {T = T} tree (Err fault.Memory) t u m n → TellsTree tree status.Memory t u m n
+  pub tells_front : {T : Type 0} → EndsExport {T = T} tree (Err fault.Memory) t u → TellsTree tree status.Memory t.taken u.taken t.faults u.faults
   tells_front ends = (
     short_of tree (λ deep. true≢false (sym (ap is_deep (ends.deep.1 deep)))),
     ends.some refl,
     ends.same (λ e. true≢false (sym (ap is_broken e))),
   )
 
-  pub tells_part : {T : Type 0} → EndsExport {T = T} tree (Err fault.Sink) t u m n → TellsTree tree status.SinkFailed t u m n
+  pub tells_part : {T : Type 0} → EndsExport {T = T} tree (Err fault.Sink) t u → TellsTree tree status.SinkFailed t.taken u.taken t.faults u.faults
   tells_part ends = (
     short_of tree (λ deep. true≢false (sym (ap is_deep (ends.deep.1 deep)))),
     ends.part refl,
@@ -78,11 +79,11 @@ module _ (tree : FileTree) (t u : Option (List ℕ)) (m n : ℕ) where
   )
 
   -- nothing was told before the line
-  pub tells_deep : {T : Type 0} (v : Option (List ℕ)) (k : ℕ) → EndsExport {T = T} tree (Err fault.Deep) t u m n → Prints (notice_text Deep) u v n k → TellsTree tree status.Deep t v m k
-  tells_deep v k ends prints =
+  pub tells_deep : {T : Type 0} (v : SinkView) → EndsExport {T = T} tree (Err fault.Deep) t u → Prints (notice_text Deep) u.taken v.taken u.faults v.faults → TellsTree tree status.Deep t.taken v.taken t.faults v.faults
+  tells_deep v ends prints =
       let untold = ends.untold refl in
       let same = ends.same (λ e. true≢false (sym (ap is_broken e))) in
-      (ends.deep.0 refl, subst (λ (w : Option (List ℕ)). Prints (notice_text Deep) w v m k) untold (subst (λ (j : ℕ). Prints (notice_text Deep) u v j k) same prints))
+      (ends.deep.0 refl, subst (λ (w : Option (List ℕ)). Prints (notice_text Deep) w v.taken t.faults v.faults) untold (subst (λ (j : ℕ). Prints (notice_text Deep) u.taken v.taken j v.faults) same prints))
 
 -- ---- a file
 

@@ -1,20 +1,25 @@
 -- Outcomes of the programs, from those of their parts.
-use Rattle.std.proofs.Common.{refl, sym, ◌∙◌, arith, ◌≡◌, ◌≢◌, ◌<◌, ◌≤◌, ℕ, List, length, take, inl, inr, true}
+use Rattle.std.proofs.Common.{refl, sym, ◌∙◌, ap, subst, arith, ◌≡◌, ◌<◌, ℕ, List, length, take, inl, inr, true}
 use Rattle.std.specs.Prelude.{◌⊎◌}
 use Rattle.std.specs.Io.KnownBytes.{Appends}
 use Rattle.pm_region.specs.Memory.{Memory, current_words, drained}
 use Rattle.bp_io.specs.Causes.{Rose}
 use Rattle.bp_io.specs.Files.{View}
+use Rattle.bp_io.specs.Streams.{SourceView}
 use Rattle.bp_layout.specs.Words.{Image}
 use Rattle.bp_layout.specs.Bytes.{image_bytes}
-use Rattle.bp_session.specs.Files.{HasBlocksOf, HasBytes, Holds}
+use Rattle.bp_session.specs.Files.{HasBlocksOf, HasBytes, Holds, HoldsAs}
 use Rattle.bp_shell.specs.Formatting.{HasPartly, new_image}
 use Rattle.bp_shell.specs.Opening.{HoldsFileSystem, start}
 use Rattle.bp_session.specs.Outside.{IsIdle, IsUntouched, Outside, counts, outside}
 use Rattle.bp_limits.specs.declared.version.Version.{Version}
 use Rattle.bp_shell.specs.Running.{FormatOutcome, RunOutcome, Runs, RunsBroken, RunsLong, RunsPart, RunsStopped, RunsUnsaved, format_text}
 use Rattle.bp_replies.specs.Room.{gathered_size}
-use Rattle.bp_session.specs.Serving.{Carries, CarriesPartly, HoldsAt, Input, Moment, ServeOutcome}
+use Rattle.bp_session.specs.Serving.{Carries, CarriesPartly, HoldsAt, Moment, ServeOutcome}
+use Rattle.bp_session.specs.Statuses.{broken_status}
+use Rattle.bp_session.specs.declared.broken.Broken.{Broken}
+use Rattle.bp_session.specs.declared.broken.Broken.TheVariants.{Source, Sink, Files, LongInput}
+use Rattle.bp_session.proofs.ChangedLaws.{holds_drained}
 use Rattle.bp_session.proofs.OutcomeLaws.{files_fault, first_then, no_fault, sink_fault}
 use Rattle.bp_shell.specs.Ending.{StopOutcome, TellsStop}
 use Rattle.bp_shell.specs.Statuses.{code_of}
@@ -29,24 +34,17 @@ use Rattle.bp_shell.proofs.RunningLaws.{complete, runs_broken, runs_long, runs_p
 
 -- ---- `run`
 
--- the numbers that serving answers
-pub serving_numbers : (number : ℕ) → (number ≡ 0) ⊎ (number ≡ 3) ⊎ (number ≡ 4) ⊎ (number ≡ 5) ⊎ (number ≡ 6)
-    → (number ≤ 6) × (number ≢ 1) × (number ≢ 2)
-serving_numbers number (inl e) = (omega (arith, e), λ one. omega (arith, e, one), λ two. omega (arith, e, two))
-serving_numbers number (inr (inl e)) = (omega (arith, e), λ one. omega (arith, e, one), λ two. omega (arith, e, two))
-serving_numbers number (inr (inr (inl e))) = (omega (arith, e), λ one. omega (arith, e, one), λ two. omega (arith, e, two))
-serving_numbers number (inr (inr (inr (inl e)))) = (omega (arith, e), λ one. omega (arith, e, one), λ two. omega (arith, e, two))
-serving_numbers number (inr (inr (inr (inr e)))) = (omega (arith, e), λ one. omega (arith, e, one), λ two. omega (arith, e, two))
+among : (n status : ℕ) → ¬ (n ≡ 1) → ¬ (n ≡ 7) → ¬ (n ≡ 8) → status ≡ n → (status ≡ 1) ⊎ (status ≡ 7) ⊎ (status ≡ 8) → ⊥
+among n status one seven eight is (inl e) = one (sym is ∙ e)
+among n status one seven eight is (inr (inl e)) = seven (sym is ∙ e)
+among n status one seven eight is (inr (inr e)) = eight (sym is ∙ e)
 
--- none is one of a run that reads nothing
-pub serving_reads : (number status : ℕ) → status ≡ number → (number ≡ 0) ⊎ (number ≡ 3) ⊎ (number ≡ 4) ⊎ (number ≡ 5) ⊎ (number ≡ 6)
-    → (status ≡ 1) ⊎ (status ≡ 7) ⊎ (status ≡ 8) → ⊥
-serving_reads number status is one_of unread = clash (serving_numbers number one_of) unread
-  where
-    clash : (number ≤ 6) × (number ≢ 1) × (number ≢ 2) → (status ≡ 1) ⊎ (status ≡ 7) ⊎ (status ≡ 8) → ⊥
-    clash (most, not_missing, not_usage) (inl e) = not_missing (sym is ∙ e)
-    clash (most, not_missing, not_usage) (inr (inl e)) = omega (arith, most, is, e)
-    clash (most, not_missing, not_usage) (inr (inr e)) = omega (arith, most, is, e)
+-- no cause that breaks serving off ends a run that reads nothing
+pub broken_reads : (broken : Broken) (status : ℕ) → status ≡ broken_status broken → (status ≡ 1) ⊎ (status ≡ 7) ⊎ (status ≡ 8) → ⊥
+broken_reads Source status is unread = among 3 status (λ e. omega (arith, e)) (λ e. omega (arith, e)) (λ e. omega (arith, e)) is unread
+broken_reads Sink status is unread = among 4 status (λ e. omega (arith, e)) (λ e. omega (arith, e)) (λ e. omega (arith, e)) is unread
+broken_reads Files status is unread = among 5 status (λ e. omega (arith, e)) (λ e. omega (arith, e)) (λ e. omega (arith, e)) is unread
+broken_reads LongInput status is unread = among 6 status (λ e. omega (arith, e)) (λ e. omega (arith, e)) (λ e. omega (arith, e)) is unread
 
 -- no run answers that a path is long
 pub run_short : (status : ℕ) → (status ≡ 0) ⊎ (status ≡ 1) ⊎ (status ≡ 3) ⊎ (status ≡ 4) ⊎ (status ≡ 5) ⊎ (status ≡ 6) ⊎ (status ≡ 7) ⊎ (status ≡ 8) → status ≡ 9 → ⊥
@@ -100,15 +98,21 @@ module _ (before after : Outside) (untouched : IsUntouched before after) (flushe
 
 -- a file that was just read holds the words of a region whose log is empty
 pub read_now : (now : Moment) (name : List ℕ) (image : Image) → now.memory ≡ (start image).memory → Holds now.files name image → HoldsAt now name image
-read_now now name image same file = record { file = file; drained = λ _. rw same file }
+read_now now name image same file =
+    let base : now.memory.base ≡ image = ap (λ (m : Memory). m.base) same in
+    subst (λ (words : Image). HoldsAs now.stale now.files words name image) (sym base) (holds_drained now.stale now.files image name file)
+
+-- the outside at a moment, with what is told of the files by another
+abbrev outside_at : SourceView → Moment → View → List ℕ → Outside
+outside_at source now files name = outside source (record { taken = now.taken; faults = now.faults }) files name
 
 -- from the moment at which FILE is mounted
-module _ (i j : Input) (files : View) (a b : Moment) (name : List ℕ) (image : Image) (found : HoldsFileSystem (files.contents name) image) (same : a.memory ≡ (start image).memory) (holds : HoldsAt a name image)
+module _ (i j : SourceView) (files : View) (a b : Moment) (name : List ℕ) (image : Image) (found : HoldsFileSystem (files.contents name) image) (same : a.memory ≡ (start image).memory) (holds : HoldsAt a name image)
     (flushed : a.files.is_flushed ≡ files.is_flushed) (calm : a.files.faults ≡ files.faults) where
-  pub run_served : (status : ℕ) → ¬ (status ≡ 0) → ServeOutcome status gathered_size i j a b → RunOutcome status (outside i.left i.faults a.taken a.faults files name) (outside j.left j.faults b.taken b.faults b.files name)
+  pub run_served : (status : ℕ) → ¬ (status ≡ 0) → ServeOutcome status gathered_size i j a b → RunOutcome status (outside_at i a files name) (outside_at j b b.files name)
   run_served status other served =
-      let before = outside i.left i.faults a.taken a.faults files name in
-      let after = outside j.left j.faults b.taken b.faults b.files name in
+      let before = outside_at i a files name in
+      let after = outside_at j b b.files name in
       let saves = λ (k : Image) (carried : Carries a b image k). (carried name holds).file.bytes in
       run_outcome status before after (λ e. absurd (other e))
       (λ e. let part = served.part e in runs_part before after image a.memory b.memory found same part.0 part.1 (Carries a b image) saves part.2 (part.3 image))
@@ -142,10 +146,10 @@ module _ (i j : Input) (files : View) (a b : Moment) (name : List ℕ) (image : 
   -- the sync at the end saved, or couldn't
   module _ (now : View) (served : ServeOutcome 0 gathered_size i j a b) where
     pub run_whole : HasBytes (now.contents name) (image_bytes (current_words b.memory)) → now.is_flushed ≡ true → now.faults ≡ b.files.faults
-        → RunOutcome 0 (outside i.left i.faults a.taken a.faults files name) (outside j.left j.faults b.taken b.faults now name)
+        → RunOutcome 0 (outside_at i a files name) (outside_at j b now name)
     run_whole saved done quiet =
-        let before = outside i.left i.faults a.taken a.faults files name in
-        let after = outside j.left j.faults b.taken b.faults now name in
+        let before = outside_at i a files name in
+        let after = outside_at j b now name in
         let all = served.whole refl in
         run_outcome 0 before after (λ _. runs_whole before after image a.memory b.memory found same all.0 (Carries a b image) all.1 all.2 all.3 (all.4 image) saved done)
         (λ e. absurd (omega (arith, e))) (λ e. absurd (omega (arith, e))) (λ e. absurd (omega (arith, e))) (λ e. absurd (omega (arith, e)))
@@ -156,10 +160,10 @@ module _ (i j : Input) (files : View) (a b : Moment) (name : List ℕ) (image : 
         (inl refl)
 
     pub run_unsaved : (memory : Memory) → memory ≡ drained b.memory → ((was : Image) → Holds b.files name was → HasBlocksOf (now.contents name) (image_bytes was) (image_bytes (current_words b.memory))) → Rose b.files.faults now.faults
-        → RunOutcome 5 (outside i.left i.faults a.taken a.faults files name) (outside j.left j.faults b.taken b.faults now name)
+        → RunOutcome 5 (outside_at i a files name) (outside_at j b now name)
     run_unsaved memory done partly rose =
-        let before = outside i.left i.faults a.taken a.faults files name in
-        let after = outside j.left j.faults b.taken b.faults now name in
+        let before = outside_at i a files name in
+        let after = outside_at j b now name in
         let all = served.whole refl in
         let told = all.4 image in
         run_outcome 5 before after (λ e. absurd (omega (arith, e))) (λ e. absurd (omega (arith, e))) (λ e. absurd (omega (arith, e)))

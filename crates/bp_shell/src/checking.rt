@@ -1,6 +1,7 @@
 //! The program `check`.
 
 ghost use Rattle.bp_io.specs.Files.{Known};
+ghost use Rattle.bp_io.specs.Streams.{SourceView};
 ghost use Rattle.bp_layout.specs.Formatted.{IsSized};
 ghost use Rattle.bp_layout.specs.Whole.{IsFileSystem};
 ghost use Rattle.bp_script.specs.declared.notices.Notice.{Notice};
@@ -11,7 +12,7 @@ ghost use Rattle.bp_session.specs.Outside.{outside};
 ghost use Rattle.bp_shell.specs.Statuses.{code_of};
 ghost use Rattle.bp_shell.specs.Stops.{HasStopCause, IsReason};
 ghost use Rattle.bp_shell.specs.declared.stop.Stop.TheVariants.{Memory, Refused};
-ghost use Rattle.std.specs.Prelude.{◌≡◌, ◌⊎◌, ℕ, [], IfErr, IfOk, List, OnOk, Option};
+ghost use Rattle.std.specs.Prelude.{◌≡◌, ◌⊎◌, [], IfErr, IfOk, OnOk};
 
 use crate::opening::load_file;
 use crate::printing::{print, tell_stop};
@@ -64,9 +65,9 @@ pub(crate) fn check_file<K: Sink, F: Files>(
     files: &mut F,
 ) -> Status
     // Whatever a source has left.
-    ensures outcome { (left : Option (List ℕ)) (reads : ℕ) → CheckOutcome (code_of result)
-        (outside left reads (K.taken out.old) (K.faults out.old) (F.view files.old) name.now)
-        (outside left reads (K.taken out.new) (K.faults out.new) (F.view files.new) name.now) }
+    ensures outcome { (source : SourceView) → CheckOutcome (code_of result)
+        (outside source (K.view out.old) (F.view files.old) name.now)
+        (outside source (K.view out.new) (F.view files.new) name.now) }
     ensures reads { OnlyReads name.now (F.view files.old) (F.view files.new) }
 {
     let notice = match examine(alloc, name, files) {

@@ -1,5 +1,6 @@
 //! The program `export`. It tells of the first tree alone: a script makes no snapshot's old bytes.
 
+ghost use Rattle.bp_io.specs.Streams.{SourceView};
 ghost use Rattle.bp_layout.specs.Names.{AreCounts};
 ghost use Rattle.bp_layout.specs.Whole.{IsFileSystem};
 ghost use Rattle.bp_layout.specs.Words.{block_count};
@@ -12,7 +13,7 @@ ghost use Rattle.bp_shell.specs.Opening.{HoldsFileSystem, OnlyReads};
 ghost use Rattle.bp_shell.specs.Scanning.{IsScanned};
 ghost use Rattle.bp_shell.specs.Statuses.{code_of};
 ghost use Rattle.bp_shell.specs.Stops.{HasStopCause, IsReason};
-ghost use Rattle.std.specs.Prelude.{◌*◌, ◌≡◌, ℕ, [], IfErr, IfOk, List, Option, length};
+ghost use Rattle.std.specs.Prelude.{◌*◌, ◌≡◌, [], IfErr, IfOk, length};
 
 use crate::opening::load_file;
 use crate::printing::{tell_notice, tell_stop};
@@ -34,7 +35,7 @@ fn tell_tree<K: Sink>(alloc: Global, region: &RawRegion, counts: &Counts, out: &
     requires counts { AreCounts region.now.base counts.now }
     requires inodes { length counts.now ≡ block_inodes * block_count region.now.base }
     ensures { (tree : FileTree) → Stands region.now.base tree →
-        TellsTree tree result (K.taken out.old) (K.taken out.new) (K.faults out.old) (K.faults out.new) }
+        TellsTree tree result (K.view out.old).taken (K.view out.new).taken (K.view out.old).faults (K.view out.new).faults }
 {
     match export(alloc, region, counts, out) {
         Ok(()) => Status::Done,
@@ -73,9 +74,9 @@ pub(crate) fn export_file<K: Sink, F: Files>(
     files: &mut F,
 ) -> Status
     // Whatever a source has left.
-    ensures outcome { (left : Option (List ℕ)) (reads : ℕ) → ExportOutcome (code_of result)
-        (outside left reads (K.taken out.old) (K.faults out.old) (F.view files.old) name.now)
-        (outside left reads (K.taken out.new) (K.faults out.new) (F.view files.new) name.now) }
+    ensures outcome { (source : SourceView) → ExportOutcome (code_of result)
+        (outside source (K.view out.old) (F.view files.old) name.now)
+        (outside source (K.view out.new) (F.view files.new) name.now) }
     ensures reads { OnlyReads name.now (F.view files.old) (F.view files.new) }
 {
     match examine(alloc, name, files) {

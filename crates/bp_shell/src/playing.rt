@@ -1,6 +1,7 @@
 //! The program `play`.
 
 ghost use Rattle.bp_io.specs.Files.{Known};
+ghost use Rattle.bp_io.specs.Streams.{SourceView};
 ghost use Rattle.bp_layout.specs.Words.{Image};
 ghost use Rattle.bp_limits.specs.Limits.{log_events, max_turns};
 ghost use Rattle.bp_session.specs.Outside.{outside};
@@ -8,7 +9,7 @@ ghost use Rattle.bp_shell.specs.Opening.{HoldsFileSystem, OnlyReads, start};
 ghost use Rattle.bp_shell.specs.Playing.{EndsPlay, PlayOutcome, PlaysFile, crashes_text, play_text, spaced, tree_text, turns_text};
 ghost use Rattle.bp_shell.specs.Statuses.{code_of};
 ghost use Rattle.bp_shell.specs.Stops.{HasStopCause, IsReason};
-ghost use Rattle.std.specs.Prelude.{◌≡◌, ◌≤◌, ◌++◌, ℕ, IfErr, IfOk, List, OnOk, Option};
+ghost use Rattle.std.specs.Prelude.{◌≡◌, ◌≤◌, ◌++◌, ℕ, IfErr, IfOk, OnOk};
 
 use crate::opening::open_to_read;
 use crate::printing::tell_stop;
@@ -156,9 +157,9 @@ pub(crate) fn play_file<K: Sink, F: Files>(
 ) -> Status
     requires { count ≤ max_turns }
     // Whatever a source has left.
-    ensures outcome { (left : Option (List ℕ)) (reads : ℕ) → PlayOutcome (code_of result) seed count
-        (outside left reads (K.taken out.old) (K.faults out.old) (F.view files.old) name.now)
-        (outside left reads (K.taken out.new) (K.faults out.new) (F.view files.new) name.now) }
+    ensures outcome { (source : SourceView) → PlayOutcome (code_of result) seed count
+        (outside source (K.view out.old) (F.view files.old) name.now)
+        (outside source (K.view out.new) (F.view files.new) name.now) }
     ensures reads { OnlyReads name.now (F.view files.old) (F.view files.new) }
 {
     let text = match perform(alloc, name, seed, count, files) {

@@ -16,9 +16,9 @@ use bp_script::{MAX_NOTICE, Notice, announce};
 
 /// Prints a line. Where the sink failed, it took a proper front of it.
 pub(crate) fn print<K: Sink>(notice: &Notice, out: &mut K) -> Result<(), Failed>
-    ensures all { OnOk result (Appends (K.taken out.old) (K.taken out.new) (notice_text notice.now)) }
-    ensures some { OnErr result (TakesPart (notice_text notice.now) (K.taken out.old) (K.taken out.new)) }
-    ensures cause { HasCause (K.faults out.old) (K.faults out.new) result }
+    ensures all { OnOk result (Appends (K.view out.old).taken (K.view out.new).taken (notice_text notice.now)) }
+    ensures some { OnErr result (TakesPart (notice_text notice.now) (K.view out.old).taken (K.view out.new).taken) }
+    ensures cause { HasCause (K.view out.old).faults (K.view out.new).faults result }
 {
     let mut text = [0u8; MAX_NOTICE];
     let count = announce(notice, &mut text);
@@ -27,15 +27,15 @@ pub(crate) fn print<K: Sink>(notice: &Notice, out: &mut K) -> Result<(), Failed>
 
 /// Prints a line as far as the sink takes it.
 pub(crate) fn tell_notice<K: Sink>(notice: &Notice, out: &mut K)
-    ensures { Prints (notice_text notice.now) (K.taken out.old) (K.taken out.new)
-        (K.faults out.old) (K.faults out.new) }
+    ensures { Prints (notice_text notice.now) (K.view out.old).taken (K.view out.new).taken
+        (K.view out.old).faults (K.view out.new).faults }
 {
     let _ = print(notice, out);
 }
 
 /// Tells the line of the reason, where it has one, and answers the status of that reason.
 pub(crate) fn tell_stop<K: Sink>(stop: Stop, out: &mut K) -> Status
-    ensures { TellsStop stop result (K.taken out.old) (K.taken out.new) (K.faults out.old) (K.faults out.new) }
+    ensures { TellsStop stop result (K.view out.old).taken (K.view out.new).taken (K.view out.old).faults (K.view out.new).faults }
 {
     match stop {
         Stop::Missing => {

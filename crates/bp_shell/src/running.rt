@@ -22,8 +22,9 @@ use crate::status::Status;
 use bp_command::laws::{plain_words_are_taken, words_ask_for_one_program};
 use bp_command::{Program, WordsFault, read_words};
 use bp_io::{Failed, Files, Sink, Source};
+use bp_limits::BLOCK_WORDS;
 use bp_script::Notice;
-use bp_session::saving::sync_and_save;
+use bp_session::saving::{Stale, sync_and_save};
 use bp_session::{Work, serve_gathered};
 use bp_volume::Volume;
 use pm_region::Region;
@@ -42,19 +43,17 @@ fn serve_and_save<R: Region, S: Source, K: Sink, F: Files>(
     // From whichever file it was mounted.
     ensures outcome { (before : View) (name : List ℕ) (image : Image) →
         IsMounted name image before (F.view files.old) volume.old → RunOutcome (code_of result)
-        (outside (S.left src.old) (S.faults src.old) (K.taken out.old) (K.faults out.old) before name)
-        (outside (S.left src.new) (S.faults src.new) (K.taken out.new) (K.faults out.new) (F.view files.new) name) }
+        (outside (S.view src.old) (K.view out.old) before name)
+        (outside (S.view src.new) (K.view out.new) (F.view files.new) name) }
     ensures unread { (code_of result ≡ 1) ⊎ (code_of result ≡ 7) ⊎ (code_of result ≡ 8) → src.new ≡ src.old }
     ensures attached { StaysAttached (F.view files.old) (F.view files.new) }
     ensures others { KeepsOthers (F.view files.old) (F.view files.new) }
 {
-    let mut is_base_saved = true;
-    let served = serve_gathered(alloc, volume, work, &mut is_base_saved, src, out, files);
-    match Status::of_serving(served) {
-        Status::Done => {}
-        broken => return broken,
+    let mut stale = Stale::none(volume.region().words() / BLOCK_WORDS);
+    if let Err(broken) = serve_gathered(alloc, volume, work, &mut stale, src, out, files) {
+        return Status::from(broken);
     }
-    match sync_and_save(volume, is_base_saved, files) {
+    match sync_and_save(volume, &mut stale, files) {
         Ok(()) => Status::Done,
         Err(Failed) => Status::FilesFailed,
     }
@@ -72,8 +71,8 @@ fn run_over<R: Region, S: Source, K: Sink, F: Files>(
     // From whichever file it was mounted.
     ensures outcome { (before : View) (name : List ℕ) (image : Image) →
         IsMounted name image before (F.view files.old) volume.old → RunOutcome (code_of result)
-        (outside (S.left src.old) (S.faults src.old) (K.taken out.old) (K.faults out.old) before name)
-        (outside (S.left src.new) (S.faults src.new) (K.taken out.new) (K.faults out.new) (F.view files.new) name) }
+        (outside (S.view src.old) (K.view out.old) before name)
+        (outside (S.view src.new) (K.view out.new) (F.view files.new) name) }
     ensures unread { (code_of result ≡ 1) ⊎ (code_of result ≡ 7) ⊎ (code_of result ≡ 8) → src.new ≡ src.old }
     ensures attached { StaysAttached (F.view files.old) (F.view files.new) }
     ensures others { KeepsOthers (F.view files.old) (F.view files.new) }
@@ -93,8 +92,8 @@ fn run_file<S: Source, K: Sink, F: Files>(
     files: &mut F,
 ) -> Status
     ensures outcome { RunOutcome (code_of result)
-        (outside (S.left src.old) (S.faults src.old) (K.taken out.old) (K.faults out.old) (F.view files.old) name.now)
-        (outside (S.left src.new) (S.faults src.new) (K.taken out.new) (K.faults out.new) (F.view files.new) name.now) }
+        (outside (S.view src.old) (K.view out.old) (F.view files.old) name.now)
+        (outside (S.view src.new) (K.view out.new) (F.view files.new) name.now) }
     ensures unread { (code_of result ≡ 1) ⊎ (code_of result ≡ 7) ⊎ (code_of result ≡ 8) → src.new ≡ src.old }
     ensures files { OnlyWrites name.now (F.view files.old) (F.view files.new) }
 {
@@ -115,8 +114,8 @@ fn run_program<S: Source, K: Sink, F: Files>(
     requires { HasNumbersInRange (program_of program.now) }
     ensures outcome { let name = file_name (program_of program.now) in
         ProgramOutcome (program_of program.now) (code_of result)
-        (outside (S.left src.old) (S.faults src.old) (K.taken out.old) (K.faults out.old) (F.view files.old) name)
-        (outside (S.left src.new) (S.faults src.new) (K.taken out.new) (K.faults out.new) (F.view files.new) name) }
+        (outside (S.view src.old) (K.view out.old) (F.view files.old) name)
+        (outside (S.view src.new) (K.view out.new) (F.view files.new) name) }
     ensures unread { (code_of result ≡ 1) ⊎ (code_of result ≡ 7) ⊎ (code_of result ≡ 8) ⊎ (code_of result ≡ 9)
         → src.new ≡ src.old }
     ensures asked { ¬ (code_of result ≡ 2) }
@@ -154,22 +153,22 @@ pub fn run<S: Source, K: Sink, F: Files>(
 ) -> u8
     ensures usage { result ≡ 2 → ¬ IsTaken (map (λ word. word.now) words.now) }
     ensures not_taken { ¬ IsTaken (map (λ word. word.now) words.now) → (result ≡ 2) ⊎ (result ≡ 8) }
-    ensures told { result ≡ 2 → Prints (notice_text Usage) (K.taken out.old) (K.taken out.new)
-        (K.faults out.old) (K.faults out.new) }
+    ensures told { result ≡ 2 → Prints (notice_text Usage) (K.view out.old).taken (K.view out.new).taken
+        (K.view out.old).faults (K.view out.new).faults }
     ensures unread { (result ≡ 1) ⊎ (result ≡ 2) ⊎ (result ≡ 7) ⊎ (result ≡ 8) ⊎ (result ≡ 9) → src.new ≡ src.old }
     ensures untouched { result ≡ 2 → files.new ≡ files.old }
 
     // Words that ask for a program in the plain way.
     ensures plain { (program : Asked) → Asks (map (λ word. word.now) words.now) program →
         let name = file_name program in ProgramOutcome program result
-        (outside (S.left src.old) (S.faults src.old) (K.taken out.old) (K.faults out.old) (F.view files.old) name)
-        (outside (S.left src.new) (S.faults src.new) (K.taken out.new) (K.faults out.new) (F.view files.new) name) }
+        (outside (S.view src.old) (K.view out.old) (F.view files.old) name)
+        (outside (S.view src.new) (K.view out.new) (F.view files.new) name) }
 
     // All other words that are taken. Want of memory may come before they are read.
     ensures others { ¬ (result ≡ 2) → RunsProgram (map (λ word. word.now) words.now) result
-        (λ name. outside (S.left src.old) (S.faults src.old) (K.taken out.old) (K.faults out.old)
+        (λ name. outside (S.view src.old) (K.view out.old)
         (F.view files.old) name)
-        (λ name. outside (S.left src.new) (S.faults src.new) (K.taken out.new) (K.faults out.new)
+        (λ name. outside (S.view src.new) (K.view out.new)
         (F.view files.new) name)
         ⊎ ((result ≡ 8) × (src.new ≡ src.old) × (out.new ≡ out.old) × (files.new ≡ files.old)) }
 

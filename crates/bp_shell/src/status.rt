@@ -1,8 +1,10 @@
 //! How a program ends.
 
+ghost use Rattle.bp_session.specs.Statuses.{broken_status};
 ghost use Rattle.bp_shell.specs.Statuses.{code_of};
-ghost use Rattle.bp_shell.specs.declared.status.Status.TheVariants.{Done};
-ghost use Rattle.std.specs.Prelude.{◌≡◌, ◌≢◌, ◌≤◌};
+ghost use Rattle.std.specs.Prelude.{◌≡◌};
+
+use bp_session::Broken;
 
 /// How a program ends, by its cause. The number beside a cause is the exit status.
 #[derive(Clone, Copy, Debug, PartialEq, Eq)]
@@ -36,22 +38,17 @@ impl Status {
     {
         self as u8
     }
+}
 
-    /// How a run goes on, or ends, behind the number that serving its source answered.
-    pub(crate) fn of_serving(number: u8) -> Status
-        requires most { number ≤ 6 }
-        requires not_missing { number ≢ 1 }
-        requires not_usage { number ≢ 2 }
-        ensures code { code_of result ≡ number }
-        ensures done { number ≡ 0 → result ≡ Done }
-    {
-        match number {
-            // Serving answers neither 1 nor 2.
-            0..=2 => Status::Done,
-            3 => Status::SourceFailed,
-            4 => Status::SinkFailed,
-            5 => Status::FilesFailed,
-            6.. => Status::LongInput,
+impl From<Broken> for Status {
+    ghost from_gives = { λ broken status. code_of status ≡ broken_status broken };
+
+    fn from(broken: Broken) -> Status {
+        match broken {
+            Broken::Source => Status::SourceFailed,
+            Broken::Sink => Status::SinkFailed,
+            Broken::Files => Status::FilesFailed,
+            Broken::LongInput => Status::LongInput,
         }
     }
 }

@@ -1,4 +1,4 @@
-//! What the names of a directory are sorted by.
+//! By what the names of a directory are told apart.
 
 /// Memory for one entry of a directory: where it stands, and a hash of its name.
 #[derive(Clone, Copy, Default)]

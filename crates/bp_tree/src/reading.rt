@@ -1,4 +1,4 @@
-//! Reading bytes: a walk for each leaf, and then word by word.
+//! Reading bytes: a walk for each leaf, and then eight words at a time.
 
 ghost use Rattle.std.specs.Prelude.{◌≡◌, ℕ, ◌+◌, ◌-◌, ◌*◌, ◌/◌, ◌%◌, ◌<◌, ◌≤◌, IfNone, IfSome, length, slice_index, take, drop, min};
 ghost use Rattle.bp_layout.specs.Tree.{IsSound, content_word};

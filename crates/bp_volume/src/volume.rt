@@ -234,13 +234,14 @@ impl<R: Region> Volume<R> {
         made
     }
 
-    /// Removes the file at a path. Its blocks are free then.
+    /// Takes this name from a file, and removes the file with its last name: its blocks that are not the snapshot's are free
+    /// then.
     ///
     /// # Errors
     ///
     /// `BadPath` where the text is no path; `IsDir` at the root directory; `NotFound` or `NotDir` at the first name
-    /// on the way that is missing, or is sought in a file; and last `IsDir` where a directory stands there. Nothing
-    /// has changed then.
+    /// on the way that is missing, or is sought in a file; then `IsDir` where a directory stands there; and last `NoSpace`,
+    /// where there is a snapshot and fewer blocks are free than it makes the call copy. Nothing has changed then.
     pub fn unlink(&mut self, path: &[u8]) -> Result<(), FsError>
         ensures { FileCall self.old (unlink path.now) (unit_answer result) self.new }
     {
@@ -250,13 +251,14 @@ impl<R: Region> Volume<R> {
         made
     }
 
-    /// Removes the directory at a path, which has no names. Its blocks are free then.
+    /// Removes the directory at a path, which has no names. Its blocks that are not the snapshot's are free then.
     ///
     /// # Errors
     ///
     /// `BadPath` where the text is no path; `IsRoot` at the root directory; `NotFound` or `NotDir` at the first name
-    /// on the way that is missing, or is sought in a file; `NotDir` where a file stands there; and last `NotEmpty`
-    /// where the directory has a name. Nothing has changed then.
+    /// on the way that is missing, or is sought in a file; `NotDir` where a file stands there; then `NotEmpty` where the
+    /// directory has a name; and last `NoSpace`, where there is a snapshot and fewer blocks are free than it makes the call
+    /// copy. Nothing has changed then.
     pub fn rmdir(&mut self, path: &[u8]) -> Result<(), FsError>
         ensures { FileCall self.old (rmdir path.now) (unit_answer result) self.new }
     {
@@ -349,7 +351,8 @@ impl<R: Region> Volume<R> {
     ///
     /// `BadPath` where the text is no path; `NotFound` or `NotDir` at the first name on the way that is missing, or
     /// is sought in a file; `IsDir` where a directory stands there; `TooBig` where the size is above the greatest of
-    /// a file; and last `NoSpace` where fewer blocks are free than a higher tree needs. Nothing has changed then.
+    /// a file; and last `NoSpace` where fewer blocks are free than a higher tree needs, and those of the snapshot that are
+    /// copied first. Nothing has changed then.
     pub fn truncate(&mut self, path: &[u8], size: u64) -> Result<(), FsError>
         ensures { FileCall self.old (truncate path.now size) (unit_answer result) self.new }
     {

@@ -1,6 +1,7 @@
 //! `bpfs format FILE --blocks N` makes FILE a file system of N blocks, of version 1 or that of `--version V`; `bpfs run FILE`
 //! serves the script of standard input over it, and writes the replies to standard output; `bpfs check FILE` says whether FILE
-//! is a file system, and what it holds; `bpfs export FILE` writes the script that makes its tree.
+//! is a file system, and what it holds; `bpfs play FILE --seed S --count C` tells what came of C turns; `bpfs export FILE`
+//! writes the script that makes its tree.
 #![tactic(auto)]
 
 ghost use Rattle.std.specs.Prelude.{◌≡◌, IfOk, map, string_bytes};

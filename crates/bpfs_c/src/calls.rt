@@ -57,7 +57,7 @@ pub extern "C" fn bpfs_mkdir(
     code
 }
 
-/// Removes a file.
+/// Takes this name from a file, and removes the file with its last name.
 #[unsafe(no_mangle)]
 pub extern "C" fn bpfs_unlink(
     alloc: Global,

@@ -14,12 +14,6 @@ signal_of value = if value == 0 then Barrier else Mark
 abbrev pub event_of : ℕ → ℕ → Event
 event_of word value = if word == no_word then signal_of value else Store word value
 
--- the word that stands for an event
-abbrev pub event_word : Event → ℕ
-event_word (Store word value) = word
-event_word Barrier = no_word
-event_word Mark = no_word
-
 abbrev pub events_of : List ℕ → List ℕ → List Event
 events_of [] values = []
 events_of (word ∷ words) [] = []

@@ -1,13 +1,7 @@
 -- What undoes a log: for each of its events the value that it replaced, 0 where it is no store.
-use Rattle.std.specs.Prelude.{ℕ, ◌==◌, Bool, false, List, [], ◌∷◌, slice_index, slice_set}
+use Rattle.std.specs.Prelude.{ℕ, List, [], ◌∷◌, slice_index, slice_set}
 use Rattle.pm_epochs.specs.declared.event.Event.{Event}
 use Rattle.pm_epochs.specs.declared.event.Event.TheVariants.{Store, Barrier, Mark}
-
--- whether an event is a store to this word
-abbrev pub is_store_to : ℕ → Event → Bool
-is_store_to word (Store place value) = place == word
-is_store_to word Barrier = false
-is_store_to word Mark = false
 
 -- the words before a log, from those after it: its last event is undone first
 abbrev pub undone : List ℕ → List Event → List ℕ → List ℕ

@@ -1,5 +1,5 @@
 //! The raw memory behind an array: a block of places, of which the first ones hold an item each and the others are empty.
-//! All raw pointers of the project stand here.
+//! All raw pointers of the crate stand here.
 ghost use Rattle.std.specs.Prelude.{◌≡◌, ℕ, ◌<◌, ◌≤◌, List, [], ◌∷◌, ◌++◌, length, IfOk};
 ghost use Rattle.std.specs.Borrow.{sem};
 ghost use Rattle.std.specs.Vec.Ownership.{FitsInBlock};

@@ -3,17 +3,14 @@ ghost use Rattle.std.specs.Prelude.{◌≡◌, ◌+◌, ◌-◌, ◌^◌, ◌<�
 ghost use Rattle.std.specs.List.{range_with_len};
 ghost use Rattle.pm_region.specs.Memory.{AreInRow, with_values};
 ghost use Rattle.pm_raw.specs.Entries.{event_of, events_of};
-ghost use Rattle.pm_raw.specs.Grows.{Grows};
 
 use super::log::{BARRIER, Log, NO_WORD};
-use super::runs::Runs;
+use super::pairs::fill;
+use super::runs::{Runs, WordRow};
 use pm_epochs::Event;
+use pm_region::Row;
 use std::alloc::{AllocError, Global};
 use std::marker::Model;
-
-/// How many places behind the wanted ones are filled when the log reaches its last filled place: few enough that what was
-/// filled is still in the processor's nearest caches when it is written, and that a log touches little more than it needs.
-const FILLED_AHEAD: usize = 1024;
 
 /// The events of a log: the words of all, by runs, and the value of each and the value that it replaced. The values stand at
 /// the fronts of two vectors that take their memory once. Places are filled as the log grows, so a short log touches little
@@ -35,37 +32,6 @@ impl Model for Entries {
     ghost view = { entered_of };
 
     ghost invariant = { HasPlaces };
-}
-
-/// Fills places up to the wanted ones, and some behind them, so that it is seldom done.
-#[cold]
-#[inline(never)]
-fn grow(values: &mut Vec<u64>, replaced: &mut Vec<u64>, wanted: usize, room: usize)
-    requires wanted { (length values.old.items < wanted) × (wanted ≤ room) }
-    requires values { room ≤ vec_capacity values.old }
-    requires replaced { (length replaced.old.items ≡ length values.old.items) × (room ≤ vec_capacity replaced.old) }
-    ensures filled { (wanted ≤ length values.new.items) × (length values.new.items ≤ room) }
-    ensures values { Grows values.old values.new }
-    ensures replaced { Grows replaced.old replaced.new × (length replaced.new.items ≡ length values.new.items) }
-{
-    let places = wanted + FILLED_AHEAD.min(room - wanted);
-    let _ = values.resize(places, 0);
-    let _ = replaced.resize(places, 0);
-}
-
-/// Sees to it that the wanted places are filled. They mostly are.
-#[inline(always)]
-fn fill(values: &mut Vec<u64>, replaced: &mut Vec<u64>, wanted: usize, room: usize)
-    requires wanted { wanted ≤ room }
-    requires values { (length values.old.items ≤ room) × (room ≤ vec_capacity values.old) }
-    requires replaced { (length replaced.old.items ≡ length values.old.items) × (room ≤ vec_capacity replaced.old) }
-    ensures filled { (wanted ≤ length values.new.items) × (length values.new.items ≤ room) }
-    ensures values { Grows values.old values.new }
-    ensures replaced { Grows replaced.old replaced.new × (length replaced.new.items ≡ length values.new.items) }
-{
-    if values.len() < wanted {
-        grow(values, replaced, wanted, room);
-    }
 }
 
 /// Puts these values in place of those of a vector from `at` on.
@@ -141,17 +107,23 @@ impl Entries {
         read_event(self.words.word(i), self.values[i])
     }
 
-    /// How many events from one on, by its number from 0, are it and stores to words in a row behind it.
-    pub fn row_len(&self, i: usize) -> usize
+    /// One of them, by its number from 0, and how many from it on are stores to words in a row.
+    #[inline]
+    pub fn row(&self, i: usize) -> Row
         requires each { length self.now.values ≡ length self.now.words }
         requires inside { i < length self.now.words }
-        ensures some { 0 < result }
-        ensures fits { i + result ≤ length self.now.words }
-        ensures row { AreInRow (events_of self.now.words self.now.values) i result }
+        ensures get { slice_get (events_of self.now.words self.now.values) i ≡ Some result.event }
+        ensures some { 0 < result.len }
+        ensures fits { i + result.len ≤ length self.now.words }
+        ensures row { AreInRow (events_of self.now.words self.now.values) i result.len }
     {
+        let WordRow { first, len } = self.words.row(i);
         // The word that stands for no store is none of a row.
-        let stores = (NO_WORD - self.words.word(i)) as usize;
-        self.words.row_len(i).min(stores.max(1))
+        let stores = (NO_WORD - first) as usize;
+        Row {
+            event: read_event(first, self.values[i]),
+            len: len.min(stores.max(1)),
+        }
     }
 
     /// The values that they replaced.

@@ -13,12 +13,12 @@ use super::log::{BARRIER, MARK, NO_WORD};
 use super::places::Places;
 use super::undo::{undo_from, word_before};
 use pm_epochs::{BadChoice, Choice, Event, Kept};
-use pm_region::Region;
+use pm_region::{Region, Row};
 use std::alloc::{AllocError, Global};
 use std::marker::Model;
 
-/// A region in raw memory: the words now, and for each event since the last drain its word, its value, and the value that it
-/// replaced. Beside them it keeps where the barriers and the marks stand, so that a crash and a storm need not look for them
+/// A region in raw memory: the words now, the words of the events since the last drain by runs, and for each event its value and
+/// the value that it replaced. Beside them it keeps where the barriers and the marks stand, so that a crash and a storm need not look for them
 /// among the stores. The words at the last drain are held nowhere: they are what undoing the log leaves. So a drain takes
 /// constant time, as each other call does but a crash and a look at a word at the last drain, which take time for the events
 /// of the log, and a count of the barriers before an event, which takes time for the barriers.
@@ -187,8 +187,8 @@ impl Region for RawRegion {
         self.entries.event(i)
     }
 
-    fn row_len(&self, first: usize) -> usize {
-        self.entries.row_len(first)
+    fn row(&self, first: usize) -> Row {
+        self.entries.row(first)
     }
 
     fn barriers_before(&self, moment: usize) -> usize {

@@ -2,17 +2,13 @@
 ghost use Rattle.std.specs.Prelude.{◌≡◌, ℕ, ◌+◌, ◌^◌, ◌<◌, ◌≤◌, [], ◌∷◌, ◌++◌, IfOk, length, slice_index, take, vec_capacity};
 ghost use Rattle.std.specs.List.{range_with_len};
 ghost use Rattle.pm_raw.specs.Entries.{events_of};
-ghost use Rattle.pm_raw.specs.Grows.{Grows};
 ghost use Rattle.pm_raw.specs.RunWords.{Rises};
 
 use super::log::Log;
+use super::pairs::fill;
 use std::alloc::{AllocError, Global};
 use std::cell::Cell;
 use std::marker::Model;
-
-/// How many places behind the wanted one are filled when the runs reach their last filled place: few enough that what was
-/// filled is still in the processor's nearest caches when it is written, and that a log touches little more than it needs.
-const FILLED_AHEAD: usize = 1024;
 
 /// What no word goes on with: more than any word of 32 bits.
 const NOWHERE: usize = 1 << 32;
@@ -32,6 +28,14 @@ pub struct Runs {
     asked: Cell<usize>,
 }
 
+/// The word of an event, and how many events from it on have words in a row: each is one more than the word before it.
+pub struct WordRow {
+    /// The word of the first of these events, `NO_WORD` where it is no store.
+    pub first: u32,
+    /// How many events are in the row, the first among them.
+    pub len: usize,
+}
+
 impl Model for Runs {
     ghost use Rattle.pm_raw.specs.RunWords.{Worded};
 
@@ -42,37 +46,6 @@ impl Model for Runs {
     ghost view = { worded_of };
 
     ghost invariant = { HasRuns };
-}
-
-/// Fills a place more, and some behind it, so that it is seldom done.
-#[cold]
-#[inline(never)]
-fn grow(firsts: &mut Vec<u32>, starts: &mut Vec<usize>, wanted: usize, room: usize)
-    requires wanted { (length firsts.old.items < wanted) × (wanted ≤ room) }
-    requires firsts { room ≤ vec_capacity firsts.old }
-    requires starts { (length starts.old.items ≡ length firsts.old.items) × (room ≤ vec_capacity starts.old) }
-    ensures filled { (wanted ≤ length firsts.new.items) × (length firsts.new.items ≤ room) }
-    ensures firsts { Grows firsts.old firsts.new }
-    ensures starts { Grows starts.old starts.new × (length starts.new.items ≡ length firsts.new.items) }
-{
-    let places = wanted + FILLED_AHEAD.min(room - wanted);
-    let _ = firsts.resize(places, 0);
-    let _ = starts.resize(places, 0);
-}
-
-/// Sees to it that a place more is filled. It mostly is.
-#[inline(always)]
-fn fill(firsts: &mut Vec<u32>, starts: &mut Vec<usize>, wanted: usize, room: usize)
-    requires wanted { wanted ≤ room }
-    requires firsts { (length firsts.old.items ≤ room) × (room ≤ vec_capacity firsts.old) }
-    requires starts { (length starts.old.items ≡ length firsts.old.items) × (room ≤ vec_capacity starts.old) }
-    ensures filled { (wanted ≤ length firsts.new.items) × (length firsts.new.items ≤ room) }
-    ensures firsts { Grows firsts.old firsts.new }
-    ensures starts { Grows starts.old starts.new × (length starts.new.items ≡ length firsts.new.items) }
-{
-    if firsts.len() < wanted {
-        grow(firsts, starts, wanted, room);
-    }
 }
 
 /// The number of the last run that begins no later than an event.
@@ -196,14 +169,16 @@ impl Runs {
         firsts[run] + (i - starts[run]) as u32
     }
 
-    /// How many events from one on, by its number from 0, have words in a row.
-    pub fn row_len(&self, i: usize) -> usize
+    /// The word of an event, by its number from 0, and how many from it on have words in a row.
+    #[inline]
+    pub fn row(&self, i: usize) -> WordRow
         requires { i < length self.now.words }
-        ensures some { 0 < result }
-        ensures inside { i + result ≤ length self.now.words }
-        ensures row { (j : ℕ) → j < result → slice_index self.now.words (i + j) ≡ slice_index self.now.words i + j }
+        ensures first { result.first ≡ slice_index self.now.words i }
+        ensures some { 0 < result.len }
+        ensures inside { i + result.len ≤ length self.now.words }
+        ensures row { (j : ℕ) → j < result.len → slice_index self.now.words (i + j) ≡ slice_index self.now.words i + j }
     {
-        let starts = &self.starts[..self.runs];
+        let (firsts, starts) = (&self.firsts[..self.runs], &self.starts[..self.runs]);
         let run = run_near(starts, i, self.asked.get());
         self.asked.set(run);
         let next = run + 1;
@@ -212,7 +187,10 @@ impl Runs {
         } else {
             self.count
         };
-        end - i
+        WordRow {
+            first: firsts[run] + (i - starts[run]) as u32,
+            len: end - i,
+        }
     }
 
     /// Begins anew, with none. The room stays.

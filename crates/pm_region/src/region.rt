@@ -13,6 +13,12 @@ use pm_epochs::{BadChoice, Choice, Event, Kept};
 /// that stand there, which no slice of what it holds could.
 pub const HEAD_WORDS: u32 = 8;
 
+/// An event of a log, and how many from it on, itself among them, are stores to words in a row: one where it is no store.
+pub struct Row {
+    pub event: Event,
+    pub len: usize,
+}
+
 /// Words of 8 bytes that outlive a crash, with the log of what was done to them since the last drain. Places and sizes are
 /// in words.
 pub trait Region {
@@ -81,15 +87,19 @@ pub trait Region {
         ensures get { slice_get (memory self.now).events i ≡ Some result }
         ensures value { result ≡ slice_index_or (memory self.now).events i result };
 
-    /// How many events from one on, by its number from 0, can be taken at once: it, and behind it stores to words in a row.
-    /// Fewer may be told than there are.
-    fn row_len(&self, first: usize) -> usize
+    /// An event of the log, by its number from 0, and how many from it on are stores to words in a row. Fewer may be told than
+    /// there are.
+    fn row(&self, first: usize) -> Row
         requires { first < length (memory self.now).events }
-        ensures some { 0 < result }
-        ensures inside { first + result ≤ length (memory self.now).events }
-        ensures row { AreInRow (memory self.now).events first result }
+        ensures get { slice_get (memory self.now).events first ≡ Some result.event }
+        ensures some { 0 < result.len }
+        ensures inside { first + result.len ≤ length (memory self.now).events }
+        ensures row { AreInRow (memory self.now).events first result.len }
     {
-        1
+        Row {
+            event: self.event(first),
+            len: 1,
+        }
     }
 
     /// How many barriers stand before the event with this number.

@@ -1,10 +1,11 @@
 //! Bytes that begin below the size of a file and end past it: a preparation for those behind the size, and then a commit
 //! of the others with the size.
 
-ghost use Rattle.std.specs.Prelude.{◌≡◌, ◌+◌, ◌<◌, ◌≤◌, ◌∷◌, [], ℕ, length, slice_index, IfErr, OnErr, OnOk};
+ghost use Rattle.std.specs.Prelude.{◌≡◌, ◌+◌, ◌<◌, ◌≤◌, ◌∷◌, [], ℕ, length, slice_index};
+ghost use Rattle.bp_calls.specs.Commits.{CommitsChange, CommitsOrLacksBlocks};
 ghost use Rattle.bp_calls.specs.CanWrite.{CanWrite, CanWriteThawed};
 ghost use Rattle.bp_calls.specs.Mounted.{IsMounted};
-ghost use Rattle.bp_calls.specs.Space.{HasRoomThawed, LacksBlocks};
+ghost use Rattle.bp_calls.specs.Space.{HasRoomThawed};
 ghost use Rattle.bp_cow.specs.Found.{AreWaysIn};
 ghost use Rattle.bp_free.specs.Set.{members};
 ghost use Rattle.bp_layout.specs.Need.{need};
@@ -16,7 +17,6 @@ ghost use Rattle.bp_layout.specs.Need.Change.{writes};
 ghost use Rattle.bp_layout.specs.WordPaths.{inode_path};
 ghost use Rattle.bp_layout.specs.Words.{height_of};
 ghost use Rattle.bp_shapes.specs.Sets.{IsExact, kept_of};
-ghost use Rattle.bp_commit.specs.Performs.{PerformsThawed};
 ghost use Rattle.pm_region.specs.Memory.{current_words};
 
 use crate::thawing::enough_free;
@@ -169,11 +169,9 @@ fn write_planned<R: Region>(
     requires enough { need (current_words (R.memory parts.old.region))
         (writes plan.now.inode plan.now.off (length plan.now.bytes.now)) ≤ length (members parts.old.blocks) }
     requires found { AreWaysIn (current_words (R.memory parts.old.region)) touched.now found.now }
-    ensures performs { PerformsThawed (kept_of parts.old) (R.memory parts.old.region) (R.memory parts.new.region)
+    ensures { CommitsChange R.memory parts.old parts.new
         (writes plan.now.inode plan.now.off (length plan.now.bytes.now))
         (WritesFile plan.now.inode plan.now.off plan.now.bytes.now) }
-    ensures frozen { parts.new.frozen ≡ parts.old.frozen }
-    ensures exact { IsExact (current_words (R.memory parts.new.region)) parts.new }
 {
     let size = plan.tree.size;
     let end = plan.off + plan.bytes.len() as u64;
@@ -201,14 +199,7 @@ pub(crate) fn write_across<R: Region>(
     requires exact { IsExact (current_words (R.memory parts.old.region)) parts.old }
     requires below { off < size_of (current_words (R.memory parts.old.region)) i }
     requires past { size_of (current_words (R.memory parts.old.region)) i < off + length bytes.now }
-    ensures performs { OnOk result (PerformsThawed (kept_of parts.old) (R.memory parts.old.region) (R.memory parts.new.region)
-        (writes i off (length bytes.now)) (WritesFile i off bytes.now)) }
-    ensures frozen { parts.new.frozen ≡ parts.old.frozen }
-    ensures exact { IsExact (current_words (R.memory parts.new.region)) parts.new }
-    ensures refused { IfErr result (LacksBlocks (current_words (R.memory parts.old.region)) (kept_of parts.old)
-        (need (current_words (R.memory parts.old.region)) (writes i off (length bytes.now)))) }
-    ensures free { IfErr result (λ lacks. lacks.free ≡ length (members parts.old.blocks)) }
-    ensures same { OnErr result (parts.new ≡ parts.old) }
+    ensures { CommitsOrLacksBlocks R.memory parts.old parts.new result (writes i off (length bytes.now)) (WritesFile i off bytes.now) }
 {
     let plan = plan_write(&parts.region, i, tree, off, bytes);
     let touched = touched_across(&plan);

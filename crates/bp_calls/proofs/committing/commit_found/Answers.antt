@@ -19,9 +19,19 @@ counted : (image : Image) (kept free : ℕ → Bool) (touched : Touched) (from c
     copies ≡ copies_at (job_of touched) from → copies ≡ copied_count image touched
 counted image kept free touched from copies wf can has is = is ∙ count_is touched can.shape image (none-begins image (size_of image) touched free wf can) from has
 
-pub returns-then-free-copies-clause-need : goal.returns-then-free-copies-clause-need
-returns-then-free-copies-clause-need g c =
-    counted _ (kept_of c.args.parts.now) (has c.args.parts.now.blocks) c.args.touched.now c.args.found.now.cover.len c.copies_below-copies.result c.requires.well_formed c.requires.can c.requires.found.cover.has c.copies_below-copies.ensures
+pub returns-then-free-copies : goal.returns-then-free-copies
+returns-then-free-copies g c =
+    record {
+      commits = tt;
+      size = refl;
+      inodes = refl;
+      counts = refl;
+      frozen = refl;
+      need = counted _ (kept_of c.args.parts.now) (has c.args.parts.now.blocks) c.args.touched.now c.args.found.now.cover.len c.copies_below-copies.result c.requires.well_formed c.requires.can c.requires.found.cover.has c.copies_below-copies.ensures;
+      free = c.count-free.ensures;
+      fewer = c.if-free-copies.true;
+      same = refl;
+    }
 
 pub commit_at-requires : goal.commit_at-requires
 commit_at-requires g c κs within =
@@ -29,3 +39,17 @@ commit_at-requires g c κs within =
     let count = counted image (kept_of c.args.parts.now) (has c.args.parts.now.blocks) c.args.touched.now c.args.found.now.cover.len c.copies_below-copies.result c.requires.well_formed c.requires.can c.requires.found.cover.has c.copies_below-copies.ensures in
     let some : copied_count image c.args.touched.now ≤ length (members c.args.parts.now.blocks) = omega (arith, count, c.count-free.ensures, c.if-free-copies.false) in
     (within, (record { well_formed = c.requires.well_formed; can = c.requires.can; loose = c.requires.loose; fits = c.requires.fits; some = some; room = c.requires.room some }, (c.requires.found, record { room = c.requires.known; same = λ b. refl })))
+
+pub returns : goal.returns
+returns g c =
+    record {
+      commits = c.commit_at.ensures.commits;
+      size = c.commit_at.ensures.size;
+      inodes = c.commit_at.ensures.inodes;
+      counts = c.commit_at.ensures.counts;
+      frozen = c.commit_at.ensures.frozen;
+      need = tt;
+      free = tt;
+      fewer = tt;
+      same = tt;
+    }

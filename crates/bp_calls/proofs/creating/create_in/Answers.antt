@@ -1,7 +1,9 @@
-use Rattle.std.proofs.Common.{sym, ◌∙◌}
+use Rattle.std.proofs.Common.{sym, ◌∙◌, ap, subst}
 use Rattle.pm_region.specs.Memory.{current_words}
 use Rattle.bp_changes.proofs.ShapeLaws.{empty-same}
+use Rattle.bp_free.specs.declared.parts.Parts.{Parts}
 use Rattle.bp_layout.specs.Need.Change.{enters}
+use Rattle.bp_shapes.specs.Sets.{IsExact}
 use Rattle.bp_calls.specs.Created.{EntersName}
 use Rattle.bp_calls.specs.Entrant.{entrant_of}
 use Rattle.bp_calls.proofs.EnterThawed.{least_back, least_on}
@@ -46,20 +48,31 @@ enter_new-requires-clause-thawed g c =
     let shape = (c.in-Ok.ensures.thaws told.0 told.1).thaws.shape in
     λ free least. c.in-Ok.ensures.thawed free (least_back image (current_words (memory c.thaw_new.new.parts.region)) c.requires.mounted.well_formed shape free least)
 
-pub returns-in-Ok-clause-performs : goal.returns-in-Ok-clause-performs
-returns-in-Ok-clause-performs g c =
-    let memory = g.R.Region.memory in
-    let image = current_words (memory c.args.parts.now.region) in
-    λ free least.
-    let done = c.in-Ok.ensures.thaws free least in
-    performed_thawed memory (enters c.args.dir (entrant_of free)) c.args.parts.now c.thaw_new.new.parts c.requires.mounted (c.requires.reached, c.requires.directory) done
-    c.enter_new.new.parts (EntersName c.args.dir c.args.name.now c.args.kind)
-    (c.enter_new.ensures.performs free (least_on image (current_words (memory c.thaw_new.new.parts.region)) c.requires.mounted.well_formed done.thaws.shape free least))
-
-pub returns-in-Ok-clause-frozen : goal.returns-in-Ok-clause-frozen
-returns-in-Ok-clause-frozen g c =
+pub returns-in-Ok : goal.returns-in-Ok
+returns-in-Ok g c =
     let memory = g.R.Region.memory in
     let parts = c.args.parts.now in
     let image = current_words (memory parts.region) in
     let told = is_told image c.requires.mounted.well_formed parts.blocks parts.inodes c.requires.mounted.exact.sets c.args.dir c.requires.reached c.requires.directory in
-    c.enter_new.ensures.frozen ∙ (c.in-Ok.ensures.thaws told.0 told.1).frozen
+    record {
+      performs = λ free least.
+          let done = c.in-Ok.ensures.thaws free least in
+          performed_thawed memory (enters c.args.dir (entrant_of free)) parts c.thaw_new.new.parts c.requires.mounted (c.requires.reached, c.requires.directory) done
+          c.enter_new.new.parts (EntersName c.args.dir c.args.name.now c.args.kind)
+          (c.enter_new.ensures.performs free (least_on image (current_words (memory c.thaw_new.new.parts.region)) c.requires.mounted.well_formed done.thaws.shape free least));
+      frozen = c.enter_new.ensures.frozen ∙ (c.in-Ok.ensures.thaws told.0 told.1).frozen;
+      exact = c.enter_new.ensures.exact;
+      refused = tt;
+      same = tt;
+    }
+
+pub returns-in-Err : goal.returns-in-Err
+returns-in-Err g c =
+    let memory = g.R.Region.memory in
+    record {
+      performs = tt;
+      frozen = ap (λ (parts : Parts g.row.R.Denot). parts.frozen) c.in-Err.ensures.same;
+      exact = subst (λ (parts : Parts g.row.R.Denot). IsExact (current_words (memory parts.region)) parts) (sym c.in-Err.ensures.same) c.requires.mounted.exact;
+      refused = c.in-Err.ensures.refused;
+      same = c.in-Err.ensures.same;
+    }

@@ -23,9 +23,13 @@ enter-requires-clause-slot g c =
     ∙ sym (grown_slot (memory c.args.parts.now.region) (memory c.grow.new.parts.region) c.args.parts.now.blocks c.args.parts.now.inodes c.grow.new.parts.blocks c.grow.new.parts.inodes c.args.dir c.args.name.now
     c.requires.lacks c.requires.exact.sets c.requires.none c.requires.thawed c.grow.ensures.grows (rw c.grow.ensures.frozen at c.grow.ensures.exact.sets) c.grow.ensures.left)
 
-pub returns-clause-performs : goal.returns-clause-performs
-returns-clause-performs g c =
+pub returns : goal.returns
+returns g c =
     let memory = g.R.Region.memory in
-    grown_performs (memory c.args.parts.now.region) (memory c.grow.new.parts.region) c.args.parts.now.blocks c.args.parts.now.inodes c.grow.new.parts.blocks c.grow.new.parts.inodes c.args.dir c.args.name.now
-    c.requires.lacks c.requires.exact.sets c.requires.none c.requires.thawed c.grow.ensures.grows (rw c.grow.ensures.frozen at c.grow.ensures.exact.sets) c.grow.ensures.left (memory c.enter.new.parts.region) c.args.kind
-    (rw c.grow.ensures.frozen at c.enter.ensures.performs)
+    record {
+      performs = grown_performs (memory c.args.parts.now.region) (memory c.grow.new.parts.region) c.args.parts.now.blocks c.args.parts.now.inodes c.grow.new.parts.blocks c.grow.new.parts.inodes c.args.dir c.args.name.now
+          c.requires.lacks c.requires.exact.sets c.requires.none c.requires.thawed c.grow.ensures.grows (rw c.grow.ensures.frozen at c.grow.ensures.exact.sets) c.grow.ensures.left (memory c.enter.new.parts.region) c.args.kind
+          (rw c.grow.ensures.frozen at c.enter.ensures.performs);
+      frozen = c.enter.ensures.frozen ∙ c.grow.ensures.frozen;
+      exact = c.enter.ensures.exact;
+    }

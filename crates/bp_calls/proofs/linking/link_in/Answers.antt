@@ -5,8 +5,8 @@ use Rattle.bp_changes.proofs.ShapeLaws.{empty-same}
 use Rattle.bp_layout.specs.Need.Change.{enters}
 use Rattle.bp_layout.specs.Need.Entrant.{linked}
 use Rattle.bp_calls.specs.Created.{LinksEntry}
+use Rattle.bp_calls.proofs.CommitLaws.{committed_thawed, lacking_space}
 use Rattle.bp_calls.proofs.NewNames.{lacks_on}
-use Rattle.bp_calls.proofs.ThawedParts.{performed_thawed}
 use Rattle.bp_calls.proofs.linking.link_in.Goals as goal
 
 pub thaw_linked-requires-clause-slot : goal.thaw_linked-requires-clause-slot
@@ -38,10 +38,10 @@ share-requires-clause-slot g c =
     let image = current_words (memory c.args.parts.now.region) in
     c.requires.slot ∙ sym (empty-same image (current_words (memory c.thaw_linked.new.parts.region)) c.in-Ok.ensures.thaws.thaws.shape c.args.dir c.requires.reached c.requires.directory)
 
-pub returns-in-Ok-clause-performs : goal.returns-in-Ok-clause-performs
-returns-in-Ok-clause-performs g c =
-    performed_thawed g.R.Region.memory (enters c.args.dir linked) c.args.parts.now c.thaw_linked.new.parts c.requires.mounted (c.requires.reached, c.requires.directory) c.in-Ok.ensures.thaws
-    c.share.new.parts (LinksEntry c.args.dir c.args.name.now c.args.i) c.share.ensures.performs
+pub returns-in-Ok : goal.returns-in-Ok
+returns-in-Ok g c =
+    committed_thawed g.R.Region.memory (enters c.args.dir linked) (LinksEntry c.args.dir c.args.name.now c.args.i) c.args.parts.now c.thaw_linked.new.parts c.share.new.parts c.requires.mounted
+    (c.requires.reached, c.requires.directory) c.in-Ok.ensures.thaws _ c.share.ensures
 
-pub returns-in-Ok-clause-frozen : goal.returns-in-Ok-clause-frozen
-returns-in-Ok-clause-frozen g c = c.share.ensures.frozen ∙ c.in-Ok.ensures.thaws.frozen
+pub returns-in-Err : goal.returns-in-Err
+returns-in-Err g c = lacking_space g.R.Region.memory c.args.parts.now c.thaw_linked.new.parts c.requires.mounted.exact c.in-Err.ensures.refused c.in-Err.ensures.same

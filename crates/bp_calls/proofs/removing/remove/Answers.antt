@@ -1,10 +1,10 @@
-use Rattle.std.proofs.Common.{◌∙◌}
 use Rattle.bp_changes.specs.Effects.{RemovesEntry}
 use Rattle.bp_layout.specs.Need.Change.{leaves}
 use Rattle.bp_layout.specs.Words.{Image}
 use Rattle.pm_region.specs.Memory.{current_words}
+use Rattle.bp_calls.proofs.CommitLaws.{committed_thawed, lacking_space}
 use Rattle.bp_calls.proofs.LeavingThawed.{leaving_on}
-use Rattle.bp_calls.proofs.ThawedParts.{mounted_thawed, performed_thawed, thawed_clear}
+use Rattle.bp_calls.proofs.ThawedParts.{mounted_thawed, thawed_clear}
 use Rattle.bp_calls.proofs.removing.remove.Goals as goal
 
 pub take_out-requires-clause-mounted : goal.take_out-requires-clause-mounted
@@ -20,10 +20,10 @@ pub take_out-requires-clause-clear : goal.take_out-requires-clause-clear
 take_out-requires-clause-clear g c =
     thawed_clear g.R.Region.memory (leaves c.args.dir c.args.slot) c.args.parts.now c.thaw_entry.new.parts c.requires.mounted c.requires.can.reached c.in-Ok.ensures.thaws
 
-pub returns-in-Ok-clause-performs : goal.returns-in-Ok-clause-performs
-returns-in-Ok-clause-performs g c =
-    performed_thawed g.R.Region.memory (leaves c.args.dir c.args.slot) c.args.parts.now c.thaw_entry.new.parts c.requires.mounted c.requires.can.reached c.in-Ok.ensures.thaws
-    c.take_out.new.parts (λ (image after : Image). RemovesEntry image after c.args.dir c.args.slot) c.take_out.ensures.performs
+pub returns-in-Ok : goal.returns-in-Ok
+returns-in-Ok g c =
+    committed_thawed g.R.Region.memory (leaves c.args.dir c.args.slot) (λ (image after : Image). RemovesEntry image after c.args.dir c.args.slot) c.args.parts.now c.thaw_entry.new.parts c.take_out.new.parts
+    c.requires.mounted c.requires.can.reached c.in-Ok.ensures.thaws _ c.take_out.ensures
 
-pub returns-in-Ok-clause-frozen : goal.returns-in-Ok-clause-frozen
-returns-in-Ok-clause-frozen g c = c.take_out.ensures.frozen ∙ c.in-Ok.ensures.thaws.frozen
+pub returns-in-Err : goal.returns-in-Err
+returns-in-Err g c = lacking_space g.R.Region.memory c.args.parts.now c.thaw_entry.new.parts c.requires.mounted.exact c.in-Err.ensures.refused c.in-Err.ensures.same

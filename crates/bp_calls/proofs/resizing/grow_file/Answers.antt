@@ -1,6 +1,7 @@
 use Rattle.bp_calls.specs.Resized.{ResizesFile}
+use Rattle.bp_calls.proofs.CommitLaws.{committed_thawed, lacking_space}
 use Rattle.bp_calls.proofs.SameWrites.{grow_behind_thaw}
-use Rattle.bp_calls.proofs.ThawedParts.{mounted_thawed, performed_thawed}
+use Rattle.bp_calls.proofs.ThawedParts.{mounted_thawed}
 use Rattle.bp_layout.specs.Need.Change.{resizes}
 use Rattle.bp_calls.proofs.resizing.grow_file.Goals as goal
 
@@ -12,7 +13,10 @@ pub lengthen-requires-clause-exact : goal.lengthen-requires-clause-exact
 lengthen-requires-clause-exact g c =
     (mounted_thawed g.R.Region.memory (resizes c.args.i c.args.size) c.args.parts.now c.thaw_end.new.parts c.requires.mounted c.requires.reached c.in-Ok.ensures.thaws).exact
 
-pub returns-in-Ok-clause-performs : goal.returns-in-Ok-clause-performs
-returns-in-Ok-clause-performs g c =
-    performed_thawed g.R.Region.memory (resizes c.args.i c.args.size) c.args.parts.now c.thaw_end.new.parts c.requires.mounted c.requires.reached c.in-Ok.ensures.thaws
-    c.lengthen.new.parts (ResizesFile c.args.i c.args.size) c.lengthen.ensures.performs
+pub returns-in-Ok : goal.returns-in-Ok
+returns-in-Ok g c =
+    committed_thawed g.R.Region.memory (resizes c.args.i c.args.size) (ResizesFile c.args.i c.args.size) c.args.parts.now c.thaw_end.new.parts c.lengthen.new.parts c.requires.mounted c.requires.reached c.in-Ok.ensures.thaws
+    _ c.lengthen.ensures
+
+pub returns-in-Err : goal.returns-in-Err
+returns-in-Err g c = lacking_space g.R.Region.memory c.args.parts.now c.thaw_end.new.parts c.requires.mounted.exact c.in-Err.ensures.refused c.in-Err.ensures.same

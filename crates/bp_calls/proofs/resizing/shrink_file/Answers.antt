@@ -3,7 +3,8 @@ use Rattle.bp_changes.proofs.ReachedOn.{reached_on}
 use Rattle.bp_calls.specs.Resized.{ResizesFile}
 use Rattle.bp_layout.specs.Need.Change.{resizes}
 use Rattle.pm_region.specs.Memory.{current_words}
-use Rattle.bp_calls.proofs.ThawedParts.{mounted_thawed, performed_thawed, thawed_clear}
+use Rattle.bp_calls.proofs.CommitLaws.{committed_thawed, lacking_space}
+use Rattle.bp_calls.proofs.ThawedParts.{mounted_thawed, thawed_clear}
 use Rattle.bp_calls.proofs.resizing.shrink_file.Goals as goal
 
 pub cut-requires-clause-mounted : goal.cut-requires-clause-mounted
@@ -13,11 +14,6 @@ cut-requires-clause-mounted g c =
 pub cut-requires-clause-clear : goal.cut-requires-clause-clear
 cut-requires-clause-clear g c =
     thawed_clear g.R.Region.memory (resizes c.args.i c.args.size) c.args.parts.now c.thaw_size.new.parts c.requires.mounted c.requires.reached c.in-Ok.ensures.thaws
-
-pub returns-in-Ok-clause-performs : goal.returns-in-Ok-clause-performs
-returns-in-Ok-clause-performs g c =
-    performed_thawed g.R.Region.memory (resizes c.args.i c.args.size) c.args.parts.now c.thaw_size.new.parts c.requires.mounted c.requires.reached c.in-Ok.ensures.thaws
-    c.cut.new.parts (ResizesFile c.args.i c.args.size) c.cut.ensures.performs
 
 pub cut-requires-clause-reached : goal.cut-requires-clause-reached
 cut-requires-clause-reached g c =
@@ -29,3 +25,11 @@ cut-requires-clause-file g c = c.in-Ok.ensures.thaws.thaws.shape.meaning.kind c.
 
 pub cut-requires-clause-smaller : goal.cut-requires-clause-smaller
 cut-requires-clause-smaller g c = rw (c.in-Ok.ensures.thaws.thaws.shape.sizes c.args.i c.requires.reached) c.requires.smaller
+
+pub returns-in-Ok : goal.returns-in-Ok
+returns-in-Ok g c =
+    committed_thawed g.R.Region.memory (resizes c.args.i c.args.size) (ResizesFile c.args.i c.args.size) c.args.parts.now c.thaw_size.new.parts c.cut.new.parts c.requires.mounted c.requires.reached c.in-Ok.ensures.thaws
+    _ c.cut.ensures
+
+pub returns-in-Err : goal.returns-in-Err
+returns-in-Err g c = lacking_space g.R.Region.memory c.args.parts.now c.thaw_size.new.parts c.requires.mounted.exact c.in-Err.ensures.refused c.in-Err.ensures.same

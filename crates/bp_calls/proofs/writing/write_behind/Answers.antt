@@ -43,22 +43,20 @@ commit_word-requires-clause-room g c =
     prepared_room (memory c.args.parts.now.region) c.args.parts.now.blocks c.args.parts.now.inodes c.args.off c.args.bytes.now (memory c.prep.new.parts.region) c.prep.new.parts.blocks c.args.i c.requires.can c.requires.behind
     (c.prep.ensures.prepares c.args.i prepares)
 
-pub returns-clause-performs : goal.returns-clause-performs
-returns-clause-performs g c =
+pub returns : goal.returns
+returns g c =
     let memory = g.R.Region.memory in
     let prepares : CanPrepare (kept_of c.args.parts.now) (memory c.args.parts.now.region) (members c.args.parts.now.blocks) c.args.i c.root_path-root.result.items c.args.off (c.args.off + length c.args.bytes.now) =
     behind_can (memory c.args.parts.now.region) c.args.parts.now.blocks c.args.parts.now.inodes c.args.off c.args.bytes.now c.args.i c.root_path-root.result.items c.requires.can c.requires.behind c.requires.enough c.root_path-root.ensures in
+    let done =
     behind_performs_at (memory c.args.parts.now.region) c.args.parts.now.blocks c.args.parts.now.inodes c.args.off c.args.bytes.now (memory c.prep.new.parts.region) c.prep.new.parts.blocks (memory c.commit_word.new.region)
-    c.root_path-root.result.items c.place-size_place.result c.args.i c.requires.can c.requires.behind prepares c.place-size_place.ensures.place (c.prep.ensures.prepares c.args.i prepares) c.commit_word.ensures
-
-pub returns-clause-exact : goal.returns-clause-exact
-returns-clause-exact g c =
-    let memory = g.R.Region.memory in
-    let prepares : CanPrepare (kept_of c.args.parts.now) (memory c.args.parts.now.region) (members c.args.parts.now.blocks) c.args.i c.root_path-root.result.items c.args.off (c.args.off + length c.args.bytes.now) =
-    behind_can (memory c.args.parts.now.region) c.args.parts.now.blocks c.args.parts.now.inodes c.args.off c.args.bytes.now c.args.i c.root_path-root.result.items c.requires.can c.requires.behind c.requires.enough c.root_path-root.ensures in
-    let done = returns-clause-performs g c in
-    exact_file _ _ c.args.parts.now _ c.requires.exact
-    (rw c.prep.ensures.inodes
-    (behind_exact_at (memory c.args.parts.now.region) c.args.parts.now.blocks c.args.parts.now.inodes c.args.off c.args.bytes.now (memory c.prep.new.parts.region) c.prep.new.parts.blocks (memory c.commit_word.new.region)
-    c.root_path-root.result.items c.place-size_place.result c.args.i c.requires.can c.requires.behind prepares c.place-size_place.ensures.place (c.prep.ensures.prepares c.args.i prepares) c.commit_word.ensures c.prep.ensures.room))
-    c.prep.ensures.frozen c.prep.ensures.counts c.args.i c.requires.can.well_formed done.effect.changes
+    c.root_path-root.result.items c.place-size_place.result c.args.i c.requires.can c.requires.behind prepares c.place-size_place.ensures.place (c.prep.ensures.prepares c.args.i prepares) c.commit_word.ensures in
+    record {
+      performs = done;
+      frozen = c.prep.ensures.frozen;
+      exact = exact_file _ _ c.args.parts.now _ c.requires.exact
+          (rw c.prep.ensures.inodes
+          (behind_exact_at (memory c.args.parts.now.region) c.args.parts.now.blocks c.args.parts.now.inodes c.args.off c.args.bytes.now (memory c.prep.new.parts.region) c.prep.new.parts.blocks (memory c.commit_word.new.region)
+          c.root_path-root.result.items c.place-size_place.result c.args.i c.requires.can c.requires.behind prepares c.place-size_place.ensures.place (c.prep.ensures.prepares c.args.i prepares) c.commit_word.ensures c.prep.ensures.room))
+          c.prep.ensures.frozen c.prep.ensures.counts c.args.i c.requires.can.well_formed done.effect.changes;
+    }

@@ -1,9 +1,7 @@
 use Rattle.std.proofs.Common.{◌≡◌, ◌+◌, ◌<◌, ◌≤◌, ℕ, List, [], length, slice_index, sym, ◌∙◌, ap, subst, arith}
-use Rattle.std.proofs.lemmas.Result.{on_err_weaker, on_ok_weaker}
-use Rattle.pm_region.specs.Memory.{Memory, current_words}
-use Rattle.bp_shapes.specs.Sets.{IsExact, kept_of}
+use Rattle.pm_region.specs.Memory.{current_words}
+use Rattle.bp_shapes.specs.Sets.{kept_of}
 use Rattle.bp_cow.proofs.CoverOf.{cover_length}
-use Rattle.bp_free.specs.declared.parts.Parts.{Parts}
 use Rattle.bp_cow.specs.declared.touched.Run.{Run}
 use Rattle.bp_layout.specs.Inode.{size_of}
 use Rattle.bp_layout.specs.Need.Change.{writes}
@@ -12,11 +10,11 @@ use Rattle.bp_layout.specs.Words.{Image}
 use Rattle.bp_calls.specs.CanWrite.{CanWrite}
 use Rattle.bp_calls.specs.TouchedBelow.{IsRunFor, WritesBelow}
 use Rattle.bp_calls.specs.WritesFile.{WritesFile}
-use Rattle.bp_calls.proofs.CommitResults.{by_three, on_either}
-use Rattle.bp_calls.proofs.CountLaws.{exact_file}
-use Rattle.bp_calls.proofs.NothingKept.{lacks_at_once, performed_at_once, room_at_once}
+use Rattle.bp_calls.proofs.CommitLaws.{commits_at_once}
+use Rattle.bp_calls.proofs.NothingKept.{room_at_once}
 use Rattle.bp_calls.proofs.SameWrites.{write_mounted}
-use Rattle.bp_calls.proofs.WriteBelow.{write_can, write_cover, write_exact, write_inside, write_lacks, write_loose, write_performs, write_room}
+use Rattle.bp_calls.proofs.WriteBelow.{write_can, write_cover, write_inside, write_loose, write_room}
+use Rattle.bp_calls.proofs.WriteCommits.{write_commits}
 use Rattle.bp_calls.proofs.writing.write_within.Goals as goal
 
 -- what holds of the offset and the bytes holds of the run's, and back
@@ -101,8 +99,8 @@ commit_found-requires-clause-room g c =
     (λ o (bs : List ℕ). thawed (current_words (g.R.Region.memory c.args.parts.now.region)) (kept_of c.args.parts.now) (writes c.args.i o (length bs)) ≡ []) (c.is_clear_below.ensures c.if-is_clear_below.true) in
     write_room (g.R.Region.memory c.args.parts.now.region) c.args.parts.now.blocks c.args.parts.now.inodes c.args.i c.args.off c.args.bytes.now c.touched_by-touched.result write (room_at_once g.R.Region.memory (writes c.args.i c.args.off (length c.args.bytes.now)) c.args.parts.now c.requires.mounted clear c.requires.room)
 
-pub returns-then-is_clear_below-clause-performs : goal.returns-then-is_clear_below-clause-performs
-returns-then-is_clear_below-clause-performs g c =
+pub returns-then-is_clear_below : goal.returns-then-is_clear_below
+returns-then-is_clear_below g c =
     let write : WritesBelow (kept_of c.args.parts.now) (g.R.Region.memory c.args.parts.now.region) c.args.parts.now.blocks c.args.parts.now.inodes c.args.i c.args.off c.args.bytes.now c.touched_by-touched.result = record {
       can = write_mounted (current_words (g.R.Region.memory c.args.parts.now.region)) c.args.parts.now c.args.i c.args.off c.args.bytes.now c.requires.mounted c.requires.can;
       below = c.requires.below;
@@ -112,42 +110,5 @@ returns-then-is_clear_below-clause-performs g c =
     from_run (current_words (g.R.Region.memory c.args.parts.now.region)) c.args.i c.args.off c.args.bytes.now c.run_for.result c.run_for.ensures
     (λ o (bs : List ℕ). thawed (current_words (g.R.Region.memory c.args.parts.now.region)) (kept_of c.args.parts.now) (writes c.args.i o (length bs)) ≡ []) (c.is_clear_below.ensures c.if-is_clear_below.true) in
     let small : (k : ℕ) → slice_index c.args.bytes.now k < 256 = λ k. omega (arith, c.type_inv.bytes k) in
-    on_ok_weaker c.commit_found.result
-    (λ done. performed_at_once g.R.Region.memory (writes c.args.i c.args.off (length c.args.bytes.now)) c.args.parts.now c.requires.mounted clear
-    (g.R.Region.memory c.commit_found.new.parts.region) (WritesFile c.args.i c.args.off c.args.bytes.now)
-    (write_performs (g.R.Region.memory c.args.parts.now.region) c.args.parts.now.blocks c.args.parts.now.inodes c.args.i c.args.off c.args.bytes.now c.touched_by-touched.result write (g.R.Region.memory c.commit_found.new.parts.region) c.commit_found.new.parts.blocks small done))
-    c.commit_found.ensures.commits
-
-pub returns-then-is_clear_below-clause-exact : goal.returns-then-is_clear_below-clause-exact
-returns-then-is_clear_below-clause-exact g c =
-    let write : WritesBelow (kept_of c.args.parts.now) (g.R.Region.memory c.args.parts.now.region) c.args.parts.now.blocks c.args.parts.now.inodes c.args.i c.args.off c.args.bytes.now c.touched_by-touched.result = record {
-      can = write_mounted (current_words (g.R.Region.memory c.args.parts.now.region)) c.args.parts.now c.args.i c.args.off c.args.bytes.now c.requires.mounted c.requires.can;
-      below = c.requires.below;
-      touches = record { run = c.run_for.result; one = c.touched_by-touched.ensures.runs; no_words = c.touched_by-touched.ensures.words; no_trees = c.touched_by-touched.ensures.trees; is = c.run_for.ensures };
-    } in
-    let small : (k : ℕ) → slice_index c.args.bytes.now k < 256 = λ k. omega (arith, c.type_inv.bytes k) in
-    let old : Memory = g.R.Region.memory c.args.parts.now.region in
-    let new : Memory = g.R.Region.memory c.commit_found.new.parts.region in
-    on_either c.commit_found.result
-    (on_ok_weaker c.commit_found.result
-    (λ done. exact_file (current_words old) (current_words new) c.args.parts.now _ c.requires.mounted.exact
-    (rw c.commit_found.ensures.inodes (write_exact (g.R.Region.memory c.args.parts.now.region) c.args.parts.now.blocks c.args.parts.now.inodes c.args.i c.args.off c.args.bytes.now c.touched_by-touched.result write new c.commit_found.new.parts.blocks small done c.commit_found.ensures.size))
-    c.commit_found.ensures.frozen c.commit_found.ensures.counts c.args.i c.requires.mounted.well_formed
-    (write_performs (g.R.Region.memory c.args.parts.now.region) c.args.parts.now.blocks c.args.parts.now.inodes c.args.i c.args.off c.args.bytes.now c.touched_by-touched.result write new c.commit_found.new.parts.blocks small done).effect.changes)
-    c.commit_found.ensures.commits)
-    (on_err_weaker c.commit_found.result
-    (λ same. subst (λ (parts : Parts g.row.R.Denot). IsExact (current_words (g.R.Region.memory parts.region)) parts) (sym same) c.requires.mounted.exact) c.commit_found.ensures.same)
-
-pub returns-then-is_clear_below-clause-refused : goal.returns-then-is_clear_below-clause-refused
-returns-then-is_clear_below-clause-refused g c =
-    let write : WritesBelow (kept_of c.args.parts.now) (g.R.Region.memory c.args.parts.now.region) c.args.parts.now.blocks c.args.parts.now.inodes c.args.i c.args.off c.args.bytes.now c.touched_by-touched.result = record {
-      can = write_mounted (current_words (g.R.Region.memory c.args.parts.now.region)) c.args.parts.now c.args.i c.args.off c.args.bytes.now c.requires.mounted c.requires.can;
-      below = c.requires.below;
-      touches = record { run = c.run_for.result; one = c.touched_by-touched.ensures.runs; no_words = c.touched_by-touched.ensures.words; no_trees = c.touched_by-touched.ensures.trees; is = c.run_for.ensures };
-    } in
-    let clear : thawed (current_words (g.R.Region.memory c.args.parts.now.region)) (kept_of c.args.parts.now) (writes c.args.i c.args.off (length c.args.bytes.now)) ≡ [] =
-    from_run (current_words (g.R.Region.memory c.args.parts.now.region)) c.args.i c.args.off c.args.bytes.now c.run_for.result c.run_for.ensures
-    (λ o (bs : List ℕ). thawed (current_words (g.R.Region.memory c.args.parts.now.region)) (kept_of c.args.parts.now) (writes c.args.i o (length bs)) ≡ []) (c.is_clear_below.ensures c.if-is_clear_below.true) in
-    by_three c.commit_found.result c.commit_found.ensures.need c.commit_found.ensures.free c.commit_found.ensures.fewer
-    (λ lacks need free fewer. lacks_at_once g.R.Region.memory (writes c.args.i c.args.off (length c.args.bytes.now)) c.args.parts.now c.requires.mounted clear _
-    (write_lacks (g.R.Region.memory c.args.parts.now.region) c.args.parts.now.blocks c.args.parts.now.inodes c.args.i c.args.off c.args.bytes.now c.touched_by-touched.result write lacks.need lacks.free need free fewer))
+    commits_at_once g.R.Region.memory (writes c.args.i c.args.off (length c.args.bytes.now)) (WritesFile c.args.i c.args.off c.args.bytes.now) c.args.parts.now c.commit_found.new.parts c.requires.mounted clear c.commit_found.result
+    (write_commits g.R.Region.memory c.args.parts.now c.commit_found.new.parts c.args.i c.args.off c.args.bytes.now c.touched_by-touched.result c.requires.mounted.exact write small c.commit_found.result c.commit_found.ensures)

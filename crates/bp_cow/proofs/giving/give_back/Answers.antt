@@ -10,6 +10,7 @@ use Rattle.bp_cow.specs.Plan.{planned}
 use Rattle.bp_cow.specs.Return.{IsBack, CanGive}
 use Rattle.bp_cow.specs.Touched.{job_of}
 use Rattle.bp_cow.proofs.ReturnLaws.{back_null, back_cover, cover_used}
+use Rattle.bp_cow.proofs.SkipLaws.{all-begun, back_skip}
 use Rattle.bp_cow.proofs.giving.give_back.Goals as goal
 use Rattle.bp_cow.proofs.giving.give_back.Goals.{then-top-ne0, else-top-ne0}
 
@@ -49,6 +50,12 @@ loop-i-init g c =
       }
     ]
 
+pub ways-ways-requires-clause-ends : goal.ways-ways-requires-clause-ends
+ways-ways-requires-clause-ends g c = c.requires.1.1.1.1.1.1.1.ends
+
+pub adds_no_block-requires : goal.adds_no_block-requires
+adds_no_block-requires g c = c.requires.1.1.1.1.1.1.1
+
 pub way-requires-clause-i : goal.way-requires-clause-i
 way-requires-clause-i g c = subst (λ n. c.loop-i.i < n) c.ways-ways.ensures c.loop-i-test.true
 
@@ -65,6 +72,16 @@ give_way-requires g c κs within =
       fits = omega (arith, c.requires.1.1.1.1.1.0, c.loop-i.invariant.size);
     } in
     (within, (c.requires.1.0, (c.way.ensures.way, (subst (λ n. CanGive (planned g.plan c.args.touched.now) c.args.from n c.args.from c.loop-i.blocks (current_words (g.R.Region.memory c.args.region.now))) (sym c.way.ensures.index) can, (c.requires.1.1.1.1.0, c.requires.1.1.1.1.1.1.0)))))
+
+pub loop-i-preserved-then-adds_no_block : goal.loop-i-preserved-then-adds_no_block
+loop-i-preserved-then-adds_no_block g c =
+    let touched = c.args.touched.now in
+    let here : c.loop-i.i < ways (job_of touched) = subst (λ n. c.loop-i.i < n) c.ways-ways.ensures c.loop-i-test.true in
+    record {
+      back = back_skip (planned g.plan touched) c.args.from c.loop-i.i g.plan.free_after (has c.loop-i.blocks) (current_words (g.R.Region.memory c.args.region.now)) c.requires.1.1.0 here
+          (all-begun touched c.args.from c.loop-i.i (c.adds_no_block.ensures.none c.if-adds_no_block.true)) c.loop-i.invariant.back;
+      size = c.loop-i.invariant.size;
+    }
 
 pub loop-i-preserved : goal.loop-i-preserved
 loop-i-preserved g c =

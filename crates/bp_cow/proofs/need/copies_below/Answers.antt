@@ -12,17 +12,17 @@ way_len-requires-clause-i c = c.requires.touched.some
 pub returns-then-way_len-from : goal.returns-then-way_len-from
 returns-then-way_len-from c = sym (copied-none (job_of c.args.touched.now) c.args.found.now.cover.len (omega (arith, c.way_len.ensures, c.if-way_len-from.true)))
 
-pub way-requires-clause-i : goal.way-requires-clause-i
-way-requires-clause-i c = subst (λ n. c.loop-i.i < n) c.ways-ways.ensures c.loop-i-test.true
+pub turned_at-count-requires-clause-i : goal.turned_at-count-requires-clause-i
+turned_at-count-requires-clause-i c = subst (λ n. c.loop-i.i < n) c.ways-ways.ensures c.loop-i-test.true
 
 pub overflow_add-count : goal.overflow_add-count
 overflow_add-count c =
-    omega (arith, c.loop-i.invariant.few, c.turned_for-count.ensures.few, c.loop-i-test.true, c.ways-ways.ensures, leaves-few c.args.touched.now.runs.now c.requires.touched.runs, c.requires.touched.few_runs, c.requires.touched.few)
+    omega (arith, c.loop-i.invariant.few, c.turned_at-count.ensures.few, c.loop-i-test.true, c.ways-ways.ensures, leaves-few c.args.touched.now.runs.now c.requires.touched.runs, c.requires.touched.few_runs, c.requires.touched.few)
 
 pub loop-i-preserved : goal.loop-i-preserved
 loop-i-preserved c = record {
-  count = omega (arith, c.loop-i.invariant.count, c.turned_for-count.ensures.result ∙ ap (λ n. turned_for (job_of c.args.touched.now) c.args.found.now.cover.len n (length ((job_of c.args.touched.now).way n))) c.way.ensures.index, upto-next (job_of c.args.touched.now) c.args.found.now.cover.len c.loop-i.i);
-  few = omega (arith, c.loop-i.invariant.few, c.turned_for-count.ensures.few);
+  count = omega (arith, c.loop-i.invariant.count, c.turned_at-count.ensures.result, upto-next (job_of c.args.touched.now) c.args.found.now.cover.len c.loop-i.i);
+  few = omega (arith, c.loop-i.invariant.few, c.turned_at-count.ensures.few);
 }
 
 pub returns : goal.returns

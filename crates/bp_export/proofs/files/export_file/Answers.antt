@@ -18,7 +18,7 @@ pub returns-in_err-tell-clause-lines : goal.returns-in_err-tell-clause-lines
 returns-in_err-tell-clause-lines g c =
     let bytes = content (current_words (g.R.Region.memory c.args.region.now)) c.args.tree.root c.args.tree.size in
     let p = err_from_is_err_and c.from_residual.result c.from_residual.ensures.1 in
-    rw p.1 (fails_before _ _ (create c.args.path.now ∷ []) (writes_of c.args.path.now bytes ++ size_of c.args.path.now bytes) _ _ _ _ _ _ _ c.in_err-tell.ensures)
+    rw p.1 (fails_before _ _ (create c.args.path.now ∷ []) (writes_of c.args.path.now bytes ++ size_of c.args.path.now bytes) _ _ _ _ _ c.in_err-tell.ensures)
 
 pub export_leaves-requires-clause-short : goal.export_leaves-requires-clause-short
 export_leaves-requires-clause-short g c =
@@ -31,8 +31,8 @@ returns-in_err-told-clause-lines g c =
     let bytes = content (current_words (g.R.Region.memory c.args.region.now)) c.args.tree.root c.args.tree.size in
     let p = err_from_is_err_and c.from_residual-in_err-told.result c.from_residual-in_err-told.ensures.1 in
     rw p.1 (
-    fails_before _ _ (create c.args.path.now ∷ writes_of c.args.path.now bytes) (size_of c.args.path.now bytes) _ _ _ _ _ _ _
-    (tells_then _ _ (create c.args.path.now ∷ []) (writes_of c.args.path.now bytes) _ _ _ _ _ _ _ _ _ c.in_ok-tell.ensures c.in_err-told.ensures.lines)
+    fails_before _ _ (create c.args.path.now ∷ writes_of c.args.path.now bytes) (size_of c.args.path.now bytes) _ _ _ _ _
+    (tells_then _ _ (create c.args.path.now ∷ []) (writes_of c.args.path.now bytes) _ _ _ _ _ _ c.in_ok-tell.ensures c.in_err-told.ensures.lines)
     )
 
 pub export_size-requires : goal.export_size-requires
@@ -45,6 +45,6 @@ export_size-requires g c =
 pub returns-clause-lines : goal.returns-clause-lines
 returns-clause-lines g c =
     let bytes = content (current_words (g.R.Region.memory c.args.region.now)) c.args.tree.root c.args.tree.size in
-    tells_then _ c.export_size.result (create c.args.path.now ∷ writes_of c.args.path.now bytes) (size_of c.args.path.now bytes) _ _ _ _ _ _ _ _ _
-    (tells_then _ _ (create c.args.path.now ∷ []) (writes_of c.args.path.now bytes) _ _ _ _ _ _ _ _ _ c.in_ok-tell.ensures c.in_ok-told.ensures.lines)
-    (tells_same _ _ _ _ _ _ _ _ _ c.in_ok-told.ensures.told c.export_size.ensures)
+    tells_then _ c.export_size.result (create c.args.path.now ∷ writes_of c.args.path.now bytes) (size_of c.args.path.now bytes) _ _ _ _ _ _
+    (tells_then _ _ (create c.args.path.now ∷ []) (writes_of c.args.path.now bytes) _ _ _ _ _ _ c.in_ok-tell.ensures c.in_ok-told.ensures.lines)
+    (tells_same _ _ _ _ _ _ _ c.in_ok-told.ensures.told c.export_size.ensures)

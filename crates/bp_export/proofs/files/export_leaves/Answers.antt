@@ -13,7 +13,7 @@ use Rattle.bp_export.proofs.files.export_leaves.Goals as goal
 pub loop-leaf-init : goal.loop-leaf-init
 loop-leaf-init g c =
     let bytes = content (current_words (g.R.Region.memory c.args.region.now)) c.args.tree.root c.args.tree.size in
-    record { lines = tells_nothing 0 _ _ _; told = told_none bytes; low = omega arith; room = c.requires.room }
+    record { lines = tells_nothing 0 _ _; told = told_none bytes; low = omega arith; room = c.requires.room }
 
 pub export_stretch-requires-clause-short : goal.export_stretch-requires-clause-short
 export_stretch-requires-clause-short g c =
@@ -27,11 +27,11 @@ returns-in_err-end-clause-lines g c =
     let p = err_from_is_err_and c.from_residual.result c.from_residual.ensures.1 in
     let next = c.in-Some.ensures.some in
     rw p.1 (
-    tells_same _ _ _ _ _ _ _ _ _
+    tells_same _ _ _ _ _ _ _
     (written_whole c.args.path.now bytes c.loop-leaf.from c.in-Some.leaf next.behind (live_stretch image c.args.tree.root c.args.tree.size c.in-Some.leaf next.live)
     (zeros_before image c.args.tree.root c.args.tree.size c.loop-leaf.from c.in-Some.leaf next))
-    (fails_before _ _ (writes_until c.args.path.now bytes c.loop-leaf.from ++ write_of c.args.path.now bytes c.in-Some.leaf) (behind c.args.path.now bytes c.in-Some.leaf) _ _ _ _ _ _ _
-    (tells_then _ _ (writes_until c.args.path.now bytes c.loop-leaf.from) (write_of c.args.path.now bytes c.in-Some.leaf) _ _ _ _ _ _ _ _ _ c.loop-leaf.invariant.lines c.in_err-end.ensures.lines))
+    (fails_before _ _ (writes_until c.args.path.now bytes c.loop-leaf.from ++ write_of c.args.path.now bytes c.in-Some.leaf) (behind c.args.path.now bytes c.in-Some.leaf) _ _ _ _ _
+    (tells_then _ _ (writes_until c.args.path.now bytes c.loop-leaf.from) (write_of c.args.path.now bytes c.in-Some.leaf) _ _ _ _ _ _ c.loop-leaf.invariant.lines c.in_err-end.ensures.lines))
     )
 
 pub loop-leaf-smaller : goal.loop-leaf-smaller
@@ -46,10 +46,10 @@ loop-leaf-preserved g c =
     let next = c.in-Some.ensures.some in
     record {
       lines =
-          tells_as _ _ _ _ _ _ _ _ _
-          (tells_same _ _ _ _ _ _ _ _ _
+          tells_as _ _ _ _ _ _ _
+          (tells_same _ _ _ _ _ _ _
           (sym (written_to c.args.path.now bytes c.loop-leaf.from c.in-Some.leaf next.behind (zeros_before image c.args.tree.root c.args.tree.size c.loop-leaf.from c.in-Some.leaf next)))
-          (tells_then _ _ (writes_until c.args.path.now bytes c.loop-leaf.from) (write_of c.args.path.now bytes c.in-Some.leaf) _ _ _ _ _ _ _ _ _ c.loop-leaf.invariant.lines c.in_ok-end.ensures.lines));
+          (tells_then _ _ (writes_until c.args.path.now bytes c.loop-leaf.from) (write_of c.args.path.now bytes c.in-Some.leaf) _ _ _ _ _ _ c.loop-leaf.invariant.lines c.in_ok-end.ensures.lines));
       told =
           subst (ToldTo bytes (c.in-Some.leaf + 1)) (sym c.unwrap_or-told.ensures)
           (told_next bytes c.loop-leaf.from c.in-Some.leaf c.loop-leaf.told c.args.tree.size _ (length_content image c.args.tree.root c.args.tree.size) next.live c.loop-leaf.invariant.told c.in_ok-end.ensures.told);
@@ -68,7 +68,7 @@ pub returns-clause-lines : goal.returns-clause-lines
 returns-clause-lines g c =
     let image = current_words (g.R.Region.memory c.args.region.now) in
     let bytes = content image c.args.tree.root c.args.tree.size in
-    tells_as _ _ _ _ _ _ _ _ _
-    (tells_same _ _ _ _ _ _ _ _ _
+    tells_as _ _ _ _ _ _ _
+    (tells_same _ _ _ _ _ _ _
     (sym (passed_to c.args.path.now bytes c.loop-leaf.from (stretches bytes) c.loop-leaf.invariant.low (zeros_left image c.args.tree.root c.args.tree.size c.loop-leaf.from c.in_default.ensures.none)))
     c.loop-leaf.invariant.lines)

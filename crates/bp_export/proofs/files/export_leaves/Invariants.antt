@@ -12,7 +12,7 @@ use Rattle.bp_export.proofs.files.export_leaves.Given as goal
 abbrev pub invariant-loop-leaf : goal.invariant-loop-leaf
 invariant-loop-leaf g l =
     record {
-      lines : Tells {T = ℕ} (writes_until l.path (content (current_words (g.R.Region.memory l.region)) l.tree.root l.tree.size) l.from) (Ok 0) (waiting l.fn.replies) (waiting l.replies) (g.K.Sink.taken l.fn.out) (g.K.Sink.taken l.out) (g.K.Sink.faults l.fn.out) (g.K.Sink.faults l.out);
+      lines : Tells {T = ℕ} (writes_until l.path (content (current_words (g.R.Region.memory l.region)) l.tree.root l.tree.size) l.from) (Ok 0) (waiting l.fn.replies) (waiting l.replies) (g.K.Sink.view l.fn.out) (g.K.Sink.view l.out);
       told : ToldTo (content (current_words (g.R.Region.memory l.region)) l.tree.root l.tree.size) l.from l.told;
       low : l.from ≤ stretches (content (current_words (g.R.Region.memory l.region)) l.tree.root l.tree.size);
       room : length l.block ≡ 4096;

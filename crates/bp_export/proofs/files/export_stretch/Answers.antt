@@ -21,9 +21,9 @@ pub returns-then-are_zeros-clause-lines : goal.returns-then-are_zeros-clause-lin
 returns-then-are_zeros-clause-lines g c =
     let image = current_words (g.R.Region.memory c.args.region.now) in
     let here = stretch_read image c.args.tree.root c.args.tree.size c.args.leaf _ _ _ c.requires.room c.requires.live c.read-count.ensures.count c.read-count.ensures.bytes in
-    tells_same _ _ _ _ _ _ _ _ _
+    tells_same _ _ _ _ _ _ _
     (sym (no_write c.args.path.now (content image c.args.tree.root c.args.tree.size) c.args.leaf (sym (c.are_zeros.ensures ∙ ap is_zeros here) ∙ c.if-are_zeros.true)))
-    (tells_nothing _ _ _ _)
+    (tells_nothing _ _ _)
 
 pub tell-requires : goal.tell-requires
 tell-requires g c =
@@ -39,9 +39,9 @@ returns-in_err-tell-clause-lines g c =
     let here = stretch_read image c.args.tree.root c.args.tree.size c.args.leaf _ _ _ c.requires.room c.requires.live c.read-count.ensures.count c.read-count.ensures.bytes in
     let p = err_from_is_err_and c.from_residual.result c.from_residual.ensures.1 in
     rw p.1 (
-    tells_same _ _ _ _ _ _ _ _ _
+    tells_same _ _ _ _ _ _ _
     (one_write c.args.path.now (content image c.args.tree.root c.args.tree.size) c.args.leaf _ here (sym (c.are_zeros.ensures ∙ ap is_zeros here) ∙ c.if-are_zeros.false))
-    (fails_as _ _ _ _ _ _ _ _ _ _ c.in_err-tell.ensures)
+    (fails_as _ _ _ _ _ _ _ _ c.in_err-tell.ensures)
     )
 
 pub returns-clause-told : goal.returns-clause-told
@@ -55,6 +55,6 @@ pub returns-clause-lines : goal.returns-clause-lines
 returns-clause-lines g c =
     let image = current_words (g.R.Region.memory c.args.region.now) in
     let here = stretch_read image c.args.tree.root c.args.tree.size c.args.leaf _ _ _ c.requires.room c.requires.live c.read-count.ensures.count c.read-count.ensures.bytes in
-    tells_same _ _ _ _ _ _ _ _ _
+    tells_same _ _ _ _ _ _ _
     (one_write c.args.path.now (content image c.args.tree.root c.args.tree.size) c.args.leaf _ here (sym (c.are_zeros.ensures ∙ ap is_zeros here) ∙ c.if-are_zeros.false))
-    (tells_as _ _ _ _ _ _ _ _ _ c.in_ok-tell.ensures)
+    (tells_as _ _ _ _ _ _ _ c.in_ok-tell.ensures)

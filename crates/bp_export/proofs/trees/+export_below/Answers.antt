@@ -29,7 +29,7 @@ of-requires-clause-directory g t c = c.requires.directory
 pub returns-in_err-entries-clause-tours : goal.returns-in_err-entries-clause-tours
 returns-in_err-entries-clause-tours g t c place stands =
     let p = err_from_is_err_and c.from_residual.result c.from_residual.ensures.1 in
-    rw p.1 (ends_at_once _ _ _ _ _ place stands (waiting c.args.work.now.replies) (g.K.Sink.taken c.args.out.now) (g.K.Sink.faults c.args.out.now) (Unit {0}) p.0 p.2 c.args.work.now.firsts)
+    rw p.1 (ends_at_once _ _ _ _ _ place stands (waiting c.args.work.now.replies) (g.K.Sink.view c.args.out.now) (Unit {0}) p.0 p.2 c.args.work.now.firsts)
 
 pub returns-in_err-entries-clause-path : goal.returns-in_err-entries-clause-path
 returns-in_err-entries-clause-path g t c =
@@ -39,7 +39,7 @@ returns-in_err-entries-clause-path g t c =
 pub loop-k-init : goal.loop-k-init
 loop-k-init g t c = record {
   path = refl;
-  tours = λ place stands. none_told _ _ _ _ _ place stands (waiting c.args.work.now.replies) (g.K.Sink.taken c.args.out.now) (g.K.Sink.faults c.args.out.now);
+  tours = λ place stands. none_told _ _ _ _ _ place stands (waiting c.args.work.now.replies) (g.K.Sink.view c.args.out.now);
 }
 
 pub at-inode-requires : goal.at-inode-requires
@@ -49,8 +49,8 @@ pub returns-in_err-go_down-clause-tours : goal.returns-in_err-go_down-clause-tou
 returns-in_err-go_down-clause-tours g t c place stands =
     let p = err_from_is_err_and c.from_residual-in_err-go_down.result c.from_residual-in_err-go_down.ensures.1 in
     rw p.1
-    (text_fails _ _ _ _ _ place stands (waiting c.args.work.now.replies) (g.K.Sink.taken c.args.out.now) (g.K.Sink.faults c.args.out.now) c.in_ok-entries.entries c.in_ok-entries.ensures
-    c.loop-k.k c.at-inode.result.0 c.at-inode.result.1.now c.at-inode.ensures.entry c.loop-k.work.firsts (waiting c.loop-k.work.replies) (g.K.Sink.taken c.loop-k.out) (g.K.Sink.faults c.loop-k.out) (c.loop-k.invariant.tours place stands)
+    (text_fails _ _ _ _ _ place stands (waiting c.args.work.now.replies) (g.K.Sink.view c.args.out.now) c.in_ok-entries.entries c.in_ok-entries.ensures
+    c.loop-k.k c.at-inode.result.0 c.at-inode.result.1.now c.at-inode.ensures.entry c.loop-k.work.firsts (waiting c.loop-k.work.replies) (g.K.Sink.view c.loop-k.out) (c.loop-k.invariant.tours place stands)
     (Unit {0}) p.0 p.2 c.loop-k.work.firsts)
 
 pub returns-in_err-go_down-clause-path : goal.returns-in_err-go_down-clause-path
@@ -89,9 +89,9 @@ returns-in_err-export_entry-clause-tours g t c place stands =
     let there : StandsAt (current_words (g.R.Region.memory c.args.region.now)) c.args.counts.now (itself (current_words (g.R.Region.memory c.args.region.now)) c.at-inode.result.0) c.at-inode.result.0 c.go_down.new.path.items c.loop-k.work.firsts child =
     rw is (stands_at_child _ _ _ _ _ place stands c.in_ok-entries.entries c.in_ok-entries.ensures c.loop-k.k c.at-inode.result.0 c.at-inode.result.1.now c.at-inode.ensures.entry c.loop-k.work.firsts told.remembers) in
     rw p.1
-    (entry_fails _ _ _ _ _ place stands (waiting c.args.work.now.replies) (g.K.Sink.taken c.args.out.now) (g.K.Sink.faults c.args.out.now) c.in_ok-entries.entries c.in_ok-entries.ensures
-    c.loop-k.k c.at-inode.result.0 c.at-inode.result.1.now c.at-inode.ensures.entry c.loop-k.work.firsts (waiting c.loop-k.work.replies) (g.K.Sink.taken c.loop-k.out) (g.K.Sink.faults c.loop-k.out) told
-    (waiting c.export_entry.new.work.replies) (g.K.Sink.taken c.export_entry.new.out) (g.K.Sink.faults c.export_entry.new.out) _ (Unit {0}) c.in_err-export_entry.field-0.0 p.0 p.2 c.export_entry.new.work.firsts
+    (entry_fails _ _ _ _ _ place stands (waiting c.args.work.now.replies) (g.K.Sink.view c.args.out.now) c.in_ok-entries.entries c.in_ok-entries.ensures
+    c.loop-k.k c.at-inode.result.0 c.at-inode.result.1.now c.at-inode.ensures.entry c.loop-k.work.firsts (waiting c.loop-k.work.replies) (g.K.Sink.view c.loop-k.out) told
+    (waiting c.export_entry.new.work.replies) (g.K.Sink.view c.export_entry.new.out) _ (Unit {0}) c.in_err-export_entry.field-0.0 p.0 p.2 c.export_entry.new.work.firsts
     (c.in_err-export_entry.ensures.tours child there))
 
 pub returns-in_err-export_entry-clause-path : goal.returns-in_err-export_entry-clause-path
@@ -135,9 +135,9 @@ returns-in_err-export_below-in-Dir-clause-tours g t c place stands =
     let below : StandsAt image c.args.counts.now inside c.at-inode.result.0 c.export_entry.new.work.path.items c.export_entry.new.work.firsts inner =
     rw path_is (stands_in_child _ _ _ _ _ place stands c.in_ok-entries.entries c.in_ok-entries.ensures c.loop-k.k c.at-inode.result.0 c.at-inode.result.1.now c.at-inode.ensures.entry kind c.export_entry.new.work.firsts entry.remembers) in
     rw p.1
-    (directory_fails _ _ _ _ _ place stands (waiting c.args.work.now.replies) (g.K.Sink.taken c.args.out.now) (g.K.Sink.faults c.args.out.now) c.in_ok-entries.entries c.in_ok-entries.ensures c.loop-k.k c.at-inode.result.0 c.at-inode.result.1.now c.at-inode.ensures.entry c.loop-k.work.firsts (waiting c.loop-k.work.replies) (g.K.Sink.taken c.loop-k.out) (g.K.Sink.faults c.loop-k.out) told
-    (waiting c.export_entry.new.work.replies) (g.K.Sink.taken c.export_entry.new.out) (g.K.Sink.faults c.export_entry.new.out) c.in_ok-export_entry.field-0 c.export_entry.new.work.firsts entry kind
-    (waiting c.export_below.new.work.replies) (g.K.Sink.taken c.export_below.new.out) (g.K.Sink.faults c.export_below.new.out) c.export_below.new.work.firsts (Unit {0}) (Unit {0}) c.in_err-export_below-in-Dir.field-0.0 p.0 p.2 (c.in_err-export_below-in-Dir.ensures.tours inner below))
+    (directory_fails _ _ _ _ _ place stands (waiting c.args.work.now.replies) (g.K.Sink.view c.args.out.now) c.in_ok-entries.entries c.in_ok-entries.ensures c.loop-k.k c.at-inode.result.0 c.at-inode.result.1.now c.at-inode.ensures.entry c.loop-k.work.firsts (waiting c.loop-k.work.replies) (g.K.Sink.view c.loop-k.out) told
+    (waiting c.export_entry.new.work.replies) (g.K.Sink.view c.export_entry.new.out) c.in_ok-export_entry.field-0 c.export_entry.new.work.firsts entry kind
+    (waiting c.export_below.new.work.replies) (g.K.Sink.view c.export_below.new.out) c.export_below.new.work.firsts (Unit {0}) (Unit {0}) c.in_err-export_below-in-Dir.field-0.0 p.0 p.2 (c.in_err-export_below-in-Dir.ensures.tours inner below))
 
 pub returns-in_err-export_below-in-Dir-clause-path : goal.returns-in_err-export_below-in-Dir-clause-path
 returns-in_err-export_below-in-Dir-clause-path g t c =
@@ -159,8 +159,8 @@ loop-k-preserved g t c =
             rw is (stands_at_child _ _ _ _ _ place stands c.in_ok-entries.entries c.in_ok-entries.ensures c.loop-k.k c.at-inode.result.0 c.at-inode.result.1.now c.at-inode.ensures.entry c.loop-k.work.firsts told.remembers) in
             let entry = c.in_ok-export_entry.ensures.tours child there in
             rw (w.work-is, w.out-is)
-            (file_told _ _ _ _ _ place stands (waiting c.args.work.now.replies) (g.K.Sink.taken c.args.out.now) (g.K.Sink.faults c.args.out.now) c.in_ok-entries.entries c.in_ok-entries.ensures c.loop-k.k c.at-inode.result.0 c.at-inode.result.1.now c.at-inode.ensures.entry c.loop-k.work.firsts (waiting c.loop-k.work.replies) (g.K.Sink.taken c.loop-k.out) (g.K.Sink.faults c.loop-k.out) told
-            (waiting c.export_entry.new.work.replies) (g.K.Sink.taken c.export_entry.new.out) (g.K.Sink.faults c.export_entry.new.out) c.in_ok-export_entry.field-0 c.export_entry.new.work.firsts entry (sym c.in_ok-export_entry.ensures.kind ∙ ap kind_word w.in-File.is));
+            (file_told _ _ _ _ _ place stands (waiting c.args.work.now.replies) (g.K.Sink.view c.args.out.now) c.in_ok-entries.entries c.in_ok-entries.ensures c.loop-k.k c.at-inode.result.0 c.at-inode.result.1.now c.at-inode.ensures.entry c.loop-k.work.firsts (waiting c.loop-k.work.replies) (g.K.Sink.view c.loop-k.out) told
+            (waiting c.export_entry.new.work.replies) (g.K.Sink.view c.export_entry.new.out) c.in_ok-export_entry.field-0 c.export_entry.new.work.firsts entry (sym c.in_ok-export_entry.ensures.kind ∙ ap kind_word w.in-File.is));
       }
       | in-Dir+in_ok-export_below-in-Dir w ↦ record {
         path = cut_back _ c.args.work.now.path.items (47 ∷ c.at-inode.result.1.now) _ _ c.truncate.ensures.items (search (rules, c.len-here.ensures)) (ap (λ (work : Work). work.path.items) w.work-is ∙ w.in_ok-export_below-in-Dir.ensures.path ∙ path_is);
@@ -175,16 +175,16 @@ loop-k-preserved g t c =
             let below : StandsAt image c.args.counts.now inside c.at-inode.result.0 c.export_entry.new.work.path.items c.export_entry.new.work.firsts inner =
             rw path_is (stands_in_child _ _ _ _ _ place stands c.in_ok-entries.entries c.in_ok-entries.ensures c.loop-k.k c.at-inode.result.0 c.at-inode.result.1.now c.at-inode.ensures.entry kind c.export_entry.new.work.firsts entry.remembers) in
             rw (w.work-is, w.out-is)
-            (directory_told _ _ _ _ _ place stands (waiting c.args.work.now.replies) (g.K.Sink.taken c.args.out.now) (g.K.Sink.faults c.args.out.now) c.in_ok-entries.entries c.in_ok-entries.ensures c.loop-k.k c.at-inode.result.0 c.at-inode.result.1.now c.at-inode.ensures.entry c.loop-k.work.firsts (waiting c.loop-k.work.replies) (g.K.Sink.taken c.loop-k.out) (g.K.Sink.faults c.loop-k.out) told
-            (waiting c.export_entry.new.work.replies) (g.K.Sink.taken c.export_entry.new.out) (g.K.Sink.faults c.export_entry.new.out) c.in_ok-export_entry.field-0 c.export_entry.new.work.firsts entry kind
-            (waiting w.export_below.new.work.replies) (g.K.Sink.taken w.export_below.new.out) (g.K.Sink.faults w.export_below.new.out) w.export_below.new.work.firsts tt (w.in_ok-export_below-in-Dir.ensures.tours inner below));
+            (directory_told _ _ _ _ _ place stands (waiting c.args.work.now.replies) (g.K.Sink.view c.args.out.now) c.in_ok-entries.entries c.in_ok-entries.ensures c.loop-k.k c.at-inode.result.0 c.at-inode.result.1.now c.at-inode.ensures.entry c.loop-k.work.firsts (waiting c.loop-k.work.replies) (g.K.Sink.view c.loop-k.out) told
+            (waiting c.export_entry.new.work.replies) (g.K.Sink.view c.export_entry.new.out) c.in_ok-export_entry.field-0 c.export_entry.new.work.firsts entry kind
+            (waiting w.export_below.new.work.replies) (g.K.Sink.view w.export_below.new.out) w.export_below.new.work.firsts tt (w.in_ok-export_below-in-Dir.ensures.tours inner below));
       }
     ]
 
 pub returns-clause-tours : goal.returns-clause-tours
 returns-clause-tours g t c place stands =
-    all_told _ _ _ _ _ place stands (waiting c.args.work.now.replies) (g.K.Sink.taken c.args.out.now) (g.K.Sink.faults c.args.out.now) c.in_ok-entries.entries c.in_ok-entries.ensures c.loop-k.k (omega (arith, c.len-k-end.ensures, c.loop-k-test.false))
-    c.loop-k.work.firsts (waiting c.loop-k.work.replies) (g.K.Sink.taken c.loop-k.out) (g.K.Sink.faults c.loop-k.out) (c.loop-k.invariant.tours place stands)
+    all_told _ _ _ _ _ place stands (waiting c.args.work.now.replies) (g.K.Sink.view c.args.out.now) c.in_ok-entries.entries c.in_ok-entries.ensures c.loop-k.k (omega (arith, c.len-k-end.ensures, c.loop-k-test.false))
+    c.loop-k.work.firsts (waiting c.loop-k.work.replies) (g.K.Sink.view c.loop-k.out) (c.loop-k.invariant.tours place stands)
 
 pub returns-clause-path : goal.returns-clause-path
 returns-clause-path g t c = c.loop-k.invariant.path

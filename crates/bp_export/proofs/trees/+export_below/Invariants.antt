@@ -15,5 +15,5 @@ invariant-loop-k g l = record {
   path : l.work.path.items ≡ l.fn.work.path.items;
   tours : (place : Place) → StandsAt (current_words (g.R.Region.memory l.region)) l.counts inside l.i l.fn.work.path.items l.fn.work.firsts place
       → Tours {T = Unit {0}} (current_words (g.R.Region.memory l.region)) l.counts (up_to l.k) place (Ok tt) l.work.firsts (waiting l.fn.work.replies) (waiting l.work.replies)
-      (g.K.Sink.taken l.fn.out) (g.K.Sink.taken l.out) (g.K.Sink.faults l.fn.out) (g.K.Sink.faults l.out);
+      (g.K.Sink.view l.fn.out) (g.K.Sink.view l.out);
 }

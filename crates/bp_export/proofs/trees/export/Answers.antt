@@ -27,7 +27,7 @@ has_long_path-requires-clause-directory g c = c.requires.file_system.first.root_
 
 pub returns-then-has_long_path : goal.returns-then-has_long_path
 returns-then-has_long_path g c tree stands =
-    ends_deep (Unit {0}) tree (g.K.Sink.taken c.args.out.now) (g.K.Sink.faults c.args.out.now)
+    ends_deep (Unit {0}) tree (g.K.Sink.view c.args.out.now)
     ((deep_where_long _ tree stands c.has_long_path.result c.has_long_path.ensures).0 c.if-has_long_path.true)
 
 pub returns-in_err-work : goal.returns-in_err-work
@@ -35,8 +35,8 @@ returns-in_err-work g c tree stands =
     let p = err_from_is_err_and c.from_residual.result c.from_residual.ensures.1 in
     let short : HasShortPaths tree = short_if_none _ tree stands (λ has. true≢false (sym (c.has_long_path.ensures.1 has) ∙ c.if-has_long_path.false)) in
     rw p.1
-    (ends_walk (Unit {0}) tree (g.K.Sink.taken c.args.out.now) (g.K.Sink.faults c.args.out.now) short (Unit {0}) p.0 [] (g.K.Sink.taken c.args.out.now) (g.K.Sink.faults c.args.out.now)
-    (goes_nowhere (Unit {0}) p.0 p.2 (export_calls tree) [] (g.K.Sink.taken c.args.out.now) (g.K.Sink.faults c.args.out.now)))
+    (ends_walk (Unit {0}) tree (g.K.Sink.view c.args.out.now) short (Unit {0}) p.0 [] (g.K.Sink.view c.args.out.now)
+    (goes_nowhere (Unit {0}) p.0 p.2 (export_calls tree) [] (g.K.Sink.view c.args.out.now)))
 
 pub export_below-requires-clause-well_formed : goal.export_below-requires-clause-well_formed
 export_below-requires-clause-well_formed g c = c.requires.file_system.first
@@ -68,8 +68,8 @@ returns-in_err-export_below g c tree stands =
     let there : StandsAt image c.args.counts.now inside 1 c.in_ok-work.work.path.items c.in_ok-work.work.firsts (root_place image tree.now can) =
     rw c.in_ok-work.ensures.path (stands_at_root image tree.now can c.args.counts.now c.in_ok-work.work.firsts c.in_ok-work.ensures.firsts) in
     rw (p.1, p.2)
-    (ends_walk (Unit {0}) tree (g.K.Sink.taken c.args.out.now) (g.K.Sink.faults c.args.out.now) short (Unit {0}) c.in_err-export_below.field-0.0 (waiting c.export_below.new.work.replies) (g.K.Sink.taken c.export_below.new.out) (g.K.Sink.faults c.export_below.new.out)
-    (from_root {T = Unit {0}} (Err c.in_err-export_below.field-0.0) tree _ (waiting c.in_ok-work.work.replies) (waiting c.export_below.new.work.replies) (g.K.Sink.taken c.args.out.now) (g.K.Sink.taken c.export_below.new.out) (g.K.Sink.faults c.args.out.now) (g.K.Sink.faults c.export_below.new.out)
+    (ends_walk (Unit {0}) tree (g.K.Sink.view c.args.out.now) short (Unit {0}) c.in_err-export_below.field-0.0 (waiting c.export_below.new.work.replies) (g.K.Sink.view c.export_below.new.out)
+    (from_root {T = Unit {0}} (Err c.in_err-export_below.field-0.0) tree _ (waiting c.in_ok-work.work.replies) (waiting c.export_below.new.work.replies) (g.K.Sink.view c.args.out.now) (g.K.Sink.view c.export_below.new.out)
     (all_calls image tree stands short c.args.counts.now c.in_ok-work.work.firsts c.in_ok-work.ensures.firsts) c.in_ok-work.ensures.waits (c.in_err-export_below.ensures.tours (root_place image tree.now can) there).goes))
 
 pub returns-in_err-hand_over : goal.returns-in_err-hand_over
@@ -81,9 +81,8 @@ returns-in_err-hand_over g c tree stands =
     let there : StandsAt image c.args.counts.now inside 1 c.in_ok-work.work.path.items c.in_ok-work.work.firsts (root_place image tree.now can) =
     rw c.in_ok-work.ensures.path (stands_at_root image tree.now can c.args.counts.now c.in_ok-work.work.firsts c.in_ok-work.ensures.firsts) in
     rw p.1
-    (ends_unhanded (Unit {0}) tree (g.K.Sink.taken c.args.out.now) (g.K.Sink.faults c.args.out.now) short c.in_ok-export_below.field-0 p.0 p.2 (waiting c.export_below.new.work.replies) (g.K.Sink.taken c.export_below.new.out) (g.K.Sink.taken c.hand_over.new.out)
-    (g.K.Sink.faults c.export_below.new.out) (g.K.Sink.faults c.hand_over.new.out)
-    (from_root {T = Unit {0}} (Ok c.in_ok-export_below.field-0) tree _ (waiting c.in_ok-work.work.replies) (waiting c.export_below.new.work.replies) (g.K.Sink.taken c.args.out.now) (g.K.Sink.taken c.export_below.new.out) (g.K.Sink.faults c.args.out.now) (g.K.Sink.faults c.export_below.new.out)
+    (ends_unhanded (Unit {0}) tree (g.K.Sink.view c.args.out.now) short c.in_ok-export_below.field-0 p.0 p.2 (waiting c.export_below.new.work.replies) (g.K.Sink.view c.export_below.new.out) (g.K.Sink.view c.hand_over.new.out)
+    (from_root {T = Unit {0}} (Ok c.in_ok-export_below.field-0) tree _ (waiting c.in_ok-work.work.replies) (waiting c.export_below.new.work.replies) (g.K.Sink.view c.args.out.now) (g.K.Sink.view c.export_below.new.out)
     (all_calls image tree stands short c.args.counts.now c.in_ok-work.work.firsts c.in_ok-work.ensures.firsts) c.in_ok-work.ensures.waits (c.in_ok-export_below.ensures.tours (root_place image tree.now can) there).goes)
     c.in_err-hand_over.ensures.some c.in_err-hand_over.ensures.cause.failed)
 
@@ -94,8 +93,7 @@ returns g c tree stands =
     let can : CanTell image tree.now = can_tell image tree stands short in
     let there : StandsAt image c.args.counts.now inside 1 c.in_ok-work.work.path.items c.in_ok-work.work.firsts (root_place image tree.now can) =
     rw c.in_ok-work.ensures.path (stands_at_root image tree.now can c.args.counts.now c.in_ok-work.work.firsts c.in_ok-work.ensures.firsts) in
-    ends_handed (Unit {0}) tree (g.K.Sink.taken c.args.out.now) (g.K.Sink.faults c.args.out.now) short c.in_ok-export_below.field-0 (tt {0}) (waiting c.export_below.new.work.replies) (g.K.Sink.taken c.export_below.new.out) (g.K.Sink.taken c.hand_over.new.out)
-    (g.K.Sink.faults c.export_below.new.out) (g.K.Sink.faults c.hand_over.new.out)
-    (from_root {T = Unit {0}} (Ok c.in_ok-export_below.field-0) tree _ (waiting c.in_ok-work.work.replies) (waiting c.export_below.new.work.replies) (g.K.Sink.taken c.args.out.now) (g.K.Sink.taken c.export_below.new.out) (g.K.Sink.faults c.args.out.now) (g.K.Sink.faults c.export_below.new.out)
+    ends_handed (Unit {0}) tree (g.K.Sink.view c.args.out.now) short c.in_ok-export_below.field-0 (tt {0}) (waiting c.export_below.new.work.replies) (g.K.Sink.view c.export_below.new.out) (g.K.Sink.view c.hand_over.new.out)
+    (from_root {T = Unit {0}} (Ok c.in_ok-export_below.field-0) tree _ (waiting c.in_ok-work.work.replies) (waiting c.export_below.new.work.replies) (g.K.Sink.view c.args.out.now) (g.K.Sink.view c.export_below.new.out)
     (all_calls image tree stands short c.args.counts.now c.in_ok-work.work.firsts c.in_ok-work.ensures.firsts) c.in_ok-work.ensures.waits (c.in_ok-export_below.ensures.tours (root_place image tree.now can) there).goes)
     c.in_ok-hand_over.ensures.all c.in_ok-hand_over.ensures.cause.same

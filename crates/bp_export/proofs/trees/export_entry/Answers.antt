@@ -41,13 +41,13 @@ returns-in_err-tell-in-Dir-clause-tours g c place stands =
     let image : Image = current_words (g.R.Region.memory c.args.region.now) in
     let kind : IsDirectory image c.args.i = sym c.get-inode.ensures.kind ∙ ap kind_word c.in-Dir.is in
     let p = err_from_is_err_and c.from_residual-in_err-tell-in-Dir.result c.from_residual-in_err-tell-in-Dir.ensures.1 in
-    tours_end image c.requires.well_formed c.args.counts.now c.args.i c.args.work.now.path.items c.args.work.now.firsts place stands _ p.0 p.1 _ _ _ _ _ _ _ (untoured image c.requires.well_formed c.args.counts.now c.args.i c.args.work.now.path.items c.args.work.now.firsts place stands _ _ _ _ _ _ _ _ _ p.0 p.2 _
-    (directory_here image c.requires.well_formed c.args.counts.now c.args.i c.args.work.now.path.items c.args.work.now.firsts place stands c.requires.below kind) (tells_same _ _ _ _ _ _ _ _ _ (ap (λ (text : List ℕ). mkdir text ∷ []) c.deref.ensures.value) c.in_err-tell-in-Dir.ensures) _)
+    tours_end image c.requires.well_formed c.args.counts.now c.args.i c.args.work.now.path.items c.args.work.now.firsts place stands _ p.0 p.1 _ _ _ _ _ (untoured image c.requires.well_formed c.args.counts.now c.args.i c.args.work.now.path.items c.args.work.now.firsts place stands _ _ _ _ _ _ _ p.0 p.2 _
+    (directory_here image c.requires.well_formed c.args.counts.now c.args.i c.args.work.now.path.items c.args.work.now.firsts place stands c.requires.below kind) (tells_same _ _ _ _ _ _ _ (ap (λ (text : List ℕ). mkdir text ∷ []) c.deref.ensures.value) c.in_err-tell-in-Dir.ensures) _)
 
 pub returns-in_ok-tell-in-Dir-clause-tours : goal.returns-in_ok-tell-in-Dir-clause-tours
 returns-in_ok-tell-in-Dir-clause-tours g c place stands =
     let image : Image = current_words (g.R.Region.memory c.args.region.now) in
     let kind : IsDirectory image c.args.i = sym c.get-inode.ensures.kind ∙ ap kind_word c.in-Dir.is in
-    toured image c.requires.well_formed c.args.counts.now c.args.i c.args.work.now.path.items c.args.work.now.firsts place stands _ _ _ _ _ _ _ _ _
-    (directory_here image c.requires.well_formed c.args.counts.now c.args.i c.args.work.now.path.items c.args.work.now.firsts place stands c.requires.below kind) (tells_same _ _ _ _ _ _ _ _ _ (ap (λ (text : List ℕ). mkdir text ∷ []) c.deref.ensures.value) c.in_ok-tell-in-Dir.ensures) _
+    toured image c.requires.well_formed c.args.counts.now c.args.i c.args.work.now.path.items c.args.work.now.firsts place stands _ _ _ _ _ _ _
+    (directory_here image c.requires.well_formed c.args.counts.now c.args.i c.args.work.now.path.items c.args.work.now.firsts place stands c.requires.below kind) (tells_same _ _ _ _ _ _ _ (ap (λ (text : List ℕ). mkdir text ∷ []) c.deref.ensures.value) c.in_ok-tell-in-Dir.ensures) _
     (directory_remembered image c.requires.well_formed c.args.counts.now c.args.i c.args.work.now.path.items c.args.work.now.firsts place stands c.requires.below kind)

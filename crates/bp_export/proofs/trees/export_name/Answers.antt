@@ -50,7 +50,7 @@ returns-then-names-le1-clause-tours g c place stands =
     let new = none_single image c.requires.well_formed counts i text firsts place stands c.requires.below c.requires.file c.requires.counts low few in
     let found = at image c.requires.well_formed counts i text firsts place stands c.requires.below c.requires.file in
     let told = place.told ++ itself image i place.tree place.path in
-    toured_from image c.requires.well_formed counts i text firsts place stands c.requires.below c.requires.file new _ _ c.requires.root c.requires.size c.export_new.result _ _ _ _ _ _ c.export_new.ensures.goes _
+    toured_from image c.requires.well_formed counts i text firsts place stands c.requires.below c.requires.file new _ _ c.requires.root c.requires.size c.export_new.result _ _ _ _ c.export_new.ensures.goes _
     (subst (λ (after : Firsts). RemembersFirsts image counts after told) (sym c.export_new.ensures.firsts) (remembers_single image counts firsts place.told stands.remembers place.path (node_of image i) i found few))
 
 -- ---- a later name
@@ -65,9 +65,9 @@ returns-in_err-tell-clause-tours g c place stands =
     let image : Image = current_words (g.R.Region.memory c.args.region.now) in
     let several : 1 < slice_index c.args.counts.now c.args.i = omega (arith, c.if-names-le1.false, c.names.ensures) in
     let p = err_from_is_err_and c.from_residual.result c.from_residual.ensures.1 in
-    tours_end image c.requires.well_formed c.args.counts.now c.args.i c.args.work.now.path.items c.args.work.now.firsts place stands _ p.0 p.1 _ _ _ _ _ _ _ (untoured image c.requires.well_formed c.args.counts.now c.args.i c.args.work.now.path.items c.args.work.now.firsts place stands _ _ _ _ _ _ _ _ _ p.0 p.2 _
+    tours_end image c.requires.well_formed c.args.counts.now c.args.i c.args.work.now.path.items c.args.work.now.firsts place stands _ p.0 p.1 _ _ _ _ _ (untoured image c.requires.well_formed c.args.counts.now c.args.i c.args.work.now.path.items c.args.work.now.firsts place stands _ _ _ _ _ _ _ p.0 p.2 _
     (link_here image c.requires.well_formed c.args.counts.now c.args.i c.args.work.now.path.items c.args.work.now.firsts place stands c.requires.below c.requires.file several c.in-Some.first.now c.in-Some.ensures)
-    (tells_same _ _ _ _ _ _ _ _ _ (ap (λ (text : List ℕ). link c.in-Some.first.now text ∷ []) c.deref.ensures.value) c.in_err-tell.ensures) _)
+    (tells_same _ _ _ _ _ _ _ (ap (λ (text : List ℕ). link c.in-Some.first.now text ∷ []) c.deref.ensures.value) c.in_err-tell.ensures) _)
 
 pub returns-in-Some-clause-tours : goal.returns-in-Some-clause-tours
 returns-in-Some-clause-tours g c place stands =
@@ -78,9 +78,9 @@ returns-in-Some-clause-tours g c place stands =
     let firsts = c.args.work.now.firsts in
     let several : 1 < slice_index counts i = omega (arith, c.if-names-le1.false, c.names.ensures) in
     let found = at image c.requires.well_formed counts i text firsts place stands c.requires.below c.requires.file in
-    toured image c.requires.well_formed counts i text firsts place stands _ _ _ _ _ _ _ _ _
+    toured image c.requires.well_formed counts i text firsts place stands _ _ _ _ _ _ _
     (link_here image c.requires.well_formed counts i text firsts place stands c.requires.below c.requires.file several c.in-Some.first.now c.in-Some.ensures)
-    (tells_same _ _ _ _ _ _ _ _ _ (ap (λ (text : List ℕ). link c.in-Some.first.now text ∷ []) c.deref.ensures.value) c.in_ok-tell.ensures) _
+    (tells_same _ _ _ _ _ _ _ (ap (λ (text : List ℕ). link c.in-Some.first.now text ∷ []) c.deref.ensures.value) c.in_ok-tell.ensures) _
     (remembers_later image counts firsts place.told stands.remembers place.path (node_of image i) i found c.in-Some.first.now c.in-Some.ensures)
 
 -- ---- the first of several
@@ -89,7 +89,7 @@ pub returns-in_err-add-clause-tours : goal.returns-in_err-add-clause-tours
 returns-in_err-add-clause-tours g c place stands =
     let image : Image = current_words (g.R.Region.memory c.args.region.now) in
     let p = err_from_is_err_and c.from_residual-in_err-add.result c.from_residual-in_err-add.ensures.1 in
-    tours_end image c.requires.well_formed c.args.counts.now c.args.i c.args.work.now.path.items c.args.work.now.firsts place stands _ p.0 p.1 _ _ _ _ _ _ _ (unremembered image c.requires.well_formed c.args.counts.now c.args.i c.args.work.now.path.items c.args.work.now.firsts place stands _ p.0 p.2 _ _ _ _)
+    tours_end image c.requires.well_formed c.args.counts.now c.args.i c.args.work.now.path.items c.args.work.now.firsts place stands _ p.0 p.1 _ _ _ _ _ (unremembered image c.requires.well_formed c.args.counts.now c.args.i c.args.work.now.path.items c.args.work.now.firsts place stands _ p.0 p.2 _ _ _)
 
 pub export_new-requires-2-clause-sound : goal.export_new-requires-2-clause-sound
 export_new-requires-2-clause-sound g c =
@@ -120,5 +120,5 @@ returns-clause-tours g c place stands =
     let found = at image c.requires.well_formed counts i text firsts place stands c.requires.below c.requires.file in
     let told = place.told ++ itself image i place.tree place.path in
     let added = λ (j : ℕ). c.in_ok-add.ensures j ∙ ap (λ l. if j == i then Some l else first_text firsts j) (c.deref-2.ensures.value ∙ stands.spelled) in
-    toured_from image c.requires.well_formed counts i text firsts place stands c.requires.below c.requires.file new _ _ c.requires.root c.requires.size c.export_new-2.result _ _ _ _ _ _ c.export_new-2.ensures.goes _
+    toured_from image c.requires.well_formed counts i text firsts place stands c.requires.below c.requires.file new _ _ c.requires.root c.requires.size c.export_new-2.result _ _ _ _ c.export_new-2.ensures.goes _
     (subst (λ (after : Firsts). RemembersFirsts image counts after told) (sym c.export_new-2.ensures.firsts) (remembers_first image counts firsts place.told stands.remembers place.path (node_of image i) i found c.add.new.self c.in_default.ensures added))

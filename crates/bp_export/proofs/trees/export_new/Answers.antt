@@ -20,10 +20,10 @@ returns-in_err-export_file-clause-goes g c =
     let bytes = content (current_words (g.R.Region.memory c.args.region.now)) c.args.tree.root c.args.tree.size in
     let text = c.args.work.now.path.items in
     let p = err_from_is_err_and c.from_residual.result c.from_residual.ensures.1 in
-    goes_end _ p.0 p.1 (calls_for text (file bytes)) _ _ _ _ _ _
-    (goes_untold (Unit {0}) (Unit {0}) _ p.0 p.2 (calls_for text (file bytes)) _ _ _ _ _ _ _ (tells_same _ _ _ _ _ _ _ _ _ (ap (λ (t : List ℕ). calls_for t (file bytes)) c.deref.ensures.value) c.in_err-export_file.ensures.lines))
+    goes_end _ p.0 p.1 (calls_for text (file bytes)) _ _ _ _
+    (goes_untold (Unit {0}) (Unit {0}) _ p.0 p.2 (calls_for text (file bytes)) _ _ _ _ _ (tells_same _ _ _ _ _ _ _ (ap (λ (t : List ℕ). calls_for t (file bytes)) c.deref.ensures.value) c.in_err-export_file.ensures.lines))
 
 pub returns-clause-goes : goal.returns-clause-goes
 returns-clause-goes g c =
     let bytes = content (current_words (g.R.Region.memory c.args.region.now)) c.args.tree.root c.args.tree.size in
-    goes_told {T = Unit {0}} _ tt (calls_for c.args.work.now.path.items (file bytes)) _ _ _ _ _ _ (tells_same _ _ _ _ _ _ _ _ _ (ap (λ (t : List ℕ). calls_for t (file bytes)) c.deref.ensures.value) c.in_ok-export_file.ensures.lines)
+    goes_told {T = Unit {0}} _ tt (calls_for c.args.work.now.path.items (file bytes)) _ _ _ _ (tells_same _ _ _ _ _ _ _ (ap (λ (t : List ℕ). calls_for t (file bytes)) c.deref.ensures.value) c.in_ok-export_file.ensures.lines)

@@ -78,8 +78,8 @@ commit_at-requires g c κs inside =
     c.args.touched.now touches c.args.parts.now.blocks c.args.parts.now.inodes c.requires.exact.sets c.requires.thawed.room loose c.args.found.now c.requires.found in
     (inside, (record { well_formed = formed; can = ready; loose = unkept; fits = fits; some = omega (arith, count, c.requires.thawed.enough); room = room }, (ways, record { room = omega (arith, c.requires.exact.frozen_room, whole); same = λ b. refl })))
 
-pub returns-clause-performs : goal.returns-clause-performs
-returns-clause-performs g c =
+pub returns : goal.returns
+returns g c =
     let touches = c.requires.touches in
     let old : Memory = g.R.Region.memory c.args.parts.now.region in
     let third : Memory = g.R.Region.memory c.put_name.new.region in
@@ -88,29 +88,21 @@ returns-clause-performs g c =
     let move = c.args.to_move.now in
     let stands = entry_stands (current_words old) move.to_dir c.args.slot c.entry_place-entry.result c.tree_of-target.result.root c.tree_of-target.ensures.root c.entry_place-entry.ensures.place c.entry_place-entry.ensures.present in
     let loose = slot_loose (current_words old) move c.requires.can c.args.slot c.requires.empty (kept_of c.args.parts.now) c.requires.thawed.clear c.entry_place-entry.result stands in
-    into_performs old third mid move c.args.slot c.entry_place-entry.result c.requires.can c.requires.new c.requires.other c.requires.empty stands c.put_name.ensures.stores c.put_name.ensures.name c.barrier.ensures
-    c.args.touched.now touches c.args.parts.now.blocks c.args.parts.now.inodes c.requires.exact.sets c.requires.thawed.room loose
-    new c.commit_at.new.parts.blocks c.commit_at.ensures.commits c.commit_at.ensures.size
-
-pub returns-clause-exact : goal.returns-clause-exact
-returns-clause-exact g c =
-    let touches = c.requires.touches in
-    let old : Memory = g.R.Region.memory c.args.parts.now.region in
-    let third : Memory = g.R.Region.memory c.put_name.new.region in
-    let mid : Memory = g.R.Region.memory c.barrier.new.self in
-    let new : Memory = g.R.Region.memory c.commit_at.new.parts.region in
-    let move = c.args.to_move.now in
-    let stands = entry_stands (current_words old) move.to_dir c.args.slot c.entry_place-entry.result c.tree_of-target.result.root c.tree_of-target.ensures.root c.entry_place-entry.ensures.place c.entry_place-entry.ensures.present in
-    let loose = slot_loose (current_words old) move c.requires.can c.args.slot c.requires.empty (kept_of c.args.parts.now) c.requires.thawed.clear c.entry_place-entry.result stands in
-    exact_kept _ _ c.args.parts.now _ c.requires.exact
-    (rw c.commit_at.ensures.inodes
-    (into_exact old third mid move c.args.slot c.entry_place-entry.result c.requires.can c.requires.new c.requires.other c.requires.empty stands c.put_name.ensures.stores c.put_name.ensures.name c.barrier.ensures
-    c.args.touched.now touches c.args.parts.now.blocks c.args.parts.now.inodes c.requires.exact.sets c.requires.thawed.room loose
-    new c.commit_at.new.parts.blocks c.commit_at.ensures.commits c.commit_at.ensures.size))
-    c.commit_at.ensures.frozen c.commit_at.ensures.counts
-    (into_whole_image old third mid move c.args.slot c.entry_place-entry.result c.requires.can c.requires.new c.requires.other c.requires.empty stands c.put_name.ensures.stores c.put_name.ensures.name c.barrier.ensures
-    c.args.touched.now touches c.args.parts.now.blocks c.args.parts.now.inodes c.requires.exact.sets c.requires.thawed.room loose
-    new c.commit_at.new.parts.blocks c.commit_at.ensures.commits c.commit_at.ensures.size)
-    (into_counts old third mid move c.args.slot c.entry_place-entry.result c.requires.can c.requires.new c.requires.other c.requires.empty stands c.put_name.ensures.stores c.put_name.ensures.name c.barrier.ensures
-    c.args.touched.now touches c.args.parts.now.blocks c.args.parts.now.inodes c.requires.exact.sets c.requires.thawed.room loose
-    new c.commit_at.new.parts.blocks c.commit_at.ensures.commits c.commit_at.ensures.size c.args.parts.now.counts c.requires.exact.counts)
+    record {
+      performs = into_performs old third mid move c.args.slot c.entry_place-entry.result c.requires.can c.requires.new c.requires.other c.requires.empty stands c.put_name.ensures.stores c.put_name.ensures.name c.barrier.ensures
+          c.args.touched.now touches c.args.parts.now.blocks c.args.parts.now.inodes c.requires.exact.sets c.requires.thawed.room loose
+          new c.commit_at.new.parts.blocks c.commit_at.ensures.commits c.commit_at.ensures.size;
+      frozen = c.commit_at.ensures.frozen;
+      exact = exact_kept _ _ c.args.parts.now _ c.requires.exact
+          (rw c.commit_at.ensures.inodes
+          (into_exact old third mid move c.args.slot c.entry_place-entry.result c.requires.can c.requires.new c.requires.other c.requires.empty stands c.put_name.ensures.stores c.put_name.ensures.name c.barrier.ensures
+          c.args.touched.now touches c.args.parts.now.blocks c.args.parts.now.inodes c.requires.exact.sets c.requires.thawed.room loose
+          new c.commit_at.new.parts.blocks c.commit_at.ensures.commits c.commit_at.ensures.size))
+          c.commit_at.ensures.frozen c.commit_at.ensures.counts
+          (into_whole_image old third mid move c.args.slot c.entry_place-entry.result c.requires.can c.requires.new c.requires.other c.requires.empty stands c.put_name.ensures.stores c.put_name.ensures.name c.barrier.ensures
+          c.args.touched.now touches c.args.parts.now.blocks c.args.parts.now.inodes c.requires.exact.sets c.requires.thawed.room loose
+          new c.commit_at.new.parts.blocks c.commit_at.ensures.commits c.commit_at.ensures.size)
+          (into_counts old third mid move c.args.slot c.entry_place-entry.result c.requires.can c.requires.new c.requires.other c.requires.empty stands c.put_name.ensures.stores c.put_name.ensures.name c.barrier.ensures
+          c.args.touched.now touches c.args.parts.now.blocks c.args.parts.now.inodes c.requires.exact.sets c.requires.thawed.room loose
+          new c.commit_at.new.parts.blocks c.commit_at.ensures.commits c.commit_at.ensures.size c.args.parts.now.counts c.requires.exact.counts);
+    }

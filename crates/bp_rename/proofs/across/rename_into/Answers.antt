@@ -1,5 +1,6 @@
 use Rattle.std.proofs.Common.{sym, ◌∙◌, subst, arith}
 use Rattle.bp_calls.specs.ThawedFor.{IsThawedFor}
+use Rattle.bp_calls.proofs.CommitLaws.{lacking_space}
 use Rattle.bp_calls.proofs.Refusals.{found_empty}
 use Rattle.bp_calls.proofs.TargetPaths.{directory_some}
 use Rattle.bp_shapes.specs.Sets.{kept_of}
@@ -37,13 +38,19 @@ move_into-requires-clause-empty g c =
     let touches = touches_two (current_words (g.R.Region.memory c.args.parts.now.region)) AnyTree c.touched_two-touched.result c.words_into-words.result c.trees_of_both-trees.result c.touched_two-touched.ensures.words c.touched_two-touched.ensures.none c.touched_two-touched.ensures.trees c.trees_of_both-trees.ensures c.words_into-words.ensures in
     into_empty (current_words (g.R.Region.memory c.args.parts.now.region)) c.args.to_move.now c.requires.can c.requires.new c.requires.other c.args.slot c.requires.empty c.touched_two-touched.result touches (current_words (g.R.Region.memory c.ready_ways.new.parts.region)) c.in-Ok.ensures.ready.shape
 
-pub returns-in-Ok-clause-performs : goal.returns-in-Ok-clause-performs
-returns-in-Ok-clause-performs g c =
-    c.in-Ok.ensures.ready.performs c.move_into.new.parts
-    (across_renames (kept_of c.ready_ways.new.parts) (g.R.Region.memory c.ready_ways.new.parts.region) (g.R.Region.memory c.move_into.new.parts.region) c.args.to_move.now c.requires.new c.requires.other c.move_into.ensures.performs)
+pub returns-in-Ok : goal.returns-in-Ok
+returns-in-Ok g c =
+    record {
+      performs = c.in-Ok.ensures.ready.performs c.move_into.new.parts
+          (across_renames (kept_of c.ready_ways.new.parts) (g.R.Region.memory c.ready_ways.new.parts.region) (g.R.Region.memory c.move_into.new.parts.region) c.args.to_move.now c.requires.new c.requires.other c.move_into.ensures.performs);
+      frozen = c.move_into.ensures.frozen ∙ c.in-Ok.ensures.ready.frozen;
+      exact = c.move_into.ensures.exact;
+      refused = tt;
+      same = tt;
+    }
 
-pub returns-in-Ok-clause-frozen : goal.returns-in-Ok-clause-frozen
-returns-in-Ok-clause-frozen g c = c.move_into.ensures.frozen ∙ c.in-Ok.ensures.ready.frozen
+pub returns-in-Err : goal.returns-in-Err
+returns-in-Err g c = lacking_space g.R.Region.memory c.args.parts.now c.ready_ways.new.parts c.requires.exact c.in-Err.ensures.refused c.in-Err.ensures.same
 
 -- ---- the trees that the ways go through
 

@@ -64,8 +64,8 @@ commit_at-requires g c κs inside =
       ),
     )
 
-pub returns-clause-performs : goal.returns-clause-performs
-returns-clause-performs g c =
+pub returns : goal.returns
+returns g c =
     let touches = c.requires.touches in
     let old : Memory = g.R.Region.memory c.args.parts.now.region in
     let mid : Memory = g.R.Region.memory c.put_behind.new.parts.region in
@@ -75,30 +75,21 @@ returns-clause-performs g c =
     let puts = subst (λ x. PutsBehind (kept_of c.args.parts.now) old mid (members c.args.parts.now.blocks) (members c.put_behind.new.parts.blocks) move.to_dir x move.name.now) named c.put_behind.ensures.puts in
     let commits = subst (λ (frozen : Set). CommitsTouched (sizes_with (current_words mid) c.args.touched.now) (has frozen) c.args.touched.now mid (g.R.Region.memory c.commit_at.new.parts.region) c.put_behind.new.parts.blocks c.commit_at.new.parts.blocks)
     c.put_behind.ensures.frozen c.commit_at.ensures.commits in
-    behind_performs old mid move c.args.parts.now.blocks c.args.parts.now.inodes c.put_behind.new.parts.blocks c.requires.can c.requires.new c.requires.other c.requires.none c.requires.exact.sets c.requires.thawed.room puts c.put_behind.ensures.blocks
-    c.args.touched.now touches
-    (g.R.Region.memory c.commit_at.new.parts.region) c.commit_at.new.parts.blocks commits
-
-pub returns-clause-exact : goal.returns-clause-exact
-returns-clause-exact g c =
-    let touches = c.requires.touches in
-    let old : Memory = g.R.Region.memory c.args.parts.now.region in
-    let mid : Memory = g.R.Region.memory c.put_behind.new.parts.region in
-    let move = c.args.to_move.now in
-    let named : c.inumber-inode.result ≡ moved_inode (current_words old) move =
-    c.inumber-inode.ensures ∙ ap (λ root. inumber_in (current_words old) root move.from_slot) c.tree_of-source.ensures.root in
-    let puts = subst (λ x. PutsBehind (kept_of c.args.parts.now) old mid (members c.args.parts.now.blocks) (members c.put_behind.new.parts.blocks) move.to_dir x move.name.now) named c.put_behind.ensures.puts in
-    let commits = subst (λ (frozen : Set). CommitsTouched (sizes_with (current_words mid) c.args.touched.now) (has frozen) c.args.touched.now mid (g.R.Region.memory c.commit_at.new.parts.region) c.put_behind.new.parts.blocks c.commit_at.new.parts.blocks)
-    c.put_behind.ensures.frozen c.commit_at.ensures.commits in
-    exact_kept _ _ c.args.parts.now _ c.requires.exact
-    (rw (c.commit_at.ensures.inodes, c.put_behind.ensures.inodes)
-    (behind_exact old mid move c.args.parts.now.blocks c.args.parts.now.inodes c.put_behind.new.parts.blocks c.requires.can c.requires.new c.requires.other c.requires.none c.requires.exact.sets c.requires.thawed.room puts c.put_behind.ensures.blocks
-    c.args.touched.now touches
-    (g.R.Region.memory c.commit_at.new.parts.region) c.commit_at.new.parts.blocks commits c.commit_at.ensures.size))
-    (c.commit_at.ensures.frozen ∙ c.put_behind.ensures.frozen) (c.commit_at.ensures.counts ∙ c.put_behind.ensures.counts)
-    (behind_whole_image old mid move c.args.parts.now.blocks c.args.parts.now.inodes c.put_behind.new.parts.blocks c.requires.can c.requires.new c.requires.other c.requires.none c.requires.exact.sets c.requires.thawed.room puts c.put_behind.ensures.blocks
-    c.args.touched.now touches
-    (g.R.Region.memory c.commit_at.new.parts.region) c.commit_at.new.parts.blocks commits)
-    (behind_counts old mid move c.args.parts.now.blocks c.args.parts.now.inodes c.put_behind.new.parts.blocks c.requires.can c.requires.new c.requires.other c.requires.none c.requires.exact.sets c.requires.thawed.room puts c.put_behind.ensures.blocks
-    c.args.touched.now touches
-    (g.R.Region.memory c.commit_at.new.parts.region) c.commit_at.new.parts.blocks commits c.args.parts.now.counts c.requires.exact.counts)
+    record {
+      performs = behind_performs old mid move c.args.parts.now.blocks c.args.parts.now.inodes c.put_behind.new.parts.blocks c.requires.can c.requires.new c.requires.other c.requires.none c.requires.exact.sets c.requires.thawed.room puts c.put_behind.ensures.blocks
+          c.args.touched.now touches
+          (g.R.Region.memory c.commit_at.new.parts.region) c.commit_at.new.parts.blocks commits;
+      frozen = c.commit_at.ensures.frozen ∙ c.put_behind.ensures.frozen;
+      exact = exact_kept _ _ c.args.parts.now _ c.requires.exact
+          (rw (c.commit_at.ensures.inodes, c.put_behind.ensures.inodes)
+          (behind_exact old mid move c.args.parts.now.blocks c.args.parts.now.inodes c.put_behind.new.parts.blocks c.requires.can c.requires.new c.requires.other c.requires.none c.requires.exact.sets c.requires.thawed.room puts c.put_behind.ensures.blocks
+          c.args.touched.now touches
+          (g.R.Region.memory c.commit_at.new.parts.region) c.commit_at.new.parts.blocks commits c.commit_at.ensures.size))
+          (c.commit_at.ensures.frozen ∙ c.put_behind.ensures.frozen) (c.commit_at.ensures.counts ∙ c.put_behind.ensures.counts)
+          (behind_whole_image old mid move c.args.parts.now.blocks c.args.parts.now.inodes c.put_behind.new.parts.blocks c.requires.can c.requires.new c.requires.other c.requires.none c.requires.exact.sets c.requires.thawed.room puts c.put_behind.ensures.blocks
+          c.args.touched.now touches
+          (g.R.Region.memory c.commit_at.new.parts.region) c.commit_at.new.parts.blocks commits)
+          (behind_counts old mid move c.args.parts.now.blocks c.args.parts.now.inodes c.put_behind.new.parts.blocks c.requires.can c.requires.new c.requires.other c.requires.none c.requires.exact.sets c.requires.thawed.room puts c.put_behind.ensures.blocks
+          c.args.touched.now touches
+          (g.R.Region.memory c.commit_at.new.parts.region) c.commit_at.new.parts.blocks commits c.args.parts.now.counts c.requires.exact.counts);
+    }

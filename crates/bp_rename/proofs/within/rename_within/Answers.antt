@@ -1,10 +1,11 @@
-use Rattle.std.proofs.Common.{◌≡◌, ◌+◌, ◌≤◌, [], length, refl, sym, ◌∙◌, ap, subst, arith}
+use Rattle.std.proofs.Common.{◌≡◌, ◌+◌, ◌≤◌, [], length, refl, ◌∙◌, subst, arith}
 use Rattle.bp_free.specs.Set.{members}
 use Rattle.bp_layout.specs.Need.{need}
 use Rattle.bp_layout.specs.Thaw.{thawed}
 use Rattle.bp_commit.specs.Performs.{room_for}
 use Rattle.bp_shapes.specs.Sets.{kept_of}
 use Rattle.pm_region.specs.Memory.{Memory, current_words, room_in}
+use Rattle.bp_calls.proofs.CommitLaws.{lacking_space}
 use Rattle.bp_rename.specs.CanRename.{moved_inode}
 use Rattle.bp_rename.specs.RenamesEntry.{RenamesEntry}
 use Rattle.bp_rename.specs.RenamesEntry.RenamesEntry.{within}
@@ -55,8 +56,8 @@ commit_at-requires g c κs inside =
       ),
     )
 
-pub returns-in-Ok-clause-performs : goal.returns-in-Ok-clause-performs
-returns-in-Ok-clause-performs g c =
+pub returns-in-Ok : goal.returns-in-Ok
+returns-in-Ok g c =
     let middle : Memory = g.R.Region.memory c.ready_ways.new.parts.region in
     let move = c.args.to_move.now in
     let ready = c.in-Ok.ensures.ready in
@@ -66,29 +67,22 @@ returns-in-Ok-clause-performs g c =
     let change = within_change move c.requires.new c.requires.here in
     let room = subst (λ ch. room_for (need (current_words middle) ch) ≤ room_in middle + 2) change ready.thawed.room in
     let new : Memory = g.R.Region.memory c.commit_at.new.parts.region in
-    ready.performs c.commit_at.new.parts
-    (within_renames (kept_of c.ready_ways.new.parts) middle new move c.requires.new c.requires.here
-    (within_performs_at middle move.from_slot j move.name.now c.touched_by-touched.result c.ready_ways.new.parts.blocks c.ready_ways.new.parts.inodes ready.exact.sets
-    new c.commit_at.new.parts.blocks c.commit_at.ensures.commits c.commit_at.ensures.size move.from_dir room can touches (RenamesEntry move) (λ spells spelled. within c.requires.new c.requires.here spells spelled)))
+    record {
+      performs = ready.performs c.commit_at.new.parts
+          (within_renames (kept_of c.ready_ways.new.parts) middle new move c.requires.new c.requires.here
+          (within_performs_at middle move.from_slot j move.name.now c.touched_by-touched.result c.ready_ways.new.parts.blocks c.ready_ways.new.parts.inodes ready.exact.sets
+          new c.commit_at.new.parts.blocks c.commit_at.ensures.commits c.commit_at.ensures.size move.from_dir room can touches (RenamesEntry move) (λ spells spelled. within c.requires.new c.requires.here spells spelled)));
+      frozen = c.commit_at.ensures.frozen ∙ c.in-Ok.ensures.ready.frozen;
+      exact = exact_kept _ _ c.ready_ways.new.parts _ ready.exact
+          (rw c.commit_at.ensures.inodes
+          (within_exact_at middle move.from_slot j move.name.now c.touched_by-touched.result c.ready_ways.new.parts.blocks c.ready_ways.new.parts.inodes ready.exact.sets new c.commit_at.new.parts.blocks c.commit_at.ensures.commits c.commit_at.ensures.size move.from_dir room can touches))
+          c.commit_at.ensures.frozen c.commit_at.ensures.counts
+          (within_whole_at middle move.from_slot j move.name.now c.touched_by-touched.result c.ready_ways.new.parts.blocks c.ready_ways.new.parts.inodes ready.exact.sets new c.commit_at.new.parts.blocks c.commit_at.ensures.commits c.commit_at.ensures.size move.from_dir room can touches)
+          (within_counts_at middle move.from_slot j move.name.now c.touched_by-touched.result c.ready_ways.new.parts.blocks c.ready_ways.new.parts.inodes ready.exact.sets new c.commit_at.new.parts.blocks c.commit_at.ensures.commits c.commit_at.ensures.size move.from_dir room can touches
+          c.ready_ways.new.parts.counts ready.exact.counts);
+      refused = tt;
+      same = tt;
+    }
 
-pub returns-in-Ok-clause-frozen : goal.returns-in-Ok-clause-frozen
-returns-in-Ok-clause-frozen g c = c.commit_at.ensures.frozen ∙ c.in-Ok.ensures.ready.frozen
-
-pub returns-in-Ok-clause-exact : goal.returns-in-Ok-clause-exact
-returns-in-Ok-clause-exact g c =
-    let middle : Memory = g.R.Region.memory c.ready_ways.new.parts.region in
-    let move = c.args.to_move.now in
-    let ready = c.in-Ok.ensures.ready in
-    let j = moved_inode (current_words middle) move in
-    let can = respells_can (current_words middle) move ready.can c.requires.new c.requires.here in
-    let touches = within_over (current_words (g.R.Region.memory c.args.parts.now.region)) move c.requires.can (current_words middle) ready.shape c.touched_by-touched.result (record { run = c.name_run.result; one = c.touched_by-touched.ensures.runs; no_words = c.touched_by-touched.ensures.words; no_trees = c.touched_by-touched.ensures.trees; is = c.name_run.ensures }) in
-    let change = within_change move c.requires.new c.requires.here in
-    let room = subst (λ ch. room_for (need (current_words middle) ch) ≤ room_in middle + 2) change ready.thawed.room in
-    let new : Memory = g.R.Region.memory c.commit_at.new.parts.region in
-    exact_kept _ _ c.ready_ways.new.parts _ ready.exact
-    (rw c.commit_at.ensures.inodes
-    (within_exact_at middle move.from_slot j move.name.now c.touched_by-touched.result c.ready_ways.new.parts.blocks c.ready_ways.new.parts.inodes ready.exact.sets new c.commit_at.new.parts.blocks c.commit_at.ensures.commits c.commit_at.ensures.size move.from_dir room can touches))
-    c.commit_at.ensures.frozen c.commit_at.ensures.counts
-    (within_whole_at middle move.from_slot j move.name.now c.touched_by-touched.result c.ready_ways.new.parts.blocks c.ready_ways.new.parts.inodes ready.exact.sets new c.commit_at.new.parts.blocks c.commit_at.ensures.commits c.commit_at.ensures.size move.from_dir room can touches)
-    (within_counts_at middle move.from_slot j move.name.now c.touched_by-touched.result c.ready_ways.new.parts.blocks c.ready_ways.new.parts.inodes ready.exact.sets new c.commit_at.new.parts.blocks c.commit_at.ensures.commits c.commit_at.ensures.size move.from_dir room can touches
-    c.ready_ways.new.parts.counts ready.exact.counts)
+pub returns-in-Err : goal.returns-in-Err
+returns-in-Err g c = lacking_space g.R.Region.memory c.args.parts.now c.ready_ways.new.parts c.requires.exact c.in-Err.ensures.refused c.in-Err.ensures.same

@@ -7,8 +7,8 @@ abbrev pub invariant-loop-at : goal.invariant-loop-at
 invariant-loop-at g l =
     record {
       within : l.at ≤ length l.bytes;
-      taken : Appends (g.K.Sink.taken l.fn.out) (g.K.Sink.taken l.out) (take l.at l.bytes);
-      faults : g.K.Sink.faults l.out ≡ g.K.Sink.faults l.fn.out;
+      taken : Appends (g.K.Sink.view l.fn.out).taken (g.K.Sink.view l.out).taken (take l.at l.bytes);
+      faults : (g.K.Sink.view l.out).faults ≡ (g.K.Sink.view l.fn.out).faults;
     }
 
 abbrev pub decreases-loop-at : goal.decreases-loop-at

@@ -5,7 +5,7 @@ use Rattle.bp_session.proofs.saving.marked_run.Given as goal
 abbrev pub invariant-loop-run : goal.invariant-loop-run
 invariant-loop-run l = record {
   few : l.run ≤ l.most;
-  marked : (k : ℕ) → k < l.run → is_marked l.changed (l.first + k) ≡ true;
+  marked : (k : ℕ) → k < l.run → is_marked l.marks (l.first + k) ≡ true;
 }
 
 abbrev pub decreases-loop-run : goal.decreases-loop-run

@@ -16,14 +16,14 @@ loop-first-preserved g c =
       attached = stays_attached _ _ _ here.attached c.write_blocks.ensures.attached;
       bytes = λ name was file.
           let is = here.attached.attached name ∙ file.attached in
-          let sizes = are_sizes was (g.R.Region.memory c.args.region.now) (g.F.Files.view c.args.files.now).blocks file.size c.requires.ready.size in
-          known_written c.args.changed.now was (image_bytes (current_words (g.R.Region.memory c.args.region.now))) c.read_blocks.new.into c.loop-first.first run
-          (omega (arith, sizes.whole, c.requires.ready.size, c.marked_run-run.ensures.fits)) sizes.same (rw count at c.read_blocks.ensures) c.marked_run-run.ensures.marked _ _
+          let sizes = are_sizes was (g.R.Region.memory c.args.region.now) (g.F.Files.view c.args.files.now).blocks file.size c.requires.size in
+          known_written c.args.marks.now was (image_bytes (current_words (g.R.Region.memory c.args.region.now))) c.read_blocks.new.into c.loop-first.first run
+          (omega (arith, sizes.whole, c.requires.size, c.marked_run-run.ensures.fits)) sizes.same (rw count at c.read_blocks.ensures) c.marked_run-run.ensures.marked _ _
           (here.bytes name was file) (c.in_ok-write_blocks.ensures.written name is);
-      kept = λ none. absurd (unmarked_run c.args.changed.now c.loop-first.first run none c.if-run-eq0.false c.marked_run-run.ensures.marked);
+      kept = λ none covers. absurd (unmarked_run c.args.marks.now c.loop-first.first run none (omega (arith, covers, c.loop-first-test.true)) c.if-run-eq0.false c.marked_run-run.ensures.marked);
       others = others_then (g.F.Files.view c.args.files.now) (g.F.Files.view c.loop-first.files) (g.F.Files.view c.write_blocks.new.self) here.attached here.others c.write_blocks.ensures.others;
       told = λ name was file.
-          becomes_told _ _ _ c.args.changed.now c.loop-first.first was (image_bytes (current_words (g.R.Region.memory c.args.region.now))) (here.bytes name was file) (c.in_ok-write_blocks.ensures.written name (here.attached.attached name ∙ file.attached)) ∙ here.told name was file;
+          becomes_told _ _ _ c.args.marks.now c.loop-first.first was (image_bytes (current_words (g.R.Region.memory c.args.region.now))) (here.bytes name was file) (c.in_ok-write_blocks.ensures.written name (here.attached.attached name ∙ file.attached)) ∙ here.told name was file;
       faults = search rules;
     }
 
@@ -34,7 +34,7 @@ returns-in_err-write_blocks-clause-partly g c =
     let here = c.loop-first.invariant in
     let run = c.marked_run-run.result in
     let count : length (take (4096 * run) c.loop-first.bytes) / 4096 ≡ run = omega (arith, c.marked_run-run.ensures.most, length-take (4096 * run) c.loop-first.bytes) in
-    let sizes = are_sizes was (g.R.Region.memory c.args.region.now) (g.F.Files.view c.args.files.now).blocks file.size c.requires.ready.size in
-    known_partly c.args.changed.now was (image_bytes (current_words (g.R.Region.memory c.args.region.now))) c.read_blocks.new.into c.loop-first.first run
-    (omega (arith, sizes.whole, c.requires.ready.size, c.marked_run-run.ensures.fits)) sizes.same (rw count at c.read_blocks.ensures) c.marked_run-run.ensures.marked _ _
+    let sizes = are_sizes was (g.R.Region.memory c.args.region.now) (g.F.Files.view c.args.files.now).blocks file.size c.requires.size in
+    known_partly c.args.marks.now was (image_bytes (current_words (g.R.Region.memory c.args.region.now))) c.read_blocks.new.into c.loop-first.first run
+    (omega (arith, sizes.whole, c.requires.size, c.marked_run-run.ensures.fits)) sizes.same (rw count at c.read_blocks.ensures) c.marked_run-run.ensures.marked _ _
     (here.bytes name was file) (c.in_err-write_blocks.ensures.failed name (here.attached.attached name ∙ file.attached)))

@@ -1,4 +1,4 @@
-use Rattle.std.proofs.Common.{◌≡◌, ◌≤◌, ◌-◌, ℕ, List}
+use Rattle.std.proofs.Common.{◌≡◌, ◌≤◌, ◌*◌, ◌-◌, ℕ, List, length}
 use Rattle.pm_region.specs.Memory.{current_words}
 use Rattle.bp_io.specs.Files.{KeepsOthers, StaysAttached}
 use Rattle.bp_layout.specs.Bytes.{image_bytes}
@@ -13,8 +13,8 @@ invariant-loop-first g l =
       within : l.first ≤ l.count;
       attached : StaysAttached (g.F.Files.view l.fn.files) (g.F.Files.view l.files);
       bytes : (name was : List ℕ) → HoldsBytes (g.F.Files.view l.fn.files) name was →
-          HasChanged ((g.F.Files.view l.files).contents name) l.changed l.first was (image_bytes (current_words (g.R.Region.memory l.region)));
-      kept : AreUnmarked l.changed → g.F.Files.view l.files ≡ g.F.Files.view l.fn.files;
+          HasChanged ((g.F.Files.view l.files).contents name) l.marks l.first was (image_bytes (current_words (g.R.Region.memory l.region)));
+      kept : AreUnmarked l.marks → length (g.R.Region.memory l.region).base ≤ 512 * length l.marks → g.F.Files.view l.files ≡ g.F.Files.view l.fn.files;
       others : KeepsOthers (g.F.Files.view l.fn.files) (g.F.Files.view l.files);
       told : StaysTold (g.F.Files.view l.fn.files) (g.F.Files.view l.files);
       faults : (g.F.Files.view l.files).faults ≡ (g.F.Files.view l.fn.files).faults;

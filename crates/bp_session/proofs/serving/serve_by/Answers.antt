@@ -1,8 +1,9 @@
 use Rattle.std.proofs.Common.{arith, rules, refl, ◌++◌, [], drop, take, ◌∙◌, sym, ap, ◌≡◌, ◌≤◌, ◌+◌, length, length-append}
 use Rattle.std.proofs.lemmas.List.{append_assoc}
+use Rattle.std.proofs.lemmas.Result.{err_from_is_err_and}
 use Rattle.std.proofs.KnownBytes.{Consumes-trans}
 use Rattle.std.specs.Io.KnownBytes.{Consumes}
-use Rattle.bp_session.proofs.OutcomeLaws.{piece_nothing, piece_then, piece_stops, serve_part, serve_long, serve_ended, serve_end}
+use Rattle.bp_session.proofs.OutcomeLaws.{never_whole, piece_nothing, piece_then, piece_stops, serve_part, serve_long, serve_ended, serve_end}
 use Rattle.bp_session.proofs.ServingLaws.{consumes_nothing, consumes_kept, take_more, length_taken}
 use Rattle.bp_session.proofs.serving.serve_by.Goals as goal
 
@@ -28,21 +29,23 @@ loop-count-preserved g c =
         before.0 ++ take c.in-Ok.count piece,
         Consumes-trans _ _ _ _ _ before.1 c.in-Ok.ensures.bytes.0,
         omega (arith, length-append before.0 (take c.in-Ok.count piece), length_taken piece c.in-Ok.count c.in-Ok.ensures.bound.0, before.2),
-        piece_then _ _ _ _ _ _ _ before.3 0 _ _ (rw (all, c.if-status-ne0.false) at c.take_piece-status.ensures.outcome),
+        piece_then _ _ _ _ _ _ _ before.3 0 _ _ (rw all at c.in_ok-take_piece.ensures.outcome),
       );
       source = c.in-Ok.ensures.cause.same ∙ c.loop-count.invariant.source;
       taken = search rules;
     }
 
-pub returns-then-status-ne0-clause-outcome : goal.returns-then-status-ne0-clause-outcome
-returns-then-status-ne0-clause-outcome g c =
+pub returns-in_err-take_piece-clause-outcome : goal.returns-in_err-take_piece-clause-outcome
+returns-in_err-take_piece-clause-outcome g c =
+    let p = err_from_is_err_and c.from_residual.result c.from_residual.ensures.1 in
+    let some = never_whole c.in_err-take_piece.field-0.0 in
     let before = c.loop-count.invariant.served in
     let piece = c.fill.new.piece.items in
     let served = c.min-served.result in
     let whole = take_more piece served c.in-Ok.count (omega arith) in
-    let ended = piece_stops _ _ _ _ (drop served (take c.in-Ok.count piece)) _ [] _ _ c.if-status-ne0.true c.take_piece-status.ensures.outcome in
-    serve_ended _ _ _ _ _ _ (before.0 ++ take c.in-Ok.count piece) _ c.if-status-ne0.true (Consumes-trans _ _ _ _ _ before.1 c.in-Ok.ensures.bytes.0)
-    (piece_then _ _ _ _ _ _ _ before.3 _ _ _ (rw whole at ended)) (c.in-Ok.ensures.cause.same ∙ c.loop-count.invariant.source)
+    let ended = piece_stops _ _ _ _ (drop served (take c.in-Ok.count piece)) _ [] _ _ some c.in_err-take_piece.ensures.outcome in
+    rw (p.1, p.2) (serve_ended _ _ _ _ _ _ (before.0 ++ take c.in-Ok.count piece) _ some (Consumes-trans _ _ _ _ _ before.1 c.in-Ok.ensures.bytes.0)
+    (piece_then _ _ _ _ _ _ _ before.3 _ _ _ (rw whole at ended)) (c.in-Ok.ensures.cause.same ∙ c.loop-count.invariant.source))
 
 pub returns-then-served-count-clause-outcome : goal.returns-then-served-count-clause-outcome
 returns-then-served-count-clause-outcome g c =
@@ -59,12 +62,12 @@ returns-then-served-count-clause-outcome g c =
     (rw (append_assoc before.0 (take served piece) (drop served (take c.in-Ok.count piece)), whole) (Consumes-trans _ _ _ _ _ before.1 c.in-Ok.ensures.bytes.0))
     (omega (arith, length-append before.0 (take served piece), first, before.2))
     (omega (arith, first, more)) (omega (arith, first, more, most))
-    (piece_then _ _ _ _ _ _ _ before.3 0 _ _ (rw c.if-status-ne0.false at c.take_piece-status.ensures.outcome)) (c.in-Ok.ensures.cause.same ∙ c.loop-count.invariant.source)
+    (piece_then _ _ _ _ _ _ _ before.3 0 _ _ c.in_ok-take_piece.ensures.outcome) (c.in-Ok.ensures.cause.same ∙ c.loop-count.invariant.source)
 
 pub returns-clause-outcome : goal.returns-clause-outcome
 returns-clause-outcome g c =
     let before = c.loop-count.invariant.served in
-    let none : Consumes (g.S.Source.left c.loop-count.src) (g.S.Source.left c.fill.new.src) [] = rw c.if-count-eq0.true at c.in-Ok.ensures.bytes.0 in
+    let none : Consumes (g.S.Source.view c.loop-count.src).left (g.S.Source.view c.fill.new.src).left [] = rw c.if-count-eq0.true at c.in-Ok.ensures.bytes.0 in
     serve_end _ _ _ _ _ _ (before.0 ++ []) _ _ (Consumes-trans _ _ _ _ _ before.1 none) (c.in-Ok.ensures.bytes.1 c.if-count-eq0.true (search rules))
     (omega (arith, length-append before.0 [], before.2, c.loop-count.invariant.taken))
     (piece_then _ _ _ _ _ _ _ before.3 0 _ _ (piece_nothing _ _ _)) c.finish.ensures (c.in-Ok.ensures.cause.same ∙ c.loop-count.invariant.source)

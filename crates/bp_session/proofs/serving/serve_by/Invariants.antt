@@ -1,17 +1,17 @@
 use Rattle.std.proofs.Common.{[], ◌-◌, ◌≡◌, ◌≤◌, ℕ, List, length}
 use Rattle.std.specs.Io.KnownBytes.{Consumes}
-use Rattle.bp_session.specs.Serving.{PieceOutcome, moment, saved_if}
+use Rattle.bp_session.specs.Serving.{PieceOutcome, moment, with_stale}
 use Rattle.bp_session.proofs.serving.serve_by.Given as goal
 
 -- What was read so far was served.
 abbrev pub invariant-loop-count : goal.invariant-loop-count
 invariant-loop-count g l =
     record {
-      served : (input : List ℕ) × Consumes (g.S.Source.left l.fn.src) (g.S.Source.left l.src) input × (length input ≡ l.taken)
+      served : (input : List ℕ) × Consumes (g.S.Source.view l.fn.src).left (g.S.Source.view l.src).left input × (length input ≡ l.taken)
           × PieceOutcome 0 l.most [] input l.work.buffers.line.items
-          (saved_if l.fn.is_base_saved (moment l.fn.volume (g.F.Files.view l.fn.files) (g.K.Sink.taken l.fn.out) (g.K.Sink.faults l.fn.out)))
-          (saved_if l.is_base_saved (moment l.volume (g.F.Files.view l.files) (g.K.Sink.taken l.out) (g.K.Sink.faults l.out)));
-      source : g.S.Source.faults l.src ≡ g.S.Source.faults l.fn.src;
+          (with_stale l.fn.stale (moment l.fn.volume (g.F.Files.view l.fn.files) (g.K.Sink.view l.fn.out)))
+          (with_stale l.stale (moment l.volume (g.F.Files.view l.files) (g.K.Sink.view l.out)));
+      source : (g.S.Source.view l.src).faults ≡ (g.S.Source.view l.fn.src).faults;
       taken : l.taken ≤ 1073741824;
     }
 

@@ -8,6 +8,6 @@ use Rattle.bp_session.proofs.telling.tell_names.Given as goal
 abbrev pub invariant-loop-i : goal.invariant-loop-i
 invariant-loop-i g l =
     record {
-      passes : PassesOn (flat_map entry_text (take l.i l.listing)) (waiting l.fn.replies) (waiting l.replies) (g.K.Sink.taken l.fn.out) (g.K.Sink.taken l.out);
-      faults : g.K.Sink.faults l.out ≡ g.K.Sink.faults l.fn.out;
+      passes : PassesOn (flat_map entry_text (take l.i l.listing)) (waiting l.fn.replies) (waiting l.replies) (g.K.Sink.view l.fn.out).taken (g.K.Sink.view l.out).taken;
+      faults : (g.K.Sink.view l.out).faults ≡ (g.K.Sink.view l.fn.out).faults;
     }

@@ -1,10 +1,11 @@
 use Rattle.std.proofs.Common.{◌≡◌, ◌<◌, ◌≤◌, ℕ, [], List, arith, slice_index, length, sym, ◌∙◌, ap, subst}
 use Rattle.bp_calls.specs.TouchedAcross.{WritesAcross}
 use Rattle.bp_calls.proofs.AcrossCalls.{at_inside, at_shape, from_plan, of_plan, planned_across}
+use Rattle.bp_calls.proofs.CommitLaws.{committed, lacking_blocks}
 use Rattle.bp_calls.proofs.SameWrites.{write_into}
+use Rattle.bp_calls.specs.Commits.{CommitsChange}
 use Rattle.bp_calls.specs.Space.{HasRoomThawed, LacksBlocks}
 use Rattle.bp_calls.specs.WritesFile.{WritesFile}
-use Rattle.bp_commit.specs.Performs.{PerformsThawed}
 use Rattle.bp_free.specs.Set.{members}
 use Rattle.bp_layout.specs.Inode.{root_of, size_of}
 use Rattle.bp_layout.specs.Need.{need}
@@ -106,20 +107,23 @@ write_planned-requires-clause-room g c =
 pub write_planned-requires-clause-enough : goal.write_planned-requires-clause-enough
 write_planned-requires-clause-enough g c = subst (λ n. n ≤ length (members c.args.parts.now.blocks)) c.need_found-need.ensures.need c.in-Ok.ensures.enough
 
-pub returns-in-Ok-clause-performs : goal.returns-in-Ok-clause-performs
-returns-in-Ok-clause-performs g c =
+pub returns-in-Ok : goal.returns-in-Ok
+returns-in-Ok g c =
     let memory = g.R.Region.memory in
     let plan = c.plan_write-plan.result in
     let planned = c.plan_write-plan.ensures in
-    from_plan (current_words (memory c.args.parts.now.region)) c.args.i c.args.off c.args.bytes.now plan planned
-    (λ i off (bytes : List ℕ). PerformsThawed (kept_of c.args.parts.now) (memory c.args.parts.now.region) (memory c.write_planned.new.parts.region) (writes i off (length bytes)) (WritesFile i off bytes)) c.write_planned.ensures.performs
+    committed
+    (from_plan (current_words (memory c.args.parts.now.region)) c.args.i c.args.off c.args.bytes.now plan planned
+    (λ i off (bytes : List ℕ). CommitsChange memory c.args.parts.now c.write_planned.new.parts (writes i off (length bytes)) (WritesFile i off bytes)) c.write_planned.ensures)
 
-pub returns-in-Err-clause-refused : goal.returns-in-Err-clause-refused
-returns-in-Err-clause-refused g c =
+pub returns-in-Err : goal.returns-in-Err
+returns-in-Err g c =
     let memory = g.R.Region.memory in
     let plan = c.plan_write-plan.result in
     let planned = c.plan_write-plan.ensures in
     let needs : c.need_found-need.result ≡ need (current_words (memory c.args.parts.now.region)) (writes c.args.i c.args.off (length c.args.bytes.now)) =
     from_plan (current_words (memory c.args.parts.now.region)) c.args.i c.args.off c.args.bytes.now plan planned
     (λ i off (bytes : List ℕ). c.need_found-need.result ≡ need (current_words (memory c.args.parts.now.region)) (writes i off (length bytes))) c.need_found-need.ensures.need in
-    subst (λ n. LacksBlocks (current_words (memory c.args.parts.now.region)) (kept_of c.args.parts.now) n c.in-Err.lacks) needs c.in-Err.ensures.refused
+    lacking_blocks g.R.Region.memory c.args.parts.now c.requires.exact
+    (subst (λ n. LacksBlocks (current_words (memory c.args.parts.now.region)) (kept_of c.args.parts.now) n c.in-Err.lacks) needs c.in-Err.ensures.refused)
+    c.in-Err.ensures.free

@@ -44,8 +44,8 @@ commit_at-requires g c κs within =
       ),
     )
 
-pub returns-clause-performs : goal.returns-clause-performs
-returns-clause-performs g c =
+pub returns : goal.returns
+returns g c =
     let memory = g.R.Region.memory in
     let plan = c.args.plan.now in
     let ready = at_prepare (memory c.args.parts.now.region) c.args.parts.now.blocks c.args.parts.now.inodes plan.off plan.bytes.now c.args.touched.now plan.inode plan.tree.size plan.run.root.items
@@ -56,19 +56,9 @@ returns-clause-performs g c =
     let commits = subst (λ (frozen : Set). CommitsTouched bound (has frozen) c.args.touched.now (memory c.prep.new.parts.region) (memory c.commit_at.new.parts.region) c.prep.new.parts.blocks c.commit_at.new.parts.blocks) c.prep.ensures.frozen c.commit_at.ensures.commits in
     let done = at_done (memory c.args.parts.now.region) c.args.parts.now.blocks c.args.parts.now.inodes plan.off plan.bytes.now c.args.touched.now (memory c.prep.new.parts.region) c.prep.new.parts.blocks
     (memory c.commit_at.new.parts.region) c.commit_at.new.parts.blocks plan.inode c.requires.across prepared c.requires.small commits c.commit_at.ensures.size c.prep.ensures.room in
-    done.0
-
-pub returns-clause-exact : goal.returns-clause-exact
-returns-clause-exact g c =
-    let memory = g.R.Region.memory in
-    let plan = c.args.plan.now in
-    let ready = at_prepare (memory c.args.parts.now.region) c.args.parts.now.blocks c.args.parts.now.inodes plan.off plan.bytes.now c.args.touched.now plan.inode plan.tree.size plan.run.root.items
-    c.requires.across c.requires.clear c.requires.room c.requires.enough c.requires.size c.requires.root in
-    let prepared = at_prepared (memory c.args.parts.now.region) c.args.parts.now.blocks c.args.parts.now.inodes plan.off plan.bytes.now c.args.touched.now (memory c.prep.new.parts.region) c.prep.new.parts.blocks
-    plan.inode _ _ (c.prep.ensures.prepares plan.inode ready) c.requires.size c.split_at.ensures.back in
-    let bound = sizes_with (current_words (memory c.prep.new.parts.region)) c.args.touched.now in
-    let commits = subst (λ (frozen : Set). CommitsTouched bound (has frozen) c.args.touched.now (memory c.prep.new.parts.region) (memory c.commit_at.new.parts.region) c.prep.new.parts.blocks c.commit_at.new.parts.blocks) c.prep.ensures.frozen c.commit_at.ensures.commits in
-    let done = at_done (memory c.args.parts.now.region) c.args.parts.now.blocks c.args.parts.now.inodes plan.off plan.bytes.now c.args.touched.now (memory c.prep.new.parts.region) c.prep.new.parts.blocks
-    (memory c.commit_at.new.parts.region) c.commit_at.new.parts.blocks plan.inode c.requires.across prepared c.requires.small commits c.commit_at.ensures.size c.prep.ensures.room in
-    exact_file _ _ c.args.parts.now _ c.requires.exact (rw (c.commit_at.ensures.inodes, c.prep.ensures.inodes) done.1)
-    (c.commit_at.ensures.frozen ∙ c.prep.ensures.frozen) (c.commit_at.ensures.counts ∙ c.prep.ensures.counts) plan.inode c.requires.across.can.well_formed done.0.effect.changes
+    record {
+      performs = done.0;
+      frozen = c.commit_at.ensures.frozen ∙ c.prep.ensures.frozen;
+      exact = exact_file _ _ c.args.parts.now _ c.requires.exact (rw (c.commit_at.ensures.inodes, c.prep.ensures.inodes) done.1)
+          (c.commit_at.ensures.frozen ∙ c.prep.ensures.frozen) (c.commit_at.ensures.counts ∙ c.prep.ensures.counts) plan.inode c.requires.across.can.well_formed done.0.effect.changes;
+    }

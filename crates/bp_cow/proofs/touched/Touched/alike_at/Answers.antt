@@ -6,17 +6,17 @@ use Rattle.bp_shapes.specs.Trail.{trail_of}
 use Rattle.bp_cow.specs.Cover.{end_path, BothBegin}
 use Rattle.bp_cow.specs.Touched.{IsRun, run_end, run_path, word_paths}
 use Rattle.bp_cow.specs.declared.touched.Run.{Run}
-use Rattle.bp_cow.proofs.AlikeEnds.{begin-slots, begin-through, next-alike}
+use Rattle.bp_cow.proofs.AlikeEnds.{begin-least, begin-slots, begin-through, next-alike}
 use Rattle.bp_cow.proofs.RunsLaws.{end-at, has-item}
 use Rattle.bp_cow.proofs.touched.Touched.alike_at.Goals as goal
 
 pub alike-requires : goal.alike-requires
 alike-requires c =
     let run = c.index-self-i.result in
-    subst IsRun c.index-self-i.is (c.requires.touched.runs run (has-item c.args.self.now.runs.now (c.args.i / 2) run (omega (arith, c.if-i-self.true)) c.index-self-i.is))
+    subst IsRun c.index-self-i.is (c.requires.touched.runs run (has-item c.args.self.now.runs.now (c.args.i / 2) run (omega (arith, c.if-i-of_runs.true)) c.index-self-i.is))
 
-pub returns-then-i-self : goal.returns-then-i-self
-returns-then-i-self c n =
+pub returns-then-i-eq1 : goal.returns-then-i-eq1
+returns-then-i-eq1 c n =
     let touched = c.args.self.now in
     let run = c.index-self-i.result in
     let i = c.args.i in
@@ -24,9 +24,9 @@ returns-then-i-self c n =
     let even : (i - 1) % 2 ≡ 0 = omega (arith, odd) in
     let half : i / 2 ≡ (i - 1) / 2 = omega (arith, odd) in
     let last : end_path touched i ≡ run_path run ((run_end run - 1) / 8) =
-    end-at touched.runs.now (word_paths touched) i run c.if-i-self.true c.index-self-i.is ∙ ap (λ k. run_path run (if k == 0 then run.off / 8 else (run_end run - 1) / 8)) odd in
+    end-at touched.runs.now (word_paths touched) i run c.if-i-of_runs.true c.index-self-i.is ∙ ap (λ k. run_path run (if k == 0 then run.off / 8 else (run_end run - 1) / 8)) odd in
     let first : end_path touched (i - 1) ≡ run_path run (run.off / 8) =
-    end-at touched.runs.now (word_paths touched) (i - 1) run (omega (arith, c.if-i-self.true)) (subst (λ k. run ≡ slice_index_or touched.runs.now k run) half c.index-self-i.is)
+    end-at touched.runs.now (word_paths touched) (i - 1) run (omega (arith, c.if-i-of_runs.true)) (subst (λ k. run ≡ slice_index_or touched.runs.now k run) half c.index-self-i.is)
     ∙ ap (λ k. run_path run (if k == 0 then run.off / 8 else (run_end run - 1) / 8)) even in
     let own : (m : ℕ) → (m ≤ c.alike.result) ↔ BothBegin (run_path run (run.off / 8)) (run_path run ((run_end run - 1) / 8)) m =
     subst (λ (r : Run). (m : ℕ) → (m ≤ c.alike.result) ↔ BothBegin (run_path r (r.off / 8)) (run_path r ((run_end r - 1) / 8)) m) (sym c.index-self-i.is) c.alike.ensures in
@@ -34,6 +34,34 @@ returns-then-i-self c n =
     (begin-through (end_path touched 0) (run_path run (run.off / 8)) (run_path run ((run_end run - 1) / 8)) c.args.most c.alike.result
     (subst (λ (p : WordPath). BothBegin p (end_path touched 0) c.args.most) first c.requires.before) own c.min.result
     (omega (arith, c.min.ensures), omega (arith, c.min.ensures)) (λ m most mine. omega (arith, c.min.ensures, most, mine)) n)
+
+pub alike_with-requires-clause-run : goal.alike_with-requires-clause-run
+alike_with-requires-clause-run c =
+    let run = c.index-self-i.result in
+    subst IsRun c.index-self-i.is (c.requires.touched.runs run (has-item c.args.self.now.runs.now (c.args.i / 2) run (omega (arith, c.if-i-of_runs.true)) c.index-self-i.is))
+
+pub alike_with-requires-clause-other : goal.alike_with-requires-clause-other
+alike_with-requires-clause-other c =
+    let first = c.index-self-0.result in
+    subst IsRun c.index-self-0.is (c.requires.touched.runs first (has-item c.args.self.now.runs.now 0 first (omega (arith, c.if-i-of_runs.true)) c.index-self-0.is))
+
+pub returns-in-Some : goal.returns-in-Some
+returns-in-Some c n =
+    let touched = c.args.self.now in
+    let i = c.args.i in
+    let run = c.index-self-i.result in
+    let first = c.index-self-0.result in
+    let alike = c.in-Some.alike in
+    let even : i % 2 ≡ 0 = omega (arith, c.if-i-eq1.false) in
+    let path : end_path touched i ≡ run_path run (run.off / 8) =
+    end-at touched.runs.now (word_paths touched) i run c.if-i-of_runs.true c.index-self-i.is ∙ ap (λ k. run_path run (if k == 0 then run.off / 8 else (run_end run - 1) / 8)) even in
+    let start : end_path touched 0 ≡ run_path first (first.off / 8) = end-at touched.runs.now (word_paths touched) 0 first (omega (arith, c.if-i-of_runs.true)) c.index-self-0.is in
+    let own : (n ≤ alike) ↔ BothBegin (run_path run (run.off / 8)) (run_path first (first.off / 8)) n =
+    subst (λ (r : Run). (n ≤ alike) ↔ BothBegin (run_path r (r.off / 8)) (run_path first (first.off / 8)) n) (sym c.index-self-i.is)
+    (subst (λ (r : Run). (n ≤ alike) ↔ BothBegin (run_path (slice_index_or touched.runs.now (i / 2) run) ((slice_index_or touched.runs.now (i / 2) run).off / 8)) (run_path r (r.off / 8)) n) (sym c.index-self-0.is) (c.in-Some.ensures n)) in
+    subst (λ (p : WordPath). (n ≤ c.min-in-Some.result) ↔ (n ≤ c.args.most) × BothBegin p (end_path touched 0) n) (sym path)
+    (subst (λ (p : WordPath). (n ≤ c.min-in-Some.result) ↔ (n ≤ c.args.most) × BothBegin (run_path run (run.off / 8)) p n) (sym start)
+    (begin-least (run_path run (run.off / 8)) (run_path first (first.off / 8)) c.args.most alike c.min-in-Some.result n own c.min-in-Some.ensures))
 
 pub loop-depth-init : goal.loop-depth-init
 loop-depth-init c = refl

@@ -15,6 +15,6 @@ pub returns-in-None : goal.returns-in-None
 returns-in-None c =
     let runs = c.args.self.now.runs.now in
     let paths = word_paths c.args.self.now in
-    let at : c.args.i - c.leaves.result ≡ c.args.i - leaves_of runs = ap (λ n. c.args.i - n) c.leaves.ensures in
+    let at : c.args.i - c.args.ends.now.leaves ≡ c.args.i - leaves_of runs = ap (λ n. c.args.i - n) c.requires.ends.leaves in
     omega (arith, c.path_len.ensures, ap (λ k. length (path_of paths k)) at, length-above (path_of paths (c.args.i - leaves_of runs)))
     ∙ ap (λ (p : List ℕ). length p) (sym (way-word runs paths c.args.i (c.requires.none c.in-None.is)))

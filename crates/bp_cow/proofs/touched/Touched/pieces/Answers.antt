@@ -40,16 +40,16 @@ returns-in-Some-clause-live c slot small counted =
 pub word_pieces-requires-clause-depth : goal.word_pieces-requires-clause-depth
 word_pieces-requires-clause-depth c =
     let touched = c.args.self.now in
-    let way : length ((job_of touched).way c.args.way.now.index) ≡ length (above (path_of (word_paths touched) (c.args.way.now.index - c.leaves.result))) =
+    let way : length ((job_of touched).way c.args.way.now.index) ≡ length (above (path_of (word_paths touched) c.args.way.now.word)) =
     ap (λ (p : List ℕ). length p) (way-word touched.runs.now (word_paths touched) c.args.way.now.index (c.requires.way.none c.in-None.is))
-    ∙ ap (λ n. length (above (path_of (word_paths touched) (c.args.way.now.index - n)))) (sym c.leaves.ensures) in
+    ∙ ap (λ n. length (above (path_of (word_paths touched) n))) (sym c.requires.way.word) in
     omega (arith, way, c.requires.way.len, c.if-depth-end-2.true)
 
 pub returns-in-None-clause-live : goal.returns-in-None-clause-live
 returns-in-None-clause-live c slot small counted =
     let touched = c.args.self.now in
     let is : live_of touched.runs.now touched.trees.now (word_paths touched) c.args.way.now.index c.args.depth
-    ≡ word_live touched.trees.now (above (path_of (word_paths touched) (c.args.way.now.index - c.leaves.result))) c.args.depth =
+    ≡ word_live touched.trees.now (above (path_of (word_paths touched) c.args.way.now.word)) c.args.depth =
     live-word touched.runs.now touched.trees.now (word_paths touched) c.args.way.now.index c.args.depth (c.requires.way.none c.in-None.is)
-    ∙ ap (λ n. word_live touched.trees.now (above (path_of (word_paths touched) (c.args.way.now.index - n))) c.args.depth) (sym c.leaves.ensures) in
+    ∙ ap (λ n. word_live touched.trees.now (above (path_of (word_paths touched) n)) c.args.depth) (sym c.requires.way.word) in
     c.word_pieces.ensures.live slot small (subst (λ n. slot < n) is counted)

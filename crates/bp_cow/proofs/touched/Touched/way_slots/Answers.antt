@@ -15,4 +15,4 @@ pub returns-in-None : goal.returns-in-None
 returns-in-None c =
     let runs = c.args.self.now.runs.now in
     let paths = word_paths c.args.self.now in
-    c.word_slots.ensures ∙ ap (λ n. above (path_of paths (c.args.i - n))) c.leaves.ensures ∙ sym (way-word runs paths c.args.i (c.requires.none c.in-None.is))
+    c.word_slots.ensures ∙ ap (λ n. above (path_of paths (c.args.i - n))) c.requires.ends.leaves ∙ sym (way-word runs paths c.args.i (c.requires.none c.in-None.is))

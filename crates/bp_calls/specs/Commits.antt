@@ -1,0 +1,61 @@
+-- What a call makes of the parts of a file system: it commits a change, or lacks blocks and leaves all as it was.
+use Rattle.std.specs.Prelude.{◌≡◌, ℕ, IfErr, OnErr, OnOk, Option, Result, length}
+use Rattle.bp_calls.specs.Created.{EntersName}
+use Rattle.bp_calls.specs.Entrant.{entrant_of}
+use Rattle.bp_calls.specs.Space.{LacksBlocks, LacksSpace}
+use Rattle.bp_changes.specs.Thawed.{AfterThaw}
+use Rattle.bp_commit.specs.Performs.{Performs, PerformsThawed}
+use Rattle.bp_free.specs.Set.{members}
+use Rattle.bp_free.specs.declared.parts.NoSpace.{NoSpace}
+use Rattle.bp_free.specs.declared.parts.Parts.{Parts}
+use Rattle.bp_layout.specs.Directory.{Name}
+use Rattle.bp_layout.specs.Free.{IsLeastFree}
+use Rattle.bp_layout.specs.Need.{Change, need}
+use Rattle.bp_layout.specs.Need.Change.{enters}
+use Rattle.bp_layout.specs.Words.{Image}
+use Rattle.bp_layout.specs.declared.fields.Kind.{Kind}
+use Rattle.bp_shapes.specs.Sets.{IsExact, kept_of}
+use Rattle.pm_region.specs.Memory.{Memory, current_words}
+
+-- The change is done, where nothing has to be thawed any more. The sets and counts of the parts are just those of the
+-- image again, and the same blocks are kept.
+pub record CommitsChange {R : Type 0} (memory : R → Memory) (old new : Parts R) (change : Change)
+    (Effect : Image → Image → Type 0) : Type 0 where
+  pub performs : PerformsThawed (kept_of old) (memory old.region) (memory new.region) change Effect
+  pub frozen : new.frozen ≡ old.frozen
+  pub exact : IsExact (current_words (memory new.region)) new
+
+-- The same where as many blocks are free as the change needs. Where fewer are, the error tells both numbers, and
+-- nothing has changed.
+pub record CommitsOrLacksBlocks {R T : Type 0} (memory : R → Memory) (old new : Parts R) (result : Result T NoSpace)
+    (change : Change) (Effect : Image → Image → Type 0) : Type 0 where
+  pub performs : OnOk result (PerformsThawed (kept_of old) (memory old.region) (memory new.region) change Effect)
+  pub frozen : new.frozen ≡ old.frozen
+  pub exact : IsExact (current_words (memory new.region)) new
+  pub refused : IfErr result (LacksBlocks (current_words (memory old.region)) (kept_of old)
+      (need (current_words (memory old.region)) change))
+  pub free : IfErr result (λ lacks. lacks.free ≡ length (members old.blocks))
+  pub same : OnErr result (new ≡ old)
+
+-- The same of a whole call, which first thaws what is kept on the ways to its change: the blocks for that are among
+-- those that it needs, and its effect is the one of the change, behind the thaw.
+pub record CommitsOrLacksSpace {R T : Type 0} (memory : R → Memory) (old new : Parts R) (result : Result T NoSpace)
+    (change : Change) (Effect : Image → Image → Type 0) : Type 0 where
+  pub performs : OnOk result (Performs (kept_of old) (memory old.region) (memory new.region) change (AfterThaw Effect))
+  pub frozen : new.frozen ≡ old.frozen
+  pub exact : IsExact (current_words (memory new.region)) new
+  pub refused : IfErr result (LacksSpace (current_words (memory old.region)) (kept_of old) change)
+  pub same : OnErr result (new ≡ old)
+
+-- The same of a call that creates a name in directory i. The least free inode gets it: so it is told for that one, or
+-- for none where no inode is free.
+pub record CreatesOrLacksSpace {R T : Type 0} (memory : R → Memory) (old new : Parts R) (result : Result T NoSpace)
+    (i : ℕ) (name : Name) (kind : Kind) : Type 0 where
+  pub performs : OnOk result ((free : Option ℕ) → IsLeastFree (current_words (memory old.region)) free
+      → Performs (kept_of old) (memory old.region) (memory new.region) (enters i (entrant_of free))
+      (AfterThaw (EntersName i name kind)))
+  pub frozen : new.frozen ≡ old.frozen
+  pub exact : IsExact (current_words (memory new.region)) new
+  pub refused : IfErr result (λ lacks. (free : Option ℕ) → IsLeastFree (current_words (memory old.region)) free
+      → LacksSpace (current_words (memory old.region)) (kept_of old) (enters i (entrant_of free)) lacks)
+  pub same : OnErr result (new ≡ old)

@@ -1,0 +1,20 @@
+use Rattle.std.proofs.Common.{◌≡◌, ◌∙◌, ap, arith, length, min, rules, subst₂, sym, take}
+use Rattle.std.proofs.lemmas.List.{length-take, take_min}
+use Rattle.bp_replies.specs.Room.{gathered_size}
+use Rattle.bp_session.specs.Serving.{Moment, ServeOutcome, moment, with_stale}
+use Rattle.bp_session.specs.Statuses.{status_of}
+use Rattle.bp_session.proofs.MarkLaws.{lent_back}
+use Rattle.bp_session.proofs.serving.serve_gathered.Goals as goal
+
+pub returns-clause-outcome : goal.returns-clause-outcome
+returns-clause-outcome g c =
+    let count = c.args.stale.now.count in
+    let marks = c.args.stale.now.marks in
+    let new = c.serve_by.new in
+    let begun : Moment = moment c.args.volume.now (g.F.Files.view c.args.files.now) (g.K.Sink.view c.args.out.now) in
+    let ended : Moment = moment new.volume (g.F.Files.view new.files) (g.K.Sink.view new.out) in
+    let size : length marks ≡ 65536 = search rules in
+    let lent : c.min-count.result ≡ min count (length marks) = omega (arith, size, c.min-count.ensures) in
+    let same : length new.stale ≡ c.min-count.result = omega (arith, lent, c.serve_by.auto.stale, length-take c.min-count.result marks) in
+    subst₂ (λ old now. ServeOutcome (status_of c.serve_by.result) gathered_size (g.S.Source.view c.args.src.now) (g.S.Source.view new.src) (with_stale old begun) (with_stale now ended))
+    (ap (λ n. take n marks) lent ∙ take_min count marks) (sym (lent_back count c.min-count.result marks new.stale lent same)) c.serve_by.ensures.outcome

@@ -1,6 +1,6 @@
 //! What a region can do.
 
-ghost use Rattle.std.specs.Prelude.{◌≡◌, ◌+◌, ◌<◌, ◌≤◌, ◌↔◌, [], ◌∷◌, length, take, slice_get, slice_index, slice_index_or, slice_range, Some, IsOk, IfOk, OnOk, OnErr};
+ghost use Rattle.std.specs.Prelude.{◌≡◌, ◌⊎◌, ◌+◌, ◌<◌, ◌≤◌, ◌↔◌, [], ◌∷◌, length, take, slice_get, slice_index, slice_index_or, slice_range, Some, IsOk, IfOk, OnOk, OnErr};
 ghost use Rattle.pm_epochs.specs.declared.event.Event.TheVariants.{Store, Barrier, Mark};
 ghost use Rattle.pm_epochs.specs.Log.{barriers, marks};
 ghost use Rattle.pm_epochs.specs.Replay.{IsRight, kept_calls};
@@ -54,6 +54,24 @@ pub trait Region {
         let _words = self.words();
         for i in 0..values.len() {
             self.store(first + i as u32, values[i]);
+        }
+    }
+
+    /// Sets the words from `to` on to those that stand from `from` on, so many, one after the other, and writes that to the
+    /// log. None of them is set before it is copied.
+    fn copy_words(&mut self, from: u32, to: u32, count: u32)
+        requires behind_head { HEAD_WORDS ≤ from }
+        requires from_in_range { from + count ≤ length (memory self.old).base }
+        requires to_in_range { to + count ≤ length (memory self.old).base }
+        requires ahead { (to ≤ from) ⊎ (from + count ≤ to) }
+        requires room { count ≤ room_in (memory self.old) }
+        ensures { Adds (memory self.old) (memory self.new)
+            (stores_from to (slice_range (current_words (memory self.old)) from (from + count))) }
+    {
+        let _words = self.words();
+        for i in 0..count {
+            let value = self.load(from + i);
+            self.store(to + i, value);
         }
     }
 

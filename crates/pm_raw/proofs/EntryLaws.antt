@@ -1,8 +1,9 @@
 -- A log that stands in two arrays.
-use Rattle.std.proofs.Common.{◌≡◌, ℕ, zero, suc, ◌+◌, ◌<◌, ◌≤◌, inl, inr, List, [], ◌∷◌, ◌++◌, length, take, drop, get_or, refl, sym, ◌∙◌, ap, arith}
+use Rattle.std.proofs.Common.{◌≡◌, ℕ, zero, suc, ◌+◌, ◌-◌, ◌<◌, ◌≤◌, inl, inr, List, [], ◌∷◌, ◌++◌, length, take, drop, get_or, refl, sym, ◌∙◌, ap, arith, take-add}
 use Rattle.std.specs.Prelude.{Some, slice_get}
 use Rattle.std.specs.List.{range_with_len}
 use Rattle.std.proofs.lemmas.Bool.Decides.{eqb_tells}
+use Rattle.std.proofs.lemmas.List.{drop_at, length-take-le}
 use Rattle.pm_epochs.specs.declared.event.Event.{Event}
 use Rattle.pm_epochs.specs.declared.event.Event.TheVariants.{Store}
 use Rattle.pm_region.specs.Memory.{AreInRow, AreWithin, Follows, stores_from}
@@ -103,3 +104,13 @@ row_events words values first count word same fits row low i event next more her
   where
     second : get_or words (first + i + 1) 0 ≡ word + i + 1
     second = let place : first + (i + 1) ≡ first + i + 1 = omega arith in omega (arith, ap (λ k. get_or words k 0) place, row (i + 1) more)
+
+-- the last ones, so many, of those at the front of a list
+pub last_of_front : (items : List ℕ) (end count : ℕ) → count ≤ end → end ≤ length items → take (end - (end - count)) (drop (end - count) items) ≡ drop (end - count) (take end items)
+last_of_front items end count few fits =
+    let first = end - count in
+    let same : end - first ≡ count = omega (arith, few) in
+    let whole : first + count ≡ end = omega (arith, few) in
+    ap (λ n. take n (drop first items)) same
+    ∙ sym (drop_at (take first items) (take count (drop first items)) first (length-take-le first items (omega (arith, fits))))
+    ∙ ap (drop first) (sym (take-add first count items) ∙ ap (λ n. take n items) whole)

@@ -6,4 +6,5 @@ mod LogLaws
 mod UndoLaws
 mod EpochLaws
 mod PlaceLaws
+mod RunPushed
 pub mod SpelledLaws

@@ -1,5 +1,5 @@
 //! What a region writes down of each event since the last drain.
-ghost use Rattle.std.specs.Prelude.{◌≡◌, ◌+◌, ◌-◌, ◌^◌, ◌<◌, ◌≤◌, [], ◌∷◌, ◌++◌, IfOk, Some, length, take, slice_get, slice_index_or, vec_capacity};
+ghost use Rattle.std.specs.Prelude.{◌≡◌, ◌+◌, ◌-◌, ◌^◌, ◌<◌, ◌≤◌, [], ◌∷◌, ◌++◌, IfOk, Some, length, drop, take, slice_get, slice_index_or, vec_capacity};
 ghost use Rattle.std.specs.List.{range_with_len};
 ghost use Rattle.pm_region.specs.Memory.{AreInRow, with_values};
 ghost use Rattle.pm_raw.specs.Entries.{event_of, events_of};
@@ -131,6 +131,15 @@ impl Entries {
         ensures { result.now ≡ self.now.replaced }
     {
         &self.replaced[..self.words.len()]
+    }
+
+    /// The values of the last ones, so many.
+    pub fn last_values(&self, count: usize) -> &[u64]
+        requires { count ≤ length self.now.words }
+        ensures { result.now ≡ drop (length self.now.words - count) self.now.values }
+    {
+        let end = self.words.len();
+        &self.values[end - count..end]
     }
 
     /// Begins anew, with none. The room stays.

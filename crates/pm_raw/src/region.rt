@@ -158,6 +158,21 @@ impl Region for RawRegion {
         overwrite(self.current.as_mut_slice(), place, values);
     }
 
+    // The values stand in the log before they are set: so they are taken from there, and the words may be lent whole.
+    #[inline(always)]
+    fn copy_words(&mut self, from: u32, to: u32, count: u32) {
+        let (source, place, count) = (from as usize, to as usize, count as usize);
+        let words = self.current.as_slice();
+        let values = &words[source..source + count];
+        let replaced = &words[place..place + count];
+        self.entries.push_run(to, values, replaced);
+        overwrite(
+            self.current.as_mut_slice(),
+            place,
+            self.entries.last_values(count),
+        );
+    }
+
     #[inline(always)]
     fn barrier(&mut self) {
         self.push_signal(BARRIER);

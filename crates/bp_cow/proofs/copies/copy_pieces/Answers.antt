@@ -43,6 +43,17 @@ pub copy_piece-requires-clause-room : goal.copy_piece-requires-clause-room
 copy_piece-requires-clause-room g c =
     omega (arith, c.requires.to.room, c.requires.few, c.loop-piece-test.true, front_room c.args.to _ (8 * c.loop-piece.piece) (g.R.Region.memory c.args.region.now) (g.R.Region.memory c.loop-piece.region) c.loop-piece.invariant.front)
 
+-- no word of a piece is set before it is copied, whichever block it is in
+ahead : (from to slot : ℕ) → (512 * to + slot ≤ 512 * from + slot) ⊎ (512 * from + slot + 8 ≤ 512 * to + slot)
+ahead from to slot = go (cases_lt from to)
+  where
+    go : (from < to) ⊎ (to ≤ from) → (512 * to + slot ≤ 512 * from + slot) ⊎ (512 * from + slot + 8 ≤ 512 * to + slot)
+    go (inl before) = inr (omega (arith, before))
+    go (inr behind) = inl (omega (arith, behind))
+
+pub copy_piece-requires-clause-ahead : goal.copy_piece-requires-clause-ahead
+copy_piece-requires-clause-ahead g c = ahead c.args.from c.args.to (8 * c.loop-piece.piece)
+
 -- no word that is still to be copied was stored to, whichever block it is in
 still : (from to count i : ℕ) → count + i < 512 → (512 * from + count + i < 512 * to) ⊎ (512 * to + count ≤ 512 * from + count + i)
 still from to count i few = go (cases_lt from to)

@@ -149,9 +149,6 @@ module _ {kept : ℕ → Bool} (old : Memory) (blocks inodes : Set) (n off : ℕ
       few_needed image (root_of image (suc n)) (size_of image (suc n)) (size_of image (suc n)) (off + length bytes) made_leaves (omega (arith, across.can.short, across.below)) (omega arith) (omega arith)
       (wf.sound (suc n) across.can.reached).low
 
-  pub across_made : need_for image (suc n) (size_of image (suc n)) (off + length bytes) ≤ 259 + 3 * max_height
-  across_made = omega (arith, across_made_by, across.can.short, across.below)
-
   across_leaves : run_leaves across.touches.run ≤ 257
   across_leaves = few_leaves across.touches.run (omega (arith, across_long, across.past, across.can.short))
 

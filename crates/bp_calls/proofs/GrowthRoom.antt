@@ -4,9 +4,8 @@ use Rattle.bp_limits.specs.declared.version.Version.TheVariants.{One}
 use Rattle.bp_limits.proofs.Versions.{size_least}
 use Rattle.bp_layout.specs.Formatted.{version_of}
 use Rattle.std.proofs.lemmas.List.{length-append}
-use Rattle.bp_append.specs.Prepared.{CanPrepare, PreparesWith, need_for}
+use Rattle.bp_append.specs.Prepared.{CanPrepare, PreparesWith}
 use Rattle.bp_append.proofs.StoresLaws.{behind_whole, room_behind_whole}
-use Rattle.bp_append.proofs.FewNeeded.{few_needed}
 use Rattle.bp_layout.proofs.FewLeaves.{few_leaves}
 use Rattle.bp_free.specs.Set.{Set, Fills, members}
 use Rattle.bp_layout.specs.Inode.{root_of, size_of}
@@ -37,12 +36,6 @@ module _ (image : Image) (wf : IsWellFormed image) where
 
   pub inodes_end_fits : size_of image 0 + block_size ≤ greatest_size One
   inodes_end_fits = omega (arith, inodes_end_low, wf.formatted.sized.at_most)
-
-  pub growth_few : growth_need image ≤ 18 + 3 * max_height
-  growth_few =
-      let few : need_for image 0 (size_of image 0) (size_of image 0 + block_size) ≤ 18 + 3 * max_height =
-      le_trans (few_needed image (root_of image 0) (size_of image 0) (size_of image 0) (size_of image 0 + block_size) 1 (omega arith) (omega arith) (omega arith) (wf.sound 0 inode_file).low) (omega arith) in
-      omega (arith, few, growth_need_is image)
 
 can_prepare : {kept : ℕ → Bool} (old : Memory) (blocks inodes : Set) → CanGrowInodes kept old blocks inodes →
     CanPrepare kept old (members blocks) 0 [] (size_of (current_words old) 0) (size_of (current_words old) 0 + block_size)

@@ -1,7 +1,7 @@
 -- The parts of a file system are exact over a thaw, and what a change behind it then makes is made of both.
 use Rattle.std.proofs.Common.{◌≡◌, ℕ, ◌+◌, ◌*◌, ◌/◌, ◌≤◌, List, [], ◌∷◌, length, filter, Bool, true, false, ◌&&◌, refl, sym, ◌∙◌, ap, subst, arith}
 use Rattle.bp_calls.specs.Mounted.{IsMounted}
-use Rattle.bp_calls.specs.ThawsFor.{HasRoomToThaw, ThawsFor, thaw_count}
+use Rattle.bp_calls.specs.ThawsFor.{ThawsFor}
 use Rattle.bp_calls.proofs.CountLaws.{exact_with}
 use Rattle.bp_calls.proofs.SetLaws.{free_inodes_stay}
 use Rattle.bp_changes.specs.SameMeaning.{SameMeaning}
@@ -26,7 +26,7 @@ use Rattle.bp_layout.specs.WordPaths.{WordPath, address}
 use Rattle.bp_layout.specs.Words.{Image, block_of, word}
 use Rattle.bp_shapes.specs.Sets.{AreExact, kept_of}
 use Rattle.bp_thaw.specs.Fronts.{IsWay}
-use Rattle.bp_thaw.specs.Thaws.{CanThaw, Thaws}
+use Rattle.bp_thaw.specs.Thaws.{Thaws}
 use Rattle.bp_thaw.proofs.Whole.{thaws_nothing}
 use Rattle.pm_region.specs.Memory.{Memory, current_words, room_in}
 use Rattle.pm_region.proofs.SafeLaws.{room_after_quiet}
@@ -34,12 +34,6 @@ use Rattle.pm_region.proofs.SafeLaws.{room_after_quiet}
 -- ---- a thaw
 
 module _ {R : Type 0} (memory : R → Memory) (paths : List WordPath) (old : Parts R) (mounted : IsMounted (current_words (memory old.region)) old) where
-  pub can_thaw : ((path : WordPath) → Has paths path → IsWay (current_words (memory old.region)) path) → (more : ℕ) → HasRoomToThaw memory paths old more → thaw_count memory paths old + more ≤ length (members old.blocks) →
-      CanThaw (kept_of old) paths (memory old.region) old.blocks
-  can_thaw ways more room enough =
-      let fits = room enough in
-      record { well_formed = mounted.well_formed; ways = ways; free = mounted.exact.sets.free_blocks; enough = omega (arith, enough); room = omega (arith, fits) }
-
   -- where it takes what it takes of the free blocks alone, the parts stay exact
   pub thaws_for : (new : Parts R) → Thaws (kept_of old) paths (memory old.region) (memory new.region) old.blocks new.blocks → length new.blocks ≡ length old.blocks → new.inodes ≡ old.inodes → new.counts ≡ old.counts → new.frozen ≡ old.frozen →
       ThawsFor memory paths old new

@@ -1,17 +1,15 @@
 -- What a call makes of the parts of a file system: it commits a change, or lacks blocks and leaves all as it was.
-use Rattle.std.specs.Prelude.{◌≡◌, ℕ, IfErr, OnErr, OnOk, Option, Result, length}
+use Rattle.std.specs.Prelude.{◌≡◌, ℕ, IfErr, OnErr, OnOk, Result, length}
 use Rattle.bp_calls.specs.Created.{EntersName}
-use Rattle.bp_calls.specs.Entrant.{entrant_of}
-use Rattle.bp_calls.specs.Space.{LacksBlocks, LacksSpace}
+use Rattle.bp_calls.specs.Entrant.{ForCreation}
+use Rattle.bp_calls.specs.Space.{LacksBlocks, LacksSpace, LacksSpaceToCreate}
 use Rattle.bp_changes.specs.Thawed.{AfterThaw}
 use Rattle.bp_commit.specs.Performs.{Performs, PerformsThawed}
 use Rattle.bp_free.specs.Set.{members}
 use Rattle.bp_free.specs.declared.parts.NoSpace.{NoSpace}
 use Rattle.bp_free.specs.declared.parts.Parts.{Parts}
 use Rattle.bp_layout.specs.Directory.{Name}
-use Rattle.bp_layout.specs.Free.{IsLeastFree}
 use Rattle.bp_layout.specs.Need.{Change, need}
-use Rattle.bp_layout.specs.Need.Change.{enters}
 use Rattle.bp_layout.specs.Words.{Image}
 use Rattle.bp_layout.specs.declared.fields.Kind.{Kind}
 use Rattle.bp_shapes.specs.Sets.{IsExact, kept_of}
@@ -51,11 +49,9 @@ pub record CommitsOrLacksSpace {R T : Type 0} (memory : R → Memory) (old new :
 -- for none where no inode is free.
 pub record CreatesOrLacksSpace {R T : Type 0} (memory : R → Memory) (old new : Parts R) (result : Result T NoSpace)
     (i : ℕ) (name : Name) (kind : Kind) : Type 0 where
-  pub performs : OnOk result ((free : Option ℕ) → IsLeastFree (current_words (memory old.region)) free
-      → Performs (kept_of old) (memory old.region) (memory new.region) (enters i (entrant_of free))
-      (AfterThaw (EntersName i name kind)))
+  pub performs : OnOk result (ForCreation (current_words (memory old.region)) i (λ change.
+      Performs (kept_of old) (memory old.region) (memory new.region) change (AfterThaw (EntersName i name kind))))
   pub frozen : new.frozen ≡ old.frozen
   pub exact : IsExact (current_words (memory new.region)) new
-  pub refused : IfErr result (λ lacks. (free : Option ℕ) → IsLeastFree (current_words (memory old.region)) free
-      → LacksSpace (current_words (memory old.region)) (kept_of old) (enters i (entrant_of free)) lacks)
+  pub refused : IfErr result (LacksSpaceToCreate (current_words (memory old.region)) (kept_of old) i)
   pub same : OnErr result (new ≡ old)

@@ -1,8 +1,16 @@
 -- What a new entry names, by the least free inode.
 use Rattle.std.specs.Prelude.{ℕ, Option, None, Some}
-use Rattle.bp_layout.specs.Need.{Entrant}
+use Rattle.bp_layout.specs.Free.{IsLeastFree}
+use Rattle.bp_layout.specs.Need.{Change, Entrant}
+use Rattle.bp_layout.specs.Need.Change.{enters}
 use Rattle.bp_layout.specs.Need.Entrant.{grown, taken}
+use Rattle.bp_layout.specs.Words.{Image}
 
 abbrev pub entrant_of : Option ℕ → Entrant
 entrant_of None = grown
 entrant_of (Some inode) = taken inode
+
+-- It holds of the change that creates a name in directory i: the least free inode gets the name, or where none is free
+-- the first of those by which the inode file grows.
+abbrev pub ForCreation : Image → ℕ → (Change → Type 0) → Type 0
+ForCreation image i Holds = (free : Option ℕ) → IsLeastFree image free → Holds (enters i (entrant_of free))

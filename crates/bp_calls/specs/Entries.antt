@@ -1,10 +1,13 @@
 -- An entry behind the last one of a directory: its bytes, and what stands of it before the size takes it in.
 use Rattle.std.specs.Prelude.{◌≡◌, ℕ, ◌+◌, ◌-◌, ◌<◌, List, length, nat_lt, slice_index, Bool, if◌then◌else◌}
 use Rattle.bp_append.specs.Prepared.{PreparesWith}
+use Rattle.bp_free.specs.Set.{members}
+use Rattle.bp_free.specs.declared.parts.Parts.{Parts}
 use Rattle.bp_layout.specs.Directory.{Name, entry_count, inumber_in, name_in}
 use Rattle.bp_layout.specs.Inode.{root_of, size_of}
 use Rattle.bp_layout.specs.Words.{byte_of}
 use Rattle.bp_limits.specs.Limits.{entry_size}
+use Rattle.bp_shapes.specs.Sets.{kept_of}
 use Rattle.pm_region.specs.Memory.{Memory, current_words}
 
 -- A byte of an entry: eight of the inumber, the lowest first, eight of the name's length, and then the name, with zeros
@@ -26,3 +29,8 @@ pub record PutsBehind (kept : ℕ → Bool) (old new : Memory) (free_old free_ne
       (size_of (current_words old) i + entry_size) bytes
   pub inumber : inumber_in (current_words new) (root_of (current_words new) i) (entry_count (current_words old) i) ≡ j
   pub spelled : name_in (current_words new) (root_of (current_words new) i) (entry_count (current_words old) i) ≡ name
+
+-- the same of the parts of a file system, with the blocks that are free
+abbrev pub PutsEntry : {R : Type 0} → (R → Memory) → Parts R → Parts R → ℕ → ℕ → Name → Type 0
+PutsEntry memory old new i j name = PutsBehind (kept_of old) (memory old.region) (memory new.region) (members old.blocks)
+    (members new.blocks) i j name

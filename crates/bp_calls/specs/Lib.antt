@@ -1,6 +1,8 @@
 pub mod Entered
 pub mod Entrant
 pub mod Created
+pub mod NewEntry
+pub mod NearEnd
 pub mod OnTrees
 pub mod Mounted
 pub mod Spare

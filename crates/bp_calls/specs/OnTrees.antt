@@ -1,5 +1,7 @@
 -- What calls make of the plain tree, at each path that finds the directory or the file that they change.
 use Rattle.std.specs.Prelude.{◌≡◌, ℕ, List, [], ◌∷◌, ◌++◌, Some}
+use Rattle.bp_changes.specs.Overwrites.{OverwritesFiles, Patch}
+use Rattle.bp_changes.specs.Thawed.{AfterThaw}
 use Rattle.bp_layout.specs.Directory.{Name, name_at}
 use Rattle.bp_layout.specs.Lookup.{Path, lookup}
 use Rattle.bp_layout.specs.Words.{Image}
@@ -9,6 +11,7 @@ use Rattle.bp_plain.specs.Calls.{Piece}
 use Rattle.bp_plain.specs.Plain.{bytes_at, resized, with_content, with_dir, with_file, with_name, with_nothing, with_pieces, written}
 use Rattle.bp_plain.specs.PlainTree.{PathMap}
 use Rattle.bp_plain.specs.Stands.{Shows}
+use Rattle.bp_stands.specs.Pieces.{ArePatches}
 
 -- a file without bytes at the path, or a directory without names
 abbrev pub with_new : Kind → PathMap → Path → PathMap
@@ -46,3 +49,9 @@ GetsBytes i off bytes old new = (map : PathMap) (here : Path) → Shows old map 
 -- the second image shows the pieces of a batch, laid one after the other into the files that their paths find
 abbrev pub GetsPieces : List Piece → Image → Image → Type 0
 GetsPieces pieces old new = (map : PathMap) → Shows old map → Shows new (with_pieces map pieces)
+
+-- the pieces are patches of the files that their paths find, and these patches are laid over the files, behind a thaw
+pub record OverwritesPieces (pieces : List Piece) (old new : Image) : Type 0 where
+  pub patches : List Patch
+  pub are : ArePatches old pieces patches
+  pub overwrites : AfterThaw (OverwritesFiles patches) old new

@@ -3,7 +3,7 @@ use Rattle.std.specs.Prelude.{◌≡◌, ℕ, ◌+◌, ◌≤◌, List, [], ◌�
 use Rattle.bp_limits.specs.Limits.{max_batch, max_pieces}
 use Rattle.bp_layout.specs.Inode.{IsFile, size_of}
 use Rattle.bp_layout.specs.Members.{Each}
-use Rattle.bp_layout.specs.Need.{Stretch}
+use Rattle.bp_layout.specs.Need.{Change, Stretch}
 use Rattle.bp_layout.specs.Need.Change.{overwrites}
 use Rattle.bp_layout.specs.Reached.{IsReached}
 use Rattle.bp_layout.specs.Thaw.{thawed}
@@ -31,6 +31,10 @@ stretch_of patch = record { inode = patch.inode; off = patch.off; len = length p
 
 abbrev pub stretches_of : List Patch → List Stretch
 stretches_of patches = map stretch_of patches
+
+-- the change that a batch of them is
+abbrev pub batch_change : List GivenPatch → Change
+batch_change patches = overwrites (stretches_of (patches_seen patches))
 
 abbrev pub byte_count : List Patch → ℕ
 byte_count [] = 0

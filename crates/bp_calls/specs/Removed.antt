@@ -1,6 +1,8 @@
 -- What a call that takes a name out of a directory is asked for.
 use Rattle.std.specs.Prelude.{◌≡◌, ℕ, [], ◌∷◌, ◌++◌, Some}
+use Rattle.bp_dirs.specs.Names.{name_count}
 use Rattle.bp_layout.specs.Directory.{Name, slot_named}
+use Rattle.bp_layout.specs.Inode.{root_of, size_of}
 use Rattle.bp_layout.specs.Lookup.{Path, lookup}
 use Rattle.bp_layout.specs.Words.{Image}
 
@@ -9,3 +11,7 @@ pub record IsFoundAt (image : Image) (parent : Path) (name : Name) (i s j : ℕ)
   pub directory : lookup image parent ≡ Some i
   pub slot : slot_named image i name ≡ Some s
   pub inode : lookup image (parent ++ name ∷ []) ≡ Some j
+
+-- no entry of directory j names an inode
+abbrev pub HasNoName : Image → ℕ → Type 0
+HasNoName image j = name_count image (root_of image j) (size_of image j) ≡ 0

@@ -1,10 +1,13 @@
 -- The words of entries of a directory that is reached.
-use Rattle.std.specs.Prelude.{◌+◌, ◌<◌, ◌≤◌, ℕ, List}
+use Rattle.std.specs.Prelude.{◌≡◌, ◌+◌, ◌<◌, ◌≤◌, ℕ, List, [], ◌++◌}
+use Rattle.std.specs.List.{cons_option, filter_map, range_with_len}
+use Rattle.bp_calls.specs.Asked.{entry_seen}
 use Rattle.bp_dirs.specs.EntryWords.{HasWords, IsRow}
 use Rattle.bp_layout.specs.Words.{Image}
-use Rattle.bp_layout.specs.Directory.{entry_count}
+use Rattle.bp_layout.specs.Directory.{Name, entry_count}
 use Rattle.bp_layout.specs.Inode.{IsDirectory, root_of}
 use Rattle.bp_layout.specs.Reached.{IsReached}
+use Rattle.bp_layout.specs.declared.fields.Kind.{Kind}
 
 -- those of one entry
 pub record IsEntryRow (image : Image) (words : List ℕ) : Type 0 where
@@ -24,3 +27,15 @@ pub record AreEntries (image : Image) (words : List ℕ) : Type 0 where
   pub kind : IsDirectory image directory
   pub live : first + count ≤ entry_count image directory
   pub row : IsRow image (root_of image directory) first count words
+
+-- ---- what they add to a listing, whichever directory has them
+
+-- the kind and the name of the entry, where it names an inode, come behind the others
+abbrev pub AddsEntry : Image → List ℕ → List (Kind × Name) → List (Kind × Name) → Type 0
+AddsEntry image words old new = (i slot : ℕ) → HasWords image (root_of image i) slot words
+    → new ≡ old ++ cons_option (entry_seen image i slot) []
+
+-- those of all entries in the row
+abbrev pub AddsEntries : Image → List ℕ → List (Kind × Name) → List (Kind × Name) → Type 0
+AddsEntries image words old new = (i first count : ℕ) → IsRow image (root_of image i) first count words
+    → new ≡ old ++ filter_map (entry_seen image i) (range_with_len first count)

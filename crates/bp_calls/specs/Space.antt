@@ -1,5 +1,6 @@
 -- Why a call has no space, and the room that it asks of the log where it has.
 use Rattle.std.specs.Prelude.{◌≡◌, ◌+◌, ◌<◌, ◌≤◌, ℕ, Bool, length}
+use Rattle.bp_calls.specs.Entrant.{ForCreation}
 use Rattle.bp_free.specs.Set.{Set, members}
 use Rattle.bp_free.specs.declared.parts.NoSpace.{NoSpace}
 use Rattle.bp_layout.specs.Free.{HasFree}
@@ -19,10 +20,18 @@ pub record LacksBlocks (image : Image) (kept : ℕ → Bool) (wanted : ℕ) (lac
 abbrev pub LacksSpace : Image → (ℕ → Bool) → Change → NoSpace → Type 0
 LacksSpace image kept change lacks = LacksBlocks image kept (full_need image kept change) lacks
 
+-- the same of the creation of a name in directory i
+abbrev pub LacksSpaceToCreate : Image → (ℕ → Bool) → ℕ → NoSpace → Type 0
+LacksSpaceToCreate image kept i lacks = ForCreation image i (λ change. LacksSpace image kept change lacks)
+
 -- Where as many blocks are free as the change needs, the log has room for it. A call that lacks space asks for no room.
 abbrev pub HasRoomWhereFree : Memory → (ℕ → Bool) → Set → Change → Type 0
 HasRoomWhereFree memory kept blocks change =
     full_need (current_words memory) kept change ≤ length (members blocks) → HasRoomFor memory kept change
+
+-- the same for the creation of a name in directory i
+abbrev pub HasRoomToCreate : Memory → (ℕ → Bool) → Set → ℕ → Type 0
+HasRoomToCreate memory kept blocks i = ForCreation (current_words memory) i (HasRoomWhereFree memory kept blocks)
 
 -- the same behind a thaw, whose two barriers are then spent
 abbrev pub HasRoomThawed : Memory → Set → Change → Type 0

@@ -1,9 +1,11 @@
 -- What a change asks behind its thaw.
 use Rattle.std.specs.Prelude.{◌≡◌, ◌+◌, ◌≤◌, ℕ, [], Bool, length}
 use Rattle.bp_free.specs.Set.{Set, members}
+use Rattle.bp_free.specs.declared.parts.Parts.{Parts}
 use Rattle.bp_layout.specs.Need.{Change, need}
 use Rattle.bp_layout.specs.Thaw.{thawed}
 use Rattle.bp_commit.specs.Performs.{room_for}
+use Rattle.bp_shapes.specs.Sets.{kept_of}
 use Rattle.pm_region.specs.Memory.{Memory, current_words, room_in}
 
 -- Nothing is left to thaw, as many blocks are free as the change needs, and the log has room for it.
@@ -11,3 +13,7 @@ pub record IsThawedFor (kept : ℕ → Bool) (memory : Memory) (blocks : Set) (c
   pub clear : thawed (current_words memory) kept change ≡ []
   pub enough : need (current_words memory) change ≤ length (members blocks)
   pub room : room_for (need (current_words memory) change) ≤ room_in memory + 2
+
+-- the same of the parts of a file system
+abbrev pub AreThawedFor : {R : Type 0} → (R → Memory) → Parts R → Change → Type 0
+AreThawedFor memory parts change = IsThawedFor (kept_of parts) (memory parts.region) parts.blocks change

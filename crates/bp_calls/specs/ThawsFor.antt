@@ -1,8 +1,11 @@
 -- What a call does before its change, where some blocks are kept.
 use Rattle.std.specs.Prelude.{◌≡◌, ◌+◌, ◌≤◌, ℕ, List, length}
+use Rattle.bp_calls.specs.Space.{LacksBlocks}
 use Rattle.bp_free.specs.Set.{members}
+use Rattle.bp_free.specs.declared.parts.NoSpace.{NoSpace}
 use Rattle.bp_free.specs.declared.parts.Parts.{Parts}
-use Rattle.bp_layout.specs.Thaw.{thawed_on}
+use Rattle.bp_layout.specs.Need.{Change}
+use Rattle.bp_layout.specs.Thaw.{targets, thawed_on}
 use Rattle.bp_layout.specs.WordPaths.{WordPath}
 use Rattle.bp_commit.specs.Performs.{room_for}
 use Rattle.bp_shapes.specs.Sets.{IsExact, kept_of}
@@ -18,9 +21,18 @@ abbrev pub HasRoomToThaw : {R : Type 0} → (R → Memory) → List WordPath →
 HasRoomToThaw memory paths parts more = thaw_count memory paths parts + more ≤ length (members parts.blocks)
     → room_for (thaw_count memory paths parts + more) ≤ room_in (memory parts.region)
 
+-- fewer are free, and the error tells how many are needed
+abbrev pub LacksBlocksToThaw : {R : Type 0} → (R → Memory) → List WordPath → Parts R → ℕ → NoSpace → Type 0
+LacksBlocksToThaw memory paths parts more lacks =
+    LacksBlocks (current_words (memory parts.region)) (kept_of parts) (thaw_count memory paths parts + more) lacks
+
 -- The blocks on the ways are thawed. The sets and counts of the parts are still just those of the image, and the same
 -- blocks are kept.
 pub record ThawsFor {R : Type 0} (memory : R → Memory) (paths : List WordPath) (old new : Parts R) : Type 0 where
   pub thaws : Thaws (kept_of old) paths (memory old.region) (memory new.region) old.blocks new.blocks
   pub exact : IsExact (current_words (memory new.region)) new
   pub frozen : new.frozen ≡ old.frozen
+
+-- the same on the ways to the words near which a change stores
+abbrev pub ThawsBefore : {R : Type 0} → (R → Memory) → Parts R → Parts R → Change → Type 0
+ThawsBefore memory old new change = ThawsFor memory (targets (current_words (memory old.region)) change) old new

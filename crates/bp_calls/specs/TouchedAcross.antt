@@ -5,10 +5,14 @@ use Rattle.bp_cow.specs.Touched.{word_paths, word_values}
 use Rattle.bp_cow.specs.declared.touched.Run.{Run}
 use Rattle.bp_cow.specs.declared.touched.Touched.{Touched}
 use Rattle.bp_free.specs.Set.{Set}
+use Rattle.bp_free.specs.declared.parts.Parts.{Parts}
 use Rattle.bp_layout.specs.Inode.{root_of, size_of}
+use Rattle.bp_layout.specs.Need.{Change}
+use Rattle.bp_layout.specs.Need.Change.{writes}
 use Rattle.bp_layout.specs.Nodes.{height_with}
 use Rattle.bp_layout.specs.WordPaths.{inode_path}
 use Rattle.bp_layout.specs.Words.{Image, height_of}
+use Rattle.bp_shapes.specs.Sets.{kept_of}
 use Rattle.bp_calls.specs.CanWrite.{CanWriteInto}
 use Rattle.bp_calls.specs.declared.writing.across.Plan.{Plan}
 use Rattle.pm_region.specs.Memory.{Memory, current_words}
@@ -55,3 +59,13 @@ pub record IsPlanFor (image : Image) (i off : ℕ) (bytes : List ℕ) (plan : Pl
   pub size : plan.tree.size ≡ size_of image i
   pub sized : IsSizeWord image i (off + length bytes) (plan.sized ∷ [])
   pub run : IsRunAcross image i off (off + length bytes) (take (size_of image i - off) bytes) plan.run
+
+-- ---- as the plan tells it
+
+abbrev pub planned_change : Plan → Change
+planned_change plan = writes plan.inode plan.off (length plan.bytes.now)
+
+-- the planned bytes begin below the size and end past it, and this is touched for them
+abbrev pub WritesPlanned : {R : Type 0} → (R → Memory) → Parts R → Plan → Touched → Type 0
+WritesPlanned memory parts plan touched =
+    WritesAcross (kept_of parts) (memory parts.region) parts.blocks parts.inodes plan.inode plan.off plan.bytes.now touched

@@ -3,17 +3,9 @@
 ghost use Rattle.std.specs.Prelude.{◌≡◌, ◌+◌, ◌≤◌, [], ◌∷◌, length, IfErr, OnErr, OnOk};
 ghost use Rattle.bp_calls.specs.Commits.{CommitsOrLacksBlocks, CommitsOrLacksSpace};
 ghost use Rattle.bp_calls.specs.Mounted.{IsMounted};
-ghost use Rattle.bp_calls.specs.Overwritten.{
-  AreRuns,
-  CanOverwrite,
-  CanOverwriteThawed,
-  IsPatchIn,
-  patch_seen,
-  patches_seen,
-  stretches_of,
-};
+ghost use Rattle.bp_calls.specs.Overwritten.{AreRuns, CanOverwrite, CanOverwriteThawed, IsPatchIn, batch_change, patch_seen, patches_seen};
 ghost use Rattle.bp_calls.specs.Space.{HasRoomWhereFree, LacksSpace};
-ghost use Rattle.bp_calls.specs.ThawsFor.{ThawsFor};
+ghost use Rattle.bp_calls.specs.ThawsFor.{ThawsBefore};
 ghost use Rattle.bp_calls.specs.TouchedBelow.{IsRunFor};
 ghost use Rattle.bp_changes.specs.Overwrites.{OverwritesFiles};
 ghost use Rattle.bp_commit.specs.Performs.{room_for};
@@ -22,8 +14,6 @@ ghost use Rattle.bp_cow.specs.Touched.{IsTouched};
 ghost use Rattle.bp_free.specs.Set.{members};
 ghost use Rattle.bp_layout.specs.Members.{Each};
 ghost use Rattle.bp_layout.specs.Need.{need};
-ghost use Rattle.bp_layout.specs.Need.Change.{overwrites};
-ghost use Rattle.bp_layout.specs.Thaw.{targets};
 ghost use Rattle.bp_layout.specs.WellFormed.{IsWellFormed};
 ghost use Rattle.bp_limits.specs.Limits.{block_words, max_pieces};
 ghost use Rattle.bp_shapes.specs.Sets.{IsExact, kept_of};
@@ -97,8 +87,7 @@ fn overlay<R: Region>(parts: &mut Parts<R>, patches: &[Patch<'_>]) -> Result<(),
     requires can { CanOverwriteThawed (kept_of parts.old) (R.memory parts.old.region) parts.old.blocks parts.old.inodes
         (patches_seen patches.now) }
     requires exact { IsExact (current_words (R.memory parts.old.region)) parts.old }
-    ensures { CommitsOrLacksBlocks R.memory parts.old parts.new result
-        (overwrites (stretches_of (patches_seen patches.now)))
+    ensures { CommitsOrLacksBlocks R.memory parts.old parts.new result (batch_change patches.now)
         (OverwritesFiles (patches_seen patches.now)) }
 {
     let runs = runs_of(&parts.region, patches);
@@ -115,15 +104,14 @@ fn thaw_batch<R: Region>(parts: &mut Parts<R>, patches: &[Patch<'_>]) -> Result<
     requires mounted { IsMounted (current_words (R.memory parts.old.region)) parts.old }
     requires can { CanOverwrite (current_words (R.memory parts.old.region)) (patches_seen patches.now) }
     requires room { HasRoomWhereFree (R.memory parts.old.region) (kept_of parts.old) parts.old.blocks
-        (overwrites (stretches_of (patches_seen patches.now))) }
-    ensures thaws { OnOk result (ThawsFor R.memory (targets (current_words (R.memory parts.old.region))
-        (overwrites (stretches_of (patches_seen patches.now)))) parts.old parts.new) }
-    ensures room { OnOk result (room_for (need (current_words (R.memory parts.old.region))
-        (overwrites (stretches_of (patches_seen patches.now)))) ≤ room_in (R.memory parts.new.region) + 2) }
-    ensures enough { OnOk result (need (current_words (R.memory parts.old.region))
-        (overwrites (stretches_of (patches_seen patches.now))) ≤ length (members parts.new.blocks)) }
+        (batch_change patches.now) }
+    ensures thaws { OnOk result (ThawsBefore R.memory parts.old parts.new (batch_change patches.now)) }
+    ensures room { OnOk result (room_for (need (current_words (R.memory parts.old.region)) (batch_change patches.now))
+        ≤ room_in (R.memory parts.new.region) + 2) }
+    ensures enough { OnOk result (need (current_words (R.memory parts.old.region)) (batch_change patches.now)
+        ≤ length (members parts.new.blocks)) }
     ensures refused { IfErr result (LacksSpace (current_words (R.memory parts.old.region)) (kept_of parts.old)
-        (overwrites (stretches_of (patches_seen patches.now)))) }
+        (batch_change patches.now)) }
     ensures same { OnErr result (parts.new ≡ parts.old) }
 {
     let runs = runs_of(&parts.region, patches);
@@ -144,9 +132,8 @@ pub fn batch<R: Region>(parts: &mut Parts<R>, patches: &[Patch<'_>]) -> Result<(
     requires mounted { IsMounted (current_words (R.memory parts.old.region)) parts.old }
     requires can { CanOverwrite (current_words (R.memory parts.old.region)) (patches_seen patches.now) }
     requires room { HasRoomWhereFree (R.memory parts.old.region) (kept_of parts.old) parts.old.blocks
-        (overwrites (stretches_of (patches_seen patches.now))) }
-    ensures { CommitsOrLacksSpace R.memory parts.old parts.new result
-        (overwrites (stretches_of (patches_seen patches.now)))
+        (batch_change patches.now) }
+    ensures { CommitsOrLacksSpace R.memory parts.old parts.new result (batch_change patches.now)
         (OverwritesFiles (patches_seen patches.now)) }
 {
     if parts.frozen.count() == 0 {

@@ -1,13 +1,10 @@
 //! Commits of bytes below the sizes of files.
 
 ghost use Rattle.std.specs.Prelude.{◌≡◌, ◌≤◌, [], length};
-ghost use Rattle.bp_calls.specs.CommitsTouched.{CommitsTouchedOrLacks};
+ghost use Rattle.bp_calls.specs.CommitsTouched.{CanCommitTouched, CommitsTouchedOrLacks, HasRoomToCommit};
 ghost use Rattle.bp_calls.specs.TouchedBelow.{IsRunFor};
-ghost use Rattle.bp_cow.specs.CanCommit.{CanCommit};
-ghost use Rattle.bp_cow.specs.Commit.{HasLooseCover, HasRoom};
-ghost use Rattle.bp_cow.specs.Cover.{copied_count};
+ghost use Rattle.bp_cow.specs.Commit.{HasLooseCover};
 ghost use Rattle.bp_cow.specs.Found.{AreWaysIn};
-ghost use Rattle.bp_free.specs.Set.{has, members};
 ghost use Rattle.bp_layout.specs.Inode.{root_of, size_of};
 ghost use Rattle.bp_layout.specs.WellFormed.{IsWellFormed};
 ghost use Rattle.bp_layout.specs.Words.{block_count};
@@ -66,13 +63,11 @@ pub(crate) fn commit_found<R: Region>(
     found: &FoundWays,
 ) -> Result<(), NoSpace>
     requires well_formed { IsWellFormed (current_words (R.memory parts.old.region)) }
-    requires can { CanCommit (current_words (R.memory parts.old.region))
-        (size_of (current_words (R.memory parts.old.region))) (kept_of parts.old) touched.now (has parts.old.blocks) }
+    requires can { CanCommitTouched R.memory parts.old touched.now }
     requires loose { HasLooseCover (current_words (R.memory parts.old.region)) (kept_of parts.old) touched.now }
     requires known { block_count (current_words (R.memory parts.old.region)) ≤ length parts.old.frozen }
     requires fits { block_count (current_words (R.memory parts.old.region)) ≤ length parts.old.blocks }
-    requires room { copied_count (current_words (R.memory parts.old.region)) touched.now ≤ length (members parts.old.blocks)
-        → HasRoom (R.memory parts.old.region) touched.now }
+    requires room { HasRoomToCommit R.memory parts.old touched.now }
     requires found { AreWaysIn (current_words (R.memory parts.old.region)) touched.now found.now }
     ensures { CommitsTouchedOrLacks R.memory parts.old parts.new result touched.now }
 {
@@ -95,13 +90,11 @@ pub(crate) fn commit_below<R: Region>(
     touched: &Touched<'_>,
 ) -> Result<(), NoSpace>
     requires well_formed { IsWellFormed (current_words (R.memory parts.old.region)) }
-    requires can { CanCommit (current_words (R.memory parts.old.region))
-        (size_of (current_words (R.memory parts.old.region))) (kept_of parts.old) touched.now (has parts.old.blocks) }
+    requires can { CanCommitTouched R.memory parts.old touched.now }
     requires loose { HasLooseCover (current_words (R.memory parts.old.region)) (kept_of parts.old) touched.now }
     requires known { block_count (current_words (R.memory parts.old.region)) ≤ length parts.old.frozen }
     requires fits { block_count (current_words (R.memory parts.old.region)) ≤ length parts.old.blocks }
-    requires room { copied_count (current_words (R.memory parts.old.region)) touched.now ≤ length (members parts.old.blocks)
-        → HasRoom (R.memory parts.old.region) touched.now }
+    requires room { HasRoomToCommit R.memory parts.old touched.now }
     ensures { CommitsTouchedOrLacks R.memory parts.old parts.new result touched.now }
 {
     let found = find_ways(&parts.region, touched);

@@ -1,18 +1,17 @@
 //! New names.
 
-ghost use Rattle.std.specs.Prelude.{◌≡◌, ℕ, ◌+◌, ◌*◌, ◌<◌, ◌≤◌, ◌^◌, [], Option, None, IfErr, MatchOption, OnErr, OnOk};
+ghost use Rattle.std.specs.Prelude.{◌≡◌, ◌+◌, ◌*◌, ◌<◌, ◌≤◌, ◌^◌, [], None, IfErr, MatchOption, OnErr, OnOk};
 ghost use Rattle.bp_calls.specs.Commits.{CommitsChange, CreatesOrLacksSpace};
 ghost use Rattle.bp_calls.specs.Created.{EntersName};
-ghost use Rattle.bp_calls.specs.Entrant.{entrant_of};
-ghost use Rattle.bp_calls.specs.Growth.{stores_behind_growth};
+ghost use Rattle.bp_calls.specs.Entrant.{ForCreation};
 ghost use Rattle.bp_calls.specs.Mounted.{IsMounted};
-ghost use Rattle.bp_calls.specs.Space.{HasRoomWhereFree, LacksSpace};
+ghost use Rattle.bp_calls.specs.NewEntry.{EntersLeastFree, PerformsCreation};
+ghost use Rattle.bp_calls.specs.Space.{HasRoomToCreate, LacksSpaceToCreate};
 ghost use Rattle.bp_calls.specs.Steps.{CanEnter, LacksName, name_need};
-ghost use Rattle.bp_calls.specs.ThawedFor.{IsThawedFor};
-ghost use Rattle.bp_calls.specs.ThawsFor.{ThawsFor};
+ghost use Rattle.bp_calls.specs.ThawedFor.{AreThawedFor};
+ghost use Rattle.bp_calls.specs.ThawsFor.{ThawsBefore};
 ghost use Rattle.bp_free.specs.Set.{IsLeast, members};
 ghost use Rattle.bp_layout.specs.Directory.{IsName, empty_slot, slot_named};
-ghost use Rattle.bp_layout.specs.Free.{IsLeastFree};
 ghost use Rattle.bp_layout.specs.Inode.{IsDirectory, root_of, size_of};
 ghost use Rattle.bp_layout.specs.Need.{need};
 ghost use Rattle.bp_layout.specs.Need.Change.{enters};
@@ -23,7 +22,6 @@ ghost use Rattle.bp_layout.specs.WellFormed.{IsWellFormed};
 ghost use Rattle.bp_limits.specs.Limits.{max_height};
 ghost use Rattle.bp_shapes.specs.Sets.{IsExact, kept_of};
 ghost use Rattle.bp_thaw.specs.Thaws.{paths_in};
-ghost use Rattle.bp_commit.specs.Performs.{PerformsThawed, PerformsWithin};
 ghost use Rattle.pm_region.specs.Memory.{current_words};
 
 use crate::entering::{enter_behind, enter_slot, entering};
@@ -64,8 +62,8 @@ fn new_need<R: Region>(parts: &Parts<R>, dir: u32, slot: Option<u64>) -> u32
     requires reached { IsReached (current_words (R.memory parts.now.region)) dir }
     requires directory { IsDirectory (current_words (R.memory parts.now.region)) dir }
     requires slot { slot ≡ empty_slot (current_words (R.memory parts.now.region)) dir }
-    ensures need { (free : Option ℕ) → IsLeastFree (current_words (R.memory parts.now.region)) free
-        → need (current_words (R.memory parts.now.region)) (enters dir (entrant_of free)) ≡ result }
+    ensures need { ForCreation (current_words (R.memory parts.now.region)) dir
+        (λ change. need (current_words (R.memory parts.now.region)) change ≡ result) }
     ensures few { result < 2 ^ 31 }
 {
     let tree = tree_of(&parts.region, dir);
@@ -93,8 +91,8 @@ fn entering_new<R: Region>(parts: &mut Parts<R>, dir: u32, slot: Option<u64>) ->
     requires reached { IsReached (current_words (R.memory parts.old.region)) dir }
     requires directory { IsDirectory (current_words (R.memory parts.old.region)) dir }
     requires slot { slot ≡ empty_slot (current_words (R.memory parts.old.region)) dir }
-    ensures paths { (free : Option ℕ) → IsLeastFree (current_words (R.memory parts.old.region)) free
-        → paths_in result ≡ targets (current_words (R.memory parts.old.region)) (enters dir (entrant_of free)) }
+    ensures paths { let image = current_words (R.memory parts.old.region) in
+        ForCreation image dir (λ change. paths_in result ≡ targets image change) }
     ensures same { parts.new ≡ parts.old }
 {
     let mut targets = entering(&parts.region, dir, slot);
@@ -116,18 +114,12 @@ fn thaw_new<R: Region>(parts: &mut Parts<R>, dir: u32, slot: Option<u64>) -> Res
     requires reached { IsReached (current_words (R.memory parts.old.region)) dir }
     requires directory { IsDirectory (current_words (R.memory parts.old.region)) dir }
     requires slot { slot ≡ empty_slot (current_words (R.memory parts.old.region)) dir }
-    requires room { (free : Option ℕ) → IsLeastFree (current_words (R.memory parts.old.region)) free
-        → HasRoomWhereFree (R.memory parts.old.region) (kept_of parts.old) parts.old.blocks
-        (enters dir (entrant_of free)) }
-    ensures thaws { OnOk result ((free : Option ℕ) → IsLeastFree (current_words (R.memory parts.old.region)) free
-        → ThawsFor R.memory (targets (current_words (R.memory parts.old.region)) (enters dir (entrant_of free)))
-        parts.old parts.new) }
-    ensures thawed { OnOk result ((free : Option ℕ) → IsLeastFree (current_words (R.memory parts.old.region)) free
-        → IsThawedFor (kept_of parts.new) (R.memory parts.new.region) parts.new.blocks (enters dir (entrant_of free))) }
-    ensures refused { IfErr result (λ lacks. (free : Option ℕ)
-        → IsLeastFree (current_words (R.memory parts.old.region)) free
-        → LacksSpace (current_words (R.memory parts.old.region)) (kept_of parts.old)
-        (enters dir (entrant_of free)) lacks) }
+    requires room { HasRoomToCreate (R.memory parts.old.region) (kept_of parts.old) parts.old.blocks dir }
+    ensures thaws { OnOk result (ForCreation (current_words (R.memory parts.old.region)) dir
+        (ThawsBefore R.memory parts.old parts.new)) }
+    ensures thawed { OnOk result (ForCreation (current_words (R.memory parts.old.region)) dir
+        (AreThawedFor R.memory parts.new)) }
+    ensures refused { IfErr result (LacksSpaceToCreate (current_words (R.memory parts.old.region)) (kept_of parts.old) dir) }
     ensures same { OnErr result (parts.new ≡ parts.old) }
 {
     let need = new_need(parts, dir, slot);
@@ -147,11 +139,8 @@ fn enter<R: Region>(parts: &mut Parts<R>, dir: u32, slot: Option<u64>, name: &[u
     requires can { CanEnter (kept_of parts.old) (R.memory parts.old.region) parts.old.blocks parts.old.inodes dir name.now }
     requires exact { IsExact (current_words (R.memory parts.old.region)) parts.old }
     requires slot { slot ≡ empty_slot (current_words (R.memory parts.old.region)) dir }
-    ensures performs { (free : Option ℕ) → IsLeastFree (current_words (R.memory parts.old.region)) free
-        → PerformsWithin (kept_of parts.old) (name_need (current_words (R.memory parts.old.region)) dir) 5
-        (stores_behind_growth (name_need (current_words (R.memory parts.old.region)) dir))
-        (R.memory parts.old.region) (R.memory parts.new.region) (enters dir (entrant_of free))
-        (EntersName dir name.now kind) }
+    ensures performs { EntersLeastFree (kept_of parts.old) (R.memory parts.old.region) (R.memory parts.new.region) dir name.now
+        kind }
     ensures exact { IsExact (current_words (R.memory parts.new.region)) parts.new }
     ensures frozen { parts.new.frozen ≡ parts.old.frozen }
 {
@@ -175,7 +164,7 @@ fn grow_and_enter<R: Region>(
     requires exact { IsExact (current_words (R.memory parts.old.region)) parts.old }
     requires slot { slot ≡ empty_slot (current_words (R.memory parts.old.region)) dir }
     requires none { members parts.old.inodes ≡ [] }
-    requires thawed { IsThawedFor (kept_of parts.old) (R.memory parts.old.region) parts.old.blocks (enters dir grown) }
+    requires thawed { AreThawedFor R.memory parts.old (enters dir grown) }
     ensures { CommitsChange R.memory parts.old parts.new (enters dir grown) (EntersName dir name.now kind) }
 {
     grow(parts);
@@ -187,11 +176,9 @@ fn enter_new<R: Region>(parts: &mut Parts<R>, dir: u32, slot: Option<u64>, name:
     requires lacks { LacksName (current_words (R.memory parts.old.region)) dir name.now }
     requires exact { IsExact (current_words (R.memory parts.old.region)) parts.old }
     requires slot { slot ≡ empty_slot (current_words (R.memory parts.old.region)) dir }
-    requires thawed { (free : Option ℕ) → IsLeastFree (current_words (R.memory parts.old.region)) free
-        → IsThawedFor (kept_of parts.old) (R.memory parts.old.region) parts.old.blocks (enters dir (entrant_of free)) }
-    ensures performs { (free : Option ℕ) → IsLeastFree (current_words (R.memory parts.old.region)) free
-        → PerformsThawed (kept_of parts.old) (R.memory parts.old.region) (R.memory parts.new.region)
-        (enters dir (entrant_of free)) (EntersName dir name.now kind) }
+    requires thawed { ForCreation (current_words (R.memory parts.old.region)) dir (AreThawedFor R.memory parts.old) }
+    ensures performs { PerformsCreation (kept_of parts.old) (R.memory parts.old.region) (R.memory parts.new.region) dir name.now
+        kind }
     ensures exact { IsExact (current_words (R.memory parts.new.region)) parts.new }
     ensures frozen { parts.new.frozen ≡ parts.old.frozen }
 {
@@ -221,9 +208,7 @@ pub fn create_in<R: Region>(
     requires name { IsName name.now }
     requires slot { slot ≡ empty_slot (current_words (R.memory parts.old.region)) dir }
     requires new { slot_named (current_words (R.memory parts.old.region)) dir name.now ≡ None }
-    requires room { (free : Option ℕ) → IsLeastFree (current_words (R.memory parts.old.region)) free
-        → HasRoomWhereFree (R.memory parts.old.region) (kept_of parts.old) parts.old.blocks
-        (enters dir (entrant_of free)) }
+    requires room { HasRoomToCreate (R.memory parts.old.region) (kept_of parts.old) parts.old.blocks dir }
     ensures { CreatesOrLacksSpace R.memory parts.old parts.new result dir name.now kind }
 {
     match thaw_new(parts, dir, slot) {
@@ -254,9 +239,7 @@ pub fn create<R: Region>(
     requires directory { IsDirectory (current_words (R.memory parts.old.region)) dir }
     requires name { IsName name.now }
     requires new { slot_named (current_words (R.memory parts.old.region)) dir name.now ≡ None }
-    requires room { (free : Option ℕ) → IsLeastFree (current_words (R.memory parts.old.region)) free
-        → HasRoomWhereFree (R.memory parts.old.region) (kept_of parts.old) parts.old.blocks
-        (enters dir (entrant_of free)) }
+    requires room { HasRoomToCreate (R.memory parts.old.region) (kept_of parts.old) parts.old.blocks dir }
     ensures { CreatesOrLacksSpace R.memory parts.old parts.new result dir name.now kind }
 {
     let slot = free_slot(&parts.region, tree_of(&parts.region, dir));

@@ -1,12 +1,11 @@
 //! A name and its inode in a directory: in an empty entry, or in one behind the last.
 
-ghost use Rattle.std.specs.Prelude.{Some, ◌≡◌, ℕ, ◌+◌, ◌*◌, ◌≤◌, Bool, length};
-ghost use Rattle.bp_shapes.specs.Sets.{AreExact, kept_of};
+ghost use Rattle.std.specs.Prelude.{Some, ◌≡◌, ◌≤◌, length};
+ghost use Rattle.bp_shapes.specs.Sets.{kept_of};
 ghost use Rattle.bp_calls.specs.Created.{CountsName, EntersName};
-ghost use Rattle.bp_calls.specs.Entries.{AreEntryBytes, PutsBehind, entry_byte};
-ghost use Rattle.bp_calls.specs.Growth.{stores_behind_growth};
-ghost use Rattle.bp_calls.specs.Steps.{CanEnterBehind, CanName, CanPutBehind, HasLooseWord, entering_room, name_need};
-ghost use Rattle.bp_free.specs.Set.{Set, members, without};
+ghost use Rattle.bp_calls.specs.Entries.{AreEntryBytes, PutsEntry, entry_byte};
+ghost use Rattle.bp_calls.specs.NewEntry.{EntersInSlot, PerformsEntry, TakesFreeInode, TakesOnlyInode};
+ghost use Rattle.bp_calls.specs.Steps.{CanEnterBehind, CanName, CanPutBehind, entering_room, name_need};
 ghost use Rattle.bp_layout.specs.Directory.{empty_slot};
 ghost use Rattle.bp_layout.specs.Inode.{IsDirectory, root_of, size_of};
 ghost use Rattle.bp_layout.specs.Need.Change.{enters};
@@ -14,8 +13,6 @@ ghost use Rattle.bp_layout.specs.Need.Entrant.{linked, taken};
 ghost use Rattle.bp_layout.specs.Reached.{IsReached};
 ghost use Rattle.bp_layout.specs.Thaw.{targets};
 ghost use Rattle.bp_layout.specs.WellFormed.{IsWellFormed};
-ghost use Rattle.bp_commit.specs.Performs.{PerformsWithin};
-ghost use Rattle.bp_limits.specs.Limits.{entry_words, inode_words};
 ghost use Rattle.bp_thaw.specs.Thaws.{paths_in};
 ghost use Rattle.pm_region.specs.Memory.{current_words, room_in};
 
@@ -64,15 +61,8 @@ pub(crate) fn enter_slot<R: Region>(
     requires found { empty_slot (current_words (R.memory region.old)) dir ≡ Some slot }
     requires room { entering_room (name_need (current_words (R.memory region.old)) dir)
         ≤ room_in (R.memory region.old) }
-    ensures performs { (kept : ℕ → Bool)
-        → HasLooseWord (current_words (R.memory region.old)) kept dir (entry_words * slot + 0)
-        → HasLooseWord (current_words (R.memory region.old)) kept 0 (inode_words * inode + 0)
-        → PerformsWithin kept (name_need (current_words (R.memory region.old)) dir) 5
-        (stores_behind_growth (name_need (current_words (R.memory region.old)) dir))
-        (R.memory region.old) (R.memory region.new) (enters dir (taken inode)) (EntersName dir name.now kind) }
-    ensures exact { (kept : ℕ → Bool) (blocks inodes : Set)
-        → AreExact (current_words (R.memory region.old)) kept blocks inodes
-        → AreExact (current_words (R.memory region.new)) kept blocks (without inodes inode) }
+    ensures performs { EntersInSlot (R.memory region.old) (R.memory region.new) dir slot inode name.now kind }
+    ensures exact { TakesOnlyInode (R.memory region.old) (R.memory region.new) inode }
     ensures counts { CountsName (current_words (R.memory region.old)) (current_words (R.memory region.new)) inode }
 {
     let tree = tree_of(region, dir);
@@ -115,8 +105,7 @@ pub fn put_behind<R: Region>(parts: &mut Parts<R>, dir: u32, tree: Tree, inode: 
     requires can { CanPutBehind (kept_of parts.old) (R.memory parts.old.region) parts.old.blocks dir name.now }
     requires root { tree.root ≡ root_of (current_words (R.memory parts.old.region)) dir }
     requires size { tree.size ≡ size_of (current_words (R.memory parts.old.region)) dir }
-    ensures puts { PutsBehind (kept_of parts.old) (R.memory parts.old.region) (R.memory parts.new.region) (members parts.old.blocks)
-        (members parts.new.blocks) dir inode name.now }
+    ensures puts { PutsEntry R.memory parts.old parts.new dir inode name.now }
     ensures blocks { length parts.new.blocks ≡ length parts.old.blocks }
     ensures inodes { parts.new.inodes ≡ parts.old.inodes }
     ensures counts { parts.new.counts ≡ parts.old.counts }
@@ -145,13 +134,10 @@ pub(crate) fn enter_behind<R: Region>(
     kind: Kind,
 )
     requires can { CanEnterBehind (kept_of parts.old) (R.memory parts.old.region) parts.old.blocks dir inode name.now }
-    ensures performs { PerformsWithin (kept_of parts.old) (name_need (current_words (R.memory parts.old.region)) dir) 5
-        (stores_behind_growth (name_need (current_words (R.memory parts.old.region)) dir))
-        (R.memory parts.old.region) (R.memory parts.new.region) (enters dir (taken inode))
+    ensures performs { PerformsEntry (kept_of parts.old) (R.memory parts.old.region) (R.memory parts.new.region) dir (taken inode)
         (EntersName dir name.now kind) }
-    ensures exact { (inodes : Set)
-        → AreExact (current_words (R.memory parts.old.region)) (kept_of parts.old) parts.old.blocks inodes
-        → AreExact (current_words (R.memory parts.new.region)) (kept_of parts.old) parts.new.blocks (without inodes inode) }
+    ensures exact { TakesFreeInode (kept_of parts.old) (R.memory parts.old.region) (R.memory parts.new.region) parts.old.blocks
+        parts.new.blocks inode }
     ensures counts { CountsName (current_words (R.memory parts.old.region))
         (current_words (R.memory parts.new.region)) inode }
     ensures inodes { parts.new.inodes ≡ parts.old.inodes }

@@ -5,19 +5,17 @@ ghost use Rattle.std.specs.Prelude.{◌≡◌, ◌≤◌, ℕ, Bool, List, [], l
 ghost use Rattle.bp_calls.specs.ContentPaths.{HasContentWord, KeepsHeights, WholePathExists};
 ghost use Rattle.bp_calls.specs.Created.{EntersName, LinksEntry};
 ghost use Rattle.bp_calls.specs.InPlace.{LiesInWord};
-ghost use Rattle.bp_calls.specs.OnTrees.{GainsName, GetsBytes, GetsPieces, GetsSize, LosesName, SharesName};
-ghost use Rattle.bp_calls.specs.Removed.{IsFoundAt};
+ghost use Rattle.bp_calls.specs.OnTrees.{GainsName, GetsBytes, GetsPieces, GetsSize, LosesName, OverwritesPieces, SharesName};
+ghost use Rattle.bp_calls.specs.Removed.{HasNoName, IsFoundAt};
 ghost use Rattle.bp_calls.specs.Resized.{ResizesFile};
 ghost use Rattle.bp_calls.specs.WritesFile.{WritesFile};
 ghost use Rattle.bp_layout.specs.declared.fields.Kind.{Kind};
 ghost use Rattle.bp_changes.specs.Effects.{CanUnlink, RemovesEntry};
-ghost use Rattle.bp_changes.specs.Overwrites.{OverwritesFiles, Patch};
 ghost use Rattle.bp_changes.specs.Thawed.{AfterThaw};
-ghost use Rattle.bp_dirs.specs.Names.{name_count};
 ghost use Rattle.bp_free.specs.Set.{has, members};
 ghost use Rattle.bp_layout.specs.Directory.{Name, inumber_at, name_at};
 ghost use Rattle.bp_layout.specs.Free.{AreFreeBlocks, HasFree};
-ghost use Rattle.bp_layout.specs.Inode.{IsDirectory, IsFile, root_of, size_of};
+ghost use Rattle.bp_layout.specs.Inode.{IsDirectory, IsFile, size_of};
 ghost use Rattle.bp_layout.specs.Lookup.{Path};
 ghost use Rattle.bp_layout.specs.Need.{Change, need};
 ghost use Rattle.bp_layout.specs.Need.Change.{leaves, resizes, writes};
@@ -25,7 +23,6 @@ ghost use Rattle.bp_layout.specs.Reached.{IsReached};
 ghost use Rattle.bp_layout.specs.WellFormed.{IsWellFormed};
 ghost use Rattle.bp_layout.specs.Words.{block_count};
 ghost use Rattle.bp_plain.specs.Calls.{Piece};
-ghost use Rattle.bp_stands.specs.Pieces.{ArePatches};
 
 use bp_free::Blocks;
 
@@ -94,9 +91,8 @@ pub fn files_and_empty_directories_may_leave(image: &[u64])
     ensures file { (parent : Path) (name : Name) (i s j : ℕ) → IsFoundAt image.now parent name i s j
         → IsFile image.now j → CanUnlink image.now i s j }
     ensures directory { (parent : Path) (name : Name) (i s j : ℕ) → IsFoundAt image.now parent name i s j
-        → name_count image.now (root_of image.now j) (size_of image.now j) ≡ 0 → CanUnlink image.now i s j }
-    ensures no_other { (i s j : ℕ) → CanUnlink image.now i s j → IsDirectory image.now j
-        → name_count image.now (root_of image.now j) (size_of image.now j) ≡ 0 }
+        → HasNoName image.now j → CanUnlink image.now i s j }
+    ensures no_other { (i s j : ℕ) → CanUnlink image.now i s j → IsDirectory image.now j → HasNoName image.now j }
 {}
 
 /// A file that got another size has the front of its bytes in the plain tree, or zeros behind them, at each path that
@@ -118,6 +114,5 @@ pub fn written_files_get_their_bytes(old: &[u64], new: &[u64])
 /// that finds one of the files.
 pub fn overwritten_files_get_their_bytes(old: &[u64], new: &[u64])
     requires { IsWellFormed old.now }
-    ensures { (pieces : List Piece) (patches : List Patch) → ArePatches old.now pieces patches →
-        AfterThaw (OverwritesFiles patches) old.now new.now → GetsPieces pieces old.now new.now }
+    ensures { (pieces : List Piece) → OverwritesPieces pieces old.now new.now → GetsPieces pieces old.now new.now }
 {}

@@ -1,24 +1,20 @@
 //! Names more for files.
 
-ghost use Rattle.std.specs.Prelude.{Some, ◌≡◌, ℕ, ◌+◌, ◌*◌, ◌≤◌, Bool, Option, None, IfErr, OnErr, OnOk};
+ghost use Rattle.std.specs.Prelude.{Some, ◌≡◌, ◌≤◌, None, IfErr, OnErr, OnOk};
 ghost use Rattle.bp_calls.specs.Commits.{CommitsChange, CommitsOrLacksSpace};
 ghost use Rattle.bp_calls.specs.Created.{CountsMore, LinksEntry};
-ghost use Rattle.bp_calls.specs.Growth.{stores_behind_growth};
 ghost use Rattle.bp_calls.specs.Mounted.{IsMounted};
+ghost use Rattle.bp_calls.specs.NewEntry.{KeepsFree, KeepsFreeInodes, LinksInSlot, PerformsEntry};
 ghost use Rattle.bp_calls.specs.Space.{HasRoomWhereFree, LacksSpace};
-ghost use Rattle.bp_calls.specs.Steps.{CanLink, CanLinkBehind, CanShare, HasLooseWord, entering_room, name_need};
-ghost use Rattle.bp_calls.specs.ThawedFor.{IsThawedFor};
-ghost use Rattle.bp_calls.specs.ThawsFor.{ThawsFor};
-ghost use Rattle.bp_free.specs.Set.{Set};
+ghost use Rattle.bp_calls.specs.Steps.{CanLink, CanLinkBehind, CanShare, entering_room, name_need};
+ghost use Rattle.bp_calls.specs.ThawedFor.{AreThawedFor};
+ghost use Rattle.bp_calls.specs.ThawsFor.{ThawsBefore};
 ghost use Rattle.bp_layout.specs.Directory.{IsName, empty_slot, slot_named};
 ghost use Rattle.bp_layout.specs.Inode.{IsDirectory, IsFile};
 ghost use Rattle.bp_layout.specs.Need.Change.{enters};
 ghost use Rattle.bp_layout.specs.Need.Entrant.{linked};
 ghost use Rattle.bp_layout.specs.Reached.{IsReached};
-ghost use Rattle.bp_layout.specs.Thaw.{targets};
-ghost use Rattle.bp_shapes.specs.Sets.{AreExact, IsExact, kept_of};
-ghost use Rattle.bp_commit.specs.Performs.{PerformsWithin};
-ghost use Rattle.bp_limits.specs.Limits.{entry_words};
+ghost use Rattle.bp_shapes.specs.Sets.{IsExact, kept_of};
 ghost use Rattle.pm_region.specs.Memory.{current_words, room_in};
 
 use crate::creating::entry_need;
@@ -37,14 +33,8 @@ fn link_slot<R: Region>(region: &mut R, dir: u32, slot: u64, i: u32, name: &[u8]
     requires found { empty_slot (current_words (R.memory region.old)) dir ≡ Some slot }
     requires room { entering_room (name_need (current_words (R.memory region.old)) dir)
         ≤ room_in (R.memory region.old) }
-    ensures performs { (kept : ℕ → Bool)
-        → HasLooseWord (current_words (R.memory region.old)) kept dir (entry_words * slot + 0)
-        → PerformsWithin kept (name_need (current_words (R.memory region.old)) dir) 5
-        (stores_behind_growth (name_need (current_words (R.memory region.old)) dir))
-        (R.memory region.old) (R.memory region.new) (enters dir linked) (LinksEntry dir name.now i) }
-    ensures exact { (kept : ℕ → Bool) (blocks inodes : Set)
-        → AreExact (current_words (R.memory region.old)) kept blocks inodes
-        → AreExact (current_words (R.memory region.new)) kept blocks inodes }
+    ensures performs { LinksInSlot (R.memory region.old) (R.memory region.new) dir slot name.now i }
+    ensures exact { KeepsFree (R.memory region.old) (R.memory region.new) }
     ensures counts { CountsMore (current_words (R.memory region.old)) (current_words (R.memory region.new)) i }
 {
     let tree = tree_of(region, dir);
@@ -56,12 +46,10 @@ fn link_slot<R: Region>(region: &mut R, dir: u32, slot: u64, i: u32, name: &[u8]
 /// Names a file in an entry behind the last one of a directory, whose size then takes it in.
 fn link_behind<R: Region>(parts: &mut Parts<R>, dir: u32, i: u32, name: &[u8])
     requires can { CanLinkBehind (kept_of parts.old) (R.memory parts.old.region) parts.old.blocks dir i name.now }
-    ensures performs { PerformsWithin (kept_of parts.old) (name_need (current_words (R.memory parts.old.region)) dir) 5
-        (stores_behind_growth (name_need (current_words (R.memory parts.old.region)) dir))
-        (R.memory parts.old.region) (R.memory parts.new.region) (enters dir linked) (LinksEntry dir name.now i) }
-    ensures exact { (inodes : Set)
-        → AreExact (current_words (R.memory parts.old.region)) (kept_of parts.old) parts.old.blocks inodes
-        → AreExact (current_words (R.memory parts.new.region)) (kept_of parts.old) parts.new.blocks inodes }
+    ensures performs { PerformsEntry (kept_of parts.old) (R.memory parts.old.region) (R.memory parts.new.region) dir linked
+        (LinksEntry dir name.now i) }
+    ensures exact { KeepsFreeInodes (kept_of parts.old) (R.memory parts.old.region) (R.memory parts.new.region) parts.old.blocks
+        parts.new.blocks }
     ensures counts { CountsMore (current_words (R.memory parts.old.region))
         (current_words (R.memory parts.new.region)) i }
     ensures inodes { parts.new.inodes ≡ parts.old.inodes }
@@ -85,10 +73,8 @@ fn thaw_linked<R: Region>(parts: &mut Parts<R>, dir: u32, slot: Option<u64>) -> 
     requires directory { IsDirectory (current_words (R.memory parts.old.region)) dir }
     requires slot { slot ≡ empty_slot (current_words (R.memory parts.old.region)) dir }
     requires room { HasRoomWhereFree (R.memory parts.old.region) (kept_of parts.old) parts.old.blocks (enters dir linked) }
-    ensures thaws { OnOk result (ThawsFor R.memory (targets (current_words (R.memory parts.old.region)) (enters dir linked))
-        parts.old parts.new) }
-    ensures thawed { OnOk result (IsThawedFor (kept_of parts.new) (R.memory parts.new.region) parts.new.blocks
-        (enters dir linked)) }
+    ensures thaws { OnOk result (ThawsBefore R.memory parts.old parts.new (enters dir linked)) }
+    ensures thawed { OnOk result (AreThawedFor R.memory parts.new (enters dir linked)) }
     ensures refused { IfErr result (λ lacks. LacksSpace (current_words (R.memory parts.old.region)) (kept_of parts.old)
         (enters dir linked) lacks) }
     ensures same { OnErr result (parts.new ≡ parts.old) }

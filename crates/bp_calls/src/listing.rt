@@ -1,12 +1,10 @@
 //! The names in a directory.
 
-ghost use Rattle.std.specs.Prelude.{◌++◌, ◌≡◌, ℕ, IfOk, OnOk, []};
-ghost use Rattle.std.specs.List.{cons_option, filter_map, range_with_len};
-ghost use Rattle.bp_calls.specs.Asked.{ListsNames, entries_seen, entry_seen};
-ghost use Rattle.bp_calls.specs.Rows.{AreEntries, IsEntryRow};
-ghost use Rattle.bp_dirs.specs.EntryWords.{HasWords, IsRow};
+ghost use Rattle.std.specs.Prelude.{◌≡◌, IfOk, OnOk};
+ghost use Rattle.bp_calls.specs.Asked.{ListsNames, entries_seen};
+ghost use Rattle.bp_calls.specs.Rows.{AddsEntries, AddsEntry, AreEntries, IsEntryRow};
 ghost use Rattle.bp_layout.specs.Directory.{entry_count};
-ghost use Rattle.bp_layout.specs.Inode.{IsDirectory, root_of};
+ghost use Rattle.bp_layout.specs.Inode.{IsDirectory};
 ghost use Rattle.bp_layout.specs.Reached.{IsReached};
 ghost use Rattle.bp_layout.specs.WellFormed.{IsWellFormed};
 ghost use Rattle.pm_region.specs.Memory.{current_words};
@@ -62,9 +60,7 @@ fn entries<R: Region>(alloc: Global, region: &R, i: u32) -> Result<Listing, Allo
 fn list_row<R: Region>(region: &R, words: &[u64], listing: &mut Listing) -> Result<(), AllocError>
     requires well_formed { IsWellFormed (current_words (R.memory region.now)) }
     requires entries { AreEntries (current_words (R.memory region.now)) words.now }
-    ensures { let image = current_words (R.memory region.now) in
-        (i first count : ℕ) → IsRow image (root_of image i) first count words.now
-        → OnOk result (listing.new ≡ listing.old ++ filter_map (entry_seen image i) (range_with_len first count)) }
+    ensures { OnOk result (AddsEntries (current_words (R.memory region.now)) words.now listing.old listing.new) }
 {
     for index in 0..words.len() / ENTRY {
         let view = EntryView::new(&words[ENTRY * index..ENTRY * index + ENTRY]);
@@ -81,9 +77,7 @@ fn list_entry<R: Region>(
 ) -> Result<(), AllocError>
     requires well_formed { IsWellFormed (current_words (R.memory region.now)) }
     requires entry { IsEntryRow (current_words (R.memory region.now)) view.words.now }
-    ensures { let image = current_words (R.memory region.now) in
-        (i slot : ℕ) → HasWords image (root_of image i) slot view.entry.words.now
-        → OnOk result (listing.new ≡ listing.old ++ cons_option (entry_seen image i slot) []) }
+    ensures { OnOk result (AddsEntry (current_words (R.memory region.now)) view.entry.words.now listing.old listing.new) }
 {
     let inumber = view.inumber();
     if inumber == 0 {

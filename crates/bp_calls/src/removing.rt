@@ -4,11 +4,11 @@ ghost use Rattle.std.specs.Prelude.{◌≡◌, ◌≤◌, [], IfErr, OnErr, OnOk
 ghost use Rattle.bp_calls.specs.Commits.{CommitsChange, CommitsOrLacksSpace};
 ghost use Rattle.bp_calls.specs.Mounted.{IsMounted};
 ghost use Rattle.bp_calls.specs.Space.{HasRoomWhereFree, LacksSpace};
-ghost use Rattle.bp_calls.specs.ThawsFor.{ThawsFor};
+ghost use Rattle.bp_calls.specs.ThawsFor.{ThawsBefore};
 ghost use Rattle.bp_changes.specs.Effects.{CanUnlink, RemovesEntry};
 ghost use Rattle.bp_layout.specs.Directory.{inumber_at};
 ghost use Rattle.bp_layout.specs.Need.Change.{leaves};
-ghost use Rattle.bp_layout.specs.Thaw.{targets, thawed};
+ghost use Rattle.bp_layout.specs.Thaw.{thawed};
 ghost use Rattle.bp_shapes.specs.Sets.{kept_of};
 ghost use Rattle.pm_region.specs.Memory.{current_words, room_in};
 
@@ -31,8 +31,7 @@ fn thaw_entry<R: Region>(parts: &mut Parts<R>, dir: u32, slot: u64) -> Result<()
     requires can { CanUnlink (current_words (R.memory parts.old.region)) dir slot
         (inumber_at (current_words (R.memory parts.old.region)) dir slot) }
     requires room { HasRoomWhereFree (R.memory parts.old.region) (kept_of parts.old) parts.old.blocks (leaves dir slot) }
-    ensures thaws { OnOk result (ThawsFor R.memory (targets (current_words (R.memory parts.old.region)) (leaves dir slot))
-        parts.old parts.new) }
+    ensures thaws { OnOk result (ThawsBefore R.memory parts.old parts.new (leaves dir slot)) }
     ensures room { OnOk result (3 ≤ room_in (R.memory parts.new.region)) }
     ensures refused { IfErr result (LacksSpace (current_words (R.memory parts.old.region)) (kept_of parts.old)
         (leaves dir slot)) }

@@ -4,8 +4,8 @@ ghost use Rattle.std.specs.Prelude.{◌≡◌, ◌≢◌, ◌<◌, ◌≤◌, []
 ghost use Rattle.bp_calls.specs.Commits.{CommitsChange, CommitsOrLacksSpace};
 ghost use Rattle.bp_calls.specs.Mounted.{IsMounted};
 ghost use Rattle.bp_calls.specs.Space.{HasRoomThawed, HasRoomWhereFree, LacksSpace};
-ghost use Rattle.bp_calls.specs.ThawsFor.{ThawsFor};
-ghost use Rattle.bp_layout.specs.Thaw.{targets, thawed};
+ghost use Rattle.bp_calls.specs.ThawsFor.{ThawsBefore};
+ghost use Rattle.bp_layout.specs.Thaw.{thawed};
 ghost use Rattle.bp_calls.specs.CanGrow.{CanGrowFile};
 ghost use Rattle.bp_calls.specs.Resized.{ResizesFile};
 ghost use Rattle.bp_free.specs.Set.{members};
@@ -53,8 +53,7 @@ fn thaw_size<R: Region>(parts: &mut Parts<R>, i: u32, size: u64) -> Result<(), N
     requires file { IsFile (current_words (R.memory parts.old.region)) i }
     requires smaller { size < size_of (current_words (R.memory parts.old.region)) i }
     requires room { HasRoomWhereFree (R.memory parts.old.region) (kept_of parts.old) parts.old.blocks (resizes i size) }
-    ensures thaws { OnOk result (ThawsFor R.memory (targets (current_words (R.memory parts.old.region)) (resizes i size))
-        parts.old parts.new) }
+    ensures thaws { OnOk result (ThawsBefore R.memory parts.old parts.new (resizes i size)) }
     ensures room { OnOk result (3 ≤ room_in (R.memory parts.new.region)) }
     ensures refused { IfErr result (LacksSpace (current_words (R.memory parts.old.region)) (kept_of parts.old)
         (resizes i size)) }
@@ -120,8 +119,7 @@ fn thaw_end<R: Region>(parts: &mut Parts<R>, i: u32, size: u64) -> Result<(), No
     requires longer { size_of (current_words (R.memory parts.old.region)) i < size }
     requires fits { size ≤ greatest_size (version_of (current_words (R.memory parts.old.region))) }
     requires room { HasRoomWhereFree (R.memory parts.old.region) (kept_of parts.old) parts.old.blocks (resizes i size) }
-    ensures thaws { OnOk result (ThawsFor R.memory (targets (current_words (R.memory parts.old.region)) (resizes i size))
-        parts.old parts.new) }
+    ensures thaws { OnOk result (ThawsBefore R.memory parts.old parts.new (resizes i size)) }
     ensures room { OnOk result (HasRoomThawed (R.memory parts.new.region) parts.new.blocks (resizes i size)) }
     ensures enough { OnOk result (need (current_words (R.memory parts.new.region)) (resizes i size)
         ≤ length (members parts.new.blocks)) }

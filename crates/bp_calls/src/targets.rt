@@ -1,18 +1,19 @@
 //! The words near which a change stores, before it is made.
 
-ghost use Rattle.std.specs.Prelude.{◌≡◌, ℕ, suc, ◌+◌, ◌*◌, ◌/◌, ◌<◌, ◌≤◌, [], ◌∷◌, ◌++◌, length};
+ghost use Rattle.std.specs.Prelude.{◌≡◌, ◌+◌, ◌/◌, ◌<◌, ◌≤◌, [], ◌∷◌, ◌++◌, length};
 ghost use Rattle.bp_calls.specs.CanWrite.{CanWrite};
 ghost use Rattle.bp_calls.specs.Mounted.{IsMounted};
+ghost use Rattle.bp_calls.specs.NearEnd.{AreTargetsAcross, AreTargetsBehind, AreTargetsLonger, AreTargetsShorter, ForTree};
 ghost use Rattle.bp_changes.specs.Effects.{CanUnlink};
 ghost use Rattle.bp_layout.specs.Directory.{entry_count, inumber_at};
 ghost use Rattle.bp_layout.specs.Inode.{root_of, size_of};
+ghost use Rattle.bp_layout.specs.Need.{content_path_at, entry_path_at};
 ghost use Rattle.bp_layout.specs.Need.Change.{leaves, resizes, writes};
 ghost use Rattle.bp_layout.specs.Reached.{IsReached};
-ghost use Rattle.bp_layout.specs.Thaw.{end_path_now, root_path_now, targets};
+ghost use Rattle.bp_layout.specs.Thaw.{end_path_now, heights_now, root_path_now, targets};
 ghost use Rattle.bp_layout.specs.WellFormed.{IsWellFormed};
-ghost use Rattle.bp_layout.specs.WordPaths.{tree_path};
-ghost use Rattle.bp_layout.specs.Words.{Image, height_of};
-ghost use Rattle.bp_limits.specs.Limits.{entry_words, max_height};
+ghost use Rattle.bp_layout.specs.Words.{height_of};
+ghost use Rattle.bp_limits.specs.Limits.{max_height};
 ghost use Rattle.bp_thaw.specs.Thaws.{paths_in};
 ghost use Rattle.pm_region.specs.Memory.{current_words};
 
@@ -36,8 +37,7 @@ pub(crate) fn content_path<R: Region>(region: &R, i: u32, tree: Tree, off: u64) 
     requires some { 1 ≤ i }
     requires root { tree.root ≡ root_of (current_words (R.memory region.now)) i }
     requires below { off < size_of (current_words (R.memory region.now)) i }
-    ensures { result.items ≡ tree_path (height_of (root_of (current_words (R.memory region.now)) 0)) i
-        (suc (height_of (root_of (current_words (R.memory region.now)) i))) (off / 8) }
+    ensures { result.items ≡ content_path_at (heights_now (current_words (R.memory region.now))) i (off / 8) }
 {
     let mut path = root_path(region, i);
     let within = word_path(tree, off);
@@ -53,8 +53,7 @@ pub fn entry_path<R: Region>(region: &R, dir: u32, slot: u64) -> Slots
     requires reached { IsReached (current_words (R.memory region.now)) dir }
     requires some { 1 ≤ dir }
     requires live { slot < entry_count (current_words (R.memory region.now)) dir }
-    ensures { result.items ≡ tree_path (height_of (root_of (current_words (R.memory region.now)) 0)) dir
-        (suc (height_of (root_of (current_words (R.memory region.now)) dir))) (entry_words * slot + 0) }
+    ensures { result.items ≡ entry_path_at (heights_now (current_words (R.memory region.now))) dir slot 0 }
 {
     content_path(region, dir, tree_of(region, dir), slot * ENTRY_SIZE)
 }
@@ -75,8 +74,7 @@ pub(crate) fn leaving<R: Region>(region: &R, dir: u32, slot: u64) -> Targets
 pub(crate) fn shrinking<R: Region>(region: &R, i: u32) -> Targets
     requires well_formed { IsWellFormed (current_words (R.memory region.now)) }
     requires reached { IsReached (current_words (R.memory region.now)) i }
-    ensures { (size : ℕ) → size ≤ size_of (current_words (R.memory region.now)) i →
-        paths_in result ≡ targets (current_words (R.memory region.now)) (resizes i size) }
+    ensures { AreTargetsShorter (current_words (R.memory region.now)) i (paths_in result) }
 {
     let mut targets = Targets::new();
     targets.push(size_path(region, i));
@@ -113,10 +111,8 @@ pub(crate) fn lengthening<R: Region>(region: &R, i: u32) -> Targets
     requires well_formed { IsWellFormed (current_words (R.memory region.now)) }
     requires reached { IsReached (current_words (R.memory region.now)) i }
     requires some { 1 ≤ i }
-    ensures resizes { (size : ℕ) → size_of (current_words (R.memory region.now)) i < size →
-        paths_in result ≡ targets (current_words (R.memory region.now)) (resizes i size) }
-    ensures writes { (off len : ℕ) → size_of (current_words (R.memory region.now)) i ≤ off → 1 ≤ len →
-        paths_in result ≡ targets (current_words (R.memory region.now)) (writes i off len) }
+    ensures resizes { AreTargetsLonger (current_words (R.memory region.now)) i (paths_in result) }
+    ensures writes { AreTargetsBehind (current_words (R.memory region.now)) i (paths_in result) }
 {
     with_end(region, i, size_path(region, i))
 }
@@ -127,9 +123,7 @@ fn crossing<R: Region>(region: &R, i: u32) -> Targets
     requires well_formed { IsWellFormed (current_words (R.memory region.now)) }
     requires reached { IsReached (current_words (R.memory region.now)) i }
     requires some { 1 ≤ i }
-    ensures { (off len : ℕ) → off < size_of (current_words (R.memory region.now)) i →
-        size_of (current_words (R.memory region.now)) i < off + len →
-        paths_in result ≡ targets (current_words (R.memory region.now)) (writes i off len) }
+    ensures { AreTargetsAcross (current_words (R.memory region.now)) i (paths_in result) }
 {
     let mut leaf = size_path(region, i);
     leaf.pop();
@@ -171,8 +165,7 @@ pub(crate) fn writing<R: Region>(parts: &Parts<R>, i: u32, off: u64, bytes: &[u8
 fn end_path(root: &Slots, tree: Tree) -> Slots
     requires low { 0 < tree.size → height_of tree.root ≤ max_height }
     requires short { length root.now.items ≤ 6 }
-    ensures { (image : Image) (t : ℕ) → root.now.items ≡ root_path_now image t → tree.root ≡ root_of image t →
-        tree.size ≡ size_of image t → result.items ≡ end_path_now image t }
+    ensures { ForTree root.now.items tree (λ image t. result.items ≡ end_path_now image t) }
 {
     let mut path = copy_of(root);
     if tree.size == 0 || span(tree.height()) <= tree.size {
@@ -191,9 +184,8 @@ pub fn push_end(targets: &mut Targets, root: &Slots, tree: Tree)
     requires low { 0 < tree.size → height_of tree.root ≤ max_height }
     requires short { length root.now.items ≤ 6 }
     requires few { length targets.old.items ≤ 6 }
-    ensures { (image : Image) (t : ℕ) → root.now.items ≡ root_path_now image t → tree.root ≡ root_of image t →
-        tree.size ≡ size_of image t →
-        paths_in targets.new ≡ paths_in targets.old ++ root_path_now image t ∷ end_path_now image t ∷ [] }
+    ensures { ForTree root.now.items tree (λ image t.
+        paths_in targets.new ≡ paths_in targets.old ++ root_path_now image t ∷ end_path_now image t ∷ []) }
 {
     let end = end_path(root, tree);
     targets.push(copy_of(root));

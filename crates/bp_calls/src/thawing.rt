@@ -3,7 +3,7 @@
 ghost use Rattle.std.specs.Prelude.{◌≡◌, ◌+◌, ◌^◌, ◌<◌, ◌≤◌, IfErr, OnErr, OnOk, length};
 ghost use Rattle.bp_calls.specs.Mounted.{IsMounted};
 ghost use Rattle.bp_calls.specs.Space.{LacksBlocks};
-ghost use Rattle.bp_calls.specs.ThawsFor.{HasRoomToThaw, ThawsFor, thaw_count};
+ghost use Rattle.bp_calls.specs.ThawsFor.{HasRoomToThaw, LacksBlocksToThaw, ThawsFor, thaw_count};
 ghost use Rattle.bp_free.specs.Set.{members};
 ghost use Rattle.bp_layout.specs.Members.{Has};
 ghost use Rattle.bp_layout.specs.WordPaths.{WordPath};
@@ -53,8 +53,7 @@ pub fn thaw_before<R: Region>(
     ensures thaws { OnOk result (ThawsFor R.memory (paths_in targets.now) parts.old parts.new) }
     ensures enough { OnOk result (thaw_count R.memory (paths_in targets.now) parts.old + more ≤
         length (members parts.old.blocks)) }
-    ensures refused { IfErr result (LacksBlocks (current_words (R.memory parts.old.region)) (kept_of parts.old)
-        (thaw_count R.memory (paths_in targets.now) parts.old + more)) }
+    ensures refused { IfErr result (LacksBlocksToThaw R.memory (paths_in targets.now) parts.old more) }
     ensures same { OnErr result (parts.new ≡ parts.old) }
 {
     let need = thaw_need(parts, targets) + more;

@@ -6,9 +6,9 @@ ghost use Rattle.bp_calls.specs.CanWrite.{CanWrite, CanWriteThawed};
 ghost use Rattle.bp_calls.specs.Mounted.{IsMounted};
 ghost use Rattle.bp_shapes.specs.Sets.{IsExact, kept_of};
 ghost use Rattle.bp_calls.specs.Space.{HasRoomThawed, HasRoomWhereFree, LacksSpace};
-ghost use Rattle.bp_calls.specs.ThawsFor.{ThawsFor};
+ghost use Rattle.bp_calls.specs.ThawsFor.{ThawsBefore};
 ghost use Rattle.bp_free.specs.Set.{members};
-ghost use Rattle.bp_layout.specs.Thaw.{cover_now, targets, thawed};
+ghost use Rattle.bp_layout.specs.Thaw.{cover_now, thawed};
 ghost use Rattle.bp_calls.specs.WritesFile.{WritesFile};
 ghost use Rattle.bp_layout.specs.Inode.{root_of, size_of};
 ghost use Rattle.bp_layout.specs.Need.{need};
@@ -133,8 +133,7 @@ fn thaw_write<R: Region>(
     requires can { CanWrite (current_words (R.memory parts.old.region)) i off bytes.now }
     requires room { HasRoomWhereFree (R.memory parts.old.region) (kept_of parts.old) parts.old.blocks
         (writes i off (length bytes.now)) }
-    ensures thaws { OnOk result (ThawsFor R.memory (targets (current_words (R.memory parts.old.region))
-        (writes i off (length bytes.now))) parts.old parts.new) }
+    ensures thaws { OnOk result (ThawsBefore R.memory parts.old parts.new (writes i off (length bytes.now))) }
     ensures room { OnOk result (HasRoomThawed (R.memory parts.new.region) parts.new.blocks
         (writes i off (length bytes.now))) }
     ensures enough { OnOk result (need (current_words (R.memory parts.new.region)) (writes i off (length bytes.now))

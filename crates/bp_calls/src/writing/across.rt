@@ -10,7 +10,7 @@ ghost use Rattle.bp_cow.specs.Found.{AreWaysIn};
 ghost use Rattle.bp_free.specs.Set.{members};
 ghost use Rattle.bp_layout.specs.Need.{need};
 ghost use Rattle.bp_layout.specs.Thaw.{thawed};
-ghost use Rattle.bp_calls.specs.TouchedAcross.{IsPlanFor, IsRunAcross, WritesAcross};
+ghost use Rattle.bp_calls.specs.TouchedAcross.{IsPlanFor, IsRunAcross, WritesPlanned, planned_change};
 ghost use Rattle.bp_calls.specs.WritesFile.{WritesFile};
 ghost use Rattle.bp_layout.specs.Inode.{root_of, size_of};
 ghost use Rattle.bp_layout.specs.Need.Change.{writes};
@@ -110,13 +110,11 @@ fn need_found<R: Region>(
     touched: &Touched<'_>,
     found: &FoundWays,
 ) -> u32
-    requires across { WritesAcross (kept_of parts.now) (R.memory parts.now.region) parts.now.blocks parts.now.inodes
-        plan.now.inode plan.now.off plan.now.bytes.now touched.now }
+    requires across { WritesPlanned R.memory parts.now plan.now touched.now }
     requires root { plan.now.tree.root ≡ root_of (current_words (R.memory parts.now.region)) plan.now.inode }
     requires size { plan.now.tree.size ≡ size_of (current_words (R.memory parts.now.region)) plan.now.inode }
     requires found { AreWaysIn (current_words (R.memory parts.now.region)) touched.now found.now }
-    ensures need { result ≡ need (current_words (R.memory parts.now.region))
-        (writes plan.now.inode plan.now.off (length plan.now.bytes.now)) }
+    ensures need { result ≡ need (current_words (R.memory parts.now.region)) (planned_change plan.now) }
     ensures few { result ≤ 320 }
 {
     let end = plan.off + plan.bytes.len() as u64;
@@ -156,21 +154,16 @@ fn write_planned<R: Region>(
     found: &FoundWays,
 )
     requires exact { IsExact (current_words (R.memory parts.old.region)) parts.old }
-    requires across { WritesAcross (kept_of parts.old) (R.memory parts.old.region) parts.old.blocks parts.old.inodes
-        plan.now.inode plan.now.off plan.now.bytes.now touched.now }
+    requires across { WritesPlanned R.memory parts.old plan.now touched.now }
     requires size { plan.now.tree.size ≡ size_of (current_words (R.memory parts.old.region)) plan.now.inode }
     requires root { plan.now.run.root.items ≡
         inode_path (height_of (root_of (current_words (R.memory parts.old.region)) 0)) plan.now.inode 1 }
     requires small { (k : ℕ) → slice_index plan.now.bytes.now k < 256 }
-    requires clear { thawed (current_words (R.memory parts.old.region)) (kept_of parts.old)
-        (writes plan.now.inode plan.now.off (length plan.now.bytes.now)) ≡ [] }
-    requires room { HasRoomThawed (R.memory parts.old.region) parts.old.blocks
-        (writes plan.now.inode plan.now.off (length plan.now.bytes.now)) }
-    requires enough { need (current_words (R.memory parts.old.region))
-        (writes plan.now.inode plan.now.off (length plan.now.bytes.now)) ≤ length (members parts.old.blocks) }
+    requires clear { thawed (current_words (R.memory parts.old.region)) (kept_of parts.old) (planned_change plan.now) ≡ [] }
+    requires room { HasRoomThawed (R.memory parts.old.region) parts.old.blocks (planned_change plan.now) }
+    requires enough { need (current_words (R.memory parts.old.region)) (planned_change plan.now) ≤ length (members parts.old.blocks) }
     requires found { AreWaysIn (current_words (R.memory parts.old.region)) touched.now found.now }
-    ensures { CommitsChange R.memory parts.old parts.new
-        (writes plan.now.inode plan.now.off (length plan.now.bytes.now))
+    ensures { CommitsChange R.memory parts.old parts.new (planned_change plan.now)
         (WritesFile plan.now.inode plan.now.off plan.now.bytes.now) }
 {
     let size = plan.tree.size;

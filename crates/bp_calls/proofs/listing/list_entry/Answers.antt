@@ -3,6 +3,7 @@ use Rattle.std.proofs.lemmas.List.FromFn.{length-map-range_with_len}
 use Rattle.bp_layout.specs.Fields.{name_byte}
 use Rattle.bp_layout.specs.Inode.{kind_of}
 use Rattle.pm_region.specs.Memory.{current_words}
+use Rattle.bp_calls.proofs.CommitResults.{ok_one}
 use Rattle.bp_calls.proofs.ReadingLaws.{inode_file_sound}
 use Rattle.bp_calls.proofs.RowLaws.{inode_of, short_of, one_seen}
 use Rattle.bp_calls.proofs.listing.list_entry.Goals as goal
@@ -43,10 +44,11 @@ push-requires g c =
     omega (arith, short_of _ c.requires.well_formed words c.requires.entry some, ap length c.read_name.ensures, length-map-range_with_len (name_byte words) 0 (slice_index words 1))
 
 pub returns : goal.returns
-returns g c i slot has =
+returns g c =
     let words = c.args.view.words.now in
     let image = current_words (g.R.Region.memory c.args.region.now) in
     let some : slice_index words 0 ≢ 0 = rw (← c.inumber-inumber.ensures) c.if-inumber-eq0.false in
     let short : slice_index words 1 ≤ 240 = short_of _ c.requires.well_formed words c.requires.entry some in
     let kind = c.get-kind.ensures.kind ∙ ap (kind_of image) c.inumber-inumber.ensures in
-    rw (one_seen _ i slot words has c.get-kind.result.kind some short kind) (rw c.read_name.ensures at c.push.ensures.pushed)
+    ok_one c.push.result c.push.ensures.pushed
+    (λ pushed i slot has. rw (one_seen image i slot words has c.get-kind.result.kind some short kind) (rw c.read_name.ensures at pushed))

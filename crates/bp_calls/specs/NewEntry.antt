@@ -1,0 +1,67 @@
+-- A name comes into a directory for an inode that is there: the change that its stores are, and the sets of free numbers
+-- behind it.
+use Rattle.std.specs.Prelude.{ℕ, ◌+◌, ◌*◌, Bool, Option}
+use Rattle.bp_calls.specs.Created.{EntersName, LinksEntry}
+use Rattle.bp_calls.specs.Entrant.{ForCreation, entrant_of}
+use Rattle.bp_calls.specs.Growth.{stores_behind_growth}
+use Rattle.bp_calls.specs.Steps.{HasLooseWord, name_need}
+use Rattle.bp_commit.specs.Performs.{PerformsThawed, PerformsWithin}
+use Rattle.bp_free.specs.Set.{Set, without}
+use Rattle.bp_layout.specs.Directory.{Name}
+use Rattle.bp_layout.specs.Free.{IsLeastFree}
+use Rattle.bp_layout.specs.Need.{Entrant}
+use Rattle.bp_layout.specs.Need.Change.{enters}
+use Rattle.bp_layout.specs.Need.Entrant.{linked, taken}
+use Rattle.bp_layout.specs.Words.{Image}
+use Rattle.bp_layout.specs.declared.fields.Kind.{Kind}
+use Rattle.bp_limits.specs.Limits.{entry_words, inode_words}
+use Rattle.bp_shapes.specs.Sets.{AreExact}
+use Rattle.pm_region.specs.Memory.{Memory, current_words}
+
+-- The new entry of directory i is performed in as many blocks as a name takes whose inode is there, with 5 barriers and
+-- no more stores than a call may make behind a growth of the inode file.
+abbrev pub PerformsEntry : (ℕ → Bool) → Memory → Memory → ℕ → Entrant → (Image → Image → Type 0) → Type 0
+PerformsEntry kept old new i entrant Effect = PerformsWithin kept (name_need (current_words old) i) 5
+    (stores_behind_growth (name_need (current_words old) i)) old new (enters i entrant) Effect
+
+-- in slot s, for inode j that is free, whichever blocks are kept but those of the entry and of the inode
+abbrev pub EntersInSlot : Memory → Memory → ℕ → ℕ → ℕ → Name → Kind → Type 0
+EntersInSlot old new i s j name kind =
+    (kept : ℕ → Bool) → HasLooseWord (current_words old) kept i (entry_words * s + 0)
+    → HasLooseWord (current_words old) kept 0 (inode_words * j + 0)
+    → PerformsEntry kept old new i (taken j) (EntersName i name kind)
+
+-- in slot s, for file j, whichever blocks are kept but that of the entry
+abbrev pub LinksInSlot : Memory → Memory → ℕ → ℕ → Name → ℕ → Type 0
+LinksInSlot old new i s name j =
+    (kept : ℕ → Bool) → HasLooseWord (current_words old) kept i (entry_words * s + 0)
+    → PerformsEntry kept old new i linked (LinksEntry i name j)
+
+-- for the least free inode, as many blocks as are taken for one that is there
+abbrev pub EntersLeastFree : (ℕ → Bool) → Memory → Memory → ℕ → Name → Kind → Type 0
+EntersLeastFree kept old new i name kind = (free : Option ℕ) → IsLeastFree (current_words old) free
+    → PerformsEntry kept old new i (entrant_of free) (EntersName i name kind)
+
+-- The creation of a name in directory i is performed, where nothing is left to thaw.
+abbrev pub PerformsCreation : (ℕ → Bool) → Memory → Memory → ℕ → Name → Kind → Type 0
+PerformsCreation kept old new i name kind =
+    ForCreation (current_words old) i (λ change. PerformsThawed kept old new change (EntersName i name kind))
+
+-- ---- sets: with the same blocks kept, one set of blocks before and one after
+
+-- inodes that are just the free ones before are so after
+abbrev pub KeepsFreeInodes : (ℕ → Bool) → Memory → Memory → Set → Set → Type 0
+KeepsFreeInodes kept old new blocks after = (inodes : Set) → AreExact (current_words old) kept blocks inodes
+    → AreExact (current_words new) kept after inodes
+
+-- they are so after once inode j is none of them
+abbrev pub TakesFreeInode : (ℕ → Bool) → Memory → Memory → Set → Set → ℕ → Type 0
+TakesFreeInode kept old new blocks after j = (inodes : Set) → AreExact (current_words old) kept blocks inodes
+    → AreExact (current_words new) kept after (without inodes j)
+
+-- the same with the same set of blocks, whichever are kept
+abbrev pub KeepsFree : Memory → Memory → Type 0
+KeepsFree old new = (kept : ℕ → Bool) (blocks : Set) → KeepsFreeInodes kept old new blocks blocks
+
+abbrev pub TakesOnlyInode : Memory → Memory → ℕ → Type 0
+TakesOnlyInode old new j = (kept : ℕ → Bool) (blocks : Set) → TakesFreeInode kept old new blocks blocks j

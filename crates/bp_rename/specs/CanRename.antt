@@ -37,6 +37,13 @@ change_to i s j len None = if i == j then respells i s len else moves i s j
 abbrev pub change_of : Move → Change
 change_of move = change_to move.from_dir move.from_slot move.to_dir (length move.name.now) move.to_slot
 
+-- onto the entry in this slot of the new directory, and across to that directory
+abbrev pub change_onto : Move → ℕ → Change
+change_onto move slot = replaces move.from_dir move.from_slot move.to_dir slot
+
+abbrev pub change_across : Move → Change
+change_across move = moves move.from_dir move.from_slot move.to_dir
+
 -- where the name moves to another directory and is new there, this is the least empty slot of that directory
 abbrev pub IsSlotAcross : Image → Move → Option ℕ → Type 0
 IsSlotAcross image move slot = move.to_slot ≡ None → move.from_dir ≢ move.to_dir →

@@ -1,8 +1,9 @@
 -- What a rename makes of the plain tree, and which names that paths find may move.
 use Rattle.std.specs.Prelude.{◌≡◌, ◌≢◌, ℕ, [], ◌∷◌, ◌++◌, None, Some}
+use Rattle.bp_calls.specs.Removed.{IsFoundAt}
 use Rattle.bp_changes.specs.Effects.{CanUnlink}
 use Rattle.bp_layout.specs.Below.{rest_below}
-use Rattle.bp_layout.specs.Directory.{IsName, inumber_at, name_at, slot_named}
+use Rattle.bp_layout.specs.Directory.{IsName, Name, inumber_at, name_at, slot_named}
 use Rattle.bp_layout.specs.Inode.{IsDirectory}
 use Rattle.bp_layout.specs.Lookup.{Path, lookup}
 use Rattle.bp_layout.specs.Words.{Image}
@@ -30,3 +31,12 @@ pub record IsFoundTarget (image : Image) (source to : Path) (move : Move) : Type
   pub slot : slot_named image move.to_dir move.name.now ≡ move.to_slot
   pub apart : (r : ℕ) → move.to_slot ≡ Some r → inumber_at image move.to_dir r ≢ moved_inode image move
   pub leaves : (r : ℕ) → move.to_slot ≡ Some r → CanUnlink image move.to_dir r (inumber_at image move.to_dir r)
+
+-- A path finds the entry that moves, by the name that it has, and another path the directory to which it comes.
+pub record IsFoundMove (image : Image) (move : Move) : Type 0 where
+  pub from : Path
+  pub to : Path
+  pub name : Name
+  pub inode : ℕ
+  pub source : IsFoundAt image from name move.from_dir move.from_slot inode
+  pub target : IsFoundTarget image (from ++ name ∷ []) to move

@@ -1,5 +1,6 @@
 -- What is touched for a rename, and what stands once nothing is left to thaw on the ways to it.
-use Rattle.std.specs.Prelude.{◌≡◌, ℕ, ◌+◌, ◌^◌, ◌<◌}
+use Rattle.std.specs.Prelude.{◌≡◌, ℕ, ◌+◌, ◌^◌, ◌<◌, List}
+use Rattle.arrayvec.specs.ArrayVec.{ArrayVec}
 use Rattle.bp_calls.specs.ThawedFor.{IsThawedFor}
 use Rattle.bp_changes.specs.Thawed.{AfterThaw, SameShape}
 use Rattle.bp_commit.specs.Performs.{Performs, PerformsThawed}
@@ -19,7 +20,7 @@ use Rattle.pm_region.specs.Memory.{Memory, current_words}
 use Rattle.bp_rename.specs.CanRename.{CanRename, change_of, moved_inode}
 use Rattle.bp_rename.specs.RenamesEntry.{RenamesEntry}
 use Rattle.bp_rename.specs.Respelled.{TouchesName}
-use Rattle.bp_rename.specs.TouchesTwo.{AnyTree, OtherTree, TouchesTwo, inumber_path, size_path}
+use Rattle.bp_rename.specs.TouchesTwo.{AnyTree, AreTwo, OtherTree, TouchesTwo, inumber_path, size_path}
 use Rattle.bp_rename.specs.declared.moving.Move.{Move}
 
 -- what is touched by each kind of a rename: the words of the new name, or two words
@@ -39,6 +40,19 @@ TouchesInto image move slot touched =
 abbrev pub TouchesBehind : Image → Move → Touched → Type 0
 TouchesBehind image move touched =
     TouchesTwo image (OtherTree move.to_dir) touched (size_path image move.to_dir)
+    (inumber_path image move.from_dir move.from_slot) (size_of image move.to_dir + entry_size) 0
+
+-- the two words, with what they are given
+abbrev pub AreWordsOnto : Image → Move → ℕ → List (ArrayVec ℕ × ℕ) → Type 0
+AreWordsOnto image move slot words = AreTwo words (inumber_path image move.from_dir move.from_slot)
+    (inumber_path image move.to_dir slot) 0 (moved_inode image move)
+
+abbrev pub AreWordsInto : Image → Move → ℕ → List (ArrayVec ℕ × ℕ) → Type 0
+AreWordsInto image move slot words = AreTwo words (inumber_path image move.to_dir slot)
+    (inumber_path image move.from_dir move.from_slot) (moved_inode image move) 0
+
+abbrev pub AreWordsBehind : Image → Move → List (ArrayVec ℕ × ℕ) → Type 0
+AreWordsBehind image move words = AreTwo words (size_path image move.to_dir)
     (inumber_path image move.from_dir move.from_slot) (size_of image move.to_dir + entry_size) 0
 
 -- The cover of what is touched is that of the rename. The ways to it lead inside the image, and still do behind a thaw.

@@ -10,12 +10,15 @@ use Rattle.bp_rename.specs.declared.moving.Move.{Move}
 abbrev pub new_slot : Image → ℕ → ℕ
 new_slot image i = unwrap_or (empty_slot image i) (entry_count image i)
 
+-- the entry in this slot of the new directory names the inode that moves, and the old one is empty
+abbrev pub MovesOnto : Move → ℕ → Image → Image → Type 0
+MovesOnto move slot old new = MovesEntry old new move.from_dir move.from_slot move.to_dir slot (moved_inode old move)
+
 -- Onto an entry: it names the inode that moves. Within its directory: its entry has the new name. Across to another
 -- directory: an entry there has the new name and names it. Its old entry is empty, but within a directory. All other
 -- entries keep their slots, their names and what they name.
 pub data RenamesEntry (move : Move) (old new : Image) : Type 0 where
-  onto : (r : ℕ) → move.to_slot ≡ Some r →
-      MovesEntry old new move.from_dir move.from_slot move.to_dir r (moved_inode old move) → RenamesEntry move old new
+  onto : (r : ℕ) → move.to_slot ≡ Some r → MovesOnto move r old new → RenamesEntry move old new
   within : move.to_slot ≡ None → move.from_dir ≡ move.to_dir →
       RespellsEntry old new move.from_dir move.from_slot (moved_inode old move) →
       name_at new move.from_dir move.from_slot ≡ move.name.now → RenamesEntry move old new

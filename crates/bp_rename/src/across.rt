@@ -3,14 +3,12 @@
 ghost use Rattle.std.specs.Prelude.{◌≡◌, ◌≢◌, None, Some};
 ghost use Rattle.bp_calls.specs.Commits.{CommitsChange, CommitsOrLacksSpace};
 ghost use Rattle.bp_calls.specs.Space.{HasRoomWhereFree};
-ghost use Rattle.bp_calls.specs.ThawedFor.{IsThawedFor};
+ghost use Rattle.bp_calls.specs.ThawedFor.{AreThawedFor};
 ghost use Rattle.bp_cow.specs.Found.{AreWaysIn};
 ghost use Rattle.bp_layout.specs.Directory.{empty_slot};
-ghost use Rattle.bp_layout.specs.Need.Change.{moves};
-ghost use Rattle.bp_rename.specs.CanRename.{CanRename, change_of, moved_inode};
-ghost use Rattle.bp_rename.specs.Planned.{TouchesInto};
+ghost use Rattle.bp_rename.specs.CanRename.{CanRename, change_across, change_of};
+ghost use Rattle.bp_rename.specs.Planned.{AreWordsInto, TouchesInto};
 ghost use Rattle.bp_rename.specs.RenamesEntry.{RenamesEntry};
-ghost use Rattle.bp_rename.specs.TouchesTwo.{AreTwo, inumber_path};
 ghost use Rattle.bp_shapes.specs.Sets.{IsExact, kept_of};
 ghost use Rattle.pm_region.specs.Memory.{current_words};
 
@@ -29,10 +27,7 @@ use pm_region::Region;
 fn words_into<R: Region>(region: &R, to_move: &Move<'_>, slot: u64) -> [(Slots, u64); 2]
     requires can { CanRename (current_words (R.memory region.now)) to_move.now }
     requires found { empty_slot (current_words (R.memory region.now)) to_move.now.to_dir ≡ Some slot }
-    ensures { AreTwo result
-        (inumber_path (current_words (R.memory region.now)) to_move.now.to_dir slot)
-        (inumber_path (current_words (R.memory region.now)) to_move.now.from_dir to_move.now.from_slot)
-        (moved_inode (current_words (R.memory region.now)) to_move.now) 0 }
+    ensures { AreWordsInto (current_words (R.memory region.now)) to_move.now slot result }
 {
     let source = tree_of(region, to_move.from_dir);
     let inode = inumber(region, source, to_move.from_slot);
@@ -55,13 +50,10 @@ fn move_into<R: Region>(
     requires other { to_move.now.from_dir ≢ to_move.now.to_dir }
     requires empty { empty_slot (current_words (R.memory parts.old.region)) to_move.now.to_dir ≡ Some slot }
     requires exact { IsExact (current_words (R.memory parts.old.region)) parts.old }
-    requires thawed { IsThawedFor (kept_of parts.old) (R.memory parts.old.region) parts.old.blocks
-        (moves to_move.now.from_dir to_move.now.from_slot to_move.now.to_dir) }
+    requires thawed { AreThawedFor R.memory parts.old (change_across to_move.now) }
     requires touches { TouchesInto (current_words (R.memory parts.old.region)) to_move.now slot touched.now }
     requires found { AreWaysIn (current_words (R.memory parts.old.region)) touched.now found.now }
-    ensures { CommitsChange R.memory parts.old parts.new
-        (moves to_move.now.from_dir to_move.now.from_slot to_move.now.to_dir)
-        (RenamesEntry to_move.now) }
+    ensures { CommitsChange R.memory parts.old parts.new (change_across to_move.now) (RenamesEntry to_move.now) }
 {
     let target = tree_of(&parts.region, to_move.to_dir);
     let entry = entry_place(&parts.region, target, slot, 0);

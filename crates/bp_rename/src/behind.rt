@@ -1,18 +1,14 @@
 //! A name moves to another directory, none of whose entries is empty.
 
-ghost use Rattle.std.specs.Prelude.{◌≡◌, ◌≢◌, ◌+◌, None};
+ghost use Rattle.std.specs.Prelude.{◌≡◌, ◌≢◌, None};
 ghost use Rattle.bp_calls.specs.Commits.{CommitsChange, CommitsOrLacksSpace};
 ghost use Rattle.bp_calls.specs.Space.{HasRoomWhereFree};
-ghost use Rattle.bp_calls.specs.ThawedFor.{IsThawedFor};
+ghost use Rattle.bp_calls.specs.ThawedFor.{AreThawedFor};
 ghost use Rattle.bp_cow.specs.Found.{AreWaysIn};
 ghost use Rattle.bp_layout.specs.Directory.{empty_slot};
-ghost use Rattle.bp_layout.specs.Inode.{size_of};
-ghost use Rattle.bp_layout.specs.Need.Change.{moves};
-ghost use Rattle.bp_limits.specs.Limits.{entry_size};
-ghost use Rattle.bp_rename.specs.CanRename.{CanRename, change_of};
-ghost use Rattle.bp_rename.specs.Planned.{TouchesBehind};
+ghost use Rattle.bp_rename.specs.CanRename.{CanRename, change_across, change_of};
+ghost use Rattle.bp_rename.specs.Planned.{AreWordsBehind, TouchesBehind};
 ghost use Rattle.bp_rename.specs.RenamesEntry.{RenamesEntry};
-ghost use Rattle.bp_rename.specs.TouchesTwo.{AreTwo, inumber_path, size_path};
 ghost use Rattle.bp_shapes.specs.Sets.{IsExact, kept_of};
 ghost use Rattle.pm_region.specs.Memory.{current_words};
 
@@ -33,10 +29,7 @@ use pm_region::Region;
 /// entry that moves.
 fn words_behind<R: Region>(region: &R, to_move: &Move<'_>) -> [(Slots, u64); 2]
     requires can { CanRename (current_words (R.memory region.now)) to_move.now }
-    ensures { AreTwo result
-        (size_path (current_words (R.memory region.now)) to_move.now.to_dir)
-        (inumber_path (current_words (R.memory region.now)) to_move.now.from_dir to_move.now.from_slot)
-        (size_of (current_words (R.memory region.now)) to_move.now.to_dir + entry_size) 0 }
+    ensures { AreWordsBehind (current_words (R.memory region.now)) to_move.now result }
 {
     let target = tree_of(region, to_move.to_dir);
     let sized = size_path(region, to_move.to_dir);
@@ -57,13 +50,10 @@ fn move_behind<R: Region>(
     requires other { to_move.now.from_dir ≢ to_move.now.to_dir }
     requires none { empty_slot (current_words (R.memory parts.old.region)) to_move.now.to_dir ≡ None }
     requires exact { IsExact (current_words (R.memory parts.old.region)) parts.old }
-    requires thawed { IsThawedFor (kept_of parts.old) (R.memory parts.old.region) parts.old.blocks
-        (moves to_move.now.from_dir to_move.now.from_slot to_move.now.to_dir) }
+    requires thawed { AreThawedFor R.memory parts.old (change_across to_move.now) }
     requires touches { TouchesBehind (current_words (R.memory parts.old.region)) to_move.now touched.now }
     requires found { AreWaysIn (current_words (R.memory parts.old.region)) touched.now found.now }
-    ensures { CommitsChange R.memory parts.old parts.new
-        (moves to_move.now.from_dir to_move.now.from_slot to_move.now.to_dir)
-        (RenamesEntry to_move.now) }
+    ensures { CommitsChange R.memory parts.old parts.new (change_across to_move.now) (RenamesEntry to_move.now) }
 {
     let source = tree_of(&parts.region, to_move.from_dir);
     let inode = inumber(&parts.region, source, to_move.from_slot) as u32;

@@ -1,13 +1,9 @@
 //! Laws of renames. Each is the contract of a function that does nothing.
 
-ghost use Rattle.std.specs.Prelude.{ℕ, [], ◌∷◌, ◌++◌};
-ghost use Rattle.bp_calls.specs.Removed.{IsFoundAt};
 ghost use Rattle.bp_changes.specs.Thawed.{AfterThaw};
-ghost use Rattle.bp_layout.specs.Directory.{Name};
-ghost use Rattle.bp_layout.specs.Lookup.{Path};
 ghost use Rattle.bp_layout.specs.WellFormed.{IsWellFormed};
 ghost use Rattle.bp_rename.specs.CanRename.{CanRename};
-ghost use Rattle.bp_rename.specs.MovesPath.{IsFoundTarget, MovesPath};
+ghost use Rattle.bp_rename.specs.MovesPath.{IsFoundMove, MovesPath};
 ghost use Rattle.bp_rename.specs.RenamesEntry.{RenamesEntry};
 
 use crate::moving::Move;
@@ -23,7 +19,5 @@ pub fn renamed_names_move(old: &[u64], new: &[u64], to_move: &Move<'_>)
 /// one has it that names another inode and may leave.
 pub fn found_names_may_move(image: &[u64], to_move: &Move<'_>)
     requires { IsWellFormed image.now }
-    ensures { (from to : Path) (name : Name) (j : ℕ) →
-        IsFoundAt image.now from name to_move.now.from_dir to_move.now.from_slot j →
-        IsFoundTarget image.now (from ++ name ∷ []) to to_move.now → CanRename image.now to_move.now }
+    ensures { IsFoundMove image.now to_move.now → CanRename image.now to_move.now }
 {}

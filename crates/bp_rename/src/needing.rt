@@ -4,8 +4,7 @@ ghost use Rattle.std.specs.Prelude.{◌≡◌, ◌^◌, ◌<◌, ◌∷◌, [], 
 ghost use Rattle.bp_calls.specs.Space.{HasRoomWhereFree, LacksSpace};
 ghost use Rattle.bp_layout.specs.Directory.{empty_slot};
 ghost use Rattle.bp_layout.specs.Need.{need};
-ghost use Rattle.bp_layout.specs.Need.Change.{moves};
-ghost use Rattle.bp_rename.specs.CanRename.{CanRename, IsSlotAcross, change_of};
+ghost use Rattle.bp_rename.specs.CanRename.{CanRename, IsSlotAcross, change_across, change_of};
 ghost use Rattle.bp_rename.specs.Planned.{IsPlanned, IsReady, Needs};
 ghost use Rattle.bp_layout.specs.Thaw.{cover_now, targets, thawed};
 ghost use Rattle.bp_shapes.specs.Sets.{IsExact, kept_of};
@@ -37,10 +36,8 @@ pub(crate) fn slot_across<R: Region>(region: &R, to_move: &Move<'_>) -> Option<u
 fn push_new<R: Region>(near: &mut Targets, region: &R, to_move: &Move<'_>, empty: Option<u64>)
     requires can { CanRename (current_words (R.memory region.now)) to_move.now }
     requires slot { empty ≡ empty_slot (current_words (R.memory region.now)) to_move.now.to_dir }
-    requires cover { paths_in near.old ≡ cover_now (current_words (R.memory region.now))
-        (moves to_move.now.from_dir to_move.now.from_slot to_move.now.to_dir) ∷ [] }
-    ensures { paths_in near.new ≡ targets (current_words (R.memory region.now))
-        (moves to_move.now.from_dir to_move.now.from_slot to_move.now.to_dir) }
+    requires cover { paths_in near.old ≡ cover_now (current_words (R.memory region.now)) (change_across to_move.now) ∷ [] }
+    ensures { paths_in near.new ≡ targets (current_words (R.memory region.now)) (change_across to_move.now) }
 {
     match empty {
         Some(slot) => near.push(entry_path(region, to_move.to_dir, slot)),

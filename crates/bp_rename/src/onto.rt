@@ -3,16 +3,13 @@
 ghost use Rattle.std.specs.Prelude.{◌≡◌, Some};
 ghost use Rattle.bp_calls.specs.Commits.{CommitsChange, CommitsOrLacksSpace};
 ghost use Rattle.bp_calls.specs.Space.{HasRoomWhereFree};
-ghost use Rattle.bp_calls.specs.ThawedFor.{IsThawedFor};
-ghost use Rattle.bp_changes.specs.Effects.{MovesEntry};
+ghost use Rattle.bp_calls.specs.ThawedFor.{AreThawedFor};
 ghost use Rattle.bp_cow.specs.Found.{AreWaysIn};
-ghost use Rattle.bp_layout.specs.Need.Change.{replaces};
-ghost use Rattle.bp_rename.specs.CanRename.{CanRename, change_of, moved_inode};
-ghost use Rattle.bp_rename.specs.Planned.{TouchesOnto};
-ghost use Rattle.bp_rename.specs.RenamesEntry.{RenamesEntry};
+ghost use Rattle.bp_rename.specs.CanRename.{CanRename, change_of, change_onto};
+ghost use Rattle.bp_rename.specs.Planned.{AreWordsOnto, TouchesOnto};
+ghost use Rattle.bp_rename.specs.RenamesEntry.{MovesOnto, RenamesEntry};
 ghost use Rattle.bp_shapes.specs.Sets.{IsExact, kept_of};
 ghost use Rattle.pm_region.specs.Memory.{current_words};
-ghost use Rattle.bp_rename.specs.TouchesTwo.{AreTwo, inumber_path};
 
 use crate::moving::Move;
 use crate::needing::ready_ways;
@@ -29,10 +26,7 @@ use pm_region::Region;
 fn words_onto<R: Region>(region: &R, to_move: &Move<'_>, slot: u64) -> [(Slots, u64); 2]
     requires can { CanRename (current_words (R.memory region.now)) to_move.now }
     requires onto { to_move.now.to_slot ≡ Some slot }
-    ensures { AreTwo result
-        (inumber_path (current_words (R.memory region.now)) to_move.now.from_dir to_move.now.from_slot)
-        (inumber_path (current_words (R.memory region.now)) to_move.now.to_dir slot)
-        0 (moved_inode (current_words (R.memory region.now)) to_move.now) }
+    ensures { AreWordsOnto (current_words (R.memory region.now)) to_move.now slot result }
 {
     let source = tree_of(region, to_move.from_dir);
     let inode = inumber(region, source, to_move.from_slot);
@@ -53,13 +47,10 @@ fn move_onto<R: Region>(
     requires can { CanRename (current_words (R.memory parts.old.region)) to_move.now }
     requires onto { to_move.now.to_slot ≡ Some slot }
     requires exact { IsExact (current_words (R.memory parts.old.region)) parts.old }
-    requires thawed { IsThawedFor (kept_of parts.old) (R.memory parts.old.region) parts.old.blocks
-        (replaces to_move.now.from_dir to_move.now.from_slot to_move.now.to_dir slot) }
+    requires thawed { AreThawedFor R.memory parts.old (change_onto to_move.now slot) }
     requires touches { TouchesOnto (current_words (R.memory parts.old.region)) to_move.now slot touched.now }
     requires found { AreWaysIn (current_words (R.memory parts.old.region)) touched.now found.now }
-    ensures { CommitsChange R.memory parts.old parts.new
-        (replaces to_move.now.from_dir to_move.now.from_slot to_move.now.to_dir slot)
-        (λ image after. MovesEntry image after to_move.now.from_dir to_move.now.from_slot to_move.now.to_dir slot (moved_inode image to_move.now)) }
+    ensures { CommitsChange R.memory parts.old parts.new (change_onto to_move.now slot) (MovesOnto to_move.now slot) }
 {
     let target = tree_of(&parts.region, to_move.to_dir);
     let replaced = inumber(&parts.region, target, slot) as u32;

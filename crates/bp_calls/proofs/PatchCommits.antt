@@ -31,7 +31,7 @@ use Rattle.bp_cow.specs.Job.{IsTurned}
 use Rattle.bp_cow.specs.Touched.{IsTouched, NoneBegins, all_paths, job_of, leaves_of}
 use Rattle.bp_cow.proofs.CopiesNeed.{none-begins}
 use Rattle.bp_cow.proofs.FewCopies.{runs_copies}
-use Rattle.bp_cow.proofs.JobLaws.{first-range}
+use Rattle.bp_cow.proofs.WaysAlike.{first-range}
 use Rattle.bp_thaw.specs.Fronts.{IsWay}
 use Rattle.bp_cow.proofs.CommitTaking.{commit_performs, stores_few}
 use Rattle.bp_calls.specs.Overwritten.{AreRuns, CanOverwrite, CanOverwriteThawed, IsPatchIn, stretches_of}

@@ -33,7 +33,7 @@ use Rattle.bp_cow.specs.Commit.{HasLooseCover, cover_word}
 use Rattle.bp_cow.specs.Touched.{IsRun, IsTouched, run_byte, run_end, run_leaves, run_path, run_way}
 use Rattle.bp_cow.proofs.CommitTaking.{cover_open}
 use Rattle.bp_cow.proofs.CopiesNeed.{has-of-run}
-use Rattle.bp_cow.proofs.JobLaws.{leaf-fronts}
+use Rattle.bp_cow.proofs.RunPointers.{leaf-fronts}
 use Rattle.bp_cow.proofs.RunFronts.{front-run_way}
 use Rattle.bp_cow.proofs.RunLaws.{length-run_path, length-run_way}
 use Rattle.bp_cow.proofs.RunWrites.{root_path_trail}

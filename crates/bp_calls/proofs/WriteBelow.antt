@@ -21,7 +21,7 @@ use Rattle.bp_cow.specs.CanCommit.{CanCommit, IsRunIn, IsTreeIn}
 use Rattle.bp_cow.specs.Commit.{HasLooseCover, CommitsTouched, HasRoom}
 use Rattle.bp_cow.specs.Cover.{LeadsInside, commit_cover, copied_count}
 use Rattle.bp_cow.proofs.CopiesNeed.{none-begins}
-use Rattle.bp_cow.proofs.JobLaws.{first-range}
+use Rattle.bp_cow.proofs.WaysAlike.{first-range}
 use Rattle.bp_cow.specs.Job.{IsTurned}
 use Rattle.bp_cow.specs.Touched.{IsRun, IsTouched, NoneBegins, all_paths, job_of, leaves_of, run_leaves}
 use Rattle.bp_cow.proofs.CallerLaws.{no_trees, runs_can}

@@ -29,7 +29,9 @@ use Rattle.bp_cow.specs.Cover.{end_path, BeginAlike, CoverHas}
 use Rattle.bp_cow.specs.Found.{IsAt}
 use Rattle.bp_cow.specs.CanCommit.{CanCommit}
 use Rattle.bp_cow.proofs.CoverLaws.{at-word, some-ends}
-use Rattle.bp_cow.proofs.JobLaws.{can_build, in_place, first-length}
+use Rattle.bp_cow.proofs.WaysAlike.{can_build, first-length}
+use Rattle.bp_cow.proofs.OnlyWord.{IsOnePath}
+use Rattle.bp_cow.proofs.InPlace.{in_place}
 use Rattle.bp_cow.proofs.StageEnd.{stage_committed}
 
 -- What a commit does, told by the code's numbers: the slots of the cover, and the set of the blocks that are free after the last store.
@@ -44,7 +46,7 @@ pub record CommitsCopies (bound : ℕ → ℕ) (kept : ℕ → Bool) (touched : 
   pub exact : IsExactSet (current_words new) (IsTreePointer (current_words old) bound) kept (has blocks_after)
 
 -- the same pointers under another name
-pub committed_same : (old new : Image) (Pointer Counts turned other : Trail → Type 0) (after : Trail → ℕ) → ((q : Trail) → turned q → other q) → ((q : Trail) → other q → turned q) →
+committed_same : (old new : Image) (Pointer Counts turned other : Trail → Type 0) (after : Trail → ℕ) → ((q : Trail) → turned q → other q) → ((q : Trail) → other q → turned q) →
     IsCommitted old new Pointer Counts turned after → IsCommitted old new Pointer Counts other after
 committed_same old new Pointer Counts turned other after to from stage = record {
   whole = stage.whole;
@@ -73,7 +75,7 @@ copied-none job from low = go (nat_le from (length (job.way 0))) refl
     go true e = absurd (omega (arith, low, leb-true from (length (job.way 0)) e))
 
 -- a larger bound on the stores
-pub looser : (start taken : ℕ → Bool) (place most all : ℕ) (old new : Memory) → most ≤ all → AddsCopyCommit start taken place most old new → AddsCopyCommit start taken place all old new
+looser : (start taken : ℕ → Bool) (place most all : ℕ) (old new : Memory) → most ≤ all → AddsCopyCommit start taken place most old new → AddsCopyCommit start taken place all old new
 looser start taken place most all old new few done = record {
   value = done.value;
   commit = record {
@@ -89,8 +91,9 @@ looser start taken place most all old new few done = record {
 
 -- ---- the cover is the only touched word
 
-module _ {kept : ℕ → Bool} (bound : ℕ → ℕ) (touched : Touched) (first last : Memory) (blocks : Set) (wf : IsWellFormed (current_words first)) (can : CanCommit (current_words first) bound kept touched (has blocks))
-    (found : FoundCover) (at : IsAt (current_words first) touched found) (longest : CoverHas (current_words first) touched found.len) (past : length ((job_of touched).way 0) < found.len)
+module _ {kept : ℕ → Bool} {bound : ℕ → ℕ} {touched : Touched} {last : Memory} {found : FoundCover} (first : Memory) (blocks : Set) (wf : IsWellFormed (current_words first))
+    (can : CanCommit (current_words first) bound kept touched (has blocks)) (at : IsAt (current_words first) touched found) (longest : CoverHas (current_words first) touched found.len)
+    (past : length ((job_of touched).way 0) < found.len)
     (adds : Adds first last (commit found.place (only_value touched (word (current_words first) found.place)))) where
   abbrev old : Image
   old = current_words first
@@ -104,7 +107,10 @@ module _ {kept : ℕ → Bool} (bound : ℕ → ℕ) (touched : Touched) (first 
 
   way-is : length ((job_of touched).way 0) ≡ m
   unfolding m
-  way-is = let long = at.alike.long 0 (some-ends touched can.shape) in omega (arith, past, long, first-length old bound touched (has blocks) wf can)
+  way-is = let long = at.alike.long 0 (some-ends touched can.shape) in omega (arith, past, long, first-length can)
+
+  alone : IsOnePath touched m
+  alone = record { alike = subst (BeginAlike touched) (sym up-is) at.alike; long = way-is }
 
   value-is : only_value touched (word old found.place) ≡ only_value touched (word_on old (slice_index (end_path touched 0) m ∷ trail_of (end_path touched 0) m))
   value-is = ap (only_value touched) (at-word old touched found at ∙ ap (λ n. word_on old (trail_of (end_path touched 0) n)) (sym up-is))
@@ -118,7 +124,7 @@ module _ {kept : ℕ → Bool} (bound : ℕ → ℕ) (touched : Touched) (first 
   committed : IsCommitted old (current_words last) (IsTreePointer old bound) (IsTreeWord old bound) (λ q. ⊥) (after_commit old (job_of touched))
   committed =
       subst (λ (ws : Image). IsCommitted old ws (IsTreePointer old bound) (IsTreeWord old bound) (λ q. ⊥) (after_commit old (job_of touched))) (ap (λ p. set old p (only_value touched (word old found.place))) place-is ∙ last-is)
-      (in_place old bound touched (has blocks) wf can m (subst (BeginAlike touched) (sym up-is) at.alike) way-is (λ k low. at.exists k (subst (λ n. k < n) up-is low)) (only_value touched (word old found.place)) value-is)
+      (in_place can alone wf (λ k low. at.exists k (subst (λ n. k < n) up-is low)) (only_value touched (word old found.place)) value-is)
 
   same-block : (p : Trail) → IsTreePointer old bound p → block_on (current_words last) p ≡ block_on old p
   same-block p live = ap (λ w. w / 4096) (committed.kept p live (λ none. none))
@@ -163,13 +169,14 @@ module _ {kept : ℕ → Bool} (bound : ℕ → ℕ) (touched : Touched) (first 
 
 -- ---- the cover is a pointer, and blocks are copied
 
-module _ {kept : ℕ → Bool} (bound : ℕ → ℕ) (touched : Touched) (first last : Memory) (blocks : Set) (wf : IsWellFormed (current_words first)) (can : CanCommit (current_words first) bound kept touched (has blocks))
-    (found : FoundCover) (at : IsAt (current_words first) touched found) (longest : CoverHas (current_words first) touched found.len) (short : found.len ≤ length ((job_of touched).way 0))
-    (top : ℕ) (free : ℕ → Bool) (after taken : Set) where
-  abbrev plan : Plan
-  plan = record { old = current_words first; bound = bound; kept = kept; free = has blocks; job = job_of touched; place = found.place; top = top; free_after = free }
+abbrev plan_of : (ℕ → ℕ) → (ℕ → Bool) → Touched → Memory → Set → ℕ → ℕ → (ℕ → Bool) → Plan
+plan_of bound kept touched first blocks place top free =
+    record { old = current_words first; bound = bound; kept = kept; free = has blocks; job = job_of touched; place = place; top = top; free_after = free }
 
-  pub commits_turned : IsTurnedOver plan touched found.len found.place blocks taken first last → IsExactSet (current_words last) (IsTreePointer (current_words first) bound) kept (has after) →
+module _ {kept : ℕ → Bool} {bound : ℕ → ℕ} {touched : Touched} {first last : Memory} {blocks after taken : Set} {found : FoundCover} (wf : IsWellFormed (current_words first))
+    (can : CanCommit (current_words first) bound kept touched (has blocks)) (at : IsAt (current_words first) touched found) (longest : CoverHas (current_words first) touched found.len)
+    (short : found.len ≤ length ((job_of touched).way 0)) (top : ℕ) (free : ℕ → Bool) where
+  pub commits_turned : IsTurnedOver (plan_of bound kept touched first blocks found.place top free) touched found.len found.place blocks taken first last → IsExactSet (current_words last) (IsTreePointer (current_words first) bound) kept (has after) →
       CommitsCopies bound kept touched first last blocks after
   commits_turned done exact =
       let same : copies_at (job_of touched) found.len ≡ copies (job_of touched) found.len = copied-some (job_of touched) found.len short in
@@ -183,6 +190,6 @@ module _ {kept : ℕ → Bool} (bound : ℕ → ℕ) (touched : Touched) (first 
             (looser (has blocks) (has taken) found.place _ _ first last (omega (arith, same)) done.commit);
         words = committed_same (current_words first) (current_words last) (IsTreePointer (current_words first) bound) (IsTreeWord (current_words first) bound) (IsAnew (job_of touched) found.len (ways (job_of touched)) found.len) (IsTurned (job_of touched) found.len) _
             (λ q n. record { copies = short; anew = n }) (λ q t. t.anew)
-            (stage_committed plan found.len (current_words last) (has taken) (can_build (current_words first) bound touched (has blocks) wf can found.len at.alike short found.place at.exists at.place) done.stage);
+            (stage_committed (plan_of bound kept touched first blocks found.place top free) found.len (current_words last) (has taken) (can_build can found.len at.alike short wf found.place at.exists at.place) done.stage);
         exact = exact;
       }

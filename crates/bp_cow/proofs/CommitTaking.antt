@@ -39,7 +39,8 @@ use Rattle.bp_cow.proofs.CommitLaws.{led_has, has_led}
 use Rattle.bp_cow.proofs.CopiesNeed.{alike-all, none-begins}
 use Rattle.bp_cow.proofs.CoverLaws.{some-ends, end-slots}
 use Rattle.bp_cow.proofs.CoverOf.{alike_front, nodes_of, cover_has, cover_length, cover_front, cover_address, count_is}
-use Rattle.bp_cow.proofs.JobLaws.{first-length, first-pointer, ways-short}
+use Rattle.bp_cow.proofs.WayPointers.{ways-short}
+use Rattle.bp_cow.proofs.WaysAlike.{first-length, first-pointer}
 use Rattle.bp_cow.proofs.PerformsLaws.{copies, of_copy, copies_taken, copies_counted}
 
 -- numbers past which none is in count for nothing
@@ -65,8 +66,9 @@ above_not_turned touched path from d low turned = go turned.anew
     go (is_begun b) = omega (arith, low, b.low, size (front (job_of touched) b.which b.depth) b.same, length-trail_of ((job_of touched).way b.which) b.depth)
     go (is_front count past high e) = omega (arith, low, past, size (front (job_of touched) (ways (job_of touched)) count) e, length-trail_of ((job_of touched).way (ways (job_of touched))) count)
 
-module _ {kept : ℕ → Bool} (bound : ℕ → ℕ) (touched : Touched) (old new : Memory) (blocks after : Set) (wf : IsWellFormed (current_words old)) (can : CanCommit (current_words old) bound kept touched (has blocks))
-    (loose : HasLooseCover (current_words old) kept touched) (fits : block_count (current_words old) ≤ length blocks) (done : CommitsCopies bound kept touched old new blocks after) where
+module _ {kept : ℕ → Bool} {bound : ℕ → ℕ} {touched : Touched} {old new : Memory} {blocks after : Set} (wf : IsWellFormed (current_words old))
+    (can : CanCommit (current_words old) bound kept touched (has blocks)) (loose : HasLooseCover (current_words old) kept touched) (fits : block_count (current_words old) ≤ length blocks)
+    (done : CommitsCopies bound kept touched old new blocks after) where
   abbrev image : Image
   image = current_words old
 
@@ -99,7 +101,7 @@ module _ {kept : ℕ → Bool} (bound : ℕ → ℕ) (touched : Touched) (old ne
       }
 
   abbrev taken : List ℕ
-  taken = copies (has blocks) (has done.taken) (place_on image (trail_of (end_path touched 0) done.cover)) (513 * copies_at (job_of touched) done.cover + length touched.words.now + 1) old new done.commit was_free
+  taken = copies done.commit was_free
 
   -- the sets are told up to the number of blocks
   told : (set : Set) → length set ≡ length blocks → ((b : ℕ) → has set b ≡ true → has blocks b ≡ true) → length (members set) ≡ length (numbers_below (block_count image) (has set))
@@ -111,8 +113,7 @@ module _ {kept : ℕ → Bool} (bound : ℕ → ℕ) (touched : Touched) (old ne
 
   number-is : length taken ≡ copied_count image touched
   number-is =
-      copies_counted (has blocks) (has done.taken) (place_on image (trail_of (end_path touched 0) done.cover)) (513 * copies_at (job_of touched) done.cover + length touched.words.now + 1) old new done.commit was_free
-      (length (members blocks)) (length (members done.taken)) (copies_at (job_of touched) done.cover) (told blocks refl (λ b is. is)) (told done.taken done.size done.commit.fewer) done.count
+      copies_counted done.commit was_free (told blocks refl (λ b is. is)) (told done.taken done.size done.commit.fewer) done.count
       ∙ copied-is
 
   -- ---- the word of the cover
@@ -128,9 +129,9 @@ module _ {kept : ℕ → Bool} (bound : ℕ → ℕ) (touched : Touched) (old ne
 
   same_block : (d : ℕ) → d < n → block_on (current_words new) (trail_of first d) ≡ block_on image (trail_of first d)
   same_block d low =
-      let short : d ≤ length ((job_of touched).way 0) = omega (arith, low, long, first-length image bound touched (has blocks) wf can) in
+      let short : d ≤ length ((job_of touched).way 0) = omega (arith, low, long, first-length can) in
       ap block_of (done.words.kept (trail_of first d)
-      (first-pointer image bound touched (has blocks) wf can d (alike_front touched n d (omega (arith, low)) has_cover.alike) short d short)
+      (first-pointer can d (alike_front touched n d (omega (arith, low)) has_cover.alike) short d short)
       (above_not_turned touched first done.cover d (omega (arith, low, cover-is))))
 
   same_place : (k : ℕ) → k ≤ n → place_on (current_words new) (trail_of first k) ≡ place_on image (trail_of first k)
@@ -161,10 +162,9 @@ module _ {kept : ℕ → Bool} (bound : ℕ → ℕ) (touched : Touched) (old ne
           (subst (λ m. IsPiece 2 m (done.commit.commit.prepared ++ commit (place_on image (trail_of first done.cover)) done.commit.value)) most done.commit.commit.piece);
     };
     taken = taken;
-    takes = copies_taken (has blocks) (has done.taken) (place_on image (trail_of first done.cover)) (513 * copies_at (job_of touched) done.cover + length touched.words.now + 1) old new done.commit was_free;
+    takes = copies_taken done.commit was_free;
     number = number-is;
-    from = each-of (λ b. has blocks b ≡ true) taken
-        (λ b one. (of_copy (has blocks) (has done.taken) (place_on image (trail_of first done.cover)) (513 * copies_at (job_of touched) done.cover + length touched.words.now + 1) old new done.commit was_free b one).0);
+    from = each-of (λ b. has blocks b ≡ true) taken (λ b one. (of_copy done.commit was_free b one).0);
     stays = stays-is;
     loose = loose;
     words = subst (λ k. IsCommitted image (current_words new) (IsTreePointer image bound) (IsTreeWord image bound) (IsTurned (job_of touched) k) (after_commit image (job_of touched))) cover-is done.words;
@@ -178,21 +178,33 @@ module _ {kept : ℕ → Bool} (bound : ℕ → ℕ) (touched : Touched) (old ne
 -- The word of the cover is in the superblock or in a live block that is not kept, where all pointers on the path of one touched word are live.
 module _ (kept : ℕ → Bool) (image : Image) (wf : IsWellFormed image) (touched : Touched) (shape : IsTouched touched) (path : WordPath) (in_paths : Has (all_paths touched) path)
     (live : (d : ℕ) → d < length path → IsTreePointer image (size_of image) (trail_of path d)) (loose : HasLooseCover image kept touched) (taken : List ℕ) where
+  -- the first slots of the first path, and the place of its word there
+  abbrev first_front : ℕ → Trail
+  first_front k = trail_of (end_path touched 0) k
+
+  abbrev front_place : ℕ → ℕ
+  front_place k = place_on image (first_front k)
+
+  abbrev IsLoosePlace : ℕ → Type 0
+  IsLoosePlace place = 512 ≤ place → kept (place / 512) ≡ false
+
   pub cover_open : IsOpen image kept taken (cover_word image touched)
-  cover_open = subst (IsOpen image kept taken) (sym (cover_address touched shape image)) (go (length (commit_cover image touched)) (cover_has touched shape image) (subst (λ w. 512 ≤ w → kept (w / 512) ≡ false) (cover_address touched shape image) loose))
+  cover_open =
+      subst (IsOpen image kept taken) (sym (cover_address touched shape image))
+      (go (length (commit_cover image touched)) (cover_has touched shape image) (subst IsLoosePlace (cover_address touched shape image) loose))
     where
-      go : (k : ℕ) → CoverHas image touched k → (512 ≤ place_on image (trail_of (end_path touched 0) k) → kept (place_on image (trail_of (end_path touched 0) k) / 512) ≡ false) → IsOpen image kept taken (place_on image (trail_of (end_path touched 0) k))
+      go : (k : ℕ) → CoverHas image touched k → IsLoosePlace (front_place k) → IsOpen image kept taken (front_place k)
       go zero covers unkept = at_root refl
       go (suc k) covers unkept =
           let some : 0 < _ = some-ends touched shape in
           let alike = alike-all touched shape (suc k) covers.alike path in_paths in
           let slot : ℕ = slice_index (end_path touched 0) k in
           let low : slot < 512 = end-slots touched shape 0 k some (omega (arith, covers.alike.long 0 some)) in
-          let block : (512 * block_on image (trail_of (end_path touched 0) k) + slot) / 512 ≡ block_on image (trail_of (end_path touched 0) k) = omega (arith, low) in
-          let same : trail_of path k ≡ trail_of (end_path touched 0) k = cc in
-          let present : block_on image (trail_of (end_path touched 0) k) ≢ 0 = covers.exists k (omega arith) in
+          let block : (512 * block_on image (first_front k) + slot) / 512 ≡ block_on image (first_front k) = omega (arith, low) in
+          let same : trail_of path k ≡ first_front k = cc in
+          let present : block_on image (first_front k) ≢ 0 = covers.exists k (omega arith) in
           in_live (subst (IsLiveBlock image) (sym block)
-          (led_held image (size_of image) (wf_forest image wf) (block_on image (trail_of (end_path touched 0) k))
+          (led_held image (size_of image) (wf_forest image wf) (block_on image (first_front k))
           (record { trail = trail_of path k; pointer = live k (omega (arith, alike.0)); named = ap (block_on image) same; not_null = present }))) (unkept (omega (arith, present)))
 
 -- A commit alone performs a change whose cover and copies are those of the touched words.
@@ -246,7 +258,7 @@ module _ {kept : ℕ → Bool} (image : Image) (bound : ℕ → ℕ) (touched : 
       from = length (commit_cover image touched)
 
       all : turned_upto (job_of touched) from (ways (job_of touched)) ≤ 11 * ways (job_of touched)
-      all = upto_few (job_of touched) from (ways (job_of touched)) (ways-short image bound touched free wf can)
+      all = upto_few (job_of touched) from (ways (job_of touched)) (ways-short can)
 
       go : (x : Bool) → nat_le from (length ((job_of touched).way 0)) ≡ x → copies_at (job_of touched) from ≤ 1 + 11 * ways (job_of touched)
       go true e = rw e (omega (arith, all))

@@ -21,7 +21,8 @@ use Rattle.bp_cow.specs.Leaves.{IsLeaf}
 use Rattle.bp_cow.proofs.RunLaws.{length-run_path, length-run_way}
 use Rattle.bp_cow.proofs.RunsLaws.{end-first, end-last, end-of-word, ends-count, leaf-of, length-above, way-to}
 use Rattle.bp_cow.proofs.RunFronts.{trail_of-take, between-run, run-trail}
-use Rattle.bp_cow.proofs.JobLaws.{run-in, word-way, ways-fronts, leaf-plain}
+use Rattle.bp_cow.proofs.RunPointers.{leaf-plain}
+use Rattle.bp_cow.proofs.WayPointers.{word-way, ways-fronts}
 use Rattle.bp_cow.proofs.CommonPaths.{begins-self}
 use Rattle.bp_cow.proofs.CommitEnd.{copied-some, copied-none}
 use Rattle.bp_cow.proofs.Distinct.{same-take, fronts_sound, fronts_distinct, fronts_complete}
@@ -320,11 +321,11 @@ module _ {kept : ℕ → Bool} (old : Image) (bound : ℕ → ℕ) (touched : To
       let short : m ≤ length ((job_of touched).way way.which) = omega (arith, low, way.is.long) in
       subst (IsTreePointer old bound)
       (ap (λ p. trail_of p m) (sym way.is.same) ∙ trail_of-take other (length ((job_of touched).way way.which)) m short)
-      (ways-fronts old bound touched free wf can way.which way.is.here m short)
+      (ways-fronts can way.which way.is.here m short)
 
   no-pointer : (path : List ℕ) → Has (all_paths touched) path → IsTreePointer old bound (trail_of path (length path)) → ⊥
   no-pointer = paths-by touched can.shape (λ path. IsTreePointer old bound (trail_of path (length path)) → ⊥)
-      (λ run k has low high one. leaf-plain old bound can.forest run (is-run touched can.shape run has) (run-in old bound touched free wf can run has) (k / 512 - run.off / 4096) (k % 512) (omega (arith, low, high))
+      (λ run k has low high one. leaf-plain old bound can.forest run (is-run touched can.shape run has) (can.runs run has) (k / 512 - run.off / 4096) (k % 512) (omega (arith, low, high))
       (subst (IsTreePointer old bound) (run-trail run k low) one))
       (λ i here one. can.contents i here one)
 

@@ -1,24 +1,24 @@
 -- The end of a commit: the old blocks are where they were, and once they are given back the free set is exact.
-use Rattle.std.proofs.Common.{◌≡◌, ◌≢◌, ◌⊎◌, ℕ, zero, suc, ◌+◌, ◌*◌, ◌/◌, ◌<◌, ◌≤◌, length, Bool, false, refl, sym, ◌∙◌, ap, subst, arith, inl, inr}
+use Rattle.std.proofs.Common.{◌≡◌, ◌≢◌, ◌⊎◌, ℕ, zero, suc, ◌+◌, ◌-◌, ◌*◌, ◌/◌, ◌<◌, ◌≤◌, length, Bool, false, refl, sym, ◌∙◌, ap, subst, arith, inl, inr}
 use Rattle.std.proofs.lemmas.Bool.{cases_eq, cases_lt}
 use Rattle.bp_layout.specs.Words.{Image, word}
 use Rattle.bp_layout.proofs.TreeLaws.{slot_word-same}
 use Rattle.bp_shapes.specs.Trail.{Trail, block_on}
 use Rattle.bp_shapes.specs.Forest.{IsExactSet, IsTreePointer}
-use Rattle.bp_shapes.proofs.ForestLaws.{pointers, skeleton}
+use Rattle.bp_shapes.proofs.ForestLaws.{skeleton}
 use Rattle.bp_shapes.proofs.TrailLaws.{cases_trail}
 use Rattle.bp_shapes.proofs.PathTrails.{length-trail_of}
 use Rattle.bp_cow.specs.Counting.{IsTreeWord}
 use Rattle.bp_cow.specs.Stage.{IsStage}
 use Rattle.bp_cow.specs.Job.{Job, ways, front, value_upto, laid_on, IsBegun, IsAnew}
 use Rattle.bp_cow.specs.Job.IsAnew.{is_cover, is_begun, is_front}
-use Rattle.bp_cow.specs.Plan.{Plan, CanMake}
+use Rattle.bp_cow.specs.Plan.{Plan, CanMake, IsMade, seen}
 use Rattle.bp_cow.specs.Return.{IsLeft, IsBack}
 use Rattle.bp_cow.proofs.StageLaws.{exact-end}
 use Rattle.bp_cow.proofs.BuildingLaws.{apart-placed}
 
 -- whether some word begins with a trail can be told
-pub decide_begun : (job : Job) (from count : ℕ) (q : Trail) → IsBegun job from count q ⊎ (IsBegun job from count q → ⊥)
+decide_begun : (job : Job) (from count : ℕ) (q : Trail) → IsBegun job from count q ⊎ (IsBegun job from count q → ⊥)
 decide_begun job from zero q = inr (λ b. absurd (omega (arith, b.early)))
 decide_begun job from (suc count) q = go (decide_begun job from count q) (cases_lt (length q) from) (cases_lt (length (job.way count)) (length q)) (cases_trail q (front job count (length q)))
   where
@@ -61,8 +61,23 @@ anew_pointer plan from can q (is_cover e) = subst (IsTreePointer plan.old plan.b
 anew_pointer plan from can q (is_begun b) = subst (IsTreePointer plan.old plan.bound) (sym b.same) (can.pointers b.which b.depth b.early b.high)
 anew_pointer plan from can q (is_front k low high e) = absurd (omega (arith, low, high))
 
-module _ (plan : Plan) (from : ℕ) (now : Image) (free : ℕ → Bool) (can : CanMake plan from)
-    (stage : IsStage plan.old now (IsTreePointer plan.old plan.bound) (IsTreeWord plan.old plan.bound) (IsAnew plan.job from (ways plan.job) from) (value_upto plan.job plan.job.words) (laid_on plan.old plan.job) plan.kept free) where
+-- all copies of the plan are made and its pointers turned, and the first words, so many, are given their values
+abbrev IsDoneUpto : Plan → ℕ → ℕ → Image → (ℕ → Bool) → Type 0
+IsDoneUpto plan from count now free =
+    IsStage plan.old now (IsTreePointer plan.old plan.bound) (IsTreeWord plan.old plan.bound) (IsAnew plan.job from (ways plan.job) from)
+    (value_upto plan.job count) (laid_on plan.old plan.job) plan.kept free
+
+-- all is as the plan says
+abbrev pub IsDone : Plan → ℕ → Image → (ℕ → Bool) → Type 0
+IsDone plan from now free = IsDoneUpto plan from plan.job.words now free
+
+-- it is so once the last store is done
+pub done_of : (plan : Plan) (from : ℕ) {middle last : Image} {free : ℕ → Bool} → IsMade plan from (ways plan.job) from middle free → seen plan middle ≡ last → IsDone plan from last free
+done_of plan from {middle} {last} {free} made now =
+    let words : ways plan.job - plan.job.leaves ≡ plan.job.words = omega arith in
+    subst (λ n. IsDoneUpto plan from n last free) words (subst (λ (ws : Image). IsDoneUpto plan from (ways plan.job - plan.job.leaves) ws free) now made.stage)
+
+module _ (plan : Plan) (from : ℕ) (now : Image) (free : ℕ → Bool) (can : CanMake plan from) (stage : IsDone plan from now free) where
   pub left_of : ((w : ℕ) → w ≢ plan.place → plan.free (w / 512) ≡ false → word now w ≡ word plan.old w) → IsLeft plan from free now
   left_of others = record {
     can = can;
@@ -78,5 +93,4 @@ module _ (plan : Plan) (from : ℕ) (now : Image) (free : ℕ → Bool) (can : C
 
   pub exact_of : (after : ℕ → Bool) → IsBack plan from (ways plan.job) from free after → IsExactSet now (IsTreePointer plan.old plan.bound) plan.kept after
   exact_of after back =
-      exact-end plan.old now (IsTreePointer plan.old plan.bound) (pointers plan.old plan.bound can.forest) (IsAnew plan.job from (ways plan.job) from) (value_upto plan.job plan.job.words) (laid_on plan.old plan.job) free stage
-      (skeleton plan.old plan.bound can.forest can.whole) after (decide_anew plan.job from (ways plan.job)) back.given back.still back.from
+      exact-end stage (skeleton plan.old plan.bound can.forest can.whole) after (decide_anew plan.job from (ways plan.job)) back.given back.still back.from

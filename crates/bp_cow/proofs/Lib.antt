@@ -18,7 +18,11 @@ pub mod QuietCopies
 pub mod CoverLaws
 pub mod CommonPaths
 pub mod RunFronts
-pub mod JobLaws
+pub mod RunPointers
+pub mod WayPointers
+pub mod WaysAlike
+pub mod OnlyWord
+pub mod InPlace
 pub mod StageEnd
 pub mod CommitEnd
 pub mod Distinct

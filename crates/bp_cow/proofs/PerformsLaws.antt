@@ -30,7 +30,7 @@ of_gone true true is = (refl, sym is)
 of_gone false n is = (is, let clash : true ≡ false = sym is in absurd (cc))
 
 -- where the second set is part of the first, the first has as many numbers as both the second and the rest
-pub count_gone : (start now : ℕ → Bool) → ((b : ℕ) → now b ≡ true → start b ≡ true) → (xs : List ℕ) → length (filter start xs) ≡ length (filter now xs) + length (filter (gone start now) xs)
+count_gone : (start now : ℕ → Bool) → ((b : ℕ) → now b ≡ true → start b ≡ true) → (xs : List ℕ) → length (filter start xs) ≡ length (filter now xs) + length (filter (gone start now) xs)
 count_gone start now fewer [] = refl
 count_gone start now fewer (x ∷ xs) = go (start x) (now x) refl refl (count_gone start now fewer xs)
   where
@@ -41,29 +41,38 @@ count_gone start now fewer (x ∷ xs) = go (start x) (now x) refl refl (count_go
     go false false one two rest = rw (one, two) rest
     go false true one two rest = let clash : true ≡ false = sym (fewer x two) ∙ one in absurd (cc)
 
-module _ {kept : ℕ → Bool} (start now : ℕ → Bool) (word most : ℕ) (old new : Memory) (done : AddsCopyCommit start now word most old new) (free : (b : ℕ) → start b ≡ true → IsFreeBlock (current_words old) kept b) where
+module _ {kept start now : ℕ → Bool} {word most : ℕ} {old new : Memory} (done : AddsCopyCommit start now word most old new) (free : (b : ℕ) → start b ≡ true → IsFreeBlock (current_words old) kept b) where
+  abbrev count : ℕ
+  count = block_count (current_words old)
+
+  abbrev numbers : List ℕ
+  numbers = range_with_len 0 count
+
   -- the blocks that were taken
   abbrev pub copies : List ℕ
-  copies = numbers_below (block_count (current_words old)) (gone start now)
+  copies = numbers_below count (gone start now)
 
   has_copy : (b : ℕ) → start b ≡ true → now b ≡ false → Has copies b
   has_copy b was none =
       let is : IsFreeBlock (current_words old) kept b = free b was in
-      has-filter (gone start now) (range_with_len 0 (block_count (current_words old))) b (has-range 0 (block_count (current_words old)) b (omega arith) (omega (arith, is.high))) (gone_of (start b) (now b) was none)
+      has-filter (gone start now) numbers b (has-range 0 count b (omega arith) (omega (arith, is.high))) (gone_of (start b) (now b) was none)
 
   pub of_copy : (b : ℕ) → Has copies b → (start b ≡ true) × (now b ≡ false)
-  of_copy b has = of_gone (start b) (now b) (filter-has (gone start now) (range_with_len 0 (block_count (current_words old))) b has).1
+  of_copy b has = of_gone (start b) (now b) (filter-has (gone start now) numbers b has).1
 
   pub copies_taken : TakesBlocks (current_words old) kept copies done.commit.prepared
   copies_taken = record {
-    once = apart-filter (gone start now) (range_with_len 0 (block_count (current_words old))) (apart-range 0 (block_count (current_words old)));
+    once = apart-filter (gone start now) numbers (apart-range 0 count);
     free = each-of (IsFreeBlock (current_words old) kept) copies (λ b has. free b (of_copy b has).0);
     stored = each-of (λ b. StoresTo (InBlock b) done.commit.prepared) copies (λ b has. done.each b (of_copy b has).0 (of_copy b has).1);
-    only = StoresMay-weaker (AnyAt (IsTakenWord start now)) (AnyAt (IsOpen (current_words old) kept copies)) (λ place value inside. in_taken (has_copy (place / 512) (ap start inside.inside ∙ inside.was) (ap now inside.inside ∙ inside.gone))) done.commit.prepared done.only;
+    only = StoresMay-weaker (AnyAt (IsTakenWord start now)) (AnyAt (IsOpen (current_words old) kept copies)) open_place done.commit.prepared done.only;
   }
+    where
+      open_place : (place value : ℕ) → IsTakenWord start now place → IsOpen (current_words old) kept copies place
+      open_place place value one = in_taken (has_copy (place / 512) (ap start one.inside ∙ one.was) (ap now one.inside ∙ one.gone))
 
   -- so many, where both sets are told up to the number of blocks
-  pub copies_counted : (before after count : ℕ) → before ≡ length (numbers_below (block_count (current_words old)) start) → after ≡ length (numbers_below (block_count (current_words old)) now) → before ≡ after + count → length copies ≡ count
-  copies_counted before after count one two sum =
-      let parts = count_gone start now done.fewer (range_with_len 0 (block_count (current_words old))) in
+  pub copies_counted : {before after taken : ℕ} → before ≡ length (numbers_below count start) → after ≡ length (numbers_below count now) → before ≡ after + taken → length copies ≡ taken
+  copies_counted one two sum =
+      let parts = count_gone start now done.fewer numbers in
       omega (arith, one, two, sum, parts)

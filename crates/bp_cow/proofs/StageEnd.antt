@@ -3,17 +3,16 @@ use Rattle.std.proofs.Common.{◌≡◌, ◌≢◌, ◌⊎◌, ℕ, ◌<◌, ◌
 use Rattle.bp_layout.specs.Words.{Image}
 use Rattle.bp_shapes.specs.Trail.{Trail, word_on}
 use Rattle.bp_shapes.specs.Forest.{IsTreePointer}
-use Rattle.bp_cow.specs.Job.{ways, end_of, value_upto, laid_on, IsAnew}
+use Rattle.bp_cow.specs.Job.{ways, end_of, laid_on, IsAnew}
 use Rattle.bp_cow.specs.Job.IsAnew.{is_begun}
-use Rattle.bp_cow.specs.Stage.{IsStage}
 use Rattle.bp_cow.specs.Plan.{Plan, CanMake}
 use Rattle.bp_cow.specs.Counting.{IsTreeWord}
 use Rattle.bp_cow.specs.Committed.{IsCommitted, after_commit}
 use Rattle.bp_cow.proofs.BuildFacts.{laid-other}
-use Rattle.bp_cow.proofs.EndLaws.{decide_anew, anew_pointer}
+use Rattle.bp_cow.proofs.EndLaws.{IsDone, decide_anew, anew_pointer}
 
 pub stage_committed : (plan : Plan) (from : ℕ) (now : Image) (free : ℕ → Bool) → CanMake plan from →
-    IsStage plan.old now (IsTreePointer plan.old plan.bound) (IsTreeWord plan.old plan.bound) (IsAnew plan.job from (ways plan.job) from) (value_upto plan.job plan.job.words) (laid_on plan.old plan.job) plan.kept free →
+    IsDone plan from now free →
     IsCommitted plan.old now (IsTreePointer plan.old plan.bound) (IsTreeWord plan.old plan.bound) (IsAnew plan.job from (ways plan.job) from) (after_commit plan.old plan.job)
 stage_committed plan from now free can stage = record {
   whole = stage.whole;

@@ -18,7 +18,8 @@ use Rattle.bp_cow.proofs.BuildFacts.{value-none, laid-leaf, laid-other}
 use Rattle.bp_cow.proofs.RunLaws.{run_word-outside}
 use Rattle.bp_cow.proofs.RunsLaws.{HasLeaf, laid-kept, way-to}
 use Rattle.bp_cow.proofs.RunFronts.{leaf-trail-of, run-trail}
-use Rattle.bp_cow.proofs.JobLaws.{word-trail, leaf-at, leaf-end, leaves-agree, same-path}
+use Rattle.bp_cow.proofs.RunPointers.{same-path}
+use Rattle.bp_cow.proofs.WayPointers.{word-trail, leaf-at, leaf-end, leaves-agree}
 
 -- the value of a word among the first ones, where no other has its trail
 value-of : (job : Job) (count i : ℕ) → i < count → ((k : ℕ) → k < count → word_trail job i ≡ word_trail job k → i ≡ k) → value_upto job count (word_trail job i) ≡ Some (job.value i)
@@ -42,8 +43,8 @@ module _ {kept : ℕ → Bool} (old : Image) (bound : ℕ → ℕ) (touched : To
   -- a word has the value that it is given
   pub after-word : (i : ℕ) → i < length touched.words.now → after_commit old (job_of touched) (trail_of (path i) (length (path i))) ≡ (job_of touched).value i
   after-word i here =
-      let is : word_trail (job_of touched) i ≡ trail_of (path i) (length (path i)) = word-trail old bound touched free wf can i here in
-      let given = value-of (job_of touched) (job_of touched).words i here (λ k few same. can.apart i k here few (sym is ∙ same ∙ word-trail old bound touched free wf can k few)) in
+      let is : word_trail (job_of touched) i ≡ trail_of (path i) (length (path i)) = word-trail can i here in
+      let given = value-of (job_of touched) (job_of touched).words i here (λ k few same. can.apart i k here few (sym is ∙ same ∙ word-trail can k few)) in
       ap (after_commit old (job_of touched)) (sym is) ∙ ap (λ v. unwrap_or v (laid_on old (job_of touched) (word_trail (job_of touched) i))) given
 
   -- a word of a run has the bytes of the runs in that tree, and else those that it had
@@ -53,13 +54,13 @@ module _ {kept : ℕ → Bool} (old : Image) (bound : ℕ → ℕ) (touched : To
       let way = way-to touched.runs.now touched.runs.now (word_paths touched) run (k / 512 - run.off / 4096) has (omega (arith, low, high)) in
       let i : ℕ = way.which in
       let at : trail_of (run_path run k) (length (run_path run k)) ≡ k % 512 ∷ end_of (job_of touched) i =
-      run-trail run k low ∙ ap (λ q. k % 512 ∷ q) (sym (leaf-end old bound touched free wf can i run (k / 512 - run.off / 4096) way.is)) in
+      run-trail run k low ∙ ap (λ q. k % 512 ∷ q) (sym (leaf-end touched i run (k / 512 - run.off / 4096) way.is)) in
       let none : value_upto (job_of touched) (job_of touched).words (k % 512 ∷ end_of (job_of touched) i) ≡ None =
-      value-none (job_of touched) (job_of touched).words _ (λ n here same. can.beside run n k has here low high (sym (word-trail old bound touched free wf can n here) ∙ sym same ∙ sym at)) in
+      value-none (job_of touched) (job_of touched).words _ (λ n here same. can.beside run n k has here low high (sym (word-trail can n here) ∙ sym same ∙ sym at)) in
       let number : 512 * (run.off / 4096 + (k / 512 - run.off / 4096)) + k % 512 ≡ k = omega (arith, low) in
       ap (after_commit old (job_of touched)) at
       ∙ ap (λ v. unwrap_or v (laid_on old (job_of touched) (k % 512 ∷ end_of (job_of touched) i))) none
-      ∙ laid-leaf old (job_of touched) (k % 512) i way.is.here (λ l small same w. leaves-agree old bound touched free wf can i l way.is.here small same (k % 512) w)
+      ∙ laid-leaf old (job_of touched) (k % 512) i way.is.here (λ l small same w. leaves-agree can i l way.is.here small same (k % 512) w)
       ∙ way.is.patch (k % 512) (word_on old (k % 512 ∷ end_of (job_of touched) i))
       ∙ ap (λ n. laid_word touched.runs.now run.root.items n (word_on old (k % 512 ∷ end_of (job_of touched) i))) number
       ∙ ap (λ q. laid_word touched.runs.now run.root.items k (word_on old q)) (sym at)
@@ -72,19 +73,19 @@ module _ {kept : ℕ → Bool} (old : Image) (bound : ℕ → ℕ) (touched : To
       ap (λ v. unwrap_or v (laid_on old (job_of touched) (slot ∷ p))) none ∙ search_leaf (job_of touched).leaves (λ i few past same. absurd (omega (arith, few, past)))
     where
       none : value_upto (job_of touched) (job_of touched).words (slot ∷ p) ≡ None
-      none = value-none (job_of touched) (job_of touched).words (slot ∷ p) (λ i here same. no_word i here (same ∙ word-trail old bound touched free wf can i here))
+      none = value-none (job_of touched) (job_of touched).words (slot ∷ p) (λ i here same. no_word i here (same ∙ word-trail can i here))
 
       -- a word of a leaf that no run of the tree touches
       in_leaf : (i : ℕ) → i < (job_of touched).leaves → p ≡ end_of (job_of touched) i → laid_on old (job_of touched) (slot ∷ p) ≡ word_on old (slot ∷ p)
       in_leaf i few same =
           ap (λ q. laid_on old (job_of touched) (slot ∷ q)) same
-          ∙ laid-leaf old (job_of touched) slot i few (λ l small twice w. leaves-agree old bound touched free wf can i l few small twice slot w)
+          ∙ laid-leaf old (job_of touched) slot i few (λ l small twice w. leaves-agree can i l few small twice slot w)
           ∙ at.is.patch slot (word_on old (slot ∷ end_of (job_of touched) i))
           ∙ ap (λ q. laid_word touched.runs.now at.run.root.items number (word_on old (slot ∷ q))) (sym same)
           ∙ laid-kept touched.runs.now at.run.root.items number (word_on old (slot ∷ p)) (λ run has roots. run_word-outside run number (word_on old (slot ∷ p)) (split run has roots (cases_lt number (run.off / 8)) (cases_lt ((run_end run - 1) / 8) number)))
         where
           at : HasLeaf touched.runs.now touched.runs.now (word_paths touched) i
-          at = leaf-at old bound touched free wf can i few
+          at = leaf-at touched i few
 
           number : ℕ
           number = 512 * (at.run.off / 4096 + at.leaf) + slot
@@ -99,7 +100,7 @@ module _ {kept : ℕ → Bool} (old : Image) (bound : ℕ → ℕ) (touched : To
           trail_is : slot ∷ p ≡ trail_of (run_path at.run number) (length (run_path at.run number))
           trail_is =
               sym (leaf-trail-of at.run at.leaf number leaf ∙ ap (λ s. s ∷ trail_of (run_way at.run at.leaf) (length (run_way at.run at.leaf))) last
-              ∙ ap (λ q. slot ∷ q) (sym (leaf-end old bound touched free wf can i at.run at.leaf at.is) ∙ sym same))
+              ∙ ap (λ q. slot ∷ q) (sym (leaf-end touched i at.run at.leaf at.is) ∙ sym same))
 
           split : (run : Run) → Has touched.runs.now run → run.root.items ≡ at.run.root.items → (number < run.off / 8) ⊎ (run.off / 8 ≤ number) → ((run_end run - 1) / 8 < number) ⊎ (number ≤ (run_end run - 1) / 8) →
               (8 * number + 8 ≤ run.off) ⊎ (run_end run ≤ 8 * number)

@@ -26,7 +26,7 @@ use Rattle.bp_cow.proofs.CallerLaws.{run_can}
 use Rattle.bp_cow.proofs.CommitLaws.{committed_commits, size_after}
 use Rattle.bp_cow.proofs.CopiesNeed.{paths-by}
 use Rattle.bp_cow.proofs.CoverLaws.{some-ends}
-use Rattle.bp_cow.proofs.JobLaws.{leaf-fronts}
+use Rattle.bp_cow.proofs.RunPointers.{leaf-fronts}
 use Rattle.bp_cow.proofs.RunFronts.{front-run_way}
 use Rattle.bp_cow.proofs.RunLaws.{byte-run_word, length-run_path, length-run_way}
 use Rattle.bp_cow.proofs.RunWrites.{digits_trail, root_path_trail}

@@ -1,7 +1,7 @@
 use Rattle.pm_region.specs.Memory.{current_words}
 use Rattle.bp_free.specs.Set.{has}
 use Rattle.bp_layout.specs.Inode.{size_of}
-use Rattle.bp_cow.proofs.JobLaws.{first-range}
+use Rattle.bp_cow.proofs.WaysAlike.{first-range}
 use Rattle.bp_calls.proofs.committing.commit_below.Goals as goal
 
 pub find_ways-found-requires-clause-in_range : goal.find_ways-found-requires-clause-in_range

@@ -1,4 +1,4 @@
-use Rattle.std.proofs.Common.{◌≡◌, ◌<◌, ◌≤◌, length, refl, sym, ◌∙◌, subst, arith}
+use Rattle.std.proofs.Common.{◌≡◌, ℕ, ◌<◌, ◌≤◌, length, refl, sym, ◌∙◌, subst, arith}
 use Rattle.bp_free.specs.Set.{has}
 use Rattle.pm_region.specs.Memory.{current_words}
 use Rattle.bp_cow.specs.Cover.{copied_count}
@@ -8,7 +8,7 @@ use Rattle.bp_cow.proofs.CommitEnd.{copied-some, commits_one, commits_turned}
 use Rattle.bp_cow.proofs.CommitTaking.{commits_touched}
 use Rattle.bp_cow.proofs.CopiesNeed.{none-begins}
 use Rattle.bp_cow.proofs.CoverOf.{count_is}
-use Rattle.bp_cow.proofs.JobLaws.{can_build}
+use Rattle.bp_cow.proofs.WaysAlike.{can_build}
 use Rattle.bp_cow.proofs.committing.commit_at.Goals as goal
 
 pub way_len-requires-clause-touched : goal.way_len-requires-clause-touched
@@ -37,38 +37,46 @@ commit_one-requires-clause-room g c =
 
 pub commit_copies-requires : goal.commit_copies-requires
 commit_copies-requires g c κs within =
-    let image = (current_words (g.R.Region.memory c.args.parts.now.region)) in
+    let image = current_words (g.R.Region.memory c.args.parts.now.region) in
+    let touched = c.args.touched.now in
     let from = c.args.found.now.cover.len in
-    let short : from ≤ length ((job_of c.args.touched.now).way 0) = omega (arith, c.way_len.ensures, c.if-way_len-cover.false) in
-    let count : copies (job_of c.args.touched.now) from ≡ copied_count image c.args.touched.now =
-    sym (copied-some (job_of c.args.touched.now) from short)
-    ∙ count_is c.args.touched.now c.requires.1.0.can.shape image (none-begins image g.bound c.args.touched.now (has c.args.parts.now.blocks) c.requires.1.0.well_formed c.requires.1.0.can) from c.requires.1.1.0.cover.has in (
+    let all = c.requires.1.0 in
+    let cover = c.requires.1.1.0.cover in
+    let short : from ≤ length ((job_of touched).way 0) = omega (arith, c.way_len.ensures, c.if-way_len-cover.false) in
+    let apart = none-begins image g.bound touched (has c.args.parts.now.blocks) all.well_formed all.can in
+    let count : copies (job_of touched) from ≡ copied_count image touched =
+    sym (copied-some (job_of touched) from short) ∙ count_is touched all.can.shape image apart from cover.has in (
       within,
       (
-        c.requires.1.0.can.shape,
+        all.can.shape,
         (
           record {
-            can = can_build image g.bound c.args.touched.now (has c.args.parts.now.blocks) c.requires.1.0.well_formed c.requires.1.0.can from c.requires.1.1.0.cover.at.alike short c.args.found.now.cover.place c.requires.1.1.0.cover.at.exists c.requires.1.1.0.cover.at.place;
+            can = can_build all.can from cover.at.alike short all.well_formed c.args.found.now.cover.place cover.at.exists cover.at.place;
             old = refl;
             free = refl;
             at = refl;
-            well = c.requires.1.0.well_formed;
-            sizes = c.requires.1.0.can.sizes;
-            some = rw count c.requires.1.0.some;
-            room = rw count (omega (arith, c.requires.1.0.room));
+            well = all.well_formed;
+            sizes = all.can.sizes;
+            some = rw count all.some;
+            room = rw count (omega (arith, all.room));
           },
-          (c.requires.1.0.fits, (c.requires.1.1.1, c.requires.1.1.0.shared)),
+          (all.fits, (c.requires.1.1.1, c.requires.1.1.0.shared)),
         ),
       ),
     )
 
 pub returns-then-way_len-cover-clause-commits : goal.returns-then-way_len-cover-clause-commits
 returns-then-way_len-cover-clause-commits g c =
-    commits_touched g.bound c.args.touched.now (g.R.Region.memory c.args.parts.now.region) (g.R.Region.memory c.commit_one.new.region) c.args.parts.now.blocks c.args.parts.now.blocks c.requires.1.0.well_formed c.requires.1.0.can c.requires.1.0.loose c.requires.1.0.fits
-    (commits_one g.bound c.args.touched.now (g.R.Region.memory c.args.parts.now.region) (g.R.Region.memory c.commit_one.new.region) c.args.parts.now.blocks c.requires.1.0.well_formed c.requires.1.0.can c.args.found.now.cover c.requires.1.1.0.cover.at c.requires.1.1.0.cover.has (subst (λ n. n < c.args.found.now.cover.len) c.way_len.ensures c.if-way_len-cover.true) c.commit_one.ensures)
+    let all = c.requires.1.0 in
+    let cover = c.requires.1.1.0.cover in
+    let past = subst (λ (n : ℕ). n < c.args.found.now.cover.len) c.way_len.ensures c.if-way_len-cover.true in
+    commits_touched all.well_formed all.can all.loose all.fits (commits_one (g.R.Region.memory c.args.parts.now.region) c.args.parts.now.blocks all.well_formed all.can cover.at cover.has past c.commit_one.ensures)
 
 pub returns-else-way_len-cover-clause-commits : goal.returns-else-way_len-cover-clause-commits
 returns-else-way_len-cover-clause-commits g c =
-    commits_touched g.bound c.args.touched.now (g.R.Region.memory c.args.parts.now.region) (g.R.Region.memory c.commit_copies.new.parts.region) c.args.parts.now.blocks c.commit_copies.new.parts.blocks c.requires.1.0.well_formed c.requires.1.0.can c.requires.1.0.loose c.requires.1.0.fits
-    (commits_turned g.bound c.args.touched.now (g.R.Region.memory c.args.parts.now.region) (g.R.Region.memory c.commit_copies.new.parts.region) c.args.parts.now.blocks c.requires.1.0.well_formed c.requires.1.0.can c.args.found.now.cover c.requires.1.1.0.cover.at c.requires.1.1.0.cover.has
-    (omega (arith, c.way_len.ensures, c.if-way_len-cover.false)) 0 (has c.args.parts.now.blocks) c.commit_copies.new.parts.blocks c.commit_copies.ensures.done.0 c.commit_copies.ensures.done.1 c.commit_copies.ensures.exact)
+    let all = c.requires.1.0 in
+    let cover = c.requires.1.1.0.cover in
+    let short : c.args.found.now.cover.len ≤ length ((job_of c.args.touched.now).way 0) = omega (arith, c.way_len.ensures, c.if-way_len-cover.false) in
+    let done = c.commit_copies.ensures in
+    commits_touched all.well_formed all.can all.loose all.fits
+    (commits_turned all.well_formed all.can cover.at cover.has short 0 (has c.args.parts.now.blocks) done.done.1 done.exact)

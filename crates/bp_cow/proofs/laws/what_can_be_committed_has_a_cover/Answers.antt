@@ -1,5 +1,5 @@
 use Rattle.bp_cow.proofs.CopiesNeed.{none-begins}
-use Rattle.bp_cow.proofs.JobLaws.{first-range}
+use Rattle.bp_cow.proofs.WaysAlike.{first-range}
 use Rattle.bp_cow.proofs.laws.what_can_be_committed_has_a_cover.Goals as goal
 
 pub returns-clause-inside : goal.returns-clause-inside

@@ -13,10 +13,10 @@ use Rattle.bp_cow.specs.Job.IsAnew.{is_cover, is_begun, is_front}
 use Rattle.bp_cow.proofs.BuildingLaws.{word-loaded}
 
 -- the same pointers under another name
-pub building_same : {kept : ℕ → Bool} {Counts : Trail → Type 0} (old words : Image) (place pointer : ℕ) (cover : Trail) (Pointer : Trail → Type 0) (anew other : Trail → Type 0) (value : Trail → Option ℕ) (laid : Trail → ℕ) (free : ℕ → Bool) →
+pub building_same : {kept : ℕ → Bool} {old words : Image} {place pointer : ℕ} {cover : Trail} {Pointer Counts anew other : Trail → Type 0} {value : Trail → Option ℕ} {laid : Trail → ℕ} {free : ℕ → Bool} →
     ((q : Trail) → anew q → other q) → ((q : Trail) → other q → anew q) →
     IsBuilding old words place pointer cover Pointer Counts anew value laid kept free → IsBuilding old words place pointer cover Pointer Counts other value laid kept free
-building_same old words place pointer cover Pointer anew other value laid free to from building =
+building_same to from building =
     let stage = building.stage in
     record {
       some = building.some;
@@ -42,16 +42,13 @@ building_same old words place pointer cover Pointer anew other value laid free t
       below = λ p n. building.below p (from p n);
     }
 
-module _ {kept : ℕ → Bool} {Counts : Trail → Type 0} (old words : Image) (place pointer : ℕ) (cover : Trail) (Pointer : Trail → Type 0) (pointers : ArePointers Pointer) (anew : Trail → Type 0) (value : Trail → Option ℕ) (laid : Trail → ℕ) (free : ℕ → Bool)
+module _ {kept : ℕ → Bool} {old words : Image} {place pointer : ℕ} {cover : Trail} {Pointer Counts anew : Trail → Type 0} {value : Trail → Option ℕ} {laid : Trail → ℕ} {free : ℕ → Bool} (pointers : ArePointers Pointer)
     (building : IsBuilding old words place pointer cover Pointer Counts anew value laid kept free) where
   same_count : block_count (set words place pointer) ≡ block_count old
   same_count = ap (λ n. n / 512) building.stage.whole
 
   some_seen : 0 < block_count (set words place pointer)
   some_seen = rw same_count building.some
-
-  pub size : length words ≡ length old
-  size = sym (length-set words place pointer) ∙ building.stage.whole
 
   -- the cover's pointer
   pub top : word_on (set words place pointer) cover ≡ pointer
@@ -61,7 +58,7 @@ module _ {kept : ℕ → Bool} {Counts : Trail → Type 0} (old words : Image) (
       ∙ get_or-set_same words place pointer 0 (rw (length-set words place pointer) at (rw building.at at low))
 
   -- blocks that lie in the image
-  pub in_image : (b : ℕ) → b < block_count (set words place pointer) → 512 * b + 512 ≤ length words
+  in_image : (b : ℕ) → b < block_count (set words place pointer) → 512 * b + 512 ≤ length words
   in_image b low =
       let whole : length (set words place pointer) ≡ 512 * block_count (set words place pointer) = building.stage.skeleton.whole in
       omega (arith, low, whole, length-set words place pointer)
@@ -71,14 +68,14 @@ module _ {kept : ℕ → Bool} {Counts : Trail → Type 0} (old words : Image) (
       let range = building.stage.in_range b is in
       (range.0, in_image b (rw same_count range.1))
 
-  pub null_used : free 0 ≡ false
+  null_used : free 0 ≡ false
   null_used = go (free 0) refl
     where
       go : (x : Bool) → free 0 ≡ x → free 0 ≡ false
       go false e = e
       go true e = absurd (omega (arith, (building.stage.in_range 0 e).0))
 
-  pub led_used : (q : Trail) → Pointer q → free (block_on (set words place pointer) q) ≡ false
+  led_used : (q : Trail) → Pointer q → free (block_on (set words place pointer) q) ≡ false
   led_used q live = go (cases_eq (block_on (set words place pointer) q) 0)
     where
       go : (block_on (set words place pointer) q ≡ 0) ⊎ (block_on (set words place pointer) q ≡ 0 → ⊥) → free (block_on (set words place pointer) q) ≡ false
@@ -89,7 +86,7 @@ module _ {kept : ℕ → Bool} {Counts : Trail → Type 0} (old words : Image) (
     pub at_low : 512 * block_on (set words place pointer) p + slot < length words
     at_low = let range : 512 * block_on (set words place pointer) p + 512 ≤ length words = in_image _ (building.stage.skeleton.in_range p live) in omega (arith, range, low)
 
-    pub at_block : (512 * block_on (set words place pointer) p + slot) / 512 ≡ block_on (set words place pointer) p
+    at_block : (512 * block_on (set words place pointer) p + slot) / 512 ≡ block_on (set words place pointer) p
     at_block = omega (arith, low)
 
     pub at_used : free ((512 * block_on (set words place pointer) p + slot) / 512) ≡ false
@@ -97,7 +94,7 @@ module _ {kept : ℕ → Bool} {Counts : Trail → Type 0} (old words : Image) (
 
     -- the block to which the loaded pointer leads
     pub from_is : block_of (word words (512 * block_on (set words place pointer) p + slot)) ≡ block_on (set words place pointer) (slot ∷ p)
-    from_is = ap block_of (word-loaded old words place pointer cover Pointer pointers anew value laid free building p slot live made low)
+    from_is = ap block_of (word-loaded pointers building p slot live made low)
 
     module _ (pointed : Pointer (slot ∷ p)) where
       pub from_low : 512 * block_of (word words (512 * block_on (set words place pointer) p + slot)) + 512 ≤ length words

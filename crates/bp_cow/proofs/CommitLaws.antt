@@ -25,11 +25,11 @@ module _ (old : Image) (bound : ℕ → ℕ) (forest : IsForest old bound) (t k 
   leaf_live : IsLivePointer (root_of old t) (bound t) (height_of (root_of old t)) (k / 512)
   leaf_live = live_above _ _ _ _ (live_content (root_of old t) (bound t) k low)
 
-  pub leaf_pointer : IsTreePointer old bound (tree_trail (height_of (word old 2)) t (height_of (root_of old t)) (k / 512))
+  leaf_pointer : IsTreePointer old bound (tree_trail (height_of (word old 2)) t (height_of (root_of old t)) (k / 512))
   leaf_pointer = record { tree = t; depth = height_of (root_of old t); index = k / 512; reached = reached; live = leaf_live; named = refl }
 
   -- a word of the leaf is no pointer, but a root word in the inode file
-  pub no_pointer : (m : ℕ) → m / 512 ≡ k / 512 → (t ≡ 0 → m % 8 ≢ 1) → IsTreePointer old bound (tree_trail (height_of (word old 2)) t (suc (height_of (root_of old t))) m) → ⊥
+  no_pointer : (m : ℕ) → m / 512 ≡ k / 512 → (t ≡ 0 → m % 8 ≢ 1) → IsTreePointer old bound (tree_trail (height_of (word old 2)) t (suc (height_of (root_of old t))) m) → ⊥
   no_pointer m up plain one =
       let deep : one.depth ≤ height_of (root_of old one.tree) = omega (arith, one.live.height) in
       let all : (one.tree ≡ t) × (one.depth ≡ suc (height_of (root_of old t))) × (one.index ≡ m) =
@@ -174,7 +174,7 @@ module _ (old now : Image) (bound : ℕ → ℕ) (forest : IsForest old bound) (
         go (inl made) = (stage.fresh _ one made).0 (node-now t d k ∙ null)
         go (inr still) = full d k before (sym (ap block_of (word-tree old t d k)) ∙ sym (ap block_of (stage.kept _ one still)) ∙ node-now t d k ∙ null)
 
-    pub content_now : (t k : ℕ) → IsReached old t → 8 * k < max (size_of old t) (size_of now t) → (t ≡ 0 → k % 8 ≢ 1) →
+    content_now : (t k : ℕ) → IsReached old t → 8 * k < max (size_of old t) (size_of now t) → (t ≡ 0 → k % 8 ≢ 1) →
         content_word now (root_of now t) k ≡ after_commit old job (tree_trail (height_of (word old 2)) t (suc (height_of (root_of old t))) k)
     content_now t k r below no_root = content_after t k r (omega (arith, below, sizes_before t r, sizes t r)) no_root
 

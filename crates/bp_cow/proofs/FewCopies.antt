@@ -165,7 +165,7 @@ module _ (touched : Touched) (shape : IsTouched touched) (from : ℕ) where
       let short : length ((job_of touched).way (leaves_of touched.runs.now + m)) ≤ 11 = way-short touched shape (leaves_of touched.runs.now + m) (omega (arith, low)) in
       rw e (omega (arith, words-upto m (omega (arith, low)), all, short))
 
-  pub all-few : turned_upto (job_of touched) from (ways (job_of touched)) ≤ leaves_of touched.runs.now + 21 * length touched.runs.now + 11 * length touched.words.now
+  all-few : turned_upto (job_of touched) from (ways (job_of touched)) ≤ leaves_of touched.runs.now + 21 * length touched.runs.now + 11 * length touched.words.now
   all-few =
       let leaves = runs-few touched.runs.now 0 shape.runs (λ i low. let none : 0 + i ≡ i = omega arith in (omega (arith, low), ap (job_of touched).way none)) in
       let none : 0 + leaves_of touched.runs.now ≡ leaves_of touched.runs.now = omega arith in
@@ -199,7 +199,3 @@ run_copies image touched shape apart run one =
 pub few_copies : {kept : ℕ → Bool} (image : Image) (bound : ℕ → ℕ) (touched : Touched) (free : ℕ → Bool) (wf : IsWellFormed image) (can : CanCommit image bound kept touched free) (run : Run) → touched.runs.now ≡ run ∷ [] →
     copied_count image touched ≤ run_leaves run + 22 + 11 * length touched.words.now
 few_copies image bound touched free wf can run one = run_copies image touched can.shape (none-begins image bound touched free wf can) run one
-
-pub few_copies_of_runs : {kept : ℕ → Bool} (image : Image) (bound : ℕ → ℕ) (touched : Touched) (free : ℕ → Bool) (wf : IsWellFormed image) (can : CanCommit image bound kept touched free) →
-    copied_count image touched ≤ leaves_of touched.runs.now + 21 * length touched.runs.now + 1 + 11 * length touched.words.now
-few_copies_of_runs image bound touched free wf can = runs_copies image touched can.shape (none-begins image bound touched free wf can)

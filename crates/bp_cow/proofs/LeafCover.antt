@@ -204,7 +204,7 @@ module _ (height i : ℕ) (touched : Touched) (run : Run) (is : IsSizedRun heigh
             absurd (words_apart height i
             (sym (run_front (run.off / 8) (suc height) (omega arith)) ∙ of (run_path run (run.off / 8)) first_path (omega (arith, more)) ∙ sym (of (inode_path height i 2) has_size (omega (arith, more)))))
 
-    pub common_leaf : common_all (all_paths touched) ≡ leaf_path height i
+    common_leaf : common_all (all_paths touched) ≡ leaf_path height i
     common_leaf =
         let size : length (common_all (all_paths touched)) ≡ length (leaf_path height i) = omega (arith, short, leaf_begins.long, leaf_long) in
         sym (take-length (common_all (all_paths touched))) ∙ ap (λ n. take n (common_all (all_paths touched))) size ∙ leaf_begins.same

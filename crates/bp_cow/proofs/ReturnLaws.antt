@@ -11,13 +11,13 @@ use Rattle.bp_shapes.proofs.TrailLaws.{word_on-slot}
 use Rattle.bp_shapes.proofs.PathTrails.{trail_of-next, length-trail_of}
 use Rattle.bp_cow.specs.Job.{ways, front, IsBegun, IsAnew}
 use Rattle.bp_cow.specs.Job.IsAnew.{is_begun}
-use Rattle.bp_cow.specs.Plan.{Plan, CanMake}
+use Rattle.bp_cow.specs.Plan.{Plan, IsOnWay}
 use Rattle.bp_cow.specs.Return.{IsGiven, IsReturned, IsLeft, IsBack}
 use Rattle.bp_cow.proofs.BuildFacts.{anew_start, anew_start_back, anew_next, anew_next_back, anew_more, anew_more_back, not_anew}
 
-pub returned_same : {kept : ℕ → Bool} (old : Image) (Pointer anew other : Trail → Type 0) (before after : ℕ → Bool) → ((q : Trail) → anew q → other q) → ((q : Trail) → Pointer q → other q → anew q ⊎ (block_on old q ≡ 0)) →
+returned_same : {old : Image} {Pointer anew other : Trail → Type 0} {kept before after : ℕ → Bool} → ((q : Trail) → anew q → other q) → ((q : Trail) → Pointer q → other q → anew q ⊎ (block_on old q ≡ 0)) →
     IsReturned old Pointer anew kept before after → IsReturned old Pointer other kept before after
-returned_same {kept} old Pointer anew other before after to back returned = record {
+returned_same {old} {Pointer} {anew} {other} {kept} {before} {after} to back returned = record {
   given = λ p live n some loose. given p live some loose (back p live n);
   still = returned.still;
   from = λ b is. from b (returned.from b is);
@@ -31,9 +31,9 @@ returned_same {kept} old Pointer anew other before after to back returned = reco
     from b (inl is) = inl is
     from b (inr one) = inr (one.0, one.1, to one.0 one.2, one.3, one.4, one.5)
 
-module _ {kept : ℕ → Bool} (old : Image) (Pointer anew : Trail → Type 0) (before after : ℕ → Bool) (bones : IsSkeleton old Pointer) (used : (b : ℕ) → LeadsTo old Pointer b → before b ≡ false)
+module _ {old : Image} {Pointer anew : Trail → Type 0} {kept before after : ℕ → Bool} (bones : IsSkeleton old Pointer) (used : (b : ℕ) → LeadsTo old Pointer b → before b ≡ false)
     (returned : IsReturned old Pointer anew kept before after) (here : Trail) (live : Pointer here) (first : anew here → ⊥) (some : block_on old here ≢ 0) where
-  pub not_back : after (block_on old here) ≡ false
+  not_back : after (block_on old here) ≡ false
   not_back = go (after (block_on old here)) refl
     where
       again : (before (block_on old here) ≡ true) ⊎ IsGiven old Pointer anew kept (block_on old here) → ⊥
@@ -88,7 +88,7 @@ module _ {kept : ℕ → Bool} (old : Image) (Pointer anew : Trail → Type 0) (
       from b (inl is) = inl is
       from b (inr one) = inr (one.0, one.1, inl one.2, one.3, one.4, one.5)
 
-  pub given_back : (next : ℕ → Bool) → (kept (block_on old here) ≡ false → TakesNumber next after (block_on old here)) → (kept (block_on old here) ≡ true → next ≡ after) →
+  given_back : (next : ℕ → Bool) → (kept (block_on old here) ≡ false → TakesNumber next after (block_on old here)) → (kept (block_on old here) ≡ true → next ≡ after) →
       IsReturned old Pointer (λ q. anew q ⊎ (q ≡ here)) kept before next
   given_back next takes stays = go (kept (block_on old here)) refl
     where
@@ -96,87 +96,104 @@ module _ {kept : ℕ → Bool} (old : Image) (Pointer anew : Trail → Type 0) (
       go false free = given_loose next free (takes free)
       go true is = subst (λ (f : ℕ → Bool). IsReturned old Pointer (λ q. anew q ⊎ (q ≡ here)) kept before f) (sym (stays is)) (kept_back is)
 
--- one block further on the old way
-module _ (plan : Plan) (from i depth : ℕ) (before : ℕ → Bool) (now : Image) (left : IsLeft plan from before now) (here : i < ways plan.job) (low : from ≤ depth) (more : depth < length (plan.job.way i))
-    (block : ℕ) (is : block ≡ block_on plan.old (front plan.job i depth)) where
-  abbrev Pointer : Trail → Type 0
-  Pointer = IsTreePointer plan.old plan.bound
+-- On the old way, at a depth before its end: how a commit left the words, and the block there.
+pub record IsAtOld (plan : Plan) (from i depth : ℕ) (before : ℕ → Bool) (now : Image) (block : ℕ) : Type 0 where
+  pub left : IsLeft plan from before now
+  pub here : i < ways plan.job
+  pub low : from ≤ depth
+  pub more : depth < length (plan.job.way i)
+  pub block_is : block ≡ block_on plan.old (front plan.job i depth)
 
-  bones : IsSkeleton plan.old Pointer
-  bones = skeleton plan.old plan.bound left.can.forest left.can.whole
+-- the next block on a way
+abbrev pub next_old : Plan → ℕ → ℕ → ℕ
+next_old plan i depth = block_on plan.old (front plan.job i (depth + 1))
 
-  pub old_slot : slice_index (plan.job.way i) depth < 512
-  old_slot = left.can.slots i depth here more
+module _ {plan : Plan} {from i depth : ℕ} {before : ℕ → Bool} {now : Image} {block : ℕ} (at : IsAtOld plan from i depth before now block) where
+  bones : IsSkeleton plan.old (IsTreePointer plan.old plan.bound)
+  bones = skeleton plan.old plan.bound at.left.can.forest at.left.can.whole
 
-  live : Pointer (front plan.job i depth)
-  live = left.can.pointers i depth here (omega (arith, more))
+  live : IsTreePointer plan.old plan.bound (front plan.job i depth)
+  live = at.left.can.pointers i depth at.here (omega (arith, at.more))
 
-  next_live : Pointer (front plan.job i (depth + 1))
-  next_live = left.can.pointers i (depth + 1) here (omega (arith, more))
+  next_live : IsTreePointer plan.old plan.bound (front plan.job i (depth + 1))
+  next_live = at.left.can.pointers i (depth + 1) at.here (omega (arith, at.more))
+
+  pub old_slot : {slot : ℕ} → slot ≡ slice_index (plan.job.way i) depth → slot < 512
+  old_slot slot_is = rw slot_is (at.left.can.slots i depth at.here at.more)
 
   pub old_low : 512 * block + 512 ≤ length now
-  old_low = rw is (let range : block_on plan.old (front plan.job i depth) < block_count plan.old = bones.in_range _ live in omega (arith, range, left.can.whole, left.whole))
+  old_low = rw at.block_is (let range : block_on plan.old (front plan.job i depth) < block_count plan.old = bones.in_range _ live in omega (arith, range, at.left.can.whole, at.left.whole))
 
-  pub old_next : slot_word now block (slice_index (plan.job.way i) depth) / 4096 ≡ block_on plan.old (front plan.job i (depth + 1))
-  old_next =
-      rw is (ap (λ w. w / 4096) (left.intact (front plan.job i depth) (slice_index (plan.job.way i) depth) live (omega (arith, low, length-trail_of (plan.job.way i) depth)) old_slot))
+  pub old_next : {slot : ℕ} → slot ≡ slice_index (plan.job.way i) depth → slot_word now block slot / 4096 ≡ next_old plan i depth
+  old_next slot_is =
+      let slot_low : slice_index (plan.job.way i) depth < 512 = old_slot refl in
+      let below : from ≤ length (front plan.job i depth) = omega (arith, at.low, length-trail_of (plan.job.way i) depth) in
+      rw (slot_is, at.block_is) (ap (λ w. w / 4096) (at.left.intact (front plan.job i depth) (slice_index (plan.job.way i) depth) live below slot_low))
       ∙ ap (λ w. w / 4096) (sym (word_on-slot plan.old (slice_index (plan.job.way i) depth) (front plan.job i depth)))
       ∙ ap (block_on plan.old) (sym (trail_of-next (plan.job.way i) depth))
 
-  pub old_next_low : block_on plan.old (front plan.job i (depth + 1)) < block_count plan.old
+  pub old_next_low : next_old plan i depth < block_count plan.old
   old_next_low = bones.in_range _ next_live
 
-  module _ (after : ℕ → Bool) (back : IsBack plan from i depth before after) where
-    pub back_none : (block_on plan.old (front plan.job i (depth + 1)) ≡ 0) ⊎ IsBegun plan.job from i (front plan.job i (depth + 1)) → IsBack plan from i (depth + 1) before after
-    back_none any =
-        returned_same plan.old Pointer (IsAnew plan.job from i depth) (IsAnew plan.job from i (depth + 1)) before after (λ q n. anew_more plan.job from i depth q (inl n) low) (λ q l n. go q (anew_more_back plan.job from i depth q n) any) back
+  module _ {after : ℕ → Bool} (back : IsBack plan from i depth before after) where
+    pub back_none : (next_old plan i depth ≡ 0) ⊎ IsBegun plan.job from i (front plan.job i (depth + 1)) → IsBack plan from i (depth + 1) before after
+    back_none any = returned_same (λ q n. anew_more plan.job from i depth q (inl n) at.low) (λ q l n. go q (anew_more_back plan.job from i depth q n) any) back
       where
-        go : (q : Trail) → IsAnew plan.job from i depth q ⊎ (q ≡ front plan.job i (depth + 1)) → (block_on plan.old (front plan.job i (depth + 1)) ≡ 0) ⊎ IsBegun plan.job from i (front plan.job i (depth + 1)) → IsAnew plan.job from i depth q ⊎ (block_on plan.old q ≡ 0)
+        go : (q : Trail) → IsAnew plan.job from i depth q ⊎ (q ≡ front plan.job i (depth + 1)) → (next_old plan i depth ≡ 0) ⊎ IsBegun plan.job from i (front plan.job i (depth + 1)) →
+            IsAnew plan.job from i depth q ⊎ (block_on plan.old q ≡ 0)
         go q (inl n) a = inl n
         go q (inr e) (inl null) = inr (ap (block_on plan.old) e ∙ null)
         go q (inr e) (inr begun) = inl (is_begun (subst (IsBegun plan.job from i) (sym e) begun))
 
-    module _ (none : IsBegun plan.job from i (front plan.job i (depth + 1)) → ⊥) (some : block_on plan.old (front plan.job i (depth + 1)) ≢ 0) where
-      pub back_full : after (block_on plan.old (front plan.job i (depth + 1))) ≡ false
-      back_full = not_back plan.old Pointer (IsAnew plan.job from i depth) before after bones left.used back (front plan.job i (depth + 1)) next_live (not_anew plan.job from i depth low none) some
+    module _ (none : IsBegun plan.job from i (front plan.job i (depth + 1)) → ⊥) (some : next_old plan i depth ≢ 0) where
+      pub back_full : after (next_old plan i depth) ≡ false
+      back_full = not_back bones at.left.used back (front plan.job i (depth + 1)) next_live (not_anew plan.job from i depth at.low none) some
 
-      pub back_one : (next : ℕ → Bool) → (plan.kept (block_on plan.old (front plan.job i (depth + 1))) ≡ false → TakesNumber next after (block_on plan.old (front plan.job i (depth + 1)))) →
-          (plan.kept (block_on plan.old (front plan.job i (depth + 1))) ≡ true → next ≡ after) → IsBack plan from i (depth + 1) before next
-      back_one next takes stays =
-          returned_same plan.old Pointer (λ q. IsAnew plan.job from i depth q ⊎ (q ≡ front plan.job i (depth + 1))) (IsAnew plan.job from i (depth + 1)) before next
-          (λ q n. anew_more plan.job from i depth q n low) (λ q l n. inl (anew_more_back plan.job from i depth q n))
-          (given_back plan.old Pointer (IsAnew plan.job from i depth) before after bones left.used back (front plan.job i (depth + 1)) next_live (not_anew plan.job from i depth low none) some next takes stays)
+      pub back_one : {next : ℕ → Bool} → (plan.kept (next_old plan i depth) ≡ false → TakesNumber next after (next_old plan i depth)) → (plan.kept (next_old plan i depth) ≡ true → next ≡ after) →
+          IsBack plan from i (depth + 1) before next
+      back_one {next} takes stays =
+          returned_same (λ q n. anew_more plan.job from i depth q n at.low) (λ q l n. inl (anew_more_back plan.job from i depth q n))
+          (given_back bones at.left.used back (front plan.job i (depth + 1)) next_live (not_anew plan.job from i depth at.low none) some next takes stays)
 
 -- nothing is given back yet
 returned_none : (old : Image) (Pointer : Trail → Type 0) (kept before : ℕ → Bool) → IsReturned old Pointer (λ q. ⊥) kept before before
 returned_none old Pointer kept before = record { given = λ p live n some loose. absurd n; still = λ b is. is; from = λ b is. inl is }
 
-module _ (plan : Plan) (from : ℕ) (before : ℕ → Bool) (now : Image) (left : IsLeft plan from before now) where
+-- the block to which the cover's pointer led
+abbrev pub cover_block : Plan → ℕ → ℕ
+cover_block plan from = block_on plan.old (front plan.job 0 from)
+
+module _ {plan : Plan} {from : ℕ} {before : ℕ → Bool} {now : Image} (left : IsLeft plan from before now) where
   cover_live : IsTreePointer plan.old plan.bound (front plan.job 0 from)
   cover_live = left.can.pointers 0 from left.can.some (left.can.below 0 left.can.some)
 
-  pub back_null : block_on plan.old (front plan.job 0 from) ≡ 0 → IsBack plan from 0 from before before
-  back_null null =
-      returned_same plan.old (IsTreePointer plan.old plan.bound) (λ q. ⊥) (IsAnew plan.job from 0 from) before before (λ q n. absurd n) (λ q l n. go q (anew_start_back plan.job from 0 q n)) (returned_none plan.old _ plan.kept before)
+  cover_bones : IsSkeleton plan.old (IsTreePointer plan.old plan.bound)
+  cover_bones = skeleton plan.old plan.bound left.can.forest left.can.whole
+
+  none_yet : IsReturned plan.old (IsTreePointer plan.old plan.bound) (λ q. ⊥) plan.kept before before
+  none_yet = returned_none plan.old _ plan.kept before
+
+  pub cover_low : cover_block plan from < block_count plan.old
+  cover_low = cover_bones.in_range _ cover_live
+
+  pub back_null : cover_block plan from ≡ 0 → IsBack plan from 0 from before before
+  back_null null = returned_same (λ q n. absurd n) (λ q l n. go q (anew_start_back plan.job from 0 q n)) none_yet
     where
       go : (q : Trail) → ⊥ ⊎ (q ≡ front plan.job 0 from) → ⊥ ⊎ (block_on plan.old q ≡ 0)
       go q (inl n) = inl n
       go q (inr e) = inr (ap (block_on plan.old) e ∙ null)
 
-  pub back_cover : block_on plan.old (front plan.job 0 from) ≢ 0 → (next : ℕ → Bool) → (plan.kept (block_on plan.old (front plan.job 0 from)) ≡ false → TakesNumber next before (block_on plan.old (front plan.job 0 from))) →
-      (plan.kept (block_on plan.old (front plan.job 0 from)) ≡ true → next ≡ before) → IsBack plan from 0 from before next
-  back_cover some next takes stays =
-      returned_same plan.old (IsTreePointer plan.old plan.bound) (λ q. ⊥ ⊎ (q ≡ front plan.job 0 from)) (IsAnew plan.job from 0 from) before next
-      (λ q n. anew_start plan.job from 0 q n) (λ q l n. inl (anew_start_back plan.job from 0 q n))
-      (given_back plan.old (IsTreePointer plan.old plan.bound) (λ q. ⊥) before before (skeleton plan.old plan.bound left.can.forest left.can.whole) left.used (returned_none plan.old _ plan.kept before)
-      (front plan.job 0 from) cover_live (λ n. n) some next takes stays)
+  pub back_cover : cover_block plan from ≢ 0 → {next : ℕ → Bool} → (plan.kept (cover_block plan from) ≡ false → TakesNumber next before (cover_block plan from)) →
+      (plan.kept (cover_block plan from) ≡ true → next ≡ before) → IsBack plan from 0 from before next
+  back_cover some {next} takes stays =
+      returned_same (λ q n. anew_start plan.job from 0 q n) (λ q l n. inl (anew_start_back plan.job from 0 q n))
+      (given_back cover_bones left.used none_yet (front plan.job 0 from) cover_live (λ n. n) some next takes stays)
 
-  pub cover_used : block_on plan.old (front plan.job 0 from) ≢ 0 → before (block_on plan.old (front plan.job 0 from)) ≡ false
+  pub cover_used : cover_block plan from ≢ 0 → before (cover_block plan from) ≡ false
   cover_used some = left.used _ (record { trail = front plan.job 0 from; pointer = cover_live; named = refl; not_null = some })
 
 -- a word is done
-pub back_word : (plan : Plan) (from i last : ℕ) (before after : ℕ → Bool) → CanMake plan from → i < ways plan.job → last ≡ length (plan.job.way i) → from ≤ last →
-    IsBack plan from i last before after → IsBack plan from (i + 1) from before after
-back_word plan from i last before after can here len low back =
-    returned_same plan.old (IsTreePointer plan.old plan.bound) (IsAnew plan.job from i last) (IsAnew plan.job from (i + 1) from) before after
-    (anew_next plan.job from i last len low (can.cover i here)) (λ q l n. inl (anew_next_back plan.job from i last len low (can.cover i here) q n)) back
+pub back_word : {plan : Plan} {from i last : ℕ} {before after : ℕ → Bool} → IsOnWay plan from i last → last ≡ length (plan.job.way i) → IsBack plan from i last before after → IsBack plan from (i + 1) from before after
+back_word {plan} {from} {i} {last} on len back =
+    let cover = on.can.cover i on.here in
+    returned_same (anew_next plan.job from i last len on.low cover) (λ q l n. inl (anew_next_back plan.job from i last len on.low cover q n)) back

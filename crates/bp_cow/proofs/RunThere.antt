@@ -52,7 +52,7 @@ module _ (image : Image) (base : WordPath) (at root : ℕ) (place : address imag
       whole : take d (digits d (k / 512)) ≡ digits d (k / 512)
       whole = let size = length-digits d (k / 512) in ap (λ n. take n (digits d (k / 512))) (sym size) ∙ take-length (digits d (k / 512))
 
-  pub pointed_is : (d k : ℕ) → ((e : ℕ) → e < d → is_pointed image (base ++ take e (digits d k)) ≡ true) → is_pointed image (base ++ digits d k) ≡ not (node image root d k == 0)
+  pointed_is : (d k : ℕ) → ((e : ℕ) → e < d → is_pointed image (base ++ take e (digits d k)) ≡ true) → is_pointed image (base ++ digits d k) ≡ not (node image root d k == 0)
   pointed_is d k exists = ap (λ b. not (b == 0)) (names d k (under_nodes d k exists))
 
 -- ---- the fronts of digits

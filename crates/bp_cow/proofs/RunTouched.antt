@@ -45,7 +45,7 @@ module _ (image : Image) (i off len : ℕ) (below : off + len ≤ size_of image 
   parts starts end past =
       map (content_path image change i) (if starts then range_with_len (off / 8) (suc ((end - 1) / 8 - off / 8)) else []) ++ (if past then inode_word_path image change i 2 ∷ [] else [])
 
-  pub write_touched : 0 < len → layout.touched image change ≡ map (content_path image change i) (range_with_len (off / 8) (suc ((off + len - 1) / 8 - off / 8)))
+  write_touched : 0 < len → layout.touched image change ≡ map (content_path image change i) (range_with_len (off / 8) (suc ((off + len - 1) / 8 - off / 8)))
   write_touched some =
       let starts : nat_lt off (size_of image i) ≡ true = lt-ltb off (size_of image i) (omega (arith, below, some)) in
       let end : min (off + len) (size_of image i) ≡ off + len = omega (arith, below) in

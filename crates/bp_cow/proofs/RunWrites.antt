@@ -143,7 +143,7 @@ module _ {kept : ℕ → Bool} (old new : Image) (bound : ℕ → ℕ) (wf : IsW
       ∙ same_elsewhere 0 (8 * suc m + 2) inode_file (omega (arith, inside)) (λ e. omega (arith, e)) (λ _ e. other (omega (arith, e)))
 
   -- and where it is not, the one that it was
-  pub plain_size : length touched.words.now ≡ 0 → size_of new (suc n) ≡ size_of old (suc n)
+  plain_size : length touched.words.now ≡ 0 → size_of new (suc n) ≡ size_of old (suc n)
   plain_size none =
       size_after old new bound can.forest turned (job_of touched) stage n is.reached
       ∙ kept_apart 0 (8 * suc n + 2) (λ some _. omega (arith, some, none)) (λ l first last same. apart_trees n (8 * suc n + 2) l same)

@@ -37,12 +37,13 @@ stage_start old Pointer anew value laid free skeleton exact none no_value = reco
     other : (b : ℕ) → free b ≡ true → free b ≡ false → ⊥
     other b one two = absurd (cc)
 
-module _ {kept : ℕ → Bool} {Counts : Trail → Type 0} (old now next : Image) (Pointer : Trail → Type 0) (pointers : ArePointers Pointer) (anew : Trail → Type 0) (value : Trail → Option ℕ) (laid : Trail → ℕ) (free : ℕ → Bool) (stage : IsStage old now Pointer Counts anew value laid kept free) where
+module _ {kept : ℕ → Bool} {old now : Image} {Pointer Counts anew : Trail → Type 0} {value : Trail → Option ℕ} {laid : Trail → ℕ} {free : ℕ → Bool} (pointers : ArePointers Pointer)
+    (stage : IsStage old now Pointer Counts anew value laid kept free) where
   same_count : block_count now ≡ block_count old
   same_count = ap (λ n. n / 512) stage.whole
 
   -- A pointer is turned to a copy of its block, whose words are laid.
-  pub stage_copy : (here : Trail) (pointer copy : ℕ) (free_after : ℕ → Bool) →
+  pub stage_copy : {next : Image} {pointer copy : ℕ} {here : Trail} {free_after : ℕ → Bool} →
       Pointer here → (anew here → ⊥) →
       Turns now next Pointer here pointer →
       pointer % 4096 ≡ word_on now here % 4096 →
@@ -52,7 +53,7 @@ module _ {kept : ℕ → Bool} {Counts : Trail → Type 0} (old now next : Image
       ((b : ℕ) → b ≢ copy → free_after b ≡ free b) →
       ((slot : ℕ) → slot < 512 → (anew (slot ∷ here) → ⊥) → Counts (slot ∷ here) → slot_word next copy slot ≡ laid (slot ∷ here)) →
       IsStage old next Pointer Counts (λ p. anew p ⊎ (p ≡ here)) value laid kept free_after
-  stage_copy here pointer copy free_after live first turns bits leads was_free not_free others slots = record {
+  stage_copy {next} {pointer} {copy} {here} {free_after} live first turns bits leads was_free not_free others slots = record {
     whole = turns.whole ∙ stage.whole;
     skeleton = skeleton-turned now next Pointer pointers here pointer turns stage.skeleton (λ l. (rw leads in_range, unnamed));
     superblock = λ place low other. turns.superblock place low other ∙ stage.superblock place low other;
@@ -168,13 +169,13 @@ module _ {kept : ℕ → Bool} {Counts : Trail → Type 0} (old now next : Image
       loose b is (inr apart) = stage.loose b (sym (others b apart) ∙ is)
 
   -- A word of a copied block that is no pointer is given anew.
-  pub stage_word : (p : Trail) (slot given : ℕ) (value_after : Trail → Option ℕ) →
+  pub stage_word : {next : Image} (p : Trail) (slot : ℕ) {given : ℕ} (value_after : Trail → Option ℕ) →
       Pointer p → anew p → slot < 512 → (Pointer (slot ∷ p) → ⊥) →
       Turns now next Pointer (slot ∷ p) given →
       value_after (slot ∷ p) ≡ Some given →
       ((q : Trail) → q ≢ slot ∷ p → value_after q ≡ value q) →
       IsStage old next Pointer Counts anew value_after laid kept free
-  stage_word p slot given value_after live made low content turns here values = record {
+  stage_word {next} p slot {given} value_after live made low content turns here values = record {
     whole = turns.whole ∙ stage.whole;
     skeleton = skeleton-turned now next Pointer pointers (slot ∷ p) given turns stage.skeleton (λ l. absurd (content l));
     superblock = λ place low other. turns.superblock place low other ∙ stage.superblock place low other;
@@ -222,21 +223,18 @@ module _ {kept : ℕ → Bool} {Counts : Trail → Type 0} (old now next : Image
 
 -- ---- at the end
 
-module _ {kept : ℕ → Bool} {Counts : Trail → Type 0} (old now : Image) (Pointer : Trail → Type 0) (pointers : ArePointers Pointer) (anew : Trail → Type 0) (value : Trail → Option ℕ) (laid : Trail → ℕ) (free : ℕ → Bool) (stage : IsStage old now Pointer Counts anew value laid kept free) (before : IsSkeleton old Pointer) where
+module _ {kept : ℕ → Bool} {old now : Image} {Pointer Counts anew : Trail → Type 0} {value : Trail → Option ℕ} {laid : Trail → ℕ} {free : ℕ → Bool} (stage : IsStage old now Pointer Counts anew value laid kept free)
+    (before : IsSkeleton old Pointer) where
   -- the block to which a pointer led that was turned is not in the new image
-  pub left : (p : Trail) → Pointer p → anew p → (q : Trail) → Pointer q → (anew q ⊎ (anew q → ⊥)) → block_on old p ≢ 0 → block_on now q ≡ block_on old p → ⊥
+  left : (p : Trail) → Pointer p → anew p → (q : Trail) → Pointer q → (anew q ⊎ (anew q → ⊥)) → block_on old p ≢ 0 → block_on now q ≡ block_on old p → ⊥
   left p live new q also (inl made) some same = (stage.fresh q also made).1 (record { trail = p; pointer = live; named = sym same; not_null = λ null. some (sym same ∙ null) })
   left p live new q also (inr still) some same =
       let equal : p ≡ q = before.once p q live also some (sym same ∙ ap block_of (stage.same q also still)) in
       still (subst anew equal new)
 
   -- a block to which an old pointer led that was not turned is still there
-  pub stays : (p : Trail) → Pointer p → (anew p → ⊥) → block_on now p ≡ block_on old p
+  stays : (p : Trail) → Pointer p → (anew p → ⊥) → block_on now p ≡ block_on old p
   stays p live still = ap block_of (stage.same p live still)
-
-  pub full-kept : (p : Trail) → Pointer p → (anew p ⊎ (anew p → ⊥)) → block_on old p ≢ 0 → block_on now p ≢ 0
-  full-kept p live (inl made) some = (stage.fresh p live made).0
-  full-kept p live (inr still) some = λ null. some (sym (stays p live still) ∙ null)
 
   -- once the blocks that were left are given back, the set is exact
   pub exact-end : (free_after : ℕ → Bool) → ((p : Trail) → anew p ⊎ (anew p → ⊥)) →

@@ -3,175 +3,214 @@ use Rattle.std.proofs.Common.{◌≡◌, ◌≢◌, ◌⊎◌, ℕ, ◌+◌, ◌
 use Rattle.std.specs.List.{slice_index}
 use Rattle.std.proofs.lemmas.Bool.{cases_eq}
 use Rattle.bp_layout.specs.Words.{Image, word, block_count, block_of}
-use Rattle.bp_shapes.specs.Trail.{Trail, word_on, block_on}
+use Rattle.bp_shapes.specs.Trail.{Trail, word_on, block_on, ArePointers}
 use Rattle.bp_shapes.specs.Forest.{IsTreePointer}
 use Rattle.bp_shapes.proofs.ForestLaws.{pointers}
 use Rattle.bp_shapes.proofs.PathTrails.{trail_of-next}
-use Rattle.bp_free.specs.Set.{TakesNumber}
+use Rattle.bp_free.specs.Set.{Set, TakesNumber, has}
+use Rattle.pm_region.specs.Memory.{Memory, current_words}
 use Rattle.bp_cow.specs.Counting.{IsTreeWord}
 use Rattle.bp_cow.specs.Copies.{TurnsTo, pointing_to}
-use Rattle.bp_cow.specs.Job.{ways, front, end_of, word_trail, value_upto, laid_on, patch_at, IsBegun, IsAnew}
+use Rattle.bp_cow.specs.Job.{front, end_of, word_trail, value_upto, laid_on, patch_at, IsBegun, IsAnew}
 use Rattle.bp_cow.specs.Job.IsAnew.{is_cover, is_begun, is_front}
 use Rattle.bp_cow.specs.Adds.{IsTakenWord}
 use Rattle.bp_cow.specs.Stage.{IsBuilding}
-use Rattle.bp_cow.specs.Plan.{Plan, seen, IsMade, CanMake, reached}
+use Rattle.bp_cow.specs.Plan.{Plan, planned, seen, IsMade, IsOnWay, reached}
+use Rattle.bp_cow.specs.declared.touched.Touched.{Touched}
 use Rattle.bp_cow.proofs.BuildingLaws.{building_turn, building_block, building_store}
-use Rattle.bp_cow.proofs.BuildFacts.{top, building_same, at_low, at_used, from_is, from_low, anew_more, anew_more_back, not_anew, anew_next, anew_next_back, value-here, value-other}
+use Rattle.bp_cow.proofs.BuildFacts.{top, building_same, at_low, at_used, from_is, from_low, free_in_image, anew_more, anew_more_back, not_anew, anew_next, anew_next_back, value-here, value-other}
 use Rattle.bp_cow.proofs.LayLaws.{lay_plain, lay_laid}
 
--- a block that is fresh, or free now, was free at the start
-module _ (plan : Plan) (from i depth : ℕ) (now : Image) (free : ℕ → Bool) (can : CanMake plan from) (made : IsMade plan from i depth now free) where
-  pub fresh_free : (p : Trail) → IsTreePointer plan.old plan.bound p → IsAnew plan.job from i depth p → plan.free (block_on (seen plan now) p) ≡ true
-  fresh_free p live new =
-      let fresh = made.stage.fresh p live new in
-      let some : block_on (seen plan now) p ≢ 0 = fresh.0 in
-      let low : block_on (seen plan now) p < block_count (seen plan now) = made.stage.skeleton.in_range p live in
-      let count : block_count (seen plan now) ≡ block_count plan.old = ap (λ n. n / 512) made.stage.whole in
-      can.exact.dead _ (omega (arith, some)) (rw count at low) fresh.1 (made.stage.unkept p live new)
+-- On a way, at a depth: what is made up to there, and the block that is reached.
+pub record HasReached (plan : Plan) (from i depth : ℕ) (now : Image) (free : ℕ → Bool) (block : ℕ) : Type 0 where
+  pub on : IsOnWay plan from i depth
+  pub made : IsMade plan from i depth now free
+  pub block_is : block ≡ reached plan i depth now
 
-  pub still_free : (b : ℕ) → free b ≡ true → plan.free b ≡ true
-  still_free b is =
-      let range = made.stage.in_range b is in
-      can.exact.dead b range.0 range.1 (λ has. let full : free b ≡ false = made.stage.taken b (inl has) in absurd (cc)) (made.stage.loose b is)
+-- the same by touched words, a memory and the set of free blocks
+abbrev pub HasReachedIn : Plan → Touched → ℕ → ℕ → ℕ → Memory → Set → ℕ → Type 0
+HasReachedIn plan touched from i depth memory blocks block =
+    HasReached (planned plan touched) from i depth (current_words memory) (has blocks) block
 
-module _ (plan : Plan) (from i depth : ℕ) (now : Image) (free : ℕ → Bool) (can : CanMake plan from) (here : i < ways plan.job) (low : from ≤ depth) (high : depth ≤ length (plan.job.way i))
-    (made : IsMade plan from i depth now free) where
+-- The way goes on from this depth, by this slot.
+pub record GoesOn (plan : Plan) (i depth slot : ℕ) : Type 0 where
+  pub more : depth < length (plan.job.way i)
+  pub slot_is : slot ≡ slice_index (plan.job.way i) depth
+
+module _ {plan : Plan} {from i depth : ℕ} {now : Image} {free : ℕ → Bool} {block : ℕ} (at : HasReached plan from i depth now free block) where
   abbrev Pointer : Trail → Type 0
   Pointer = IsTreePointer plan.old plan.bound
+
+  are : ArePointers Pointer
+  are = pointers plan.old plan.bound at.on.can.forest
 
   abbrev way : Trail
   way = front plan.job i depth
 
   live : Pointer way
-  live = can.pointers i depth here high
+  live = at.on.can.pointers i depth at.on.here at.on.high
 
   anew_here : IsAnew plan.job from i depth way
   anew_here = go (cases_eq depth from)
     where
       go : (depth ≡ from) ⊎ (depth ≡ from → ⊥) → IsAnew plan.job from i depth way
-      go (inl e) = is_cover (ap (front plan.job i) e ∙ can.cover i here)
-      go (inr deep) = is_front depth (omega (arith, low, deep)) (omega arith) refl
+      go (inl e) = is_cover (ap (front plan.job i) e ∙ at.on.can.cover i at.on.here)
+      go (inr deep) = is_front depth (omega (arith, at.on.low, deep)) (omega arith) refl
 
-  module _ (block : ℕ) (is : block ≡ reached plan i depth now) where
-    module _ (slot : ℕ) (slot_low : slot < 512) where
-      pub place_low : 512 * block + slot < length now
-      place_low = rw is (at_low plan.old now plan.place _ _ Pointer (pointers plan.old plan.bound can.forest) _ _ _ free made way slot live anew_here slot_low)
+  -- a block that is fresh, or free now, was free at the start
+  fresh_free : (p : Trail) → Pointer p → IsAnew plan.job from i depth p → plan.free (block_on (seen plan now) p) ≡ true
+  fresh_free p live new =
+      let stage = at.made.stage in
+      let fresh = stage.fresh p live new in
+      let some : block_on (seen plan now) p ≢ 0 = fresh.0 in
+      let low : block_on (seen plan now) p < block_count (seen plan now) = stage.skeleton.in_range p live in
+      let count : block_count (seen plan now) ≡ block_count plan.old = ap (λ n. n / 512) stage.whole in
+      at.on.can.exact.dead _ (omega (arith, some)) (rw count at low) fresh.1 (stage.unkept p live new)
 
-      pub place_used : free ((512 * block + slot) / 512) ≡ false
-      place_used = rw is (at_used plan.old now plan.place _ _ Pointer (pointers plan.old plan.bound can.forest) _ _ _ free made way slot live anew_here slot_low)
+  still_free : (b : ℕ) → free b ≡ true → plan.free b ≡ true
+  still_free b is =
+      let stage = at.made.stage in
+      let range = stage.in_range b is in
+      at.on.can.exact.dead b range.0 range.1 (λ has. let full : free b ≡ false = stage.taken b (inl has) in absurd (cc)) (stage.loose b is)
 
-      pub place_taken : IsTakenWord plan.free free (512 * block + slot)
-      place_taken =
-          let at : (512 * block + slot) / 512 ≡ block = omega (arith, slot_low) in
-          record { block = (512 * block + slot) / 512; inside = refl; was = ap plan.free (at ∙ is) ∙ fresh_free plan from i depth now free can made way live anew_here; gone = place_used }
+  pub free_inside : (b : ℕ) → free b ≡ true → (1 ≤ b) × (512 * b + 512 ≤ length now)
+  free_inside b is = free_in_image are at.made b is
 
-    module _ (more : depth < length (plan.job.way i)) where
-      abbrev slot : ℕ
-      slot = slice_index (plan.job.way i) depth
+  module _ (slot : ℕ) (slot_low : slot < 512) where
+    pub place_low : 512 * block + slot < length now
+    place_low = rw at.block_is (at_low are at.made way slot live anew_here slot_low)
 
-      pub slot_low : slot < 512
-      slot_low = can.slots i depth here more
+    place_used : free ((512 * block + slot) / 512) ≡ false
+    place_used = rw at.block_is (at_used are at.made way slot live anew_here slot_low)
 
-      pointed : Pointer (slot ∷ way)
-      pointed = subst Pointer (trail_of-next (plan.job.way i) depth) (can.pointers i (depth + 1) here (omega (arith, more)))
+    pub place_taken : IsTakenWord plan.free free (512 * block + slot)
+    place_taken =
+        let here : (512 * block + slot) / 512 ≡ block = omega (arith, slot_low) in
+        record { block = (512 * block + slot) / 512; inside = refl; was = ap plan.free (here ∙ at.block_is) ∙ fresh_free way live anew_here; gone = place_used }
 
-      pub loaded : block_of (word now (512 * block + slot)) ≡ reached plan i (depth + 1) now
-      loaded =
-          rw is (from_is plan.old now plan.place _ _ Pointer (pointers plan.old plan.bound can.forest) _ _ _ free made way slot live anew_here slot_low)
-          ∙ ap (block_on (seen plan now)) (sym (trail_of-next (plan.job.way i) depth))
+  module _ {slot : ℕ} (on : GoesOn plan i depth slot) where
+    slot_low : slot < 512
+    slot_low = rw on.slot_is (at.on.can.slots i depth at.on.here on.more)
 
-      pub loaded_low : 512 * block_of (word now (512 * block + slot)) + 512 ≤ length now
-      loaded_low = rw is (from_low plan.old now plan.place _ _ Pointer (pointers plan.old plan.bound can.forest) _ _ _ free made way slot live anew_here slot_low pointed)
+    pub next_low : 512 * block + slot < length now
+    next_low = place_low slot slot_low
 
-      -- an earlier way has had the block copied
-      pub made_before : IsBegun plan.job from i (front plan.job i (depth + 1)) → IsMade plan from i (depth + 1) now free
-      made_before begun =
-          building_same plan.old now plan.place _ _ Pointer (IsAnew plan.job from i depth) (IsAnew plan.job from i (depth + 1)) _ _ free
-          (λ q n. anew_more plan.job from i depth q (inl n) low) (λ q n. back q (anew_more_back plan.job from i depth q n)) made
+    next_is : front plan.job i (depth + 1) ≡ slot ∷ way
+    next_is = trail_of-next (plan.job.way i) depth ∙ ap (λ s. s ∷ way) (sym on.slot_is)
+
+    pointed : Pointer (slot ∷ way)
+    pointed = subst Pointer next_is (at.on.can.pointers i (depth + 1) at.on.here (omega (arith, on.more)))
+
+    pub loaded : block_of (word now (512 * block + slot)) ≡ reached plan i (depth + 1) now
+    loaded = rw at.block_is (from_is are at.made way slot live anew_here slot_low) ∙ ap (block_on (seen plan now)) (sym next_is)
+
+    pub loaded_low : 512 * block_of (word now (512 * block + slot)) + 512 ≤ length now
+    loaded_low = rw at.block_is (from_low are at.made way slot live anew_here slot_low pointed)
+
+    module _ {after : Image} {copy : ℕ} {free_after : ℕ → Bool} (none : IsBegun plan.job from i (front plan.job i (depth + 1)) → ⊥)
+        (turned : TurnsTo (patch_at plan.job i (depth + 1)) (plan.job.live i (depth + 1)) now after (512 * block + slot) copy) (takes : TakesNumber free free_after copy) where
+      first : IsAnew plan.job from i depth (slot ∷ way) → ⊥
+      first n = not_anew plan.job from i depth at.on.low none (subst (IsAnew plan.job from i depth) (sym next_is) n)
+
+      counts : (s : ℕ) → s < 512 → Pointer (s ∷ slot ∷ way) ⊎ IsTreeWord plan.old plan.bound (s ∷ slot ∷ way) → s < plan.job.live i (depth + 1)
+      counts s few any =
+          at.on.can.live i (depth + 1) s at.on.here (omega (arith, on.more)) few
+          (subst (λ (q : Trail). IsTreePointer plan.old plan.bound (s ∷ q) ⊎ IsTreeWord plan.old plan.bound (s ∷ q)) (sym next_is) any)
+
+      plain : (s w : ℕ) → Pointer (s ∷ slot ∷ way) → patch_at plan.job i (depth + 1) s w ≡ w
+      plain s w l =
+          lay_plain plan from i (depth + 1) at.on.can at.on.here (omega (arith, at.on.low)) (omega (arith, on.more)) s w
+          (subst (λ (q : Trail). Pointer (s ∷ q)) (sym next_is) l)
+
+      lays : (s : ℕ) → s < 512 → patch_at plan.job i (depth + 1) s (word_on plan.old (s ∷ slot ∷ way)) ≡ laid_on plan.old plan.job (s ∷ slot ∷ way)
+      lays s few =
+          subst (λ (q : Trail). patch_at plan.job i (depth + 1) s (word_on plan.old (s ∷ q)) ≡ laid_on plan.old plan.job (s ∷ q)) next_is
+          (lay_laid plan from i (depth + 1) at.on.can at.on.here (omega (arith, at.on.low)) (omega (arith, on.more)) none s)
+
+      turned_there : TurnsTo (patch_at plan.job i (depth + 1)) (plan.job.live i (depth + 1)) now after (512 * reached plan i depth now + slot) copy
+      turned_there = rw at.block_is at turned
+
+      pub made_copy : IsMade plan from i (depth + 1) after free_after
+      made_copy =
+          building_same (λ q n. anew_more plan.job from i depth q (to q n) at.on.low) (λ q n. back q (anew_more_back plan.job from i depth q n))
+          (building_turn are at.made way slot live anew_here slot_low pointed first counts plain lays turned_there takes)
         where
-          back : (q : Trail) → IsAnew plan.job from i depth q ⊎ (q ≡ front plan.job i (depth + 1)) → IsAnew plan.job from i depth q
-          back q (inl n) = n
-          back q (inr e) = is_begun (subst (IsBegun plan.job from i) (sym e) begun)
+          to : (q : Trail) → IsAnew plan.job from i depth q ⊎ (q ≡ slot ∷ way) → IsAnew plan.job from i depth q ⊎ (q ≡ front plan.job i (depth + 1))
+          to q (inl n) = inl n
+          to q (inr e) = inr (e ∙ sym next_is)
 
-      module _ (after : Image) (copy : ℕ) (free_after : ℕ → Bool) (none : IsBegun plan.job from i (front plan.job i (depth + 1)) → ⊥)
-          (turned : TurnsTo (patch_at plan.job i (depth + 1)) (plan.job.live i (depth + 1)) now after (512 * block + slot) copy) (takes : TakesNumber free free_after copy) where
-        first : IsAnew plan.job from i depth (slot ∷ way) → ⊥
-        first n = not_anew plan.job from i depth low none (subst (IsAnew plan.job from i depth) (sym (trail_of-next (plan.job.way i) depth)) n)
+          back : (q : Trail) → IsAnew plan.job from i depth q ⊎ (q ≡ front plan.job i (depth + 1)) → IsAnew plan.job from i depth q ⊎ (q ≡ slot ∷ way)
+          back q (inl n) = inl n
+          back q (inr e) = inr (e ∙ next_is)
 
-        counts : (s : ℕ) → s < 512 → Pointer (s ∷ slot ∷ way) ⊎ IsTreeWord plan.old plan.bound (s ∷ slot ∷ way) → s < plan.job.live i (depth + 1)
-        counts s few any =
-            can.live i (depth + 1) s here (omega (arith, more)) few
-            (subst (λ (q : Trail). IsTreePointer plan.old plan.bound (s ∷ q) ⊎ IsTreeWord plan.old plan.bound (s ∷ q)) (sym (trail_of-next (plan.job.way i) depth)) any)
+      pub copy_reached : copy ≡ reached plan i (depth + 1) after
+      copy_reached =
+          sym (building_block are at.made way slot live anew_here slot_low pointed first counts plain lays turned_there takes)
+          ∙ ap (block_on (seen plan after)) (sym next_is)
 
-        plain : (s w : ℕ) → Pointer (s ∷ slot ∷ way) → patch_at plan.job i (depth + 1) s w ≡ w
-        plain s w l = lay_plain plan from i (depth + 1) can here (omega (arith, low)) (omega (arith, more)) s w (subst (λ (q : Trail). Pointer (s ∷ q)) (sym (trail_of-next (plan.job.way i) depth)) l)
+      pub stored_taken : (place : ℕ) → (place / 512 ≡ copy) ⊎ (place ≡ 512 * block + slot) → IsTakenWord plan.free free_after place
+      stored_taken place (inl e) = record { block = copy; inside = e; was = still_free copy takes.was; gone = takes.gone }
+      stored_taken place (inr e) =
+          let one = place_taken slot slot_low in
+          rw e (record { block = (512 * block + slot) / 512; inside = refl; was = ap plan.free one.inside ∙ one.was; gone = other (cases_eq ((512 * block + slot) / 512) copy) })
+        where
+          other : ((512 * block + slot) / 512 ≡ copy) ⊎ ((512 * block + slot) / 512 ≡ copy → ⊥) → free_after ((512 * block + slot) / 512) ≡ false
+          other (inl same) = ap free_after same ∙ takes.gone
+          other (inr n) = takes.others _ n ∙ place_used slot slot_low
 
-        lays : (s : ℕ) → s < 512 → patch_at plan.job i (depth + 1) s (word_on plan.old (s ∷ slot ∷ way)) ≡ laid_on plan.old plan.job (s ∷ slot ∷ way)
-        lays s few =
-            subst (λ (q : Trail). patch_at plan.job i (depth + 1) s (word_on plan.old (s ∷ q)) ≡ laid_on plan.old plan.job (s ∷ q)) (trail_of-next (plan.job.way i) depth)
-            (lay_laid plan from i (depth + 1) can here (omega (arith, low)) (omega (arith, more)) none s)
+module _ {plan : Plan} {from i depth : ℕ} {now : Image} {free : ℕ → Bool} (on : IsOnWay plan from i depth) (made : IsMade plan from i depth now free) where
+  -- an earlier way has had the next block copied
+  pub made_before : IsBegun plan.job from i (front plan.job i (depth + 1)) → IsMade plan from i (depth + 1) now free
+  made_before begun = building_same (λ q n. anew_more plan.job from i depth q (inl n) on.low) (λ q n. back q (anew_more_back plan.job from i depth q n)) made
+    where
+      back : (q : Trail) → IsAnew plan.job from i depth q ⊎ (q ≡ front plan.job i (depth + 1)) → IsAnew plan.job from i depth q
+      back q (inl n) = n
+      back q (inr e) = is_begun (subst (IsBegun plan.job from i) (sym e) begun)
 
-        pub made_copy : IsMade plan from i (depth + 1) after free_after
-        made_copy =
-            building_same plan.old after plan.place _ _ Pointer (λ q. IsAnew plan.job from i depth q ⊎ (q ≡ slot ∷ way)) (IsAnew plan.job from i (depth + 1)) _ _ free_after
-            (λ q n. anew_more plan.job from i depth q (to q n) low) (λ q n. back q (anew_more_back plan.job from i depth q n))
-            (building_turn plan.old now plan.place _ _ Pointer (pointers plan.old plan.bound can.forest) (IsAnew plan.job from i depth) _ _ free made way slot live anew_here slot_low after copy free_after (patch_at plan.job i (depth + 1)) pointed first (plan.job.live i (depth + 1)) counts plain lays (rw is at turned) takes)
-          where
-            to : (q : Trail) → IsAnew plan.job from i depth q ⊎ (q ≡ slot ∷ way) → IsAnew plan.job from i depth q ⊎ (q ≡ front plan.job i (depth + 1))
-            to q (inl n) = inl n
-            to q (inr e) = inr (e ∙ sym (trail_of-next (plan.job.way i) depth))
+  -- the way begins at the cover's copy
+  pub top_reached : plan.top ≡ reached plan i from now
+  top_reached =
+      let leads : block_of (pointing_to (word plan.old plan.place) plan.top) ≡ plan.top = omega arith in
+      sym leads ∙ ap block_of (sym (top (pointers plan.old plan.bound on.can.forest) made)) ∙ ap (block_on (seen plan now)) (sym (on.can.cover i on.here))
 
-            back : (q : Trail) → IsAnew plan.job from i depth q ⊎ (q ≡ front plan.job i (depth + 1)) → IsAnew plan.job from i depth q ⊎ (q ≡ slot ∷ way)
-            back q (inl n) = inl n
-            back q (inr e) = inr (e ∙ trail_of-next (plan.job.way i) depth)
+-- ---- a way is done
 
-        pub copy_reached : copy ≡ reached plan i (depth + 1) after
-        copy_reached =
-            sym (building_block plan.old now plan.place _ _ Pointer (pointers plan.old plan.bound can.forest) (IsAnew plan.job from i depth) _ _ free made way slot live anew_here slot_low after copy free_after (patch_at plan.job i (depth + 1)) pointed first (plan.job.live i (depth + 1)) counts plain lays (rw is at turned) takes)
-            ∙ ap (block_on (seen plan after)) (sym (trail_of-next (plan.job.way i) depth))
+-- the end of a way that can be gone from the cover's copy down
+pub whole_length : {plan : Plan} {from i : ℕ} → IsOnWay plan from i from → IsOnWay plan from i (length (plan.job.way i))
+whole_length way = record { can = way.can; here = way.here; low = way.high; high = omega arith }
 
-        pub stored_taken : (place : ℕ) → (place / 512 ≡ copy) ⊎ (place ≡ 512 * block + slot) → IsTakenWord plan.free free_after place
-        stored_taken place (inl e) = record { block = copy; inside = e; was = still_free plan from i depth now free can made copy takes.was; gone = takes.gone }
-        stored_taken place (inr e) =
-            let one = place_taken slot slot_low in
-            rw e (record { block = (512 * block + slot) / 512; inside = refl; was = ap plan.free one.inside ∙ one.was; gone = other (cases_eq ((512 * block + slot) / 512) copy) })
-          where
-            other : ((512 * block + slot) / 512 ≡ copy) ⊎ ((512 * block + slot) / 512 ≡ copy → ⊥) → free_after ((512 * block + slot) / 512) ≡ false
-            other (inl same) = ap free_after same ∙ takes.gone
-            other (inr n) = takes.others _ n ∙ place_used slot slot_low
+-- what is made by the plan where these pointers lead to copies, and the first words, so many, are given their values
+abbrev IsMadeOf : Plan → ℕ → (Trail → Type 0) → ℕ → Image → (ℕ → Bool) → Type 0
+IsMadeOf plan from anew count now free =
+    IsBuilding plan.old now plan.place (pointing_to (word plan.old plan.place) plan.top) (front plan.job 0 from)
+    (IsTreePointer plan.old plan.bound) (IsTreeWord plan.old plan.bound) anew (value_upto plan.job count) (laid_on plan.old plan.job) plan.kept free
 
-  -- a way is done
-  module _ (last : depth ≡ length (plan.job.way i)) where
-    pub made_leaf : i < plan.job.leaves → IsMade plan from (i + 1) from now free
-    made_leaf leaf =
-        let same : (i + 1) - plan.job.leaves ≡ i - plan.job.leaves = omega (arith, leaf) in
-        building_same plan.old _ plan.place _ _ Pointer (IsAnew plan.job from i depth) (IsAnew plan.job from (i + 1) from) _ _ free
-        (λ q n. anew_next plan.job from i depth last low (can.cover i here) q n) (λ q n. anew_next_back plan.job from i depth last low (can.cover i here) q n)
-        (subst (λ n. IsBuilding plan.old now plan.place (pointing_to (word plan.old plan.place) plan.top) (front plan.job 0 from) Pointer (IsTreeWord plan.old plan.bound) (IsAnew plan.job from i depth) (value_upto plan.job n) (laid_on plan.old plan.job) plan.kept free) (sym same) made)
+-- its pointers are now among those of the first ways
+whole_way : {plan : Plan} {from i depth : ℕ} {free : ℕ → Bool} → IsOnWay plan from i depth → depth ≡ length (plan.job.way i) → (words : Image) (count : ℕ) →
+    IsMadeOf plan from (IsAnew plan.job from i depth) count words free → IsMadeOf plan from (IsAnew plan.job from (i + 1) from) count words free
+whole_way {plan} {from} {i} {depth} on last words count made =
+    let cover = on.can.cover i on.here in
+    building_same (λ q n. anew_next plan.job from i depth last on.low cover q n) (λ q n. anew_next_back plan.job from i depth last on.low cover q n) made
 
-    -- and the word at its end is given its value
-    pub made_word : (w : ℕ) → plan.job.leaves + w ≡ i → (block : ℕ) → block ≡ reached plan i depth now → IsMade plan from (i + 1) from (set now (512 * block + plan.job.slot w) (plan.job.value w)) free
-    made_word w at block is =
-        let few : w < plan.job.words = omega (arith, here, at) in
-        let here_now : i - plan.job.leaves ≡ w = omega (arith, at) in
-        let next : (i + 1) - plan.job.leaves ≡ w + 1 = omega (arith, at) in
-        let end : word_trail plan.job w ≡ plan.job.slot w ∷ way = ap (λ k. plan.job.slot w ∷ end_of plan.job k) at ∙ ap (λ d. plan.job.slot w ∷ front plan.job i d) (sym last) in
-        let before : IsBuilding plan.old now plan.place (pointing_to (word plan.old plan.place) plan.top) (front plan.job 0 from) Pointer (IsTreeWord plan.old plan.bound) (IsAnew plan.job from i depth) (value_upto plan.job w) (laid_on plan.old plan.job) plan.kept free =
-        subst (λ n. IsBuilding plan.old now plan.place (pointing_to (word plan.old plan.place) plan.top) (front plan.job 0 from) Pointer (IsTreeWord plan.old plan.bound) (IsAnew plan.job from i depth) (value_upto plan.job n) (laid_on plan.old plan.job) plan.kept free) here_now made in
-        rw is
-        (building_same plan.old _ plan.place _ _ Pointer (IsAnew plan.job from i depth) (IsAnew plan.job from (i + 1) from) _ _ free
-        (λ q n. anew_next plan.job from i depth last low (can.cover i here) q n) (λ q n. anew_next_back plan.job from i depth last low (can.cover i here) q n)
-        (subst (λ n. IsBuilding plan.old (set now (512 * reached plan i depth now + plan.job.slot w) (plan.job.value w)) plan.place (pointing_to (word plan.old plan.place) plan.top) (front plan.job 0 from) Pointer (IsTreeWord plan.old plan.bound) (IsAnew plan.job from i depth) (value_upto plan.job n) (laid_on plan.old plan.job) plan.kept free) (sym next)
-        (building_store plan.old now plan.place _ _ Pointer (pointers plan.old plan.bound can.forest) (IsAnew plan.job from i depth) (value_upto plan.job w) _ free before way (plan.job.slot w) live anew_here (can.word_slots w few)
-        (plan.job.value w) (value_upto plan.job (w + 1))
-        (λ p. can.contents w few (subst Pointer (sym end) p))
-        (subst (λ (q : Trail). value_upto plan.job (w + 1) q ≡ Some (plan.job.value w)) end (value-here plan.job w))
-        (λ q other. value-other plan.job w q (λ e. other (e ∙ end))))))
+module _ {plan : Plan} {from i depth : ℕ} {now : Image} {free : ℕ → Bool} (on : IsOnWay plan from i depth) (last : depth ≡ length (plan.job.way i)) where
+  pub made_leaf : IsMade plan from i depth now free → i < plan.job.leaves → IsMade plan from (i + 1) from now free
+  made_leaf made leaf =
+      let same : i - plan.job.leaves ≡ (i + 1) - plan.job.leaves = omega (arith, leaf) in
+      subst (λ n. IsMadeOf plan from (IsAnew plan.job from (i + 1) from) n now free) same (whole_way on last now (i - plan.job.leaves) made)
 
--- the way begins at the cover's copy
-pub top_reached : (plan : Plan) (from i depth : ℕ) (now : Image) (free : ℕ → Bool) → CanMake plan from → i < ways plan.job → IsMade plan from i depth now free →
-    plan.top ≡ reached plan i from now
-top_reached plan from i depth now free can here made =
-    let pointer = top plan.old now plan.place (pointing_to (word plan.old plan.place) plan.top) _ (IsTreePointer plan.old plan.bound) (pointers plan.old plan.bound can.forest) _ _ _ free made in
-    let leads : block_of (pointing_to (word plan.old plan.place) plan.top) ≡ plan.top = omega arith in
-    sym leads ∙ ap block_of (sym pointer) ∙ ap (block_on (seen plan now)) (sym (can.cover i here))
+  -- and the word at its end is given its value
+  pub made_word : {block : ℕ} → HasReached plan from i depth now free block → (w : ℕ) → plan.job.leaves + w ≡ i →
+      IsMade plan from (i + 1) from (set now (512 * block + plan.job.slot w) (plan.job.value w)) free
+  made_word {block} at w is =
+      let few : w < plan.job.words = omega (arith, on.here, is) in
+      let before_it : i - plan.job.leaves ≡ w = omega (arith, is) in
+      let with_it : w + 1 ≡ (i + 1) - plan.job.leaves = omega (arith, is) in
+      let end : word_trail plan.job w ≡ plan.job.slot w ∷ way at = ap (λ k. plan.job.slot w ∷ end_of plan.job k) is ∙ ap (λ d. plan.job.slot w ∷ front plan.job i d) (sym last) in
+      let stored = set now (512 * reached plan i depth now + plan.job.slot w) (plan.job.value w) in
+      let before : IsMadeOf plan from (IsAnew plan.job from i depth) w now free = subst (λ n. IsMadeOf plan from (IsAnew plan.job from i depth) n now free) before_it at.made in
+      let after : IsMadeOf plan from (IsAnew plan.job from i depth) (w + 1) stored free =
+      building_store (are at) before (way at) (plan.job.slot w) (live at) (anew_here at) (on.can.word_slots w few) (plan.job.value w) (value_upto plan.job (w + 1))
+      (λ p. on.can.contents w few (subst (Pointer at) (sym end) p))
+      (subst (λ (q : Trail). value_upto plan.job (w + 1) q ≡ Some (plan.job.value w)) end (value-here plan.job w))
+      (λ q other. value-other plan.job w q (λ e. other (e ∙ end))) in
+      rw at.block_is (subst (λ n. IsMadeOf plan from (IsAnew plan.job from (i + 1) from) n stored free) with_it (whole_way on last stored (w + 1) after))

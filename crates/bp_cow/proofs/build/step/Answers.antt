@@ -1,19 +1,23 @@
-use Rattle.std.proofs.Common.{◌≡◌, ◌⊎◌, ◌+◌, ◌*◌, ◌/◌, refl, ◌∙◌, ap, subst, arith}
+use Rattle.std.proofs.Common.{◌+◌, ◌*◌, ◌/◌, refl, sym, ◌∙◌, ap, arith}
 use Rattle.std.specs.List.{slice_index}
-use Rattle.bp_free.specs.Set.{has}
 use Rattle.pm_region.specs.Memory.{current_words}
 use Rattle.pm_region.proofs.MemoryLaws.{length-current_words}
 use Rattle.bp_layout.specs.Words.{word}
-use Rattle.bp_shapes.proofs.ForestLaws.{pointers}
-use Rattle.bp_cow.specs.Copies.{TurnsTo}
-use Rattle.bp_cow.specs.Job.{turns_at, patch_at}
 use Rattle.bp_cow.specs.Plan.{planned}
 use Rattle.bp_cow.specs.Touched.{job_of}
-use Rattle.bp_cow.proofs.AddsLaws.{copies_none, copies_into, copies_as}
-use Rattle.bp_cow.proofs.BuildFacts.{free_in_image}
+use Rattle.bp_cow.proofs.AddsLaws.{makes_none, makes_one, makes_as}
 use Rattle.bp_cow.proofs.NeedLaws.{turns_one, turns_none}
-use Rattle.bp_cow.proofs.StepLaws.{place_low, slot_low, loaded, loaded_low, made_before, made_copy, copy_reached, stored_taken}
+use Rattle.bp_cow.proofs.StepLaws.{HasReachedIn, GoesOn, free_inside, next_low, loaded, loaded_low, made_before, made_copy, copy_reached, stored_taken}
+use Rattle.bp_cow.proofs.build.step.Given.{Over}
+use Rattle.bp_cow.proofs.build.step.Goals.{Start, After-slot}
 use Rattle.bp_cow.proofs.build.step.Goals as goal
+
+-- what is made so far, and the block that the way has reached
+reached : (g : Over) (c : Start g) → HasReachedIn g.plan c.args.touched.now c.args.from c.args.way.now.index c.args.depth (g.R.Region.memory c.args.region.now) c.args.blocks.now c.args.block
+reached g c = record { on = c.requires.1.1.1.0; made = c.requires.1.1.1.1.1.0; block_is = c.requires.1.1.1.1.1.1.0 }
+
+next : (g : Over) (c : After-slot g) → GoesOn (planned g.plan c.args.touched.now) c.args.way.now.index c.args.depth c.slot.result
+next g c = record { more = c.requires.1.1.1.1.0; slot_is = c.slot.ensures }
 
 pub slot-requires-clause-depth : goal.slot-requires-clause-depth
 slot-requires-clause-depth g c =
@@ -21,11 +25,17 @@ slot-requires-clause-depth g c =
 
 pub overflow_mul-place : goal.overflow_mul-place
 overflow_mul-place g c =
-    omega (arith, place_low (planned g.plan c.args.touched.now) c.args.from c.args.way.now.index c.args.depth (current_words (g.R.Region.memory c.args.region.now)) (has c.args.blocks.now) c.requires.1.1.1.0.can c.requires.1.1.1.0.here c.requires.1.1.1.0.low c.requires.1.1.1.0.high c.requires.1.1.1.1.1.0 c.args.block c.requires.1.1.1.1.1.1.0 (slice_index ((job_of c.args.touched.now).way c.args.way.now.index) c.args.depth) (slot_low (planned g.plan c.args.touched.now) c.args.from c.args.way.now.index c.args.depth (current_words (g.R.Region.memory c.args.region.now)) (has c.args.blocks.now) c.requires.1.1.1.0.can c.requires.1.1.1.0.here c.requires.1.1.1.0.low c.requires.1.1.1.0.high c.requires.1.1.1.1.1.0 c.args.block c.requires.1.1.1.1.1.1.0 c.requires.1.1.1.1.0), length-current_words (g.R.Region.memory c.args.region.now), c.words-words.ensures, c.words-words.type_inv)
+    let job = job_of c.args.touched.now in
+    let on : GoesOn (planned g.plan c.args.touched.now) c.args.way.now.index c.args.depth (slice_index (job.way c.args.way.now.index) c.args.depth) =
+    record { more = c.requires.1.1.1.1.0; slot_is = refl } in
+    let inside = next_low (reached g (goal.at.overflow_mul-place g c).Start) on in
+    omega (arith, inside, length-current_words (g.R.Region.memory c.args.region.now), c.words-words.ensures, c.words-words.type_inv)
 
 pub overflow_add-place : goal.overflow_add-place
 overflow_add-place g c =
-    omega (arith, place_low (planned g.plan c.args.touched.now) c.args.from c.args.way.now.index c.args.depth (current_words (g.R.Region.memory c.args.region.now)) (has c.args.blocks.now) c.requires.1.1.1.0.can c.requires.1.1.1.0.here c.requires.1.1.1.0.low c.requires.1.1.1.0.high c.requires.1.1.1.1.1.0 c.args.block c.requires.1.1.1.1.1.1.0 (slice_index ((job_of c.args.touched.now).way c.args.way.now.index) c.args.depth) (slot_low (planned g.plan c.args.touched.now) c.args.from c.args.way.now.index c.args.depth (current_words (g.R.Region.memory c.args.region.now)) (has c.args.blocks.now) c.requires.1.1.1.0.can c.requires.1.1.1.0.here c.requires.1.1.1.0.low c.requires.1.1.1.0.high c.requires.1.1.1.1.1.0 c.args.block c.requires.1.1.1.1.1.1.0 c.requires.1.1.1.1.0), length-current_words (g.R.Region.memory c.args.region.now), c.words-words.ensures, c.words-words.type_inv, c.slot.ensures)
+    let at = goal.at.overflow_add-place g c in
+    let inside = next_low (reached g at.Start) (next g at.After-slot) in
+    omega (arith, inside, length-current_words (g.R.Region.memory c.args.region.now), c.words-words.ensures, c.words-words.type_inv)
 
 pub is_new-requires-clause-from : goal.is_new-requires-clause-from
 is_new-requires-clause-from g c =
@@ -37,69 +47,72 @@ is_new-requires-clause-depth g c =
 
 pub turn-requires-clause-some : goal.turn-requires-clause-some
 turn-requires-clause-some g c =
-    omega (arith, c.requires.1.1.1.1.1.1.1.0, turns_one (job_of c.args.touched.now) c.args.from c.args.way.now.index (c.args.depth + 1) (c.is_new.ensures.first c.if-is_new.true))
+    let one = turns_one (job_of c.args.touched.now) c.args.from c.args.way.now.index (c.args.depth + 1) (c.is_new.ensures.first c.if-is_new.true) in
+    omega (arith, c.requires.1.1.1.1.1.1.1.0, one)
 
 pub turn-requires-clause-place : goal.turn-requires-clause-place
 turn-requires-clause-place g c =
-    rw c.slot.ensures (place_low (planned g.plan c.args.touched.now) c.args.from c.args.way.now.index c.args.depth (current_words (g.R.Region.memory c.args.region.now)) (has c.args.blocks.now) c.requires.1.1.1.0.can c.requires.1.1.1.0.here c.requires.1.1.1.0.low c.requires.1.1.1.0.high c.requires.1.1.1.1.1.0 c.args.block c.requires.1.1.1.1.1.1.0 (slice_index ((job_of c.args.touched.now).way c.args.way.now.index) c.args.depth) (slot_low (planned g.plan c.args.touched.now) c.args.from c.args.way.now.index c.args.depth (current_words (g.R.Region.memory c.args.region.now)) (has c.args.blocks.now) c.requires.1.1.1.0.can c.requires.1.1.1.0.here c.requires.1.1.1.0.low c.requires.1.1.1.0.high c.requires.1.1.1.1.1.0 c.args.block c.requires.1.1.1.1.1.1.0 c.requires.1.1.1.1.0))
+    let at = goal.at.turn-requires-clause-place g c in
+    next_low (reached g at.Start) (next g at.After-slot)
 
 pub turn-requires-clause-from : goal.turn-requires-clause-from
 turn-requires-clause-from g c =
-    rw c.slot.ensures (omega (arith, loaded_low (planned g.plan c.args.touched.now) c.args.from c.args.way.now.index c.args.depth (current_words (g.R.Region.memory c.args.region.now)) (has c.args.blocks.now) c.requires.1.1.1.0.can c.requires.1.1.1.0.here c.requires.1.1.1.0.low c.requires.1.1.1.0.high c.requires.1.1.1.1.1.0 c.args.block c.requires.1.1.1.1.1.1.0 c.requires.1.1.1.1.0))
+    let at = goal.at.turn-requires-clause-from g c in
+    omega (arith, loaded_low (reached g at.Start) (next g at.After-slot))
 
 pub turn-requires-clause-free_low : goal.turn-requires-clause-free_low
-turn-requires-clause-free_low g c b is = (free_in_image g.plan.old (current_words (g.R.Region.memory c.args.region.now)) g.plan.place _ _ _ (pointers g.plan.old g.plan.bound c.requires.1.1.1.0.can.forest) _ _ _ (has c.args.blocks.now) c.requires.1.1.1.1.1.0 b is).0
+turn-requires-clause-free_low g c b is = (free_inside (reached g (goal.at.turn-requires-clause-free_low g c).Start) b is).0
 
 pub turn-requires-clause-free_high : goal.turn-requires-clause-free_high
 turn-requires-clause-free_high g c b is =
-    let inside = (free_in_image g.plan.old (current_words (g.R.Region.memory c.args.region.now)) g.plan.place _ _ _ (pointers g.plan.old g.plan.bound c.requires.1.1.1.0.can.forest) _ _ _ (has c.args.blocks.now) c.requires.1.1.1.1.1.0 b is).1 in omega (arith, inside)
+    let inside = (free_inside (reached g (goal.at.turn-requires-clause-free_high g c).Start) b is).1 in omega (arith, inside)
 
 pub turn-requires-clause-room : goal.turn-requires-clause-room
 turn-requires-clause-room g c =
-    omega (arith, c.requires.1.1.1.1.1.1.1.1, turns_one (job_of c.args.touched.now) c.args.from c.args.way.now.index (c.args.depth + 1) (c.is_new.ensures.first c.if-is_new.true))
+    let one = turns_one (job_of c.args.touched.now) c.args.from c.args.way.now.index (c.args.depth + 1) (c.is_new.ensures.first c.if-is_new.true) in
+    omega (arith, c.requires.1.1.1.1.1.1.1.1, one)
 
 pub load-requires : goal.load-requires
 load-requires g c =
-    omega (arith, place_low (planned g.plan c.args.touched.now) c.args.from c.args.way.now.index c.args.depth (current_words (g.R.Region.memory c.args.region.now)) (has c.args.blocks.now) c.requires.1.1.1.0.can c.requires.1.1.1.0.here c.requires.1.1.1.0.low c.requires.1.1.1.0.high c.requires.1.1.1.1.1.0 c.args.block c.requires.1.1.1.1.1.1.0 (slice_index ((job_of c.args.touched.now).way c.args.way.now.index) c.args.depth) (slot_low (planned g.plan c.args.touched.now) c.args.from c.args.way.now.index c.args.depth (current_words (g.R.Region.memory c.args.region.now)) (has c.args.blocks.now) c.requires.1.1.1.0.can c.requires.1.1.1.0.here c.requires.1.1.1.0.low c.requires.1.1.1.0.high c.requires.1.1.1.1.1.0 c.args.block c.requires.1.1.1.1.1.1.0 c.requires.1.1.1.1.0), length-current_words (g.R.Region.memory c.args.region.now), c.slot.ensures)
+    let at = goal.at.load-requires g c in
+    let inside = next_low (reached g at.Start) (next g at.After-slot) in
+    omega (arith, inside, length-current_words (g.R.Region.memory c.args.region.now))
 
 pub overflow_cast-result : goal.overflow_cast-result
 overflow_cast-result g c =
-    let value : c.load.result ≡ word (current_words (g.R.Region.memory c.args.region.now)) (512 * c.args.block + (slice_index ((job_of c.args.touched.now).way c.args.way.now.index) c.args.depth)) = c.load.ensures ∙ ap (λ s. word (current_words (g.R.Region.memory c.args.region.now)) (512 * c.args.block + s)) c.slot.ensures in
-    omega (arith, value, loaded_low (planned g.plan c.args.touched.now) c.args.from c.args.way.now.index c.args.depth (current_words (g.R.Region.memory c.args.region.now)) (has c.args.blocks.now) c.requires.1.1.1.0.can c.requires.1.1.1.0.here c.requires.1.1.1.0.low c.requires.1.1.1.0.high c.requires.1.1.1.1.1.0 c.args.block c.requires.1.1.1.1.1.1.0 c.requires.1.1.1.1.0, length-current_words (g.R.Region.memory c.args.region.now), c.words-words.ensures, c.words-words.type_inv)
+    let at = goal.at.overflow_cast-result g c in
+    let inside = loaded_low (reached g at.Start) (next g at.After-slot) in
+    omega (arith, c.load.ensures, inside, length-current_words (g.R.Region.memory c.args.region.now), c.words-words.ensures, c.words-words.type_inv)
 
 pub returns-then-is_new-clause-made : goal.returns-then-is_new-clause-made
 returns-then-is_new-clause-made g c =
-    made_copy (planned g.plan c.args.touched.now) c.args.from c.args.way.now.index c.args.depth (current_words (g.R.Region.memory c.args.region.now)) (has c.args.blocks.now) c.requires.1.1.1.0.can c.requires.1.1.1.0.here c.requires.1.1.1.0.low c.requires.1.1.1.0.high c.requires.1.1.1.1.1.0 c.args.block c.requires.1.1.1.1.1.1.0 c.requires.1.1.1.1.0 (current_words (g.R.Region.memory c.turn.new.region)) c.turn.result (has c.turn.new.blocks) (c.is_new.ensures.first c.if-is_new.true) (subst (λ s. TurnsTo (patch_at (job_of c.args.touched.now) c.args.way.now.index (c.args.depth + 1)) ((job_of c.args.touched.now).live c.args.way.now.index (c.args.depth + 1)) (current_words (g.R.Region.memory c.args.region.now)) (current_words (g.R.Region.memory c.turn.new.region)) (512 * c.args.block + s) c.turn.result) c.slot.ensures c.turn.ensures.words) c.turn.ensures.taken
+    let at = goal.at.returns-then-is_new-clause-made g c in
+    made_copy (reached g at.Start) (next g at.After-slot) (c.is_new.ensures.first c.if-is_new.true) c.turn.ensures.words c.turn.ensures.taken
 
 pub returns-then-is_new-clause-block : goal.returns-then-is_new-clause-block
 returns-then-is_new-clause-block g c =
-    copy_reached (planned g.plan c.args.touched.now) c.args.from c.args.way.now.index c.args.depth (current_words (g.R.Region.memory c.args.region.now)) (has c.args.blocks.now) c.requires.1.1.1.0.can c.requires.1.1.1.0.here c.requires.1.1.1.0.low c.requires.1.1.1.0.high c.requires.1.1.1.1.1.0 c.args.block c.requires.1.1.1.1.1.1.0 c.requires.1.1.1.1.0 (current_words (g.R.Region.memory c.turn.new.region)) c.turn.result (has c.turn.new.blocks) (c.is_new.ensures.first c.if-is_new.true) (subst (λ s. TurnsTo (patch_at (job_of c.args.touched.now) c.args.way.now.index (c.args.depth + 1)) ((job_of c.args.touched.now).live c.args.way.now.index (c.args.depth + 1)) (current_words (g.R.Region.memory c.args.region.now)) (current_words (g.R.Region.memory c.turn.new.region)) (512 * c.args.block + s) c.turn.result) c.slot.ensures c.turn.ensures.words) c.turn.ensures.taken
+    let at = goal.at.returns-then-is_new-clause-block g c in
+    copy_reached (reached g at.Start) (next g at.After-slot) (c.is_new.ensures.first c.if-is_new.true) c.turn.ensures.words c.turn.ensures.taken
 
 pub returns-then-is_new-clause-makes : goal.returns-then-is_new-clause-makes
-returns-then-is_new-clause-makes g c = record {
-  stores =
-      copies_as g.plan.free (has c.args.blocks.now) (has c.turn.new.blocks) 513 (513 * turns_at (job_of c.args.touched.now) c.args.from c.args.way.now.index (c.args.depth + 1)) (g.R.Region.memory c.args.region.now) (g.R.Region.memory c.turn.new.region) (omega (arith, turns_one (job_of c.args.touched.now) c.args.from c.args.way.now.index (c.args.depth + 1) (c.is_new.ensures.first c.if-is_new.true)))
-      (copies_into g.plan.free (has c.args.blocks.now) (has c.turn.new.blocks) (λ word. (word / 512 ≡ c.turn.result) ⊎ (word ≡ 512 * c.args.block + c.slot.result)) c.turn.result 513 (g.R.Region.memory c.args.region.now) (g.R.Region.memory c.turn.new.region)
-      (λ place either. stored_taken (planned g.plan c.args.touched.now) c.args.from c.args.way.now.index c.args.depth (current_words (g.R.Region.memory c.args.region.now)) (has c.args.blocks.now) c.requires.1.1.1.0.can c.requires.1.1.1.0.here c.requires.1.1.1.0.low c.requires.1.1.1.0.high c.requires.1.1.1.1.1.0 c.args.block c.requires.1.1.1.1.1.1.0 c.requires.1.1.1.1.0 (current_words (g.R.Region.memory c.turn.new.region)) c.turn.result (has c.turn.new.blocks) (c.is_new.ensures.first c.if-is_new.true) (subst (λ s. TurnsTo (patch_at (job_of c.args.touched.now) c.args.way.now.index (c.args.depth + 1)) ((job_of c.args.touched.now).live c.args.way.now.index (c.args.depth + 1)) (current_words (g.R.Region.memory c.args.region.now)) (current_words (g.R.Region.memory c.turn.new.region)) (512 * c.args.block + s) c.turn.result) c.slot.ensures c.turn.ensures.words) c.turn.ensures.taken place (subst (λ s. (place / 512 ≡ c.turn.result) ⊎ (place ≡ 512 * c.args.block + s)) c.slot.ensures either)) c.turn.ensures.taken c.turn.ensures.stores);
-  count = omega (arith, c.turn.ensures.count, turns_one (job_of c.args.touched.now) c.args.from c.args.way.now.index (c.args.depth + 1) (c.is_new.ensures.first c.if-is_new.true));
-  size = c.turn.ensures.size;
-  base = c.turn.ensures.base;
-}
+returns-then-is_new-clause-makes g c =
+    let at = goal.at.returns-then-is_new-clause-makes g c in
+    let first = c.is_new.ensures.first c.if-is_new.true in
+    let one = turns_one (job_of c.args.touched.now) c.args.from c.args.way.now.index (c.args.depth + 1) first in
+    let taken = stored_taken (reached g at.Start) (next g at.After-slot) first c.turn.ensures.words c.turn.ensures.taken in
+    makes_as (sym one) (omega (arith, one))
+    (makes_one taken c.turn.ensures.taken c.turn.ensures.count c.turn.ensures.size c.turn.ensures.stores c.turn.ensures.base)
 
 pub returns-else-is_new-clause-made : goal.returns-else-is_new-clause-made
 returns-else-is_new-clause-made g c =
-    made_before (planned g.plan c.args.touched.now) c.args.from c.args.way.now.index c.args.depth (current_words (g.R.Region.memory c.args.region.now)) (has c.args.blocks.now) c.requires.1.1.1.0.can c.requires.1.1.1.0.here c.requires.1.1.1.0.low c.requires.1.1.1.0.high c.requires.1.1.1.1.1.0 c.args.block c.requires.1.1.1.1.1.1.0 c.requires.1.1.1.1.0 (c.is_new.ensures.begun c.if-is_new.false)
+    made_before c.requires.1.1.1.0 c.requires.1.1.1.1.1.0 (c.is_new.ensures.begun c.if-is_new.false)
 
 pub returns-else-is_new-clause-block : goal.returns-else-is_new-clause-block
 returns-else-is_new-clause-block g c =
-    c.block_of.ensures ∙ ap (λ w. w / 4096) c.load.ensures ∙ ap (λ s. word (current_words (g.R.Region.memory c.args.region.now)) (512 * c.args.block + s) / 4096) c.slot.ensures ∙ loaded (planned g.plan c.args.touched.now) c.args.from c.args.way.now.index c.args.depth (current_words (g.R.Region.memory c.args.region.now)) (has c.args.blocks.now) c.requires.1.1.1.0.can c.requires.1.1.1.0.here c.requires.1.1.1.0.low c.requires.1.1.1.0.high c.requires.1.1.1.1.1.0 c.args.block c.requires.1.1.1.1.1.1.0 c.requires.1.1.1.1.0
+    let at = goal.at.returns-else-is_new-clause-block g c in
+    c.block_of.ensures ∙ ap (λ w. w / 4096) c.load.ensures ∙ loaded (reached g at.Start) (next g at.After-slot)
 
 pub returns-else-is_new-clause-makes : goal.returns-else-is_new-clause-makes
-returns-else-is_new-clause-makes g c = record {
-  stores =
-      copies_as g.plan.free (has c.args.blocks.now) (has c.args.blocks.now) 0 (513 * turns_at (job_of c.args.touched.now) c.args.from c.args.way.now.index (c.args.depth + 1)) (g.R.Region.memory c.args.region.now) (g.R.Region.memory c.args.region.now) (omega (arith, turns_none (job_of c.args.touched.now) c.args.from c.args.way.now.index (c.args.depth + 1) (c.is_new.ensures.begun c.if-is_new.false)))
-      (copies_none g.plan.free (has c.args.blocks.now) (g.R.Region.memory c.args.region.now));
-  count = omega (arith, turns_none (job_of c.args.touched.now) c.args.from c.args.way.now.index (c.args.depth + 1) (c.is_new.ensures.begun c.if-is_new.false));
-  size = refl;
-  base = refl;
-}
+returns-else-is_new-clause-makes g c =
+    let none = turns_none (job_of c.args.touched.now) c.args.from c.args.way.now.index (c.args.depth + 1) (c.is_new.ensures.begun c.if-is_new.false) in
+    makes_as (sym none) (omega (arith, none)) (makes_none c.args.blocks.now (g.R.Region.memory c.args.region.now))

@@ -1,4 +1,4 @@
-use Rattle.std.proofs.Common.{◌≡◌, ℕ, ◌+◌, ◌-◌, ◌*◌, get_or, ◌∙◌, ap, arith}
+use Rattle.std.proofs.Common.{◌≡◌, ℕ, ◌+◌, ◌-◌, ◌*◌, ◌<◌, get_or, ◌∙◌, ap, arith}
 use Rattle.std.proofs.lemmas.List.{length-set}
 use Rattle.bp_tree.proofs.LoadedWords.{loaded_word}
 use Rattle.bp_cow.proofs.RunLaws.{run_word-inside}
@@ -14,15 +14,22 @@ loop-slot-init c = record { size = omega arith; begun = omega arith; laid = lays
 pub loop-slot-preserved : goal.loop-slot-preserved
 loop-slot-preserved c =
     let before = c.loop-slot.invariant in
+    let run = c.args.run.now in
+    let bytes = run.bytes.now in
+    let first = c.args.first in
+    let from = c.args.from in
     let at = c.loop-slot.slot in
     let begun = c.requires.begun (omega arith) in
     let behind = c.requires.not_ended (omega arith) in
-    let place : ℕ = 8 * (c.args.first + c.args.from) - c.args.run.now.off + 8 * (c.loop-slot.slot - c.args.from) in
-    let there : 8 * (c.args.first + c.args.from) - c.args.run.now.off + 8 * (c.loop-slot.slot - c.args.from) ≡ 8 * (c.args.first + c.loop-slot.slot) - c.args.run.now.off = omega (arith, begun, before.begun) in
+    let place : ℕ = 8 * (first + from) - run.off + 8 * (at - from) in
+    let there : 8 * (first + from) - run.off + 8 * (at - from) ≡ 8 * (first + at) - run.off = omega (arith, begun, before.begun) in
+    -- the bytes that are copied are the run's
+    let copied = λ (i : ℕ) (few : i < 8). loaded_word bytes c.copy_from_slice.new.self place 8 c.copy_from_slice.ensures.after i few ∙ ap (λ p. get_or bytes (p + i) 0) there in
+    let value =
+    run_word-inside run (first + at) (get_or c.args.words.now at 0) c.copy_from_slice.new.self (omega (arith, begun, before.begun)) (omega (arith, behind, c.loop-slot-test.true)) (omega arith) copied in
     record {
       size = length-set c.loop-slot.words at c.read_word.result ∙ before.size;
       begun = omega (arith, before.begun);
-      laid = lays_one_more c.args.run.now c.args.first c.args.from at c.read_word.result c.args.words.now c.loop-slot.words (omega (arith, before.size, c.loop-slot-test.true, c.requires.to)) before.begun
-          (c.read_word.ensures ∙ run_word-inside c.args.run.now (c.args.first + at) (get_or c.args.words.now at 0) c.copy_from_slice.new.self
-          (omega (arith, begun, before.begun)) (omega (arith, behind, c.loop-slot-test.true)) (omega arith) (λ i few. loaded_word c.args.run.now.bytes.now c.copy_from_slice.new.self place 8 c.copy_from_slice.ensures.after i few ∙ ap (λ p. get_or c.args.run.now.bytes.now (p + i) 0) there)) before.laid;
+      laid = lays_one_more run first from at c.read_word.result c.args.words.now c.loop-slot.words (omega (arith, before.size, c.loop-slot-test.true, c.requires.to)) before.begun
+          (c.read_word.ensures ∙ value) before.laid;
     }

@@ -17,7 +17,9 @@ turned_at-count-requires-clause-i c = subst (λ n. c.loop-i.i < n) c.ways-ways.e
 
 pub overflow_add-count : goal.overflow_add-count
 overflow_add-count c =
-    omega (arith, c.loop-i.invariant.few, c.turned_at-count.ensures.few, c.loop-i-test.true, c.ways-ways.ensures, leaves-few c.args.touched.now.runs.now c.requires.touched.runs, c.requires.touched.few_runs, c.requires.touched.few)
+    let touched = c.requires.touched in
+    let leaves = leaves-few c.args.touched.now.runs.now touched.runs in
+    omega (arith, c.loop-i.invariant.few, c.turned_at-count.ensures.few, c.loop-i-test.true, c.ways-ways.ensures, leaves, touched.few_runs, touched.few)
 
 pub loop-i-preserved : goal.loop-i-preserved
 loop-i-preserved c = record {

@@ -8,7 +8,9 @@ use Rattle.bp_cow.proofs.touched.Touched.len_of.Goals as goal
 
 pub returns-in-Some : goal.returns-in-Some
 returns-in-Some c =
-    let is : IsLeaf c.args.self.now.runs.now c.args.self.now.runs.now (word_paths c.args.self.now) c.args.i c.in-Some.leaf.run.now c.in-Some.leaf.index = subst (λ (o : Option Leaf). IfSome o (λ leaf. IsLeaf c.args.self.now.runs.now c.args.self.now.runs.now (word_paths c.args.self.now) c.args.i leaf.run.now leaf.index)) c.in-Some.is c.requires.leaf in
+    let runs = c.args.self.now.runs.now in
+    let IsIts : Leaf → Type 0 = λ leaf. IsLeaf runs runs (word_paths c.args.self.now) c.args.i leaf.run.now leaf.index in
+    let is : IsIts c.in-Some.leaf = subst (λ (o : Option Leaf). IfSome o IsIts) c.in-Some.is c.requires.leaf in
     c.way_len.ensures ∙ ap (λ (p : List ℕ). length p) (sym is.way)
 
 pub returns-in-None : goal.returns-in-None

@@ -11,8 +11,13 @@ block_pieces-requires-clause-block c =
 pub returns-clause-live : goal.returns-clause-live
 returns-clause-live c slot small counted =
     let tree = c.args.self.now in
+    let root = length tree.root.items in
+    let path = c.args.path.now in
     let above = c.len-above.ensures.value in
-    let number : c.slots_number-block.result ≡ slots_number c.args.path.now (length tree.root.items) (c.args.depth - length tree.root.items) =
-    c.slots_number-block.ensures.number ∙ ap (λ n. slots_number c.args.path.now n (c.args.depth - n)) above in
-    let level : length tree.root.items + tree.height - c.args.depth ≡ tree.height - (c.args.depth - c.len-above.result) = omega (arith, above, c.requires.above, c.requires.below) in
-    c.block_pieces.ensures.live slot small (subst (λ n. slot < level_live tree.size (tree.height - (c.args.depth - c.len-above.result)) n) (sym number) (subst (λ l. slot < level_live tree.size l (slots_number c.args.path.now (length tree.root.items) (c.args.depth - length tree.root.items))) level counted))
+    let block : c.slots_number-block.result ≡ slots_number path root (c.args.depth - root) =
+    c.slots_number-block.ensures.number ∙ ap (λ n. slots_number path n (c.args.depth - n)) above in
+    let level = tree.height - (c.args.depth - c.len-above.result) in
+    let level_is : root + tree.height - c.args.depth ≡ level = omega (arith, above, c.requires.above, c.requires.below) in
+    let at_level : slot < level_live tree.size level (slots_number path root (c.args.depth - root)) =
+    subst (λ l. slot < level_live tree.size l (slots_number path root (c.args.depth - root))) level_is counted in
+    c.block_pieces.ensures.live slot small (subst (λ n. slot < level_live tree.size level n) (sym block) at_level)

@@ -228,9 +228,14 @@ fn take_after(file: &File, first: &Metadata) -> io::Result<()> {
     file.set_permissions(first.permissions())
 }
 
-/// Copies the bytes from `start` up to `end` from a file to the same place in another one.
-fn copy_bytes(from: &File, to: &File, start: u64, end: u64) -> io::Result<()> {
-    let mut piece = [0u8; PIECE];
+/// Copies the bytes from `start` up to `end` from a file to the same place in another one, by way of a piece of memory.
+fn copy_bytes(
+    from: &File,
+    to: &File,
+    start: u64,
+    end: u64,
+    piece: &mut [u8; PIECE],
+) -> io::Result<()> {
     let mut at = start;
     while at < end {
         let count = (end - at).min(PIECE as u64);
@@ -279,7 +284,13 @@ fn prepare(file: &File, first: &File, metadata: &Metadata) -> io::Result<()> {
     lock(file, Access::Write)?;
     take_after(file, metadata)?;
     file.set_len(metadata.len())?;
-    copy_bytes(first, file, TOLD_APART, metadata.len())
+    copy_bytes(
+        first,
+        file,
+        TOLD_APART,
+        metadata.len(),
+        &mut [0; PIECE],
+    )
 }
 
 /// The folder of a file, to be flushed.
@@ -362,9 +373,11 @@ impl SecondFile {
 
     /// Gives it all bytes of the first file that it lacks.
     pub(crate) fn complete(&self, held: &mut HeldBlocks, first: &File) -> io::Result<()> {
+        let mut piece = [0; PIECE];
         let mut at = 0;
         while let Some(run) = held.run_of(at, Held::Lacking) {
-            copy_bytes(first, &self.file, run.start, run.end.min(self.kept))?;
+            let end = run.end.min(self.kept);
+            copy_bytes(first, &self.file, run.start, end, &mut piece)?;
             held.set_same(run);
             at = run.next;
         }
@@ -408,12 +421,14 @@ impl SecondFile {
 
     /// Gives the first file the blocks that were written.
     fn copy_written(&self, held: &HeldBlocks, first: &File) -> io::Result<()> {
+        let mut piece = [0; PIECE];
         let mut at = 0;
         while let Some(run) = held.run_of(at, Held::Written) {
-            copy_bytes(&self.file, first, run.start, run.end.min(self.length))?;
+            let end = run.end.min(self.length);
+            copy_bytes(&self.file, first, run.start, end, &mut piece)?;
             at = run.next;
         }
-        copy_bytes(&self.file, first, TOLD_APART, self.length)
+        copy_bytes(&self.file, first, TOLD_APART, self.length, &mut piece)
     }
 
     /// Gives the first file zeros where this one has them by its length alone, up to a byte.

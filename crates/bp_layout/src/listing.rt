@@ -81,6 +81,7 @@ impl Listing {
     /// # Errors
     ///
     /// Where there is no memory for it. The list stays as it was.
+    #[inline]
     pub fn push(&mut self, kind: Kind, name: &[u8]) -> Result<(), AllocError>
         requires { length name.now ≤ max_name }
         ensures pushed { OnOk result (self.new ≡ self.old ++ (kind, name.now) ∷ []) }

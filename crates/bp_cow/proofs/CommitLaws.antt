@@ -1,5 +1,5 @@
 -- What a copy on write has made, told on content words: a commit.
-use Rattle.std.proofs.Common.{◌≡◌, ◌≢◌, ◌⊎◌, ℕ, zero, suc, ◌+◌, ◌*◌, ◌/◌, ◌%◌, ◌<◌, ◌≤◌, max, [], ◌∷◌, refl, sym, ◌∙◌, ap, subst, arith, inl, inr, lt_of_lt_of_le, le_trans, zero-mul}
+use Rattle.std.proofs.Common.{◌≡◌, ◌≢◌, ◌⊎◌, ℕ, zero, suc, ◌+◌, ◌*◌, ◌/◌, ◌%◌, ◌<◌, ◌≤◌, max, [], refl, sym, ◌∙◌, ap, subst, arith, inl, inr, lt_of_lt_of_le, le_trans, zero-mul}
 use Rattle.std.proofs.lemmas.Bool.{cases_eq}
 use Rattle.bp_limits.specs.Limits.{greatest_height}
 use Rattle.bp_layout.specs.Formatted.{version_of}

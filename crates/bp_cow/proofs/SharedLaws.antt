@@ -19,7 +19,7 @@ use Rattle.bp_cow.specs.Touched.{IsRun, IsTouched, job_of, path_of, run_leaves, 
 use Rattle.bp_cow.specs.Ways.{AreFresh, IsShared}
 use Rattle.bp_cow.proofs.CoverLaws.{run-slots}
 use Rattle.bp_cow.proofs.RunLaws.{length-run_path, length-run_way, slot-run_way}
-use Rattle.bp_cow.proofs.RunsLaws.{length-above, slot-above, way-behind, way-leaf, way-short, ways-by}
+use Rattle.bp_cow.proofs.RunsLaws.{length-above, slot-above, way-behind, way-leaf, ways-by}
 use Rattle.bp_cow.proofs.RunFronts.{front-digits, short-over, short-power, trail_of-append}
 
 -- ---- any ways

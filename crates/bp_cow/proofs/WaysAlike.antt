@@ -8,7 +8,7 @@ use Rattle.bp_layout.specs.WellFormed.{IsWellFormed}
 use Rattle.bp_shapes.specs.Trail.{block_on, place_on, trail_of, IsPlaced}
 use Rattle.bp_shapes.specs.Trail.IsPlaced.{at_top, in_block}
 use Rattle.bp_shapes.specs.Forest.{IsTreePointer}
-use Rattle.bp_shapes.proofs.ForestLaws.{pointers, skeleton, short}
+use Rattle.bp_shapes.proofs.ForestLaws.{skeleton}
 use Rattle.bp_shapes.proofs.ExactSets.{unheld_exact}
 use Rattle.bp_shapes.proofs.PathTrails.{front-trail_of}
 use Rattle.bp_cow.specs.declared.touched.Run.{Run}

@@ -1,8 +1,6 @@
-use Rattle.std.proofs.Common.{◌+◌, ◌*◌, ◌/◌, refl, sym, ◌∙◌, ap, arith}
+use Rattle.std.proofs.Common.{◌+◌, ◌/◌, refl, sym, ◌∙◌, ap, arith}
 use Rattle.std.specs.List.{slice_index}
-use Rattle.pm_region.specs.Memory.{current_words}
 use Rattle.pm_region.proofs.MemoryLaws.{length-current_words}
-use Rattle.bp_layout.specs.Words.{word}
 use Rattle.bp_cow.specs.Plan.{planned}
 use Rattle.bp_cow.specs.Touched.{job_of}
 use Rattle.bp_cow.proofs.AddsLaws.{makes_none, makes_one, makes_as}

@@ -1,6 +1,6 @@
 use Rattle.std.proofs.Common.{◌≡◌, ◌+◌, ◌<◌, ◌≤◌, length, ◌∙◌, sym, ap, subst, arith}
 use Rattle.bp_cow.specs.Touched.{job_of}
-use Rattle.bp_cow.specs.Job.{ways, turned_for, turned_upto}
+use Rattle.bp_cow.specs.Job.{ways, turned_upto}
 use Rattle.bp_cow.proofs.CommitEnd.{copied-some, copied-none}
 use Rattle.bp_cow.proofs.NeedLaws.{upto-next}
 use Rattle.bp_cow.proofs.RunsLaws.{leaves-few}

@@ -1,7 +1,6 @@
-use Rattle.std.proofs.Common.{◌≡◌, ℕ, ◌+◌, ◌-◌, ◌≤◌, ◌<◌, List, length, sym, ◌∙◌, ap, arith}
+use Rattle.std.proofs.Common.{◌≡◌, ℕ, ◌<◌, List, length, sym, ◌∙◌, ap, arith}
 use Rattle.std.specs.List.{slice_index}
 use Rattle.std.proofs.lemmas.Bool.{eqb-true}
-use Rattle.bp_cow.specs.Touched.{job_of}
 use Rattle.bp_cow.proofs.touched.Touched.adds_no_block.Goals as goal
 
 pub returns-then-i-end-clause-leaf : goal.returns-then-i-end-clause-leaf

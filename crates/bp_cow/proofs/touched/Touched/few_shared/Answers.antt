@@ -1,4 +1,4 @@
-use Rattle.std.proofs.Common.{◌≡◌, ℕ, List, length, ap, arith}
+use Rattle.std.proofs.Common.{ℕ, List, length, ap, arith}
 use Rattle.bp_cow.proofs.touched.Touched.few_shared.Goals as goal
 
 pub returns : goal.returns

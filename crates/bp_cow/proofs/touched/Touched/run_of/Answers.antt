@@ -1,4 +1,4 @@
-use Rattle.std.proofs.Common.{◌≡◌, ℕ, ◌+◌, ◌-◌, ◌<◌, ◌≤◌, List, length, take, ◌∙◌, ap, subst, arith}
+use Rattle.std.proofs.Common.{◌≡◌, ℕ, ◌+◌, ◌-◌, ◌<◌, List, length, take, ◌∙◌, ap, subst, arith}
 use Rattle.std.specs.List.{slice_index}
 use Rattle.bp_cow.specs.Touched.{leaves_of}
 use Rattle.bp_cow.proofs.RunsLaws.{run-most, some-runs}

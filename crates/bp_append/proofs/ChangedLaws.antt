@@ -19,51 +19,55 @@ use Rattle.bp_append.specs.Grown.{changed, epoch_of}
 stays : (image : Image) (place value : ℕ) → (get_or image place 0 == value) ≡ true → set image place value ≡ image
 stays image place value is = subst (λ v. set image place v ≡ image) (eqb-true (get_or image place 0) value is) (set-get_or image place 0)
 
+-- what holds of the others behind a link that stands already, and of that link with those behind one that does not
+by_link : (P : List (ℕ × ℕ) → Type 0) (image : Image) (link : ℕ × ℕ) (links : List (ℕ × ℕ)) →
+    ((get_or image link.0 0 == link.1) ≡ true → P (changed image links)) → P (link ∷ changed (set image link.0 link.1) links) → P (changed image (link ∷ links))
+by_link P image link links stands stored = go (get_or image link.0 0 == link.1) refl
+  where
+    go : (b : Bool) → (get_or image link.0 0 == link.1) ≡ b → P (changed image (link ∷ links))
+    go true is = rw is (stands is)
+    go false is = rw is stored
+
 -- so the others make the same image
 pub after_changed : (image : Image) (links : List (ℕ × ℕ)) → after_stores image (changed image links) ≡ after_stores image links
 after_changed image [] = refl
-after_changed image (link ∷ links) = go (get_or image link.0 0 == link.1) refl (after_changed image links) (after_changed (set image link.0 link.1) links)
-  where
-    go : (b : Bool) → (get_or image link.0 0 == link.1) ≡ b → after_stores image (changed image links) ≡ after_stores image links → after_stores (set image link.0 link.1) (changed (set image link.0 link.1) links) ≡ after_stores (set image link.0 link.1) links →
-        after_stores image (changed image (link ∷ links)) ≡ after_stores image (link ∷ links)
-    go true is without behind = rw is (without ∙ ap (λ i. after_stores i links) (sym (stays image link.0 link.1 is)))
-    go false is without behind = rw is behind
+after_changed image (link ∷ links) =
+    by_link (λ rest. after_stores image rest ≡ after_stores image (link ∷ links)) image link links
+    (λ is. after_changed image links ∙ ap (λ i. after_stores i links) (sym (stays image link.0 link.1 is))) (after_changed (set image link.0 link.1) links)
 
 -- they are some of all
-pub any_changed : (Same : Likeness) (base words : List ℕ) (image : Image) (links : List (ℕ × ℕ)) → AnyOf Same base words links → AnyOf Same base words (changed image links)
+pub any_changed : (Same : Likeness) (base words : List ℕ) (image : Image) (links : List (ℕ × ℕ)) → AnyOf Same base words links →
+    AnyOf Same base words (changed image links)
 any_changed Same base words image [] any = any
 any_changed Same base words image (link ∷ links) any =
-    go (get_or image link.0 0 == link.1) refl (any_changed Same base words image links any.0) (any_changed Same base words (set image link.0 link.1) links any.0) (any_changed Same base (set words link.0 link.1) (set image link.0 link.1) links any.1)
-  where
-    go : (b : Bool) → (get_or image link.0 0 == link.1) ≡ b → AnyOf Same base words (changed image links) → AnyOf Same base words (changed (set image link.0 link.1) links) → AnyOf Same base (set words link.0 link.1) (changed (set image link.0 link.1) links) →
-        AnyOf Same base words (changed image (link ∷ links))
-    go true is without left done = rw is without
-    go false is without left done = rw is (left, done)
+    let next = set image link.0 link.1 in
+    by_link (AnyOf Same base words) image link links (λ is. any_changed Same base words image links any.0)
+    (any_changed Same base words next links any.0, any_changed Same base (set words link.0 link.1) next links any.1)
 
 pub may_changed : (May : ℕ → ℕ → Type 0) (image : Image) (links : List (ℕ × ℕ)) → StoresMay May (links_of links) → StoresMay May (links_of (changed image links))
 may_changed May image [] may = may
-may_changed May image (link ∷ links) may = go (get_or image link.0 0 == link.1) refl (may_changed May image links may.1) (may_changed May (set image link.0 link.1) links may.1)
-  where
-    go : (b : Bool) → (get_or image link.0 0 == link.1) ≡ b → StoresMay May (links_of (changed image links)) → StoresMay May (links_of (changed (set image link.0 link.1) links)) →
-        StoresMay May (links_of (changed image (link ∷ links)))
-    go true is without behind = rw is without
-    go false is without behind = rw is (may.0, behind)
+may_changed May image (link ∷ links) may =
+    by_link (λ rest. StoresMay May (links_of rest)) image link links (λ is. may_changed May image links may.1)
+    (may.0, may_changed May (set image link.0 link.1) links may.1)
 
 pub few_changed : (image : Image) (links : List (ℕ × ℕ)) → length (changed image links) ≤ length links
 few_changed image [] = omega arith
-few_changed image (link ∷ links) = go (get_or image link.0 0 == link.1) refl (few_changed image links) (few_changed (set image link.0 link.1) links)
-  where
-    go : (b : Bool) → (get_or image link.0 0 == link.1) ≡ b → length (changed image links) ≤ length links → length (changed (set image link.0 link.1) links) ≤ length links →
-        length (changed image (link ∷ links)) ≤ length (link ∷ links)
-    go true is without behind = rw is (omega (arith, without))
-    go false is without behind = rw is (omega (arith, behind))
+few_changed image (link ∷ links) =
+    let without = few_changed image links in
+    let behind = few_changed (set image link.0 link.1) links in
+    by_link (λ rest. length rest ≤ length (link ∷ links)) image link links (λ is. omega (arith, without)) (omega (arith, behind))
 
-pub changed_append : (image : Image) (xs ys : List (ℕ × ℕ)) → changed image (xs ++ ys) ≡ changed image xs ++ changed (after_stores image xs) ys
+-- the others of links in a row, once the first ones are stored
+abbrev Splits : Image → List (ℕ × ℕ) → List (ℕ × ℕ) → Type 0
+Splits image xs ys = changed image (xs ++ ys) ≡ changed image xs ++ changed (after_stores image xs) ys
+
+pub changed_append : (image : Image) (xs ys : List (ℕ × ℕ)) → Splits image xs ys
 changed_append image [] ys = refl
-changed_append image (link ∷ links) ys = go (get_or image link.0 0 == link.1) refl (changed_append image links ys) (changed_append (set image link.0 link.1) links ys)
+changed_append image (link ∷ links) ys =
+    go (get_or image link.0 0 == link.1) refl (changed_append image links ys) (changed_append (set image link.0 link.1) links ys)
   where
-    go : (b : Bool) → (get_or image link.0 0 == link.1) ≡ b → changed image (links ++ ys) ≡ changed image links ++ changed (after_stores image links) ys →
-        changed (set image link.0 link.1) (links ++ ys) ≡ changed (set image link.0 link.1) links ++ changed (after_stores (set image link.0 link.1) links) ys → changed image ((link ∷ links) ++ ys) ≡ changed image (link ∷ links) ++ changed (after_stores (set image link.0 link.1) links) ys
+    go : (b : Bool) → (get_or image link.0 0 == link.1) ≡ b → Splits image links ys → Splits (set image link.0 link.1) links ys →
+        Splits image (link ∷ links) ys
     go true is without behind = rw is (without ∙ ap (λ i. changed image links ++ changed (after_stores i links) ys) (sym (stays image link.0 link.1 is)))
     go false is without behind = rw is (ap (λ rest. link ∷ rest) behind)
 

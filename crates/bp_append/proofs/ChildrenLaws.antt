@@ -27,24 +27,24 @@ module _ (old new : Image) (root size : ℕ) (whole : length new ≡ length old)
   keeps_pointers : KeepsPointers old new root size
   keeps_pointers = record { kept = λ d k live. keeps_words.kept d k (live_pointer_word _ _ (suc d) k live) }
 
-  pub tree_sound : IsSound old root size → IsSound new root size
+  tree_sound : IsSound old root size → IsSound new root size
   tree_sound = sound-kept old new root size keeps_pointers whole
 
-  pub tree_full : IsFull old root size → IsFull new root size
+  tree_full : IsFull old root size → IsFull new root size
   tree_full = full-kept old new root size keeps_pointers
 
-  pub tree_block : (b : ℕ) → HasBlock new root size b → HasBlock old root size b
+  tree_block : (b : ℕ) → HasBlock new root size b → HasBlock old root size b
   tree_block = has_block-kept old new root size keeps_pointers
 
-  pub tree_has : (b : ℕ) → HasBlock old root size b → HasBlock new root size b
+  tree_has : (b : ℕ) → HasBlock old root size b → HasBlock new root size b
   tree_has = has_block-stays old new root size keeps_pointers
 
-  pub tree_byte : (i : ℕ) → i < size → byte new root i ≡ byte old root i
+  tree_byte : (i : ℕ) → i < size → byte new root i ≡ byte old root i
   tree_byte i low = ap (λ w. byte_of w (i % 8)) (word_at-kept old new root size keeps_words (suc (height_of root)) (i / 8) (live_content root size (i / 8) (omega (arith, low))))
 
-pub built_kept : (old new : Image) (root size : ℕ) (bytes : ℕ → ℕ) (Member : ℕ → Type 0) (Full : Type 0) → length new ≡ length old →
+pub built_kept : (old new : Image) {root size : ℕ} {bytes : ℕ → ℕ} {Member : ℕ → Type 0} {Full : Type 0} → length new ≡ length old →
     ((b s : ℕ) → Member b → s < 512 → slot_word new b s ≡ slot_word old b s) → IsBuilt old root size bytes Member Full → IsBuilt new root size bytes Member Full
-built_kept old new root size bytes Member Full whole same built =
+built_kept old new {root} {size} {bytes} {Member} {Full} whole same built =
     let stays : (b s : ℕ) → HasBlock old root size b → s < 512 → slot_word new b s ≡ slot_word old b s = λ b s has low. same b s (built.blocks b has) low in
     record {
       sound = tree_sound old new root size whole stays built.sound;
@@ -108,10 +108,10 @@ children_as image block level size At Also bytes Member Other Full Fully less mo
 }
 
 -- the same bytes, told otherwise
-pub children_bytes : (image : Image) (block level size : ℕ) (At : ℕ → Type 0) (bytes others : ℕ → ℕ) (Member : ℕ → Type 0) (Full : Type 0) →
+pub children_bytes : {image : Image} {block level size : ℕ} {At : ℕ → Type 0} (bytes others : ℕ → ℕ) {Member : ℕ → Type 0} {Full : Type 0} →
     ((c i : ℕ) → At c → c * span level < size → i < piece size level c → bytes (c * span level + i) ≡ others (c * span level + i)) →
     Children image block level size At bytes Member Full → Children image block level size At others Member Full
-children_bytes image block level size At bytes others Member Full same children = record {
+children_bytes {image} {block} {level} {size} {At} bytes others {Member} {Full} same children = record {
   words = children.words;
   sound = children.sound;
   bytes_are = λ c i at below inside. children.bytes_are c i at below inside ∙ same c i at below inside;
@@ -122,8 +122,10 @@ children_bytes image block level size At bytes others Member Full same children 
 }
 
 -- slots of which each has its word, and whose trees have their blocks
-module _ (old new : Image) (block level size : ℕ) (At : ℕ → Type 0) (bytes : ℕ → ℕ) (Member : ℕ → Type 0) (Full : Type 0) (before : Children old block level size At bytes Member Full) (whole : length new ≡ length old)
-    (same : (x s : ℕ) → Member x → s < 512 → slot_word new x s ≡ slot_word old x s) (slots : (c : ℕ) → At c → c * span level < size → slot_word new block c ≡ slot_word old block c) where
+module _ {old : Image} (new : Image) {block level size : ℕ} {At : ℕ → Type 0} {bytes : ℕ → ℕ} {Member : ℕ → Type 0} {Full : Type 0}
+    (before : Children old block level size At bytes Member Full) (whole : length new ≡ length old)
+    (same : (x s : ℕ) → Member x → s < 512 → slot_word new x s ≡ slot_word old x s)
+    (slots : (c : ℕ) → At c → c * span level < size → slot_word new block c ≡ slot_word old block c) where
   stays : (c : ℕ) → At c → c * span level < size → (x s : ℕ) → HasBlock old (child old block level c) (piece size level c) x → s < 512 → slot_word new x s ≡ slot_word old x s
   stays c at below x s has few = same x s (before.blocks c x at below has) few
 
@@ -156,8 +158,9 @@ module _ (old new : Image) (block level size : ℕ) (At : ℕ → Type 0) (bytes
   }
 
 -- these slots and those
-module _ (image : Image) (block level size : ℕ) (At Also : ℕ → Type 0) (bytes : ℕ → ℕ) (Member More : ℕ → Type 0) (Full : Type 0) (one : Children image block level size At bytes Member Full)
-    (two : Children image block level size Also bytes More Full) (disjoint : (x : ℕ) → Member x → More x → ⊥) where
+module _ {image : Image} {block level size : ℕ} {At Also : ℕ → Type 0} {bytes : ℕ → ℕ} {Member More : ℕ → Type 0} {Full : Type 0}
+    (one : Children image block level size At bytes Member Full) (two : Children image block level size Also bytes More Full)
+    (disjoint : (x : ℕ) → Member x → More x → ⊥) where
   pub children_both : Children image block level size (λ c. At c ⊎ Also c) bytes (λ x. Member x ⊎ More x) Full
   children_both = record {
     words = λ c at below. elim at [ inl a ↦ one.words c a below | inr b ↦ two.words c b below ];
@@ -221,8 +224,9 @@ built_leaf image b size bytes Full present low some fits laid =
     }
 
 -- a node over its slots' trees
-module _ (image : Image) (b level size : ℕ) (At : ℕ → Type 0) (bytes : ℕ → ℕ) (Member : ℕ → Type 0) (Full : Type 0) (children : Children image b level size At bytes Member Full) (present : b ≢ 0) (low_block : b < block_count image)
-    (low : suc level ≤ max_height) (some : 0 < size) (fits : size ≤ span (suc level)) (own : Member b → ⊥) (all : (c : ℕ) → c * span level < size → At c) where
+module _ {image : Image} {b level size : ℕ} {At : ℕ → Type 0} {bytes : ℕ → ℕ} {Member : ℕ → Type 0} {Full : Type 0}
+    (children : Children image b level size At bytes Member Full) (present : b ≢ 0) (low_block : b < block_count image) (low : suc level ≤ max_height)
+    (some : 0 < size) (fits : size ≤ span (suc level)) (own : Member b → ⊥) (all : (c : ℕ) → c * span level < size → At c) where
   root : ℕ
   root = 4096 * b + suc level
 
@@ -268,7 +272,8 @@ module _ (image : Image) (b level size : ℕ) (At : ℕ → Type 0) (bytes : ℕ
   }
 
 -- The slots of a sound tree before one that is live, as slots of a larger tree: all that they can hold is below the size.
-module _ (image : Image) (root size level slot to : ℕ) (sound : IsSound image root size) (height : height_of root ≡ suc level) (present : block_of root ≢ 0) (last : slot * span level < size) (fits : size ≤ to) where
+module _ (image : Image) (root size level slot to : ℕ) (sound : IsSound image root size) (height : height_of root ≡ suc level)
+    (present : block_of root ≢ 0) (last : slot * span level < size) (fits : size ≤ to) where
   some : 0 < size
   some = let s : ℕ = span level in omega (arith, last)
 

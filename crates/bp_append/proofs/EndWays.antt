@@ -11,7 +11,7 @@ use Rattle.bp_layout.specs.Inode.{root_of, size_of, inode_count, RootPlace}
 use Rattle.bp_layout.specs.Inode.RootPlace.{top, inode}
 use Rattle.bp_layout.specs.Reached.{IsReached}
 use Rattle.bp_layout.specs.Reached.IsReached.{inode_file}
-use Rattle.bp_layout.specs.Thaw.{IsLoose, end_path_now, heights_now, none_kept, is_kept_at, root_path_now}
+use Rattle.bp_layout.specs.Thaw.{IsLoose, end_path_now, heights_now, is_kept_at, root_path_now}
 use Rattle.bp_layout.specs.WellFormed.{IsWellFormed}
 use Rattle.bp_layout.specs.WordPaths.{WordPath, digits, inode_path, tree_path}
 use Rattle.bp_layout.proofs.Reached.{reached-in_file}
@@ -37,7 +37,7 @@ module _ (height size : ℕ) where
   abbrev pub Through : ℕ → ℕ → Type 0
   Through d k = (slot : ℕ) × ((rest : WordPath) × (digits (suc height) (size / 8) ≡ digits d k ++ slot ∷ rest))
 
-  pub digits-through : (level d k : ℕ) → d + level ≡ height → k * span level ≤ size → size < k * span level + span level → Through d k
+  digits-through : (level d k : ℕ) → d + level ≡ height → k * span level ≤ size → size < k * span level + span level → Through d k
   digits-through zero d k at low high =
       let here : size / 8 / 512 ≡ k = omega (arith, low, high) in
       let same : height ≡ d = omega (arith, at) in
@@ -105,9 +105,10 @@ root_short h (suc i) d k =
     omega (arith, whole, root)
 
 module _ (image : Image) (wf : IsWellFormed image) where
-  module _ (kept : ℕ → Bool) (t : ℕ) (reached : IsReached image t) (loose : IsLoose image kept (length (root_path_now image t) - 1) (end_path_now image t)) where
+  module _ (kept : ℕ → Bool) (t : ℕ) (reached : IsReached image t)
+      (loose : IsLoose image kept (length (root_path_now image t) - 1) (end_path_now image t)) where
     -- a node with a byte below the size, and with the byte at the size
-    pub loose_node : (d k : ℕ) → (live : IsLivePointer (root_of image t) (size_of image t) d k) → node image (root_of image t) d k ≢ 0 → size_of image t < k * span live.level + span live.level → kept (node image (root_of image t) d k) ≡ false
+    loose_node : (d k : ℕ) → (live : IsLivePointer (root_of image t) (size_of image t) d k) → node image (root_of image t) d k ≢ 0 → size_of image t < k * span live.level + span live.level → kept (node image (root_of image t) d k) ≡ false
     loose_node d k live present high =
         let fits : size_of image t ≤ span (heights_now image t) = (wf.sound t reached).fits in
         let begins : k * span live.level < span (heights_now image t) = lt_of_lt_of_le live.live fits in
@@ -122,7 +123,7 @@ module _ (image : Image) (wf : IsWellFormed image) where
         (subst (IsLoose image kept (length (root_path_now image t) - 1)) (split_path (heights_now image 0) t (heights_now image t) (size_of image t / 8) d k through.0 through.1.0 through.1.1) way)
 
     -- the block with its inode
-    pub loose_inode : t ≢ 0 → kept (node image (root_of image 0) (heights_now image 0) ((8 * t + 1) / 512)) ≡ false
+    loose_inode : t ≢ 0 → kept (node image (root_of image 0) (heights_now image 0) ((8 * t + 1) / 512)) ≡ false
     loose_inode some = sym (kept_node image wf kept 0 (heights_now image 0) ((8 * t + 1) / 512) inode_file leaf (inode_under image wf t reached)) ∙ front t some loose
       where
         leaf : IsLivePointer (root_of image 0) (size_of image 0) (height_of (root_of image 0)) ((8 * t + 1) / 512)
@@ -149,7 +150,7 @@ module _ (image : Image) (wf : IsWellFormed image) where
         front (suc i) some is = either i (nat_lt 0 (size_of image (suc i)) && nat_lt (size_of image (suc i)) (span (heights_now image (suc i)))) is
 
     -- so that with its root word
-    pub loose_root : (place : ℕ) → t ≢ 0 → RootPlace image t place → kept (place / 512) ≡ false
+    loose_root : (place : ℕ) → t ≢ 0 → RootPlace image t place → kept (place / 512) ≡ false
     loose_root place some (top none two) = absurd (some none)
     loose_root place some (inode also stands) =
         let at : node image (root_of image 0) (heights_now image 0) ((8 * t + 1) / 512) ≡ place / 512 = omega (arith, stands.at) in
@@ -158,7 +159,3 @@ module _ (image : Image) (wf : IsWellFormed image) where
     -- so a preparation may store there
     pub loose_end : HasLooseEnd image kept t
     loose_end = record { nodes = loose_node; root = λ place at some. loose_root place some at }
-
--- where no block is kept
-pub none_loose : (image : Image) (t : ℕ) → HasLooseEnd image none_kept t
-none_loose image t = record { nodes = λ d k live present high. refl; root = λ place at some. refl }

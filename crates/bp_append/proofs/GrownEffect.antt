@@ -20,8 +20,9 @@ use Rattle.pm_region.specs.Memory.{Memory, current_words}
 use Rattle.bp_append.proofs.GrowsTree.{OnlyGrows, GrowsTree, can_resize, committed, wf_mid}
 use Rattle.bp_append.proofs.OtherTrees.{other_block_back, other_block_on}
 
-module _ (kept : ℕ → Bool) (old middle new : Memory) (free_old free_new : List ℕ) (path : WordPath) (n from to place : ℕ) (bytes : List ℕ) (grows : GrowsTree kept old middle new free_old free_new path n from to place bytes)
-    (change : Change) (only : OnlyGrows (current_words old) change (suc n) from to) where
+module _ (kept : ℕ → Bool) (old middle new : Memory) (free_old free_new : List ℕ) (path : WordPath) (n from to place : ℕ) (bytes : List ℕ)
+    (grows : GrowsTree kept old middle new free_old free_new path n from to place bytes) (change : Change)
+    (only : OnlyGrows (current_words old) change (suc n) from to) where
   abbrev image : Image
   image = current_words old
 

@@ -11,15 +11,16 @@ use Rattle.bp_append.specs.SizeStores.{GrowsFile}
 use Rattle.bp_append.proofs.GrowsTree.{OnlyGrows, GrowsTree}
 use Rattle.bp_append.proofs.GrowsTree as tree
 
-module _ (kept : ℕ → Bool) (old middle new : Memory) (free_old free_new : List ℕ) (path : WordPath) (n size place : ℕ) (grows : GrowsFile kept old middle new free_old free_new path n size place) where
-  pub only_grows : OnlyGrows (current_words old) (resizes (suc n) size) (suc n) size size
+module _ (kept : ℕ → Bool) (old middle new : Memory) (free_old free_new : List ℕ) (path : WordPath) (n size place : ℕ)
+    (grows : GrowsFile kept old middle new free_old free_new path n size place) where
+  only_grows : OnlyGrows (current_words old) (resizes (suc n) size) (suc n) size size
   only_grows = record {
     prepares = rw (lt-ltb (size_of (current_words old) (suc n)) size grows.longer) refl;
     no_inodes = refl;
     touches = refl;
   }
 
-  pub grows_tree : GrowsTree kept old middle new free_old free_new path n size size place grows.bytes
+  grows_tree : GrowsTree kept old middle new free_old free_new path n size size place grows.bytes
   grows_tree = record { can = grows.can; is_file = grows.is_file; stands = grows.stands; prepared = grows.prepared; stored = grows.stored }
 
   pub grown_size : size_of (current_words new) (suc n) ≡ size

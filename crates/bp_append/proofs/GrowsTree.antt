@@ -50,7 +50,8 @@ pub record GrowsTree (kept : ℕ → Bool) (old middle new : Memory) (free_old f
 
 -- ---- what such a change touches and needs
 
-module _ (image : Image) (change : Change) (n from to : ℕ) (wf : IsWellFormed image) (reached : IsReached image (suc n)) (only : OnlyGrows image change (suc n) from to) where
+module _ (image : Image) (change : Change) (n from to : ℕ) (wf : IsWellFormed image) (reached : IsReached image (suc n))
+    (only : OnlyGrows image change (suc n) from to) where
   no_inode_file : suc n ≢ 0
   no_inode_file = suc-ne-zero n
 
@@ -63,7 +64,7 @@ module _ (image : Image) (change : Change) (n from to : ℕ) (wf : IsWellFormed 
   all : AllThere (is_there_after image change) [] (inode_word_path image change (suc n) 2)
   all = inode_path-there image change wf low_tree (suc n) 2 reached (omega arith)
 
-  pub only_cover : cover image change ≡ inode_path (height_of (root_of image 0)) (suc n) 2
+  only_cover : cover image change ≡ inode_path (height_of (root_of image 0)) (suc n) 2
   only_cover = cover-one image change (inode_word_path image change (suc n) 2) only.touches all ∙ ap (λ h. inode_path h (suc n) 2) low_tree
 
   none_copied : length (copied image change) ≡ 0
@@ -79,8 +80,9 @@ module _ (image : Image) (change : Change) (n from to : ℕ) (wf : IsWellFormed 
 
 -- ---- a call that does just this
 
-module _ (kept : ℕ → Bool) (old middle new : Memory) (free_old free_new : List ℕ) (path : WordPath) (n from to place : ℕ) (bytes : List ℕ) (grows : GrowsTree kept old middle new free_old free_new path n from to place bytes)
-    (change : Change) (only : OnlyGrows (current_words old) change (suc n) from to) where
+module _ (kept : ℕ → Bool) (old middle new : Memory) (free_old free_new : List ℕ) (path : WordPath) (n from to place : ℕ) (bytes : List ℕ)
+    (grows : GrowsTree kept old middle new free_old free_new path n from to place bytes) (change : Change)
+    (only : OnlyGrows (current_words old) change (suc n) from to) where
   abbrev image : Image
   image = current_words old
 
@@ -102,7 +104,7 @@ module _ (kept : ℕ → Bool) (old middle new : Memory) (free_old free_new : Li
   covered : cover image change ≡ inode_path (height_of (root_of image 0)) (suc n) 2
   covered = only_cover image change n from to wf grows.can.reached only
 
-  pub grown_need : need image change ≡ need_for image (suc n) from to
+  grown_need : need image change ≡ need_for image (suc n) from to
   grown_need = only_need image change n from to wf grows.can.reached only
 
   -- ---- where the size word stands
@@ -121,7 +123,7 @@ module _ (kept : ℕ → Bool) (old middle new : Memory) (free_old free_new : Li
       go (suc d) k e live =
           ap block_of (grows.prepared.ready.others 0 d k inode_file (λ same. not_inodes (sym same)) (live_pointer_word _ _ (suc d) k live) (λ tree depth index. omega (arith, e, depth)))
 
-  pub stands_mid : ContentStandsAt mid 0 (8 * suc n + 2) place
+  stands_mid : ContentStandsAt mid 0 (8 * suc n + 2) place
   stands_mid =
       let same : node mid (root_of mid 0) (height_of (root_of mid 0)) ((8 * suc n + 2) / 512) ≡ node image (root_of image 0) (height_of (root_of image 0)) ((8 * suc n + 2) / 512) =
       ap (λ r. node mid (root_of mid 0) (height_of r) ((8 * suc n + 2) / 512)) roots ∙ leaf_same in

@@ -43,10 +43,12 @@ module _ (image : Image) (block level : ℕ) (low : level ≤ max_height) where
       ∙ sym (word_at-suc image (4096 * block + level) r (rest_of (suc r) l) ∙ rw (row, column) refl)
 
 -- a pointer that is null, a place for it, and a tree under new blocks that is zero below the size
-module _ (image : Image) (t d k place block level size : ℕ) (bytes : ℕ → ℕ) (taken : List ℕ) (Full : Type 0) (reached : IsReached image t) (low : level ≤ max_height) (height : suc d + level ≡ height_of (root_of image t))
-    (live : k * span level < size_of image t) (null : node image (root_of image t) (suc d) k ≡ 0) (stands : StandsAt image t d k place)
+module _ (image : Image) (t d k place block level size : ℕ) (bytes : ℕ → ℕ) (taken : List ℕ) (Full : Type 0) (reached : IsReached image t)
+    (low : level ≤ max_height) (height : suc d + level ≡ height_of (root_of image t)) (live : k * span level < size_of image t)
+    (null : node image (root_of image t) (suc d) k ≡ 0) (stands : StandsAt image t d k place)
     (built : IsBuilt image (4096 * block + level) size bytes (Has taken) Full) (free : Each (λ b. IsLiveBlock image b → ⊥) taken)
-    (wide : (x : ℕ) → x < span level → k * span level + x < size_of image t → x < size) (zeros : (i : ℕ) → k * span level + i < size_of image t → bytes i ≡ 0) where
+    (wide : (x : ℕ) → x < span level → k * span level + x < size_of image t → x < size)
+    (zeros : (i : ℕ) → k * span level + i < size_of image t → bytes i ≡ 0) where
   -- a number at or under the null, below the size, in the new tree
   rest_in : (r rank l : ℕ) → slot_of r l ≡ k → r + rank ≡ suc level → l * covered rank < size_of image t → (k * span level + rest_of r l * covered rank < size_of image t) × (rest_of r l * covered rank < size)
   rest_in r rank l slot e below =

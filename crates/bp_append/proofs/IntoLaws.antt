@@ -14,7 +14,7 @@ use Rattle.bp_commit.specs.Performs.{InBlock}
 use Rattle.bp_append.specs.Into.{AddsInto}
 
 -- stores of which nothing is said
-pub into_any : (May : ℕ → ℕ → Type 0) (most : ℕ) (old new : Memory) → AddsMay May 0 most old new → AddsInto [] May most old new
+into_any : (May : ℕ → ℕ → Type 0) (most : ℕ) (old new : Memory) → AddsMay May 0 most old new → AddsInto [] May most old new
 into_any May most old new part = record { part = part; stored = tt }
 
 pub into_none : (May : ℕ → ℕ → Type 0) (memory : Memory) → AddsInto [] May 0 memory memory

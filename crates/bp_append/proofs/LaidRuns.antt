@@ -52,14 +52,10 @@ pub record LaidTo (old now : Memory) (block start low high from : ℕ) (bytes : 
   pub base : length now.base ≡ length old.base
   pub room : room_in now + (index - (low - start) / 8) ≡ room_in old
 
-module _ (old middle new : Memory) (block start low high from : ℕ) (bytes : List ℕ) (index count : ℕ)
+module _ {old middle new : Memory} {block start low high from : ℕ} {bytes : List ℕ} {index count : ℕ}
     (before : LaidTo old middle block start low high from bytes index)
-    (run : LaysRun middle new (512 * block + index) (start + 8 * index) count low from bytes)
-    (order : start ≤ low) (some : 0 < count) (less : index + count ≤ 512) (fits : 8 * (index + count) < high - start + 8)
-    (inside : 512 * block + 512 ≤ length old.base) (room : 512 ≤ room_in old) where
-  abbrev here : ℕ
-  here = 512 * block + index
-
+    (run : LaysRun middle new (512 * block + index) (start + 8 * index) count low from bytes) (order : start ≤ low) (some : 0 < count)
+    (less : index + count ≤ 512) (fits : 8 * (index + count) < high - start + 8) (inside : 512 * block + 512 ≤ length old.base) (room : 512 ≤ room_in old) where
   abbrev May : ℕ → ℕ → Type 0
   May = LaysIn (current_words old) block (low - start) (high - start)
 

@@ -20,12 +20,24 @@ use Rattle.bp_append.specs.Needs.{raised_at, needs}
 use Rattle.bp_append.proofs.TallyLaws.{span-positive, met_some, tally_none, span-rising}
 use Rattle.std.proofs.Math.Nat.{lt-div-mul-add}
 use Rattle.std.proofs.lemmas.List.FromFn.{filter_of_map_range_with_len_more, length-map-range_with_len}
-use Rattle.bp_append.proofs.RiseLaws.{idles_none, idles_more}
+use Rattle.bp_append.proofs.EdgeCounts.{idles_none, idles_more}
 use Rattle.bp_append.proofs.SpineLaws.{absent, spine_idle, spine_at_idle, dead_node, null_node}
 
 module _ (image : Image) (root size from to : ℕ) (behind : size ≤ from) where
   abbrev Lacks : TreeNode → Bool
   Lacks n = not (is_present image root size n)
+
+  -- the nodes of a level that are not there, of some in a row
+  abbrev lacking : ℕ → ℕ → ℕ → List TreeNode
+  lacking level first n = filter Lacks (map (λ i. record { level = level; index = i }) (range_with_len first n))
+
+  -- how many nodes of a level stand behind the first
+  abbrev behind_count : ℕ → ℕ
+  behind_count level = (to - 1) / span level - from / span level
+
+  -- the nodes of the levels below one
+  abbrev nodes_below : ℕ → List TreeNode
+  nodes_below levels = flat_map (nodes_over from to) (range_with_len 0 levels)
 
   behind_first : (level index : ℕ) → from / span level < index → size ≤ index * span level
   behind_first level index less =
@@ -34,27 +46,28 @@ module _ (image : Image) (root size from to : ℕ) (behind : size ≤ from) wher
       let rest = lt-div-mul-add {a = from} {b = span level} (span-positive level) in
       omega (arith, up, step, rest, behind)
 
-  all_pass : (level n index : ℕ) → from / span level < index → length (filter Lacks (map (λ i. record { level = level; index = i }) (range_with_len index n))) ≡ n
+  all_pass : (level n index : ℕ) → from / span level < index → length (lacking level index n) ≡ n
   all_pass level zero index less = refl
   all_pass level (suc n) index less =
       let dead = dead_node image root size level index (behind_first level index less) in
-      ap (λ b. length (if not b then record { level = level; index = index } ∷ filter Lacks (map (λ i. record { level = level; index = i }) (range_with_len (index + 1) n)) else filter Lacks (map (λ i. record { level = level; index = i }) (range_with_len (index + 1) n)))) dead
+      let more = lacking level (index + 1) n in
+      ap (λ b. length (if not b then record { level = level; index = index } ∷ more else more)) dead
       ∙ ap suc (all_pass level n (index + 1) (omega (arith, less)))
 
   at_level : (level : ℕ) → from < to → length (filter Lacks (nodes_over from to level)) + spine_at image root size from to level ≡ met level from to
   at_level level some =
       let first : ℕ = from / span level in
       let rest : ℕ = (to - 1) / span level - from / span level in
-      let pass = all_pass level ((to - 1) / span level - from / span level) (from / span level + 1) (omega arith) in
+      let pass = all_pass level (behind_count level) (from / span level + 1) (omega arith) in
       met_is (is_present image root size (record { level = level; index = from / span level })) pass
     where
-      met_is : (b : Bool) → length (filter Lacks (map (λ i. record { level = level; index = i }) (range_with_len (from / span level + 1) ((to - 1) / span level - from / span level)))) ≡ (to - 1) / span level - from / span level →
-          length (if not b then record { level = level; index = from / span level } ∷ filter Lacks (map (λ i. record { level = level; index = i }) (range_with_len (from / span level + 1) ((to - 1) / span level - from / span level)))
-          else filter Lacks (map (λ i. record { level = level; index = i }) (range_with_len (from / span level + 1) ((to - 1) / span level - from / span level)))) + (if nat_lt from to && b then 1 else 0) ≡ met level from to
+      met_is : (b : Bool) → length (lacking level (from / span level + 1) (behind_count level)) ≡ behind_count level →
+          length (if not b then record { level = level; index = from / span level } ∷ lacking level (from / span level + 1) (behind_count level)
+          else lacking level (from / span level + 1) (behind_count level)) + (if nat_lt from to && b then 1 else 0) ≡ met level from to
       met_is true pass = rw (met_some level from to some, lt-ltb from to some) (omega (arith, pass))
       met_is false pass = rw (met_some level from to some, lt-ltb from to some) (omega (arith, pass))
 
-  at_levels : (levels : ℕ) → from < to → length (filter Lacks (flat_map (nodes_over from to) (range_with_len 0 levels))) + spine image root size from to levels ≡ tally levels from to
+  at_levels : (levels : ℕ) → from < to → length (filter Lacks (nodes_below levels)) + spine image root size from to levels ≡ tally levels from to
   at_levels zero some = refl
   at_levels (suc level) some =
       let up = at_levels level some in
@@ -63,11 +76,13 @@ module _ (image : Image) (root size from to : ℕ) (behind : size ≤ from) wher
       let split : range_with_len 0 (suc level) ≡ range_with_len 0 level ++ (0 + level) ∷ [] = ap (range_with_len 0) e ∙ range_split 0 level 1 in
       let zero_is : 0 + level ≡ level = omega arith in
       let one : flat_map (nodes_over from to) ((0 + level) ∷ []) ≡ nodes_over from to level = append-nil _ ∙ ap (nodes_over from to) zero_is in
-      let all : filter Lacks (flat_map (nodes_over from to) (range_with_len 0 (suc level))) ≡ filter Lacks (flat_map (nodes_over from to) (range_with_len 0 level)) ++ filter Lacks (nodes_over from to level) =
-      ap (λ r. filter Lacks (flat_map (nodes_over from to) r)) split ∙ ap (filter Lacks) (flat_map-append (nodes_over from to) (range_with_len 0 level) ((0 + level) ∷ []) ∙ ap (λ x. flat_map (nodes_over from to) (range_with_len 0 level) ++ x) one)
-      ∙ filter-append Lacks (flat_map (nodes_over from to) (range_with_len 0 level)) (nodes_over from to level) in
-      let lengths : length (filter Lacks (flat_map (nodes_over from to) (range_with_len 0 (suc level)))) ≡ length (filter Lacks (flat_map (nodes_over from to) (range_with_len 0 level))) + length (filter Lacks (nodes_over from to level)) =
-      ap length all ∙ length-append (filter Lacks (flat_map (nodes_over from to) (range_with_len 0 level))) (filter Lacks (nodes_over from to level)) in
+      let parts = flat_map-append (nodes_over from to) (range_with_len 0 level) ((0 + level) ∷ []) ∙ ap (λ x. nodes_below level ++ x) one in
+      let all : filter Lacks (nodes_below (suc level)) ≡ filter Lacks (nodes_below level) ++ filter Lacks (nodes_over from to level) =
+      ap (λ r. filter Lacks (flat_map (nodes_over from to) r)) split
+      ∙ ap (filter Lacks) parts
+      ∙ filter-append Lacks (nodes_below level) (nodes_over from to level) in
+      let lengths : length (filter Lacks (nodes_below (suc level))) ≡ length (filter Lacks (nodes_below level)) + length (filter Lacks (nodes_over from to level)) =
+      ap length all ∙ length-append (filter Lacks (nodes_below level)) (filter Lacks (nodes_over from to level)) in
       sums _ _ _ _ _ _ _ lengths up here
     where
       sums : (all part one spine_part spine_one tally_part met_one : ℕ) → all ≡ part + one → part + spine_part ≡ tally_part → one + spine_one ≡ met_one → all + (spine_part + spine_one) ≡ tally_part + met_one
@@ -84,7 +99,7 @@ module _ (image : Image) (root size from to : ℕ) (behind : size ≤ from) wher
   raised_sum zero = 0
   raised_sum (suc level) = raised_sum level + raised_at root size from to level
 
-  pub needs_are : (levels : ℕ) → needs image root size from to levels + spine image root size from to levels ≡ tally levels from to + raised_sum levels
+  needs_are : (levels : ℕ) → needs image root size from to levels + spine image root size from to levels ≡ tally levels from to + raised_sum levels
   needs_are zero = refl
   needs_are (suc level) = sums _ _ _ _ _ _ _ (needs_are level) (spine_less level)
     where
@@ -168,7 +183,7 @@ module _ (image : Image) (root size from to : ℕ) (behind : size ≤ from) wher
   up_to : height_of root ≤ height_with root size to → height_of root + (height_with root size to - height_of root) ≡ height_with root size to
   up_to order = omega (arith, order)
 
-  pub law_present : 0 < size → block_of root ≢ 0 → height_of root ≤ height_with root size to → length (nodes_for image root size from to) ≡ needs image root size from to (suc (height_with root size to))
+  law_present : 0 < size → block_of root ≢ 0 → height_of root ≤ height_with root size to → length (nodes_for image root size from to) ≡ needs image root size from to (suc (height_with root size to))
   law_present some present order = go (cases_lt from to)
     where
       raised_is : raised_sum (suc (height_with root size to)) ≡ idles from to (height_of root) (height_with root size to)
@@ -189,7 +204,7 @@ module _ (image : Image) (root size from to : ℕ) (behind : size ≤ from) wher
           idle_sums : (nodes raised need tally_part spine_part : ℕ) → nodes ≡ raised → need + spine_part ≡ tally_part + raised → spine_part ≡ 0 → tally_part ≡ 0 → nodes ≡ need
           idle_sums nodes raised need tally_part spine_part a b c d = omega (arith, a, b, c, d)
 
-  pub law_null : (size ≡ 0) ⊎ (block_of root ≡ 0) → length (nodes_for image root size from to) ≡ needs image root size from to (suc (height_with root size to))
+  law_null : (size ≡ 0) ⊎ (block_of root ≡ 0) → length (nodes_for image root size from to) ≡ needs image root size from to (suc (height_with root size to))
   law_null null = go (cases_lt from to)
     where
       raised_is : raised_sum (suc (height_with root size to)) ≡ 0
@@ -210,7 +225,7 @@ module _ (image : Image) (root size from to : ℕ) (behind : size ≤ from) wher
   -- ---- what is taken
 
   -- the levels above the root have no node yet
-  pub spine_above : (more : ℕ) → spine image root size from to (suc (height_of root) + more) ≡ spine image root size from to (suc (height_of root))
+  spine_above : (more : ℕ) → spine image root size from to (suc (height_of root) + more) ≡ spine image root size from to (suc (height_of root))
   spine_above zero = let e : suc (height_of root) + 0 ≡ suc (height_of root) = omega arith in ap (spine image root size from to) e
   spine_above (suc more) =
       let e : suc (height_of root) + suc more ≡ suc (suc (height_of root) + more) = omega arith in
@@ -257,13 +272,13 @@ module _ (image : Image) (root size from to : ℕ) (behind : size ≤ from) wher
 
 -- ---- heights
 
-pub height_for_low : (bytes : ℕ) → height_for bytes ≤ max_height
+height_for_low : (bytes : ℕ) → height_for bytes ≤ max_height
 height_for_low bytes = search (rules)
 
-pub height_for_fits : (bytes : ℕ) → bytes ≤ max_size → bytes ≤ span (height_for bytes)
+height_for_fits : (bytes : ℕ) → bytes ≤ max_size → bytes ≤ span (height_for bytes)
 height_for_fits bytes fits = search (rules)
 
-pub height_for_most : (version : Version) (bytes : ℕ) → bytes ≤ greatest_size version → height_for bytes ≤ greatest_height version
+height_for_most : (version : Version) (bytes : ℕ) → bytes ≤ greatest_size version → height_for bytes ≤ greatest_height version
 height_for_most One bytes fits = search (rules)
 height_for_most Two bytes fits = height_for_low bytes
 

@@ -44,7 +44,8 @@ given_before from raw o low = search (rules, low)
 
 -- ---- a tree that had no blocks
 
-module _ (kept : ℕ → Bool) (first new : Memory) (free_old free_new : List ℕ) (t place from to : ℕ) (path raw : List ℕ) (can : CanPrepare kept first free_old t path from to) (at : RootPlace (current_words first) t place)
+module _ (kept : ℕ → Bool) (first new : Memory) (free_old free_new : List ℕ) (t place from to : ℕ) (path raw : List ℕ)
+    (can : CanPrepare kept first free_old t path from to) (at : RootPlace (current_words first) t place)
     (makes : Makes first new free_old free_new place (root_of (current_words first) t) (size_of (current_words first) t) from to raw)
     (null : (size_of (current_words first) t ≡ 0) ⊎ (block_of (root_of (current_words first) t) ≡ 0)) where
   abbrev old : Image
@@ -116,7 +117,7 @@ module _ (kept : ℕ → Bool) (first new : Memory) (free_old free_new : List �
   meaning : SameMeaning old middle
   meaning = meaning_middle old middle can.well agrees t place can.reached at
 
-  pub null_ready : HasRootReady old middle t place makes.top
+  null_ready : HasRootReady old middle t place makes.top
   null_ready = record {
     meaning = meaning;
     well = wf_middle old middle can.well agrees t place can.reached at;

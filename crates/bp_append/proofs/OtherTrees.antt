@@ -7,7 +7,8 @@ use Rattle.bp_layout.specs.Reached.{IsReached}
 use Rattle.bp_layout.proofs.TreeLaws.{word_at-zero, live_pointer_word}
 use Rattle.bp_append.specs.Prepared.{Prepares}
 
-module _ (old new : Image) (t from to : ℕ) (bytes taken : List ℕ) (ready : Prepares old new t from to bytes taken) (u : ℕ) (reached : IsReached old u) (away : u ≢ t) where
+module _ (old new : Image) (t from to : ℕ) (bytes taken : List ℕ) (ready : Prepares old new t from to bytes taken) (u : ℕ) (reached : IsReached old u)
+    (away : u ≢ t) where
   -- no pointer of it changes
   pub node_stays : (d k : ℕ) → IsLivePointer (root_of old u) (size_of old u) d k → node new (root_of new u) d k ≡ node old (root_of old u) d k
   node_stays zero k live = ap block_of (word_at-zero new (root_of new u) k ∙ ready.roots u reached away ∙ sym (word_at-zero old (root_of old u) k))

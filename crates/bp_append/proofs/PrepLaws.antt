@@ -87,7 +87,8 @@ words_new between new links ends =
     ∙ after_changed (current_words between) links
 
 -- Two epochs: stores that nobody sees, into each of the blocks that are taken, and links of which any may be done.
-module _ (kept : ℕ → Bool) (old between new : Memory) (taken : List ℕ) (May : ℕ → ℕ → Type 0) (most : ℕ) (links : List (ℕ × ℕ)) (well : IsWellFormed (current_words old)) (stores : AddsInto taken May most old between)
+module _ (kept : ℕ → Bool) (old between new : Memory) (taken : List ℕ) (May : ℕ → ℕ → Type 0) (most : ℕ) (links : List (ℕ × ℕ))
+    (well : IsWellFormed (current_words old)) (stores : AddsInto taken May most old between)
     (harmless : (w v : ℕ) → May w v → IsHarmless (current_words old) w v) (ends : Links between new links) where
   abbrev events : List Event
   events = stores.part.added

@@ -87,7 +87,8 @@ pub record HasRootReady (old image : Image) (t place root : ℕ) : Type 0 where
   pub sizes : (u : ℕ) → IsReached old u → size_of image u ≡ size_of old u
   pub roots : (u : ℕ) → IsReached old u → u ≢ t → root_of image u ≡ root_of old u
 
-module _ (old image : Image) (wf : IsWellFormed old) (t place other from to : ℕ) (raw taken : List ℕ) (reached : IsReached old t) (at : RootPlace old t place) (ready : HasRootReady old image t place other) (free : Each (λ b. IsLiveBlock old b → ⊥) taken) where
+module _ (old image : Image) (wf : IsWellFormed old) (t place other from to : ℕ) (raw taken : List ℕ) (reached : IsReached old t)
+    (at : RootPlace old t place) (ready : HasRootReady old image t place other) (free : Each (λ b. IsLiveBlock old b → ⊥) taken) where
   abbrev last : Image
   last = set image place other
 
@@ -95,21 +96,24 @@ module _ (old image : Image) (wf : IsWellFormed old) (t place other from to : �
   shape = root_reshapes image ready.well t place other ready.reached ready.at ready.reads
 
   -- the root word stands in none of the blocks
-  pub place_beside : (b s : ℕ) → b ≢ 0 → s < 512 → HasBlock old (root_of old t) (size_of old t) b ⊎ (IsLiveBlock old b → ⊥) → 512 * b + s ≢ place
+  place_beside : (b s : ℕ) → b ≢ 0 → s < 512 → HasBlock old (root_of old t) (size_of old t) b ⊎ (IsLiveBlock old b → ⊥) → 512 * b + s ≢ place
   place_beside = beside old wf t place (root_of old t) reached at (reads_self (IsReadByWords old t) old (size_of old t) (root_of old t) (wf.sound t reached) (wf.low t reached))
 
   whole : length last ≡ length image
   whole = length-set image place other
 
-  module _ (bytes : ℕ → ℕ) (Full : Type 0) (built : IsBuilt image other to bytes (λ b. HasBlock old (root_of old t) (size_of old t) b ⊎ Has taken b) Full) (kept : (o : ℕ) → o < size_of old t → bytes o ≡ byte old (root_of old t) o)
-      (behind : (o : ℕ) → size_of old t ≤ o → o < to → bytes o ≡ given from raw o) (full : IsReadByWords old t → Full) (height : height_of other ≡ height_with (root_of old t) (size_of old t) to) (fits : to ≤ greatest_size (version_of old)) (order : size_of old t ≤ to)
+  module _ (bytes : ℕ → ℕ) (Full : Type 0) (built : IsBuilt image other to bytes (λ b. HasBlock old (root_of old t) (size_of old t) b ⊎ Has taken b) Full)
+      (kept : (o : ℕ) → o < size_of old t → bytes o ≡ byte old (root_of old t) o)
+      (behind : (o : ℕ) → size_of old t ≤ o → o < to → bytes o ≡ given from raw o) (full : IsReadByWords old t → Full)
+      (height : height_of other ≡ height_with (root_of old t) (size_of old t) to) (fits : to ≤ greatest_size (version_of old))
+      (order : size_of old t ≤ to)
       (frame : (u b k : ℕ) → IsReached old u → u ≢ t → HasBlock old (root_of old u) (size_of old u) b → k < 512 → 512 * b + k ≢ place → get_or last (512 * b + k) 0 ≡ get_or old (512 * b + k) 0)
       (nodes : (d k : ℕ) → IsLivePointer (root_of old t) (size_of old t) d k → node old (root_of old t) d k ≢ 0 → node last other (height_of other - height_of (root_of old t) + d) k ≡ node old (root_of old t) d k) where
     member_free : (b : ℕ) → HasBlock old (root_of old t) (size_of old t) b ⊎ Has taken b → HasBlock old (root_of old t) (size_of old t) b ⊎ (IsLiveBlock old b → ⊥)
     member_free b m = elim m [ inl has ↦ inl has | inr t ↦ inr (each-has (λ c. IsLiveBlock old c → ⊥) taken b free t) ]
 
     tree_last : IsBuilt last other to bytes (λ b. HasBlock old (root_of old t) (size_of old t) b ⊎ Has taken b) Full
-    tree_last = built_kept image last other to bytes (λ b. HasBlock old (root_of old t) (size_of old t) b ⊎ Has taken b) Full whole
+    tree_last = built_kept image last whole
         (λ b s m few. slot_word-same image last b s (λ present. get_or-set_other image place (512 * b + s) other 0 (place_beside b s present few (member_free b m)))) built
 
     meaning_last : SameMeaning old last

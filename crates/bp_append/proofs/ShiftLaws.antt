@@ -26,7 +26,7 @@ lowest w bits = ap (λ n. n % 2 ^ 8) (mod-pow-add w bits 8) ∙ mod_low (w / 2 ^
 cut : (w high low : ℕ) → w % 2 ^ (high + low) / 2 ^ low ≡ w / 2 ^ low % 2 ^ high
 cut w high low = ap (λ n. n / 2 ^ low) (mod-pow-add w high low) ∙ shr_high (w / 2 ^ low % 2 ^ high) low (w % 2 ^ low) (mod-lt w (pow_pos low))
 
-pub low-byte : (w count c : ℕ) → c < count → byte_of (w % 256 ^ count) c ≡ byte_of w c
+low-byte : (w count c : ℕ) → c < count → byte_of (w % 256 ^ count) c ≡ byte_of w c
 low-byte w count c low =
     let split : 8 * count ≡ 8 * (count - c - 1) + 8 + 8 * c = omega (arith, low) in
     shifted (w % 256 ^ count) c

@@ -31,8 +31,8 @@ pub any_root_link : (image : Image) → IsWellFormed image → (t place other : 
 any_root_link image wf t place other reached at reads = (same_self image wf, root_link_same image wf t place other reached at reads)
 
 -- both
-module _ (old : Image) (wf : IsWellFormed old) (t d k place block : ℕ) (hang : CanHang old t d k place block) (blocks : List ℕ) (chain : IsChain old (root_of old t) blocks)
-    (beside : (b : ℕ) → null_link.InSubtree old wf t d k place block hang b → Each (λ c. c ≢ b) blocks) where
+module _ (old : Image) (wf : IsWellFormed old) (t d k place block : ℕ) (hang : CanHang old t d k place block) (blocks : List ℕ)
+    (chain : IsChain old (root_of old t) blocks) (beside : (b : ℕ) → null_link.InSubtree old wf t d k place block hang b → Each (λ c. c ≢ b) blocks) where
   abbrev middle : Image
   middle = set old place (4096 * block)
 
@@ -56,10 +56,10 @@ module _ (old : Image) (wf : IsWellFormed old) (t d k place block : ℕ) (hang :
     | inr new ↦ beside b new
   ]
 
-  pub size_middle : size_of middle t ≡ size_of old t
+  size_middle : size_of middle t ≡ size_of old t
   size_middle = size-same old middle wf t (root_of old t) reshapes t hang.reached
 
-  pub root_middle : root_of middle t ≡ root_of old t
+  root_middle : root_of middle t ≡ root_of old t
   root_middle = null_link.same_root old wf t d k place block hang
 
   still_free : (b : ℕ) → (IsLiveBlock old b → ⊥) → (HasBlock middle (root_of old t) (size_of old t) b → ⊥) → IsLiveBlock middle b → ⊥
@@ -100,7 +100,7 @@ module _ (old : Image) (wf : IsWellFormed old) (t d k place block : ℕ) (hang :
   pub reads_middle : ReadsAs (IsReadByWords middle t) middle (size_of middle t) (root_of middle t) (raised_by (root_of old t) blocks)
   reads_middle = rw (root_middle, size_middle) (chain_reads (IsReadByWords middle t) middle (size_of old t) (root_of old t) blocks reshapes.sound chain_middle fresh_middle)
 
-  pub reads_old : ReadsAs (IsReadByWords old t) old (size_of old t) (root_of old t) (raised_by (root_of old t) blocks)
+  reads_old : ReadsAs (IsReadByWords old t) old (size_of old t) (root_of old t) (raised_by (root_of old t) blocks)
   reads_old = chain_reads (IsReadByWords old t) old (size_of old t) (root_of old t) blocks (wf.sound t hang.reached) chain
       (λ b has. not_live blocks chain.free b (record { tree = t; reached = hang.reached; has = has }))
 

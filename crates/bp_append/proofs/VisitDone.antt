@@ -33,10 +33,12 @@ pub extended_new : (image : Image) (root size from : ℕ) (raw : List ℕ) (star
 extended_new image root size from raw start i over = rw (le-ltb (start + i) size over) refl
 
 -- trees for their places stay where the blocks taken for them do
-pub hung_kept : (old middle new : Image) (root size from to : ℕ) (raw taken more : List ℕ) (InPart Part : ℕ → Type 0) (links : List (ℕ × ℕ)) → length new ≡ length middle → ((b s : ℕ) → Has taken b → s < 512 → slot_word new b s ≡ slot_word middle b s) →
-    ((b : ℕ) → Has taken b → Has more b) → ((place : ℕ) → InPart place → Part place) → AreHung old middle root size from to raw taken InPart links → AreHung old new root size from to raw more Part links
-hung_kept old middle new root size from to raw taken more InPart Part links whole same wider part (no_link e) = no_link e
-hung_kept old middle new root size from to raw taken more InPart Part links whole same wider part (one_link place pointer e hangs inside) = one_link place pointer e (record {
+pub hung_kept : {old : Image} (middle new : Image) {root size from to : ℕ} {raw : List ℕ} (taken more : List ℕ) (InPart Part : ℕ → Type 0)
+    {links : List (ℕ × ℕ)} → length new ≡ length middle → ((b s : ℕ) → Has taken b → s < 512 → slot_word new b s ≡ slot_word middle b s) →
+    ((b : ℕ) → Has taken b → Has more b) → ((place : ℕ) → InPart place → Part place) → AreHung old middle root size from to raw taken InPart links →
+    AreHung old new root size from to raw more Part links
+hung_kept {old} middle new {root} {size} {from} {to} {raw} taken more InPart Part {links} whole same wider part (no_link e) = no_link e
+hung_kept {old} middle new {root} {size} {from} {to} {raw} taken more InPart Part {links} whole same wider part (one_link place pointer e hangs inside) = one_link place pointer e (record {
   depth = hangs.depth;
   index = hangs.index;
   live = hangs.live;
@@ -47,10 +49,11 @@ hung_kept old middle new root size from to raw taken more InPart Part links whol
   below = hangs.below;
   inside = λ b m. wider b (hangs.inside b m);
   wanted = hangs.wanted;
-  built = built_kept middle new (pointer + hangs.live.level) _ _ (Has hangs.below) _ whole (λ b s m few. same b s (hangs.inside b m) few) hangs.built;
+  built = built_kept middle new whole (λ b s m few. same b s (hangs.inside b m) few) hangs.built;
 }) (part place inside)
 
-module _ (old : Memory) (free_old : List ℕ) (root size below start block slot from to : ℕ) (can : CanVisit old free_old root size (suc below) start block from to) (last : IsLast size below start slot) (raw : List ℕ) where
+module _ {old : Memory} {free_old : List ℕ} {root size below start block slot from to : ℕ}
+    (can : CanVisit old free_old root size (suc below) start block from to) (last : IsLast size below start slot) (raw : List ℕ) where
   abbrev begin : ℕ
   begin = start + slot * span below
 
@@ -69,8 +72,8 @@ module _ (old : Memory) (free_old : List ℕ) (root size below start block slot 
     takes = visits.takes;
     counted = visits.counted;
     stores = into_more visits.taken visits.taken _ _ _ _ old new (λ b m. m) (λ w v m. elim m [ inl e ↦ inl e | inr part ↦ inr (record { behind = part.behind; has = in_kid (w / 512) part.has }) ]) (omega arith) visits.stores;
-    hung = hung_kept (current_words old) (current_words new) (current_words new) root size from to raw visits.taken visits.taken _ _ links refl (λ b s m few. refl) (λ b m. m) (λ place has. inl (in_kid (place / 512) has)) visits.hung;
-    word = rw same_word (word_bits old free_old root size below start block slot from to can last);
+    hung = hung_kept (current_words new) (current_words new) visits.taken visits.taken _ _ refl (λ b s m few. refl) (λ b m. m) (λ place has. inl (in_kid (place / 512) has)) visits.hung;
+    word = rw same_word (word_bits can last);
     tree = subst (λ r. IsBuilt (after_stores (current_words new) links) r (min (to - begin) (span below)) (extended (current_words old) kid size from raw begin)
         (λ b. HasBlock (current_words old) kid (size - begin) b ⊎ Has visits.taken b) (IsFull (current_words old) kid (size - begin) × (from ≡ size)))
         (e ∙ sym (ap (λ w. w + below) same_word))
@@ -79,23 +82,23 @@ module _ (old : Memory) (free_old : List ℕ) (root size below start block slot 
   }
     where
       e : 4096 * number + below ≡ kid
-      e = kid_is old free_old root size below start block slot from to can last
+      e = kid_is can last
 
       in_kid : (b : ℕ) → HasBlock (current_words old) (4096 * number + below) (size - begin) b → HasBlock (current_words old) kid (size - begin) b
       in_kid b has = subst (λ r. HasBlock (current_words old) r (size - begin) b) e has
 
       block_free : Has free_old block → ⊥
-      block_free = block_taken old free_old root size below start block slot from to can last
+      block_free = block_taken can last
 
       place_block : (512 * block + slot) / 512 ≡ block
       place_block = block_row block slot last.few
 
       not_part : HasBlock (current_words old) (4096 * number + below) (size - begin) ((512 * block + slot) / 512) → ⊥
-      not_part has = kid_own old free_old root size below start block slot from to can last (in_kid block (subst (HasBlock (current_words old) (4096 * number + below) (size - begin)) place_block has))
+      not_part has = kid_own can last (in_kid block (subst (HasBlock (current_words old) (4096 * number + below) (size - begin)) place_block has))
 
       same_word : slot_word (after_stores (current_words new) links) block slot ≡ slot_word (current_words old) block slot
       same_word = slot_framed (current_words old) (after_stores (current_words new) links) block slot
-          (beside links (current_words old) (current_words new) root size from to raw visits.taken _ visits.hung (current_words new) (512 * block + slot) not_part
+          (beside visits.hung (current_words new) (512 * block + slot) not_part
           ∙ may_frame _ 0 _ old new visits.stores.part (512 * block + slot)
           (λ v m. elim m [ inl t ↦ block_free (subst (λ f. Has f block) (sym visits.takes) (has-front visits.taken free_new block (subst (Has visits.taken) place_block t))) | inr part ↦ not_part part.has ]))
 
@@ -108,7 +111,7 @@ module _ (old : Memory) (free_old : List ℕ) (root size below start block slot 
   slot_of_make new free_new pointer links null built which = record {
     taken = built.taken;
     takes = built.takes;
-    counted = sums _ _ _ built.counted (null_spine old free_old root size below start block slot from to can last null);
+    counted = sums _ _ _ built.counted (null_spine can last null);
     stores = into_more built.taken built.taken _ _ _ _ old new (λ b m. m) (λ w v m. inl m) (more _ _ _ built.counted) built.stores;
     hung = hung which;
     word = rw here built.bits;
@@ -117,7 +120,7 @@ module _ (old : Memory) (free_old : List ℕ) (root size below start block slot 
         (built_as (after_stores (current_words new) links) (pointer + below) (min (to - begin) (span below)) (given_at from raw begin) (extended (current_words old) kid size from raw begin) (Has built.taken)
         (λ b. HasBlock (current_words old) kid (size - begin) b ⊎ Has built.taken b) (from ≤ begin) (IsFull (current_words old) kid (size - begin) × (from ≡ size))
         (λ i low. sym (same_byte i (cases_lt (begin + i) size))) (λ b m. inr m) (λ b m. elim m [ inl has ↦ absurd (no_block b has) | inr t ↦ t ]) (λ full. absurd (not_full full.0))
-        (built_kept (current_words new) (after_stores (current_words new) links) (pointer + below) (min (to - begin) (span below)) (given_at from raw begin) (Has built.taken) (from ≤ begin) (whole_links links (current_words new))
+        (built_kept (current_words new) (after_stores (current_words new) links) (whole_links links (current_words new))
         (λ b s m few. slot_framed (current_words new) (after_stores (current_words new) links) b s (other which (512 * b + s) (λ e. not_block b m (omega (arith, e, few, last.few))))) built.tree));
   }
     where
@@ -128,10 +131,10 @@ module _ (old : Memory) (free_old : List ℕ) (root size below start block slot 
       more a b own e = omega (arith, e)
 
       not_block : (b : ℕ) → Has built.taken b → b ≢ block
-      not_block b m e = block_taken old free_old root size below start block slot from to can last (subst (λ f. Has f block) (sym built.takes) (has-front built.taken free_new block (subst (Has built.taken) e m)))
+      not_block b m e = block_taken can last (subst (λ f. Has f block) (sym built.takes) (has-front built.taken free_new block (subst (Has built.taken) e m)))
 
       word_null : slot_word (current_words old) block slot ≡ 0
-      word_null = let bits = word_bits old free_old root size below start block slot from to can last in omega (arith, bits, null)
+      word_null = let bits = word_bits can last in omega (arith, bits, null)
 
       place_block : (512 * block + slot) / 512 ≡ block
       place_block = block_row block slot last.few
@@ -177,12 +180,12 @@ module _ (old : Memory) (free_old : List ℕ) (root size below start block slot 
       hangs wanted =
           let row : (can.index * 512 + slot) / 512 ≡ can.index = omega (arith, last.few) in
           let column : (can.index * 512 + slot) % 512 ≡ slot = omega (arith, last.few) in
-          let aligned = kid_aligned old free_old root size below start block slot from to can last in
+          let aligned = kid_aligned can last in
           record {
             depth = can.depth;
             index = can.index * 512 + slot;
             live = record { level = below; height = omega (arith, can.height); live = omega (arith, aligned, last.begun) };
-            null = kid_named old free_old root size below start block slot from to can last ∙ null;
+            null = kid_named can last ∙ null;
             present = λ e. omega (arith, sym (rw row at e) ∙ can.named, can.some_block);
             at = rw (row, column, can.named) refl;
             bits = built.bits;

@@ -8,11 +8,11 @@ use Rattle.bp_append.proofs.laying.lay.Goals as goal
 pub loop-index-init : goal.loop-index-init
 loop-index-init g c =
     let old = g.R.Region.memory c.args.region.now in
+    let lays = LaysIn (current_words old) c.args.block (c.args.low - c.args.start) (c.args.high - c.args.start) in
     record {
       most = omega (arith, c.requires.in_leaf, c.requires.order, c.requires.some);
       laid = record {
-        stores = into_more [] [] (LaysIn (current_words old) c.args.block (c.args.low - c.args.start) (c.args.high - c.args.start)) (LaysIn (current_words old) c.args.block (c.args.low - c.args.start) (c.args.high - c.args.start)) 0 _ old old
-            (λ b m. m) (λ w v m. m) (omega arith) (into_none (LaysIn (current_words old) c.args.block (c.args.low - c.args.start) (c.args.high - c.args.start)) old);
+        stores = into_more [] [] lays lays 0 _ old old (λ b m. m) (λ w v m. m) (omega arith) (into_none lays old);
         into = λ less. absurd (omega (arith, less));
         begun = omega arith;
         bytes_are = λ i low high done. absurd (omega (arith, low, done));
@@ -28,7 +28,7 @@ loop-index-preserved g c =
     let most : c.loop-index.index + c.lay_some-index.result ≤ (c.args.high - c.args.start + 7) / 8 = omega (arith, c.lay_some-index.ensures.most, c.loop-index-test.true) in
     record {
       most = omega (arith, most, c.requires.in_leaf);
-      laid = next_laid (g.R.Region.memory c.args.region.now) (g.R.Region.memory c.loop-index.region) (g.R.Region.memory c.lay_some-index.new.region) c.args.block c.args.start c.args.low c.args.high c.args.from c.bytes_before-given.result.now c.loop-index.index c.lay_some-index.result
+      laid = next_laid
           c.loop-index.invariant.laid (rw place at c.lay_some-index.ensures.lays) c.requires.order c.lay_some-index.ensures.any (omega (arith, most, c.requires.in_leaf)) (omega (arith, most))
           (omega (arith, c.requires.in_range)) c.requires.room;
     }

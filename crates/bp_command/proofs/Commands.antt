@@ -18,14 +18,20 @@ add_command a b old sub new p q s = record {
 simple : is_simple_and_free bpfs_app ≡ true
 simple = refl
 
-fails : (c : Command) (words : List Text) (r : Result ArgMatches Error) → IsCommand bpfs_app c → (is_simple_and_free (app_of c) ≡ true → FailsBy (fault_of (app_of c) words) r) → FailsBy (fault_of bpfs_app words) r
+-- what a simple command gives fails by what is wrong with the words
+abbrev FailsWhereSimple : Command → List Text → Result ArgMatches Error → Type 0
+FailsWhereSimple c words r = is_simple_and_free (app_of c) ≡ true → FailsBy (fault_of (app_of c) words) r
+
+fails : (c : Command) (words : List Text) (r : Result ArgMatches Error) → IsCommand bpfs_app c → FailsWhereSimple c words r →
+    FailsBy (fault_of bpfs_app words) r
 fails c words r is by = subst (λ (a : App). FailsBy (fault_of a words) r) is.app (by (ap is_simple_and_free is.app ∙ simple))
 
-pub taken_words : (c : Command) (words : List Text) (m : ArgMatches) → IsCommand bpfs_app c → (is_simple_and_free (app_of c) ≡ true → FailsBy (fault_of (app_of c) words) (Ok m)) → IsTaken words
+pub taken_words : (c : Command) (words : List Text) (m : ArgMatches) → IsCommand bpfs_app c → FailsWhereSimple c words (Ok m) → IsTaken words
 unfolding IsTaken
 taken_words c words m is by = fails c words (Ok m) is by
 
-pub refused_words : (c : Command) (words : List Text) (e : Error) → IsCommand bpfs_app c → (is_simple_and_free (app_of c) ≡ true → FailsBy {T = ArgMatches} (fault_of (app_of c) words) (Err e)) → (kind_of e ≡ kind.OutOfMemory → ⊥) → IsRight words (Usage e)
+pub refused_words : (c : Command) (words : List Text) (e : Error) → IsCommand bpfs_app c → FailsWhereSimple c words (Err e) →
+    (kind_of e ≡ kind.OutOfMemory → ⊥) → IsRight words (Usage e)
 unfolding IsTaken IsRefusedBy
 refused_words c words e is by other =
     let among : IsAmong (kind_of e) (fault_of bpfs_app words) = elim (fails c words (Err e) is by) [

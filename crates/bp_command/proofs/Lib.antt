@@ -5,6 +5,13 @@ pub mod Numbers
 pub mod Walking
 pub mod PlayWords
 pub mod FormatWords
+pub mod PlainDigits
 pub mod Plain
+pub mod PlainOnly
+pub mod Chains
+pub mod RowsThere
+pub mod Fitting
+pub mod Checked
+pub mod NoHelp
 pub mod Taken
 pub mod Once

@@ -19,20 +19,21 @@ module _ (E : Type 0) (G : List ℕ → Result ℕ E → Type 0) (only : (u : Li
   in_range least most t passes = accepts-Accepts false (vp.Unsigned least most) t passes
 
   -- a text that is in range reads as its number
-  reads : (least most : ℕ) (t : Text) (r : Option ℕ) → ReadsOne G t r → accepts false (vp.Unsigned least most) t ≡ true → r ≡ Some (digits_value 10 (without_leading_plus t))
+  reads : (least most : ℕ) (t : Text) (r : Option ℕ) → ReadsOne G t r → accepts false (vp.Unsigned least most) t ≡ true →
+      r ≡ Some (digits_value 10 (without_leading_plus t))
   reads least most t (Some v) read passes = ap Some (only t (Ok v) read).1
   reads least most t None read passes =
       let range : IsUnsignedIn least most t = in_range least most t passes in
       absurd (only t (Err read.0) read.1 (range.0, range.1))
 
   -- a number that is in range is read
-  pub reads_number : (option : Text) (least most : ℕ) (f : Found) (r : Option ℕ) → ((t : List ℕ) → one_text f option ≡ Some t → ReadsOne G t r) → (number : HasNumber option least most (rows_of f)) →
-      r ≡ Some (digits_value 10 (without_leading_plus number.digits))
+  pub reads_number : (option : Text) (least most : ℕ) (f : Found) (r : Option ℕ) → ((t : List ℕ) → one_text f option ≡ Some t → ReadsOne G t r) →
+      (number : HasNumber option least most (rows_of f)) → r ≡ Some (digits_value 10 (without_leading_plus number.digits))
   reads_number option least most f r value number = reads least most number.digits r (value number.digits (sym (one_given option f) ∙ number.given)) number.passes
 
   -- and the values give it
-  pub gives_number : (option : Text) (least most : ℕ) (f : Found) (r : Option ℕ) (n : ℕ) → ((t : List ℕ) → one_text f option ≡ Some t → ReadsOne G t r) → r ≡ Some n → HasNumber option least most (rows_of f) →
-      GivesNumber option least most (rows_of f) n
+  pub gives_number : (option : Text) (least most : ℕ) (f : Found) (r : Option ℕ) (n : ℕ) → ((t : List ℕ) → one_text f option ≡ Some t → ReadsOne G t r) →
+      r ≡ Some n → HasNumber option least most (rows_of f) → GivesNumber option least most (rows_of f) n
   gives_number option least most f r n value is number =
       let range : IsUnsignedIn least most number.digits = in_range least most number.digits number.passes in
       let same : n ≡ digits_value 10 (without_leading_plus number.digits) = same_number _ _ (sym is ∙ reads_number option least most f r value number) in

@@ -8,7 +8,8 @@ use Rattle.clap.specs.ValueTests.{accepts}
 use Rattle.clap.specs.declared.builder.value_parser.ValueParser.TheVariants as vp
 use Rattle.clap.proofs.OnLiterals.{clap_on_literals}
 use Rattle.bp_command.specs.Commands.{IsTaken, subcommand_named, play_app}
-use Rattle.bp_command.proofs.Taken.{built_of, file_arg, joined, seed_arg}
+use Rattle.bp_command.proofs.Chains.{joined}
+use Rattle.bp_command.proofs.Taken.{built_of, file_arg, seed_arg}
 use Rattle.bp_command.proofs.Walking.{Goes, Numbers, Turn, behind, faults_behind, goes_on, no_fault, parts, row, some_name, stays}
 
 abbrev play : Shape

@@ -26,7 +26,7 @@ first_text : (o : Option Entry) → option_and_then (λ (r : Row). slice_get r.v
 first_text None = refl
 first_text (Some e) = slice_get-map (λ s. s.now) e.1.vals.items 0
 
-pub first_given : (id : Text) (f : Found) → first_of id (rows_of f) ≡ first_value f id
+first_given : (id : Text) (f : Found) → first_of id (rows_of f) ≡ first_value f id
 first_given id f = ap (option_and_then (λ (r : Row). slice_get r.values 0)) (row_found id f.entries.items) ∙ first_text (find (λ (e : Entry). bytes_eq e.0.now id) f.entries.items)
 
 map_twice : {A B C : Type 0} (g : B → C) (h : A → B) (o : Option A) → option_map g (option_map h o) ≡ option_map (λ x. g (h x)) o
@@ -48,7 +48,7 @@ simple : is_simple bpfs_app ≡ true
 simple = refl
 
 -- the subcommand that the words name is the one of the matches
-pub met_given : (words : List Text) (m : ArgMatches) → HasMet words m → subcommand_named words ≡ subcommand_rows_of m
+met_given : (words : List Text) (m : ArgMatches) → HasMet words m → subcommand_named words ≡ subcommand_rows_of m
 unfolding subcommand_named HasMet
 met_given words m has = sym (has simple).1
 

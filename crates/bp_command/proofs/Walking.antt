@@ -8,7 +8,7 @@ use Rattle.clap.specs.Walk.{Row, Rule, Text, Waiting, Walk, finished, first_of, 
 use Rattle.clap.specs.ValueTests.{accepts}
 use Rattle.clap.specs.declared.builder.value_parser.ValueParser.TheVariants as vp
 use Rattle.clap.specs.declared.parser.matches.ValueSource.TheVariants.{CommandLine}
-use Rattle.bp_command.proofs.Taken.{joined}
+use Rattle.bp_command.proofs.Chains.{joined}
 
 -- the texts of the number of blocks, of the version, of the seed and of the count
 abbrev pub Numbers : Type 0

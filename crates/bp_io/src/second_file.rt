@@ -284,13 +284,7 @@ fn prepare(file: &File, first: &File, metadata: &Metadata) -> io::Result<()> {
     lock(file, Access::Write)?;
     take_after(file, metadata)?;
     file.set_len(metadata.len())?;
-    copy_bytes(
-        first,
-        file,
-        TOLD_APART,
-        metadata.len(),
-        &mut [0; PIECE],
-    )
+    copy_bytes(first, file, TOLD_APART, metadata.len(), &mut [0; PIECE])
 }
 
 /// The folder of a file, to be flushed.

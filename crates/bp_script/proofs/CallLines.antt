@@ -27,7 +27,7 @@ use Rattle.bp_plain.specs.Export.{are_bytes}
 use Rattle.bp_script.specs.Export.{IsSpelled, IsWord, FitsLine, call_line, path_word}
 use Rattle.bp_script.specs.Texts.{digits_or_dash, is_escaped}
 use Rattle.bp_script.proofs.EachByte.{all_below, from_all_below}
-use Rattle.bp_script.proofs.Numbers.{number_is}
+use Rattle.bp_script.proofs.NumberWords.{number_is}
 use Rattle.bp_script.proofs.Rows.{row_three, row_two}
 use Rattle.bp_script.proofs.Splitting.{slice_split-cons}
 

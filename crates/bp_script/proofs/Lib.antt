@@ -8,7 +8,7 @@ pub mod EncodedRuns
 pub mod Joining
 pub mod Masks
 pub mod NameText
-pub mod Numbers
+pub mod NumberWords
 pub mod PlainPath
 pub mod Rows
 pub mod ServedLines

@@ -18,8 +18,8 @@ use Rattle.bp_script.specs.Commands.{Command, asked_by, bare_command, batch_of, 
 use Rattle.bp_replay.specs.Wanted.Wanted.{all, nothing}
 use Rattle.bp_script.specs.Commands.Command.{bad_syntax, crash, file_call, log, space, sync}
 use Rattle.bp_script.specs.Lines.{path_row}
-use Rattle.bp_script.specs.declared.lines.PathVerb.{PathVerb}
-use Rattle.bp_script.specs.declared.lines.PathVerb.TheVariants as verb
+use Rattle.bp_script.specs.declared.verbs.PathVerb.{PathVerb}
+use Rattle.bp_script.specs.declared.verbs.PathVerb.TheVariants as verb
 use Rattle.bp_script.proofs.Splitting.{slice_split-cons, slice_split-none, slice_split-some}
 
 -- words of a line, none of which but the first may be empty

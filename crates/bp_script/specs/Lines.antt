@@ -11,18 +11,18 @@ use Rattle.bp_plain.specs.Seen.{CanAsk, LiesIn, call_of, piece_in}
 use Rattle.bp_plain.specs.declared.calls.Call.TheVariants as given
 use Rattle.bp_replay.specs.Wanted.{wanted_by}
 use Rattle.bp_script.specs.declared.batches.PieceWords.{PieceWords}
-use Rattle.bp_script.specs.declared.lines.Decoded.{Decoded}
+use Rattle.bp_script.specs.declared.decoded.Decoded.{Decoded}
 use Rattle.bp_script.specs.declared.lines.Line.{Line}
 use Rattle.bp_script.specs.declared.lines.Line.TheVariants as asks
-use Rattle.bp_script.specs.declared.lines.PairVerb.{PairVerb}
-use Rattle.bp_script.specs.declared.lines.PairVerb.TheVariants as pair
-use Rattle.bp_script.specs.declared.lines.PathVerb.{PathVerb}
-use Rattle.bp_script.specs.declared.lines.PathVerb.TheVariants as verb
+use Rattle.bp_script.specs.declared.verbs.PairVerb.{PairVerb}
+use Rattle.bp_script.specs.declared.verbs.PairVerb.TheVariants as pair
+use Rattle.bp_script.specs.declared.verbs.PathVerb.{PathVerb}
+use Rattle.bp_script.specs.declared.verbs.PathVerb.TheVariants as verb
 use Rattle.bp_script.specs.declared.lines.Syntax.{Syntax}
-use Rattle.bp_script.specs.declared.lines.TheConstants.{MOST_ROOM}
-use Rattle.bp_script.specs.declared.lines.WordVerb.{WordVerb}
-use Rattle.bp_script.specs.declared.lines.WordVerb.TheVariants as on
-use Rattle.bp_script.specs.contracts.lines.Decoded.{the_row}
+use Rattle.bp_script.specs.declared.decoded.TheConstants.{MOST_ROOM}
+use Rattle.bp_script.specs.declared.verbs.WordVerb.{WordVerb}
+use Rattle.bp_script.specs.declared.verbs.WordVerb.TheVariants as on
+use Rattle.bp_script.specs.contracts.decoded.Decoded.{the_row}
 use Rattle.bp_script.specs.Commands.{Command, bytes_spelled, cache_command, decoded_piece, is_empty_word, number_spelled, piece_spelled, storm_command, truncate_command, whole_crash, words_of}
 use Rattle.bp_script.specs.Commands.Command.{file_call, sync, space, crash, storm, cache, log, bad_syntax}
 

@@ -11,7 +11,9 @@ ghost use Rattle.std.specs.Option.{option_map_or};
 ghost use Rattle.std.specs.Prelude.{if◌then◌else◌, ◌∷◌, ◌+◌, ◌≡◌, ◌≤◌, IfOk, OnErr, OnOk, [], codes, length, map, option_map, take, vec_capacity, vec_len};
 ghost use Rattle.std.specs.Result.{is_ok, result_ok};
 
-use crate::lines::{Syntax, add_path, decode_into, digits_of, number, split_once};
+use crate::decoding::{add_path, decode_into, digits_of, split_once};
+use crate::lines::Syntax;
+use crate::numbers::number;
 use arrayvec::ArrayVec;
 use bp_limits::MAX_PIECES;
 use bp_plain::{Piece, Span};

@@ -3,14 +3,19 @@
 
 mod batches;
 mod calls;
+mod decoded;
+mod decoding;
 mod digits;
 pub mod laws;
 mod lines;
 mod notices;
+mod numbers;
 mod pieces;
 mod replies;
+mod verbs;
 
 pub use calls::say_call;
-pub use lines::{Decoded, Line, Syntax};
+pub use decoded::Decoded;
+pub use lines::{Line, Syntax};
 pub use notices::{MAX_NOTICE, Notice, announce};
 pub use replies::{Said, say};

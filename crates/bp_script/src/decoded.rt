@@ -1,0 +1,406 @@
+//! Memory for the words of a line, and what the line asks for.
+
+ghost use Rattle.bp_plain.specs.Calls.Call.{batch, link, rename, write};
+ghost use Rattle.bp_replay.specs.Wanted.Wanted.{at};
+ghost use Rattle.bp_script.specs.Commands.Command.{bad_syntax, crash, file_call};
+ghost use Rattle.bp_script.specs.Commands.{IsServedCommand, asked_by, bytes_spelled, decoded, in_grammar, long_command, mask_in, masked_crash, pair_command, path_bytes, word_command, words_of, write_command};
+ghost use Rattle.bp_script.specs.Lines.{CanBeAsked, HasItsParts, HoldsParts, KeepsRoom, decoded_room, first_held, line_asks, most_room, path_row, pieces_held, second_held};
+ghost use Rattle.std.specs.Borrow.{sem};
+ghost use Rattle.hex.specs.Hex.{decode_of};
+ghost use Rattle.std.specs.Result.{is_ok, result_ok};
+ghost use Rattle.std.specs.Prelude.{◌*◌, if◌then◌else◌, None, Ok, Some, IfOk, OnOk, codes, length, min, ◌∷◌, ◌+◌, ◌<◌, ◌≡◌, ◌≤◌};
+
+use crate::batches::{PieceWords, decode_pieces};
+use crate::decoding::{decode, decode_bytes, digits_of, split_once};
+use crate::lines::{
+    Line, Syntax, bare, cache, path_line, read, snap_read, storm, truncate, whole_crash,
+};
+use crate::numbers::{number, read_len};
+use crate::verbs::{PairVerb, PathVerb, WordVerb, is_batch, pair_verb, word_verb};
+use arrayvec::ArrayVec;
+use bp_limits::MAX_PIECES;
+use bp_plain::{Call, Piece};
+use bp_replay::Cut;
+use std::alloc::{AllocError, Global};
+
+/// The most bytes of a line, so that a place in it has 32 bits.
+const MOST_ROOM: usize = 4_294_967_295;
+
+/// Memory for what the words of a line stand for, decoded. Both texts have the room of a line, and the pieces of a batch
+/// are parts of the first.
+#[derive(Drop)]
+pub struct Decoded {
+    first: Vec<u8>,
+    second: Vec<u8>,
+    pieces: ArrayVec<Piece, MAX_PIECES>,
+}
+
+impl Decoded {
+    /// Memory for lines of at most `room` bytes, and of less than 4 GiB.
+    pub fn new(alloc: Global, room: usize) -> Result<Decoded, AllocError>
+        ensures { IfOk result (λ decoded. decoded_room decoded ≡ min room most_room) }
+    {
+        let first = Vec::with_capacity(alloc, room)?;
+        let second = Vec::with_capacity(alloc, room)?;
+        Ok(Decoded {
+            first,
+            second,
+            pieces: ArrayVec::new(),
+        })
+    }
+
+    /// The bytes of the longest line that it has memory for.
+    pub fn room(&self) -> usize
+        ensures { result ≡ decoded_room self.now }
+    {
+        self.first
+            .capacity()
+            .min(self.second.capacity())
+            .min(MOST_ROOM)
+    }
+
+    /// What a line of a script asks for. Its paths, its bytes and its mask are decoded, and lie in this memory. A mask has at most
+    /// half as many bytes as the line. A call is one that a volume carries out: the parts of a batch lie in its text.
+    ///
+    /// # Errors
+    ///
+    /// `Syntax` exactly where the line is none of the table of commands.
+    pub fn line(&mut self, bytes: &[u8]) -> Result<Line<'_>, Syntax>
+        requires room { length bytes.now ≤ decoded_room self.old }
+        ensures* keeps_room { sem 𝓛 (KeepsRoom self.entry) }
+        ensures meaning { line_asks result ≡ in_grammar bytes.now }
+        ensures mask { 2 * length (mask_in (line_asks result)) ≤ length bytes.now }
+        ensures served { IsServedCommand (line_asks result) }
+        ensures can { CanBeAsked result }
+    {
+        let (verb, rest) = split_once(bytes, b' ');
+        match rest {
+            Some(rest) => self.behind_verb(verb, rest),
+            None => bare(verb),
+        }
+    }
+
+    /// What a word and the text behind its space ask for.
+    fn behind_verb(&mut self, verb: &[u8], rest: &[u8]) -> Result<Line<'_>, Syntax>
+        requires { length rest.now ≤ decoded_room self.old }
+        ensures* keeps_room { sem 𝓛 (KeepsRoom self.entry) }
+        ensures meaning { line_asks result ≡ decoded (asked_by (verb.now ∷ words_of rest.now)) }
+        ensures whole { HasItsParts result }
+    {
+        let (word, more) = split_once(rest, b' ');
+        if word.is_empty() {
+            return Err(Syntax);
+        }
+        match more {
+            Some(more) => self.behind_pair(verb, word, more),
+            None => self.on_word(verb, word),
+        }
+    }
+
+    /// What two words and the text behind the second one's space ask for.
+    fn behind_pair(&mut self, verb: &[u8], first: &[u8], rest: &[u8]) -> Result<Line<'_>, Syntax>
+        requires some { 0 < length first.now }
+        requires fits { length first.now + length rest.now ≤ decoded_room self.old }
+        ensures* keeps_room { sem 𝓛 (KeepsRoom self.entry) }
+        ensures meaning { line_asks result ≡ decoded (asked_by (verb.now ∷ first.now ∷ words_of rest.now)) }
+        ensures whole { HasItsParts result }
+    {
+        let (second, third) = split_once(rest, b' ');
+        if second.is_empty() {
+            return Err(Syntax);
+        }
+        match third {
+            Some(third) => self.long(verb, first, second, third),
+            None => self.on_pair(verb, first, second),
+        }
+    }
+
+    /// What a line of two words asks for.
+    fn on_word(&mut self, verb: &[u8], word: &[u8]) -> Result<Line<'_>, Syntax>
+        requires { length word.now ≤ decoded_room self.old }
+        ensures* keeps_room { sem 𝓛 (KeepsRoom self.entry) }
+        ensures meaning { line_asks result ≡ decoded (word_command verb.now word.now) }
+    {
+        match word_verb(verb) {
+            Some(WordVerb::Crash) => whole_crash(word),
+            Some(WordVerb::Storm) => storm(number(word)),
+            Some(WordVerb::Cache) => cache(number(word)),
+            Some(WordVerb::Path(verb)) => Ok(self.on_path(verb, word)),
+            None => Err(Syntax),
+        }
+    }
+
+    /// The line of a verb and a path.
+    fn on_path(&mut self, verb: PathVerb, path: &[u8]) -> Line<'_>
+        requires { length path.now ≤ decoded_room self.old }
+        ensures* keeps_room { sem 𝓛 (KeepsRoom self.entry) }
+        ensures meaning { line_asks (Ok result) ≡ decoded (path_row verb path.now) }
+    {
+        path_line(verb, self.path_of(path))
+    }
+
+    /// What a line of a word, a path and a last word asks for.
+    fn on_pair(&mut self, verb: &[u8], path: &[u8], last: &[u8]) -> Result<Line<'_>, Syntax>
+        requires path { length path.now ≤ decoded_room self.old }
+        requires last { length last.now ≤ decoded_room self.old }
+        ensures* keeps_room { sem 𝓛 (KeepsRoom self.entry) }
+        ensures meaning { line_asks result ≡ decoded (pair_command verb.now path.now last.now) }
+    {
+        match pair_verb(verb) {
+            Some(PairVerb::Truncate) => truncate(self.path_of(path), number(last)),
+            Some(PairVerb::Rename) => Ok(self.rename(path, last)),
+            Some(PairVerb::Link) => Ok(self.link(path, last)),
+            None => Err(Syntax),
+        }
+    }
+
+    /// The line of a rename.
+    fn rename(&mut self, from: &[u8], to: &[u8]) -> Line<'_>
+        requires from { length from.now ≤ decoded_room self.old }
+        requires to { length to.now ≤ decoded_room self.old }
+        ensures* keeps_room { sem 𝓛 (KeepsRoom self.entry) }
+        ensures meaning { line_asks (Ok result) ≡ file_call (rename (path_bytes from.now) (path_bytes to.now)) }
+    {
+        self.pair(from, to);
+        self.rename_held()
+    }
+
+    /// The line of a rename with the paths that are held.
+    fn rename_held(&self) -> Line<'_>
+        ensures { line_asks (Ok result) ≡ file_call (rename (first_held self.now) (second_held self.now)) }
+    {
+        Line::Call(Call::Rename {
+            from: self.first.as_slice(),
+            to: self.second.as_slice(),
+        })
+    }
+
+    /// The line of one more name.
+    fn link(&mut self, from: &[u8], to: &[u8]) -> Line<'_>
+        requires from { length from.now ≤ decoded_room self.old }
+        requires to { length to.now ≤ decoded_room self.old }
+        ensures* keeps_room { sem 𝓛 (KeepsRoom self.entry) }
+        ensures meaning { line_asks (Ok result) ≡ file_call (link (path_bytes from.now) (path_bytes to.now)) }
+    {
+        self.pair(from, to);
+        self.link_held()
+    }
+
+    /// The line of one more name with the paths that are held.
+    fn link_held(&self) -> Line<'_>
+        ensures { line_asks (Ok result) ≡ file_call (link (first_held self.now) (second_held self.now)) }
+    {
+        Line::Call(Call::Link {
+            from: self.first.as_slice(),
+            to: self.second.as_slice(),
+        })
+    }
+
+    /// What three words and the text behind the third one's space ask for. But for a batch, a space in that text is no digit
+    /// of any kind, so where there is one the line is none of the table, as it must be: it has more words than four.
+    fn long(
+        &mut self,
+        verb: &[u8],
+        first: &[u8],
+        second: &[u8],
+        rest: &[u8],
+    ) -> Result<Line<'_>, Syntax>
+        requires some_first { 0 < length first.now }
+        requires some_second { 0 < length second.now }
+        requires fits { length first.now + length second.now + length rest.now ≤ decoded_room self.old }
+        ensures* keeps_room { sem 𝓛 (KeepsRoom self.entry) }
+        ensures meaning { line_asks result ≡
+            decoded (asked_by (verb.now ∷ first.now ∷ second.now ∷ words_of rest.now)) }
+        ensures whole { HasItsParts result }
+    {
+        if rest.is_empty() {
+            return Err(Syntax);
+        }
+        if is_batch(verb) {
+            self.batch(first, second, rest)
+        } else {
+            self.on_long(verb, first, second, rest)
+        }
+    }
+
+    /// The line of a batch: the first two words of its first piece, and the text behind them.
+    fn batch(&mut self, path: &[u8], off: &[u8], rest: &[u8]) -> Result<Line<'_>, Syntax>
+        requires { length path.now + length off.now + length rest.now ≤ decoded_room self.old }
+        ensures* keeps_room { sem 𝓛 (KeepsRoom self.entry) }
+        ensures meaning { line_asks result ≡
+            decoded (asked_by (codes "batch" ∷ path.now ∷ off.now ∷ words_of rest.now)) }
+        ensures whole { HasItsParts result }
+    {
+        self.pieces_of(path, off, rest)?;
+        Ok(self.batch_held())
+    }
+
+    /// Decodes the pieces of a batch.
+    fn pieces_of(&mut self, path: &[u8], off: &[u8], rest: &[u8]) -> Result<(), Syntax>
+        requires { length path.now + length off.now + length rest.now ≤ decoded_room self.old }
+        ensures meaning { (if is_ok result then file_call (batch (pieces_held self.new)) else bad_syntax) ≡
+            decoded (asked_by (codes "batch" ∷ path.now ∷ off.now ∷ words_of rest.now)) }
+        ensures whole { OnOk result (HoldsParts self.new) }
+        ensures room { decoded_room self.old ≤ decoded_room self.new }
+    {
+        let Decoded { first, pieces, .. } = self;
+        decode_pieces(PieceWords { path, off, rest }, first, pieces)
+    }
+
+    /// The line of a batch with the pieces that are held.
+    fn batch_held(&self) -> Line<'_>
+        requires { HoldsParts self.now }
+        ensures meaning { line_asks (Ok result) ≡ file_call (batch (pieces_held self.now)) }
+        ensures whole { HasItsParts (Ok result) }
+    {
+        Line::Call(Call::Batch {
+            text: self.first.as_slice(),
+            pieces: self.pieces.as_slice(),
+        })
+    }
+
+    /// What a line of four words asks for, where the last may hold spaces.
+    fn on_long(
+        &mut self,
+        verb: &[u8],
+        first: &[u8],
+        second: &[u8],
+        third: &[u8],
+    ) -> Result<Line<'_>, Syntax>
+        requires first { length first.now ≤ decoded_room self.old }
+        requires third { length third.now ≤ decoded_room self.old }
+        ensures* keeps_room { sem 𝓛 (KeepsRoom self.entry) }
+        ensures meaning { line_asks result ≡ decoded (long_command verb.now first.now second.now third.now) }
+    {
+        match verb {
+            b"read" => read(self.path_of(first), number(second), read_len(third)),
+            b"write" => self.write(first, number(second), third),
+            b"crash" => self.crash(number(first), number(second), third),
+            b"sread" => snap_read(self.path_of(first), number(second), read_len(third)),
+            _ => Err(Syntax),
+        }
+    }
+
+    /// The line of a write.
+    fn write(&mut self, path: &[u8], off: Option<u64>, word: &[u8]) -> Result<Line<'_>, Syntax>
+        requires path { length path.now ≤ decoded_room self.old }
+        requires word { length word.now ≤ decoded_room self.old }
+        ensures* keeps_room { sem 𝓛 (KeepsRoom self.entry) }
+        ensures meaning { line_asks result ≡ decoded (write_command path.now off (bytes_spelled word.now)) }
+    {
+        match off {
+            Some(off) => {
+                self.path_and_bytes(path, digits_of(word))?;
+                Ok(self.write_held(off))
+            }
+            None => Err(Syntax),
+        }
+    }
+
+    /// The line of a write with the path and the bytes that are held.
+    fn write_held(&self, off: u64) -> Line<'_>
+        ensures { line_asks (Ok result) ≡ file_call (write (first_held self.now) off (second_held self.now)) }
+    {
+        Line::Call(Call::Write {
+            path: self.first.as_slice(),
+            off,
+            bytes: self.second.as_slice(),
+        })
+    }
+
+    /// The line of a crash at a moment.
+    fn crash(
+        &mut self,
+        moment: Option<u64>,
+        epoch: Option<u64>,
+        word: &[u8],
+    ) -> Result<Line<'_>, Syntax>
+        requires { length word.now ≤ decoded_room self.old }
+        ensures* keeps_room { sem 𝓛 (KeepsRoom self.entry) }
+        ensures meaning { line_asks result ≡ masked_crash moment epoch (bytes_spelled word.now) }
+    {
+        match (moment, epoch) {
+            (Some(moment), Some(epoch)) => {
+                self.mask(digits_of(word))?;
+                Ok(self.crash_held(moment, epoch))
+            }
+            _ => Err(Syntax),
+        }
+    }
+
+    /// The line of a crash with the mask that is held.
+    fn crash_held(&self, moment: u64, epoch: u64) -> Line<'_>
+        ensures { line_asks (Ok result) ≡ crash (at moment epoch (second_held self.now)) }
+    {
+        Line::Crash(Cut::At {
+            moment,
+            epoch,
+            mask: self.second.as_slice(),
+        })
+    }
+
+    /// Decodes hexadecimal digits as the bytes of a mask, into the second memory.
+    fn mask(&mut self, digits: &[u8]) -> Result<(), Syntax>
+        requires { length digits.now ≤ decoded_room self.old }
+        ensures bytes { result_ok (decode_of digits.now) ≡
+            (if is_ok result then Some (second_held self.new) else None) }
+        ensures room { decoded_room self.old ≤ decoded_room self.new }
+    {
+        decode_bytes(digits, &mut self.second)
+    }
+
+    /// The path of a word.
+    fn path_of(&mut self, word: &[u8]) -> &[u8]
+        requires { length word.now ≤ decoded_room self.old }
+        ensures* keeps_room { sem 𝓛 (KeepsRoom self.entry) }
+        ensures path { result.now ≡ path_bytes word.now }
+    {
+        decode(word, &mut self.first);
+        self.first.as_slice()
+    }
+
+    /// What the first memory holds.
+    pub fn first(&self) -> &[u8]
+        ensures { result.now ≡ first_held self.now }
+    {
+        self.first.as_slice()
+    }
+
+    /// What the second memory holds.
+    pub fn second(&self) -> &[u8]
+        ensures { result.now ≡ second_held self.now }
+    {
+        self.second.as_slice()
+    }
+
+    /// Decodes two words as paths, the one into the first memory and the other into the second.
+    pub fn pair(&mut self, one: &[u8], other: &[u8])
+        requires one { length one.now ≤ decoded_room self.old }
+        requires other { length other.now ≤ decoded_room self.old }
+        ensures first { first_held self.new ≡ path_bytes one.now }
+        ensures second { second_held self.new ≡ path_bytes other.now }
+        ensures room { decoded_room self.old ≤ decoded_room self.new }
+    {
+        let Decoded { first, second, .. } = self;
+        decode(one, first);
+        decode(other, second);
+    }
+
+    /// Decodes a word as a path into the first memory, and hexadecimal digits as bytes into the second.
+    ///
+    /// # Errors
+    ///
+    /// `Syntax` exactly where the digits are none of bytes.
+    pub fn path_and_bytes(&mut self, path: &[u8], digits: &[u8]) -> Result<(), Syntax>
+        requires path { length path.now ≤ decoded_room self.old }
+        requires digits { length digits.now ≤ decoded_room self.old }
+        ensures first { first_held self.new ≡ path_bytes path.now }
+        ensures second { result_ok (decode_of digits.now) ≡
+            (if is_ok result then Some (second_held self.new) else None) }
+        ensures room { decoded_room self.old ≤ decoded_room self.new }
+    {
+        let Decoded { first, second, .. } = self;
+        decode(path, first);
+        decode_bytes(digits, second)
+    }
+}

@@ -1,0 +1,147 @@
+//! The words of a line, and the bytes and the paths that they stand for.
+
+ghost use Rattle.bp_script.specs.Commands.{bytes_spelled, part_bytes, path_bytes, unslashed};
+ghost use Rattle.std.specs.List.{slice_split};
+ghost use Rattle.std.specs.Option.{option_map_or};
+ghost use Rattle.hex.specs.Hex.{decode_of};
+ghost use Rattle.std.specs.Result.{is_ok, result_ok};
+ghost use Rattle.std.specs.Prelude.{◌/◌, if◌then◌else◌, None, Some, length, vec_capacity, vec_len, [], ◌∷◌, ◌+◌, ◌++◌, ◌==◌, ◌<◌, ◌≡◌, ◌≤◌};
+
+use crate::digits::decode_digits;
+use crate::lines::Syntax;
+use bp_text::first_of;
+use percent_encoding::percent_decode;
+
+/// The text before the first byte of this kind, and what stands after it.
+pub(crate) fn split_once(text: &[u8], at: u8) -> (&[u8], Option<&[u8]>)
+    ensures split { slice_split (λ b. b == at) text.now ≡
+        result.0.now ∷ option_map_or (λ rest. slice_split (λ b. b == at) rest.now) result.1 [] }
+    ensures len { length result.0.now + option_map_or (λ rest. length rest.now + 1) result.1 0 ≡ length text.now }
+{
+    match first_of(at, text) {
+        Some(i) => (&text[..i], Some(&text[i + 1..])),
+        None => (text, None),
+    }
+}
+
+/// The hexadecimal digits of a word, of which `-` stands for none.
+pub(crate) fn digits_of(word: &[u8]) -> &[u8]
+    ensures bytes { result_ok (decode_of result.now) ≡ bytes_spelled word.now }
+    ensures len { length result.now ≤ length word.now }
+{
+    match word {
+        b"-" => &[],
+        _ => word,
+    }
+}
+
+/// Decodes hexadecimal digits as bytes, in room that is there.
+pub(crate) fn decode_bytes(digits: &[u8], into: &mut Vec<u8>) -> Result<(), Syntax>
+    requires { length digits.now ≤ vec_capacity into.old }
+    ensures bytes { result_ok (decode_of digits.now) ≡ (if is_ok result then Some into.new.items else None) }
+    ensures room { vec_capacity into.old ≤ vec_capacity into.new }
+{
+    // Not cleared before: what it held is written over, and only what it lacks has to be filled.
+    match into.resize(digits.len() / 2, 0) {
+        Ok(()) => {}
+        Err(_) => unreachable!(),
+    }
+    decode_into(digits, into.as_mut_slice())
+}
+
+/// The same into memory with half as many bytes.
+pub(crate) fn decode_into(digits: &[u8], into: &mut [u8]) -> Result<(), Syntax>
+    requires { length into.old ≡ length digits.now / 2 }
+    ensures { result_ok (decode_of digits.now) ≡ (if is_ok result then Some into.new else None) }
+{
+    if digits.len() % 2 == 0 && decode_digits(digits, into) {
+        Ok(())
+    } else {
+        Err(Syntax)
+    }
+}
+
+/// Decodes a word as a path, in room that is there.
+pub(crate) fn decode(word: &[u8], into: &mut Vec<u8>)
+    requires { length word.now ≤ vec_capacity into.old }
+    ensures path { into.new.items ≡ path_bytes word.now }
+    ensures room { vec_capacity into.old ≤ vec_capacity into.new }
+{
+    into.clear();
+    add_path(word, into);
+}
+
+/// Adds the path of a word, in room that is there.
+pub(crate) fn add_path(word: &[u8], into: &mut Vec<u8>)
+    requires { vec_len into.old + length word.now ≤ vec_capacity into.old }
+    ensures path { into.new.items ≡ into.old.items ++ path_bytes word.now }
+    ensures len { vec_len into.new ≤ vec_len into.old + length word.now }
+    ensures room { vec_capacity into.old ≤ vec_capacity into.new }
+{
+    match first_of(b'%', word) {
+        Some(_) => add_parts(word, into),
+        None => add(word, into),
+    }
+}
+
+/// Adds bytes, in room that is there.
+fn add(bytes: &[u8], into: &mut Vec<u8>)
+    requires { vec_len into.old + length bytes.now ≤ vec_capacity into.old }
+    ensures items { into.new.items ≡ into.old.items ++ bytes.now }
+    ensures len { vec_len into.new ≡ vec_len into.old + length bytes.now }
+    ensures room { vec_capacity into.old ≤ vec_capacity into.new }
+{
+    match into.extend_from_slice(bytes) {
+        Ok(()) => {}
+        Err(_) => unreachable!(),
+    }
+}
+
+/// Adds the parts of a word decoded one by one, in room that is there.
+fn add_parts(word: &[u8], into: &mut Vec<u8>)
+    requires { vec_len into.old + length word.now ≤ vec_capacity into.old }
+    ensures path { into.new.items ≡ into.old.items ++ path_bytes word.now }
+    ensures len { vec_len into.new ≤ vec_len into.old + length word.now }
+    ensures room { vec_capacity into.old ≤ vec_capacity into.new }
+{
+    let (first, mut left) = split_once(word, b'/');
+    add_part(first, into);
+    while let Some(text) = left {
+        add_byte(b'/', into);
+        let (part, more) = split_once(text, b'/');
+        add_part(part, into);
+        left = more;
+    }
+}
+
+/// Adds what a part of a path stands for, in room that is there.
+fn add_part(part: &[u8], path: &mut Vec<u8>)
+    requires { vec_len path.old + length part.now ≤ vec_capacity path.old }
+    ensures items { path.new.items ≡ path.old.items ++ part_bytes part.now }
+    ensures len { vec_len path.new ≤ vec_len path.old + length part.now }
+    ensures room { vec_capacity path.old ≤ vec_capacity path.new }
+{
+    for byte in percent_decode(part) {
+        add_byte(without_slash(byte), path);
+    }
+}
+
+/// The byte, or one that no name may hold in place of `/`.
+fn without_slash(byte: u8) -> u8
+    ensures { result ≡ unslashed byte }
+{
+    if byte == b'/' { 0 } else { byte }
+}
+
+/// Adds a byte, in room that is there.
+fn add_byte(byte: u8, path: &mut Vec<u8>)
+    requires { vec_len path.old < vec_capacity path.old }
+    ensures items { path.new.items ≡ path.old.items ++ byte ∷ [] }
+    ensures len { vec_len path.new ≡ vec_len path.old + 1 }
+    ensures room { vec_capacity path.old ≤ vec_capacity path.new }
+{
+    match path.push(byte) {
+        Ok(()) => {}
+        Err(_) => unreachable!(),
+    }
+}

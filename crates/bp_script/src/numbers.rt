@@ -1,0 +1,70 @@
+//! The numbers of lines.
+
+ghost use Rattle.bp_script.specs.Commands.{length_spelled, number_spelled};
+ghost use Rattle.std.specs.Prelude.{length, ◌<◌, ◌≡◌, ◌≤◌};
+
+use bp_limits::MAX_READ;
+
+/// The most digits of a number.
+const MOST_DIGITS: usize = 20;
+
+/// The number that a word stands for: one to twenty decimal digits, with a value below 2^64.
+pub(crate) fn number(word: &[u8]) -> Option<u64>
+    ensures { result ≡ number_spelled word.now }
+{
+    if word.is_empty() || word.len() > MOST_DIGITS {
+        None
+    } else if word.len() < MOST_DIGITS {
+        short_number(word)
+    } else {
+        long_number(word)
+    }
+}
+
+/// The same for so few digits that any of them are a number below 2^64.
+fn short_number(word: &[u8]) -> Option<u64>
+    requires some { 1 ≤ length word.now }
+    requires short { length word.now < MOST_DIGITS }
+    ensures { result ≡ number_spelled word.now }
+{
+    let mut value: u64 = 0;
+    for &byte in word {
+        if !byte.is_ascii_digit() {
+            return None;
+        }
+        value = value * 10 + (byte - b'0') as u64;
+    }
+    Some(value)
+}
+
+/// The same for as many digits as there may be.
+fn long_number(word: &[u8]) -> Option<u64>
+    requires { length word.now ≡ MOST_DIGITS }
+    ensures { result ≡ number_spelled word.now }
+{
+    let mut value: u64 = 0;
+    for &byte in word {
+        if !byte.is_ascii_digit() {
+            return None;
+        }
+        let digit = (byte - b'0') as u64;
+        value = value.checked_mul(10)?.checked_add(digit)?;
+    }
+    Some(value)
+}
+
+/// The length of a read that a word stands for: a number, of no more bytes than one call reads.
+pub(crate) fn read_len(word: &[u8]) -> Option<usize>
+    ensures { result ≡ length_spelled word.now }
+{
+    match number(word) {
+        Some(len) => {
+            if len <= MAX_READ as u64 {
+                Some(len as usize)
+            } else {
+                None
+            }
+        }
+        None => None,
+    }
+}

@@ -62,6 +62,13 @@ pub(crate) fn mark_each(marks: &mut [bool], is_stale: bool)
     marks.fill(is_stale);
 }
 
+/// Whether each block is marked.
+fn are_marked(marks: &[bool]) -> bool
+    ensures { result ≡ true ↔ AreMarked marks.now }
+{
+    !marks.contains(&false)
+}
+
 /// Marks the blocks that hold so many words in a row.
 fn mark_words(marks: &mut [bool], first: u32, count: usize)
     requires some { 0 < count }
@@ -109,13 +116,16 @@ fn mark_rows<R: Region>(region: &R, marks: &mut [bool], most: usize) -> bool
 }
 
 /// Marks the blocks to which a store of the log went, or all blocks where the log has more rows of stores a block than are
-/// looked at. A log without a store marks none.
+/// looked at. A log without a store marks none. Where each block is marked already, the log is not looked through.
 fn mark_stored<R: Region>(region: &R, marks: &mut [bool])
     ensures marks { MarksChanges marks.new (R.memory region.now).base (current_words (R.memory region.now)) }
     ensures more { (i : ℕ) → is_marked marks.old i ≡ true → is_marked marks.new i ≡ true }
     ensures none { stores (R.memory region.now).events ≡ [] → marks.new ≡ marks.old }
     ensures size { length marks.new ≡ length marks.old }
 {
+    if are_marked(marks) {
+        return;
+    }
     let blocks = (region.words() / BLOCK_WORDS) as usize;
     if !mark_rows(region, marks, MOST_ROWS_A_BLOCK * blocks) {
         mark_each(marks, true);

@@ -263,7 +263,8 @@ pub(crate) fn sync_marked<R: Region, F: Files>(
 
 /// Waits until all that the calls so far have done is written back, saves the words to the attached file, and flushes
 /// it. Only the blocks are written that are stale or to which a store went since the last drain; or all blocks, where the
-/// log has more than four rows of stores a block. None is stale then, and each where the save failed.
+/// log has more than four rows of stores a block. Behind a save none is marked of the blocks of which the marks tell; behind
+/// one that failed each block counts as stale.
 pub fn sync_and_save<R: Region, F: Files>(
     volume: &mut Volume<R>,
     stale: &mut Stale,

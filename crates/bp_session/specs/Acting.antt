@@ -10,7 +10,7 @@ use Rattle.bp_plain.specs.Calls.Answer.{refused}
 use Rattle.bp_plain.specs.Calls.Refusal.{no_memory}
 use Rattle.bp_script.specs.Commands.{Command}
 use Rattle.bp_script.specs.Commands.Command.{file_call, sync, space, crash, storm, cache, log, bad_syntax, too_long}
-use Rattle.bp_script.specs.Texts.{LineReply}
+use Rattle.bp_script.specs.Texts.{LineReply, reply_text}
 use Rattle.bp_script.specs.Texts.LineReply.{answered, synced, space_of, kept_of, log_of, bad_choice, syntax, long}
 use Rattle.bp_session.specs.Changed.{AreMarked, AreUnmarked, MarksDrain}
 use Rattle.bp_session.specs.Session.{SessionLine, State, caches_cut}
@@ -28,6 +28,10 @@ reply_of BadChoice answer = bad_choice
 reply_of NoMemory answer = answered (refused no_memory)
 reply_of BadSyntax answer = syntax
 reply_of TooLong answer = long
+
+-- the text of that reply
+abbrev pub outcome_text : Outcome → Answer → List ℕ
+outcome_text outcome answer = reply_text (reply_of outcome answer)
 
 -- the region, and what the attached file holds
 abbrev pub state : Memory → Image → State

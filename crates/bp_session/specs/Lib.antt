@@ -2,12 +2,15 @@ pub mod Pieces
 pub mod Lines
 pub mod Session
 pub mod PlainSession
+pub mod SessionLaws
 pub mod Files
 pub mod Changed
+pub mod Saving
 pub mod Statuses
 pub mod Serving
 pub mod Gathering
 pub mod Work
+pub mod Held
 pub mod Acting
 pub mod Caching
 pub mod Outside

@@ -1,18 +1,18 @@
 //! What one line does.
 
-ghost use Rattle.std.specs.Prelude.{◌≡◌, ◌≤◌, ◌*◌, [], IfErr, IfOk, OnOk, false, length, true};
-ghost use Rattle.pm_epochs.specs.Log.{barriers, marks, stores};
-ghost use Rattle.bp_io.specs.Files.{KeepsFiles, KeepsOthers, StaysAttached};
-ghost use Rattle.bp_limits.specs.Limits.{block_words, log_events, max_mask};
+ghost use Rattle.std.specs.Prelude.{◌≡◌, ◌≤◌, [], IfErr, IfOk, OnOk, false, length, true};
+ghost use Rattle.pm_epochs.specs.Log.{barriers, marks};
+ghost use Rattle.bp_io.specs.Files.{KeepsOthers, StaysAttached};
+ghost use Rattle.bp_limits.specs.Limits.{log_events, max_mask};
 ghost use Rattle.bp_replay.specs.Storm.{storm_cut};
 ghost use Rattle.bp_replay.specs.Wanted.{cut_for, mask_places, wanted_by};
 ghost use Rattle.bp_script.specs.Commands.Command.{sync};
 ghost use Rattle.bp_script.specs.Commands.{command_of};
-ghost use Rattle.bp_session.specs.Acting.{CrashesTo, Does, HasCrashed, LeavesStale, NotesDrain, is_crash, reply_of};
-ghost use Rattle.bp_session.specs.Changed.{AreMarked, AreUnmarked};
-ghost use Rattle.bp_session.specs.Gathering.{Clears, LineGathers};
-ghost use Rattle.bp_session.specs.Serving.{CanServe, DoesLine, moment, with_stale};
-ghost use Rattle.bp_session.specs.Statuses.{broken_status};
+ghost use Rattle.bp_session.specs.Acting.{CrashesTo, Does, HasCrashed, LeavesStale, NotesDrain, is_crash};
+ghost use Rattle.bp_session.specs.Changed.{AreMarked};
+ghost use Rattle.bp_session.specs.Held.{ClearsHeld, DoesHeld, StopsBy};
+ghost use Rattle.bp_session.specs.Saving.{KeepsUnmarked};
+ghost use Rattle.bp_session.specs.Serving.{CanServe};
 ghost use Rattle.bp_session.specs.declared.broken.Broken.TheVariants as cause;
 ghost use Rattle.bp_session.specs.declared.outcome.Outcome.TheVariants.{Logged, Synced};
 ghost use Rattle.bp_session.specs.Work.{answer_in, line_in, waiting_in};
@@ -202,19 +202,16 @@ pub(crate) fn act_and_save<R: Region, K: Sink, F: Files>(
     files: &mut F,
 ) -> Result<Outcome, Broken>
     requires { CanServe volume.old (F.view files.old) }
-    ensures does { IfOk result (λ outcome. DoesLine
-        (with_stale stale.old (moment volume.old (F.view files.old) (K.view out.old)))
-        (command_of (line_in buffers.old)) (reply_of outcome (answer_in buffers.new))
-        (with_stale stale.new (moment volume.new (F.view files.new) (K.view out.new)))) }
+    ensures does { IfOk result (DoesHeld
+        buffers.old stale.old volume.old (F.view files.old) (K.view out.old)
+        buffers.new stale.new volume.new (F.view files.new) (K.view out.new)) }
     ensures stale { IfOk result (λ outcome. LeavesStale outcome volume.old stale.old stale.new) }
-    ensures kept { AreUnmarked stale.old → length volume.old.base ≤ block_words * length stale.old →
-        stores volume.old.events ≡ [] → KeepsFiles (F.view files.old) (F.view files.new) }
-    ensures clears { OnOk result (Clears (command_of (line_in buffers.old)) (waiting_in buffers.old)
-        (waiting_in buffers.new) (K.view out.old).taken (K.view out.new).taken (F.view files.old) (F.view files.new)) }
-    ensures stops { IfErr result (λ broken. LineGathers (broken_status broken) (command_of (line_in buffers.old))
-        (waiting_in buffers.old) (waiting_in buffers.new)
-        (with_stale stale.old (moment volume.old (F.view files.old) (K.view out.old)))
-        (with_stale stale.new (moment volume.new (F.view files.new) (K.view out.new)))) }
+    ensures kept { KeepsUnmarked stale.old volume.old (F.view files.old) (F.view files.new) }
+    ensures clears { OnOk result (ClearsHeld buffers.old (F.view files.old) (K.view out.old)
+        buffers.new (F.view files.new) (K.view out.new)) }
+    ensures stops { IfErr result (StopsBy
+        buffers.old stale.old volume.old (F.view files.old) (K.view out.old)
+        buffers.new stale.new volume.new (F.view files.new) (K.view out.new)) }
     ensures heard { IfErr result (λ broken. waiting_in buffers.old ≡ [] → broken ≡ cause.Files) }
     ensures synced { OnOk result (command_of (line_in buffers.old) ≡ sync → (F.view files.new).is_flushed ≡ true) }
     ensures flushed { OnOk result ((F.view files.old).is_flushed ≡ true → (F.view files.new).is_flushed ≡ true) }

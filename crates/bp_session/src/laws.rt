@@ -1,52 +1,43 @@
 //! What a session is, in words of a plain file tree.
 
-ghost use Rattle.std.specs.Prelude.{◌≡◌, All, List, [], ◌++◌, map};
-ghost use Rattle.pm_epochs.specs.Replay.{PowerCut, IsRight, replay, kept_calls};
+ghost use Rattle.std.specs.Prelude.{◌≡◌, List, [], ◌++◌, map};
 ghost use Rattle.bp_layout.specs.Bytes.{image_bytes};
 ghost use Rattle.bp_layout.specs.Words.{Image};
 ghost use Rattle.bp_session.specs.Files.{AreWordsOf64Bits};
-ghost use Rattle.bp_plain.specs.Export.{IsExportable, IsOfBytes, export_calls, without_snapshot};
-ghost use Rattle.bp_plain.specs.PlainTree.{FileTree, empty_tree};
-ghost use Rattle.bp_plain.specs.Stands.{Stands};
+ghost use Rattle.bp_plain.specs.Export.{IsExportable, IsOfBytes, export_calls};
+ghost use Rattle.bp_plain.specs.PlainTree.{FileTree};
 ghost use Rattle.bp_script.specs.Commands.{Command};
 ghost use Rattle.bp_script.specs.Commands.Command.{file_call};
 ghost use Rattle.bp_script.specs.Export.{export_text};
 ghost use Rattle.bp_script.specs.Texts.{LineReply};
 ghost use Rattle.bp_session.specs.Lines.{commands_from};
 ghost use Rattle.bp_session.specs.Session.{State, Session};
-ghost use Rattle.bp_session.specs.PlainSession.{PlainState, PlainSession, Follows, TellsNoSpace, fresh, after_crash};
-ghost use Rattle.pm_region.specs.Memory.{current_words};
+ghost use Rattle.bp_session.specs.PlainSession.{PlainState};
+ghost use Rattle.bp_session.specs.SessionLaws.{IsOfTree, KeepsCalls, MakesTree, SplitsAt, StaysPlain};
 
 /// A session over an image that stands for a tree is one of that plain tree: the replies are the plain tree's, and at
 /// the session's end every right choice leaves an image that stands for the tree after the calls that it keeps.
 pub fn sessions_are_plain()
     ensures { (old new : State) (tree : FileTree) (commands : List Command) (replies : List LineReply) →
-        old.memory.events ≡ [] → Stands old.memory.base tree → Session old commands replies new →
-        (plain : PlainState) × PlainSession (fresh tree) commands replies plain × Follows new.memory plain }
+        IsOfTree tree old commands replies new }
 {}
 
 /// So is one that begins in the middle.
 pub fn sessions_stay_plain()
     ensures { (old new : State) (plain : PlainState) (commands : List Command) (replies : List LineReply) →
-        Follows old.memory plain → Session old commands replies new →
-        (after : PlainState) × PlainSession plain commands replies after × Follows new.memory after }
+        StaysPlain plain old commands replies new }
 {}
 
 /// A crash at any moment since the last drain leaves an image that stands for the tree after the calls that it keeps.
 pub fn crashes_keep_calls()
     ensures { (old new : State) (tree : FileTree) (commands : List Command) (replies : List LineReply) →
-        old.memory.events ≡ [] → Stands old.memory.base tree → Session old commands replies new →
-        (plain : PlainState) × PlainSession (fresh tree) commands replies plain ×
-        ((cut : PowerCut) → IsRight new.memory.events cut →
-        Stands (replay new.memory.base new.memory.events cut) (after_crash plain (kept_calls new.memory.events cut))) }
+        KeepsCalls tree old commands replies new }
 {}
 
 /// A session has a state behind each of its lines, so that all that holds at its end holds there.
 pub fn sessions_split()
     ensures { (old new : State) (first rest : List Command) (replies : List LineReply) →
-        Session old (first ++ rest) replies new →
-        (middle : State) × (front : List LineReply) × (behind : List LineReply) × (replies ≡ front ++ behind)
-        × Session old first front middle × Session middle rest behind new }
+        Session old (first ++ rest) replies new → SplitsAt old first rest replies new }
 {}
 
 /// Bytes are those of one image at most.
@@ -65,7 +56,5 @@ pub fn exports_ask_for_their_calls()
 /// snapshot, where no reply is that there is no space.
 pub fn exports_make_their_trees()
     ensures { (old new : State) (tree : FileTree) (replies : List LineReply) → IsExportable tree → IsOfBytes tree →
-        old.memory.events ≡ [] → Stands old.memory.base (empty_tree tree.version) →
-        Session old (commands_from [] (export_text tree)) replies new → All (λ reply. ¬ TellsNoSpace reply) replies →
-        Stands (current_words new.memory) (without_snapshot tree) }
+        MakesTree tree old replies new }
 {}

@@ -4,10 +4,10 @@ ghost use Rattle.std.specs.Prelude.{[], ◌≡◌, ◌≢◌, ◌↔◌, ◌≤�
 ghost use Rattle.bp_layout.specs.Words.{Image};
 ghost use Rattle.bp_io.specs.Causes.{HasCause};
 ghost use Rattle.bp_io.specs.Files.{KeepsFiles, KeepsOthers, StaysAttached};
-ghost use Rattle.bp_layout.specs.Bytes.{image_bytes};
 ghost use Rattle.bp_limits.specs.Limits.{block_words, max_blocks};
-ghost use Rattle.bp_session.specs.Changed.{AreMarked, AreUnmarked, HoldsChanged, MarksChanges, MarksDrain, is_marked, stale_in};
-ghost use Rattle.bp_session.specs.Files.{HasBlocksOf, Holds, HoldsAs, HoldsBytes, HoldsPartly, IsReady, StaysTold};
+ghost use Rattle.bp_session.specs.Changed.{AreMarked, AreUnmarked, MarksChanges, MarksDrain, is_marked, stale_in};
+ghost use Rattle.bp_session.specs.Files.{Holds, HoldsPartly, IsReady, StaysTold};
+ghost use Rattle.bp_session.specs.Saving.{KeepsUnmarked, SavesMarked, SavesPartly, SavesWords};
 ghost use Rattle.pm_epochs.specs.Log.{stores};
 ghost use Rattle.pm_region.specs.Memory.{current_words, drained};
 
@@ -164,10 +164,8 @@ fn write_changed<R: Region, F: Files>(
     files: &mut F,
 ) -> Result<(), Failed>
     requires { IsReady (R.memory region.now).base (F.view files.old) }
-    ensures saved { OnOk result ((name was : List ℕ) → HoldsBytes (F.view files.old) name was →
-        HoldsChanged marks.now (F.view files.new) name was (image_bytes (current_words (R.memory region.now)))) }
-    ensures partly { OnErr result ((name was : List ℕ) → HoldsBytes (F.view files.old) name was →
-        HasBlocksOf ((F.view files.new).contents name) was (image_bytes (current_words (R.memory region.now)))) }
+    ensures saved { OnOk result (SavesMarked marks.now (current_words (R.memory region.now)) (F.view files.old) (F.view files.new)) }
+    ensures partly { OnErr result (SavesPartly (current_words (R.memory region.now)) (F.view files.old) (F.view files.new)) }
     ensures kept { AreUnmarked marks.now → length (R.memory region.now).base ≤ block_words * length marks.now →
         F.view files.new ≡ F.view files.old }
     ensures told { StaysTold (F.view files.old) (F.view files.new) }
@@ -207,10 +205,8 @@ fn flush<F: Files>(files: &mut F) -> Result<(), Failed>
 /// Writes each block that is marked to the attached file, in order, and flushes it.
 fn save<R: Region, F: Files>(region: &R, marks: &[bool], files: &mut F) -> Result<(), Failed>
     requires { IsReady (R.memory region.now).base (F.view files.old) }
-    ensures saved { OnOk result ((name was : List ℕ) → HoldsBytes (F.view files.old) name was →
-        HoldsChanged marks.now (F.view files.new) name was (image_bytes (current_words (R.memory region.now)))) }
-    ensures partly { OnErr result ((name was : List ℕ) → HoldsBytes (F.view files.old) name was →
-        HasBlocksOf ((F.view files.new).contents name) was (image_bytes (current_words (R.memory region.now)))) }
+    ensures saved { OnOk result (SavesMarked marks.now (current_words (R.memory region.now)) (F.view files.old) (F.view files.new)) }
+    ensures partly { OnErr result (SavesPartly (current_words (R.memory region.now)) (F.view files.old) (F.view files.new)) }
     ensures kept { AreUnmarked marks.now → length (R.memory region.now).base ≤ block_words * length marks.now →
         KeepsFiles (F.view files.old) (F.view files.new) }
     ensures flushed { OnOk result ((F.view files.new).is_flushed ≡ true) }
@@ -232,13 +228,10 @@ pub(crate) fn sync_marked<R: Region, F: Files>(
 ) -> Result<(), Failed>
     requires { IsReady volume.old.base (F.view files.old) }
     ensures drained { volume.new ≡ drained volume.old }
-    ensures saved { OnOk result ((name : List ℕ) (was : Image) →
-        HoldsAs stale.old (F.view files.old) volume.old.base name was →
-        Holds (F.view files.new) name (current_words volume.old)) }
+    ensures saved { OnOk result (SavesWords stale.old volume.old (F.view files.old) (F.view files.new)) }
     ensures partly { OnErr result ((name : List ℕ) (was : Image) → Holds (F.view files.old) name was →
         HoldsPartly (F.view files.new) name was (current_words volume.old)) }
-    ensures kept { AreUnmarked stale.old → length volume.old.base ≤ block_words * length stale.old →
-        stores volume.old.events ≡ [] → KeepsFiles (F.view files.old) (F.view files.new) }
+    ensures kept { KeepsUnmarked stale.old volume.old (F.view files.old) (F.view files.new) }
     ensures cleared { OnOk result (AreUnmarked stale.new) }
     ensures lost { OnErr result (AreMarked stale.new) }
     ensures flushed { OnOk result ((F.view files.new).is_flushed ≡ true) }
@@ -272,13 +265,10 @@ pub fn sync_and_save<R: Region, F: Files>(
 ) -> Result<(), Failed>
     requires { IsReady volume.old.base (F.view files.old) }
     ensures drained { volume.new ≡ drained volume.old }
-    ensures saved { OnOk result ((name : List ℕ) (was : Image) →
-        HoldsAs (stale_in stale.old) (F.view files.old) volume.old.base name was →
-        Holds (F.view files.new) name (current_words volume.old)) }
+    ensures saved { OnOk result (SavesWords (stale_in stale.old) volume.old (F.view files.old) (F.view files.new)) }
     ensures partly { OnErr result ((name : List ℕ) (was : Image) → Holds (F.view files.old) name was →
         HoldsPartly (F.view files.new) name was (current_words volume.old)) }
-    ensures kept { AreUnmarked (stale_in stale.old) → length volume.old.base ≤ block_words * length (stale_in stale.old) →
-        stores volume.old.events ≡ [] → KeepsFiles (F.view files.old) (F.view files.new) }
+    ensures kept { KeepsUnmarked (stale_in stale.old) volume.old (F.view files.old) (F.view files.new) }
     ensures cleared { OnOk result (AreUnmarked (stale_in stale.new)) }
     ensures lost { OnErr result (AreMarked (stale_in stale.new)) }
     ensures flushed { OnOk result ((F.view files.new).is_flushed ≡ true) }

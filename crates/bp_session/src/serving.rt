@@ -1,20 +1,17 @@
 //! Lines of a source in any pieces, each with its reply to a sink.
 
 ghost use Rattle.memchr.specs.Find.{IsFirst, Nowhere, Passes, is_byte};
-ghost use Rattle.std.specs.Prelude.{◌≡◌, ◌≤◌, ◌∷◌, ◌++◌, List, ℕ, [], OnOk, length, slice_range, take, true, vec_len};
+ghost use Rattle.std.specs.Prelude.{◌≡◌, ◌≤◌, ◌++◌, List, ℕ, [], OnOk, length, slice_range, true, vec_len};
 ghost use Rattle.std.specs.Io.{ReadsAtMost};
 ghost use Rattle.std.specs.Io.KnownBytes.{ReadConsumes};
 ghost use Rattle.bp_io.specs.Causes.{HasCause};
 ghost use Rattle.bp_script.specs.Commands.Command.{sync};
 ghost use Rattle.bp_script.specs.Commands.{command_of};
-ghost use Rattle.bp_session.specs.Changed.{stale_in};
 ghost use Rattle.bp_session.specs.Files.{IsReady};
 ghost use Rattle.bp_session.specs.Lines.{commands_from};
-ghost use Rattle.bp_session.specs.Gathering.{LineGathers};
-ghost use Rattle.bp_replies.specs.Room.{gathered_size};
+ghost use Rattle.bp_session.specs.Held.{Answers, EndsHeld, GathersHeld, ServesBy, ServesGathered, ServesHeld, TakesPiece, seen};
 ghost use Rattle.bp_session.specs.Pieces.{piece_size};
-ghost use Rattle.bp_session.specs.Serving.{CanServe, LineOutcome, PieceOutcome, ServeOutcome, ServesAgain};
-ghost use Rattle.bp_session.specs.Serving.{moment, with_stale};
+ghost use Rattle.bp_session.specs.Serving.{CanServe, ServesAgain, moment};
 ghost use Rattle.bp_session.specs.Statuses.{status_of};
 ghost use Rattle.bp_session.specs.Work.{held_line, held_replies, read_piece};
 
@@ -42,10 +39,9 @@ fn answer_line<R: Region, K: Sink, F: Files>(
     files: &mut F,
 ) -> Result<(), Broken>
     requires { CanServe volume.old (F.view files.old) }
-    ensures outcome { LineGathers (status_of result) (command_of (held_line work.old))
-        (held_replies work.old) (held_replies work.new)
-        (with_stale stale.old (moment volume.old (F.view files.old) (K.view out.old)))
-        (with_stale stale.new (moment volume.new (F.view files.new) (K.view out.new))) }
+    ensures outcome { GathersHeld result
+        work.old stale.old volume.old (F.view files.old) (K.view out.old)
+        work.new stale.new volume.new (F.view files.new) (K.view out.new) }
     ensures few { OnOk result (length (held_replies work.new) ≤ most) }
     ensures synced { held_replies work.old ≡ [] → ¬ (status_of result ≡ 5) → command_of (held_line work.old) ≡ sync →
         (F.view files.new).is_flushed ≡ true }
@@ -71,9 +67,9 @@ fn answer_alone<R: Region, K: Sink, F: Files>(
     files: &mut F,
 ) -> Result<(), Broken>
     requires { CanServe volume.old (F.view files.old) }
-    ensures outcome { LineOutcome (status_of result) (command_of (held_line work.old) ∷ [])
-        (with_stale stale.old (moment volume.old (F.view files.old) (K.view out.old)))
-        (with_stale stale.new (moment volume.new (F.view files.new) (K.view out.new))) }
+    ensures outcome { ServesHeld result work.old
+        (seen stale.old volume.old (F.view files.old) (K.view out.old))
+        (seen stale.new volume.new (F.view files.new) (K.view out.new)) }
     ensures synced { ¬ (status_of result ≡ 5) → command_of (held_line work.old) ≡ sync → (F.view files.new).is_flushed ≡ true }
     ensures again { ServesAgain volume.old volume.new (F.view files.new) }
     ensures line { held_line work.new ≡ held_line work.old }
@@ -94,7 +90,7 @@ pub fn serve_line<R: Region, K: Sink, F: Files>(
     files: &mut F,
 ) -> Result<(), Broken>
     requires { CanServe volume.old (F.view files.old) }
-    ensures outcome { LineOutcome (status_of result) (command_of (held_line work.old) ∷ [])
+    ensures outcome { ServesHeld result work.old
         (moment volume.old (F.view files.old) (K.view out.old))
         (moment volume.new (F.view files.new) (K.view out.new)) }
     ensures synced { ¬ (status_of result ≡ 5) → command_of (held_line work.old) ≡ sync → (F.view files.new).is_flushed ≡ true }
@@ -117,10 +113,9 @@ fn end_line<R: Region, K: Sink, F: Files>(
     files: &mut F,
 ) -> Result<(), Broken>
     requires { CanServe volume.old (F.view files.old) }
-    ensures outcome { LineGathers (status_of result) (command_of (held_line work.old))
-        (held_replies work.old) (held_replies work.new)
-        (with_stale stale.old (moment volume.old (F.view files.old) (K.view out.old)))
-        (with_stale stale.new (moment volume.new (F.view files.new) (K.view out.new))) }
+    ensures outcome { GathersHeld result
+        work.old stale.old volume.old (F.view files.old) (K.view out.old)
+        work.new stale.new volume.new (F.view files.new) (K.view out.new) }
     ensures few { OnOk result (length (held_replies work.new) ≤ most) }
     ensures ready { IsReady volume.new.base (F.view files.new) }
     ensures line { held_line work.new ≡ [] }
@@ -171,10 +166,9 @@ fn take_piece<R: Region, K: Sink, F: Files>(
 ) -> Result<(), Broken>
     requires serves { CanServe volume.old (F.view files.old) }
     requires inside { count ≤ piece_size }
-    ensures outcome { PieceOutcome (status_of result) most
-        (held_line work.old) (take count (read_piece work.old)) (held_line work.new)
-        (with_stale stale.old (moment volume.old (F.view files.old) (K.view out.old)))
-        (with_stale stale.new (moment volume.new (F.view files.new) (K.view out.new))) }
+    ensures outcome { TakesPiece result most count
+        work.old stale.old volume.old (F.view files.old) (K.view out.old)
+        work.new stale.new volume.new (F.view files.new) (K.view out.new) }
     ensures again { ServesAgain volume.old volume.new (F.view files.new) }
 {
     let mut at: usize = 0;
@@ -201,9 +195,9 @@ fn finish<R: Region, K: Sink, F: Files>(
     files: &mut F,
 ) -> Result<(), Broken>
     requires { CanServe volume.old (F.view files.old) }
-    ensures { LineOutcome (status_of result) (commands_from (held_line work.old) [])
-        (with_stale stale.old (moment volume.old (F.view files.old) (K.view out.old)))
-        (with_stale stale.new (moment volume.new (F.view files.new) (K.view out.new))) }
+    ensures { EndsHeld result work.old
+        (seen stale.old volume.old (F.view files.old) (K.view out.old))
+        (seen stale.new volume.new (F.view files.new) (K.view out.new)) }
 {
     if work.buffers.line.is_empty() {
         return Ok(());
@@ -233,10 +227,9 @@ fn serve_by<R: Region, S: Source, K: Sink, F: Files>(
     files: &mut F,
 ) -> Result<(), Broken>
     requires { CanServe volume.old (F.view files.old) }
-    ensures outcome { ServeOutcome (status_of result) most
-        (S.view src.old) (S.view src.new)
-        (with_stale stale.old (moment volume.old (F.view files.old) (K.view out.old)))
-        (with_stale stale.new (moment volume.new (F.view files.new) (K.view out.new))) }
+    ensures outcome { ServesBy result most S.view
+        src.old stale.old volume.old (F.view files.old) (K.view out.old)
+        src.new stale.new volume.new (F.view files.new) (K.view out.new) }
     ensures again { ServesAgain volume.old volume.new (F.view files.new) }
 {
     work.buffers.line.clear();
@@ -270,7 +263,7 @@ pub fn serve<R: Region, S: Source, K: Sink, F: Files>(
     files: &mut F,
 ) -> Result<(), Broken>
     requires { CanServe volume.old (F.view files.old) }
-    ensures outcome { ServeOutcome (status_of result) 0
+    ensures outcome { Answers result
         (S.view src.old) (S.view src.new)
         (moment volume.old (F.view files.old) (K.view out.old))
         (moment volume.new (F.view files.new) (K.view out.new)) }
@@ -296,10 +289,9 @@ pub fn serve_gathered<R: Region, S: Source, K: Sink, F: Files>(
     files: &mut F,
 ) -> Result<(), Broken>
     requires { CanServe volume.old (F.view files.old) }
-    ensures outcome { ServeOutcome (status_of result) gathered_size
-        (S.view src.old) (S.view src.new)
-        (with_stale (stale_in stale.old) (moment volume.old (F.view files.old) (K.view out.old)))
-        (with_stale (stale_in stale.new) (moment volume.new (F.view files.new) (K.view out.new))) }
+    ensures outcome { ServesGathered result S.view
+        src.old stale.old volume.old (F.view files.old) (K.view out.old)
+        src.new stale.new volume.new (F.view files.new) (K.view out.new) }
     ensures again { ServesAgain volume.old volume.new (F.view files.new) }
 {
     let count = stale.count.min(stale.marks.len());

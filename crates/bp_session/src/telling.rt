@@ -5,8 +5,8 @@ ghost use Rattle.bp_io.specs.Causes.{HasCause};
 ghost use Rattle.bp_plain.specs.Calls as calls;
 ghost use Rattle.bp_plain.specs.Calls.Answer.{names};
 ghost use Rattle.bp_script.specs.Sayings.{FitsReply, said_text};
-ghost use Rattle.bp_script.specs.Texts.{answer_text, reply_text};
-ghost use Rattle.bp_session.specs.Acting.{reply_of};
+ghost use Rattle.bp_script.specs.Texts.{answer_text};
+ghost use Rattle.bp_session.specs.Acting.{outcome_text};
 ghost use Rattle.bp_session.specs.declared.outcome.Outcome.TheVariants.{Answered};
 ghost use Rattle.bp_replies.specs.Gathering.{PassesOn, waiting};
 ghost use Rattle.bp_replies.specs.Taking.{TakesPart};
@@ -51,7 +51,7 @@ fn tell_answer<K: Sink>(reply: &Reply, replies: &mut Replies, out: &mut K) -> Re
 #[inline(never)]
 fn said(outcome: Outcome) -> Said<'static>
     requires { ¬ (outcome ≡ Answered) }
-    ensures text { (answer : calls.Answer) → said_text result ≡ reply_text (reply_of outcome answer) }
+    ensures text { (answer : calls.Answer) → said_text result ≡ outcome_text outcome answer }
     ensures fits { FitsReply result }
 {
     match outcome {
@@ -82,9 +82,9 @@ fn tell<K: Sink>(
     replies: &mut Replies,
     out: &mut K,
 ) -> Result<(), Failed>
-    ensures all { OnOk result (PassesOn (reply_text (reply_of outcome reply.now.answer))
+    ensures all { OnOk result (PassesOn (outcome_text outcome reply.now.answer)
         (waiting replies.old) (waiting replies.new) (K.view out.old).taken (K.view out.new).taken) }
-    ensures some { OnErr result (TakesPart (waiting replies.old ++ reply_text (reply_of outcome reply.now.answer))
+    ensures some { OnErr result (TakesPart (waiting replies.old ++ outcome_text outcome reply.now.answer)
         (K.view out.old).taken (K.view out.new).taken) }
     ensures cause { HasCause (K.view out.old).faults (K.view out.new).faults result }
 {
@@ -103,9 +103,9 @@ pub(crate) fn tell_by<K: Sink>(
     most: usize,
     out: &mut K,
 ) -> Result<(), Failed>
-    ensures all { OnOk result (PassesOn (reply_text (reply_of outcome reply.now.answer))
+    ensures all { OnOk result (PassesOn (outcome_text outcome reply.now.answer)
         (waiting replies.old) (waiting replies.new) (K.view out.old).taken (K.view out.new).taken) }
-    ensures some { OnErr result (TakesPart (waiting replies.old ++ reply_text (reply_of outcome reply.now.answer))
+    ensures some { OnErr result (TakesPart (waiting replies.old ++ outcome_text outcome reply.now.answer)
         (K.view out.old).taken (K.view out.new).taken) }
     ensures few { OnOk result (length (waiting replies.new) ≤ most) }
     ensures cause { HasCause (K.view out.old).faults (K.view out.new).faults result }

@@ -1,0 +1,51 @@
+-- What holds of whole sessions, in words of a plain file tree.
+use Rattle.std.specs.Prelude.{All, ◌≡◌, List, [], ◌++◌}
+use Rattle.bp_plain.specs.Export.{without_snapshot}
+use Rattle.bp_plain.specs.PlainTree.{FileTree, empty_tree}
+use Rattle.bp_plain.specs.Stands.{Stands}
+use Rattle.bp_script.specs.Commands.{Command}
+use Rattle.bp_script.specs.Export.{export_text}
+use Rattle.bp_script.specs.Texts.{LineReply}
+use Rattle.bp_session.specs.Lines.{commands_from}
+use Rattle.bp_session.specs.PlainSession.{Follows, PlainSession, PlainState, TellsNoSpace, after_crash, fresh}
+use Rattle.bp_session.specs.Session.{Session, State}
+use Rattle.pm_epochs.specs.Replay.{IsRight, PowerCut, kept_calls, replay}
+use Rattle.pm_region.specs.Memory.{Memory, current_words}
+
+-- a session over words that stand for the tree, from an empty log, is one of the plain tree, which its words then follow
+abbrev pub IsOfTree : FileTree → State → List Command → List LineReply → State → Type 0
+IsOfTree tree old commands replies new =
+    old.memory.events ≡ [] → Stands old.memory.base tree → Session old commands replies new →
+    (plain : PlainState) × PlainSession (fresh tree) commands replies plain × Follows new.memory plain
+
+-- so is one whose words follow a plain tree as it begins
+abbrev pub StaysPlain : PlainState → State → List Command → List LineReply → State → Type 0
+StaysPlain plain old commands replies new =
+    Follows old.memory plain → Session old commands replies new →
+    (after : PlainState) × PlainSession plain commands replies after × Follows new.memory after
+
+-- what any right cut of the log leaves stands for the tree after the calls that the cut keeps
+abbrev pub LeavesTrees : Memory → PlainState → Type 0
+LeavesTrees memory plain = (cut : PowerCut) → IsRight memory.events cut →
+    Stands (replay memory.base memory.events cut) (after_crash plain (kept_calls memory.events cut))
+
+-- a session over words that stand for the tree, from an empty log, is one of the plain tree, of whose trees any crash at its
+-- end leaves one
+abbrev pub KeepsCalls : FileTree → State → List Command → List LineReply → State → Type 0
+KeepsCalls tree old commands replies new =
+    old.memory.events ≡ [] → Stands old.memory.base tree → Session old commands replies new →
+    (plain : PlainState) × PlainSession (fresh tree) commands replies plain × LeavesTrees new.memory plain
+
+-- a session over the first commands leads to a state from which one over the rest goes on
+abbrev pub SplitsAt : State → List Command → List Command → List LineReply → State → Type 0
+SplitsAt old first rest replies new =
+    (middle : State) × (front : List LineReply) × (behind : List LineReply) × (replies ≡ front ++ behind)
+    × Session old first front middle × Session middle rest behind new
+
+-- a session over the tree's export, from an empty file system and an empty log, in which no reply is that there is no
+-- space, ends in the tree without its snapshot
+abbrev pub MakesTree : FileTree → State → List LineReply → State → Type 0
+MakesTree tree old replies new =
+    old.memory.events ≡ [] → Stands old.memory.base (empty_tree tree.version) →
+    Session old (commands_from [] (export_text tree)) replies new → All (λ reply. ¬ TellsNoSpace reply) replies →
+    Stands (current_words new.memory) (without_snapshot tree)

@@ -116,7 +116,9 @@ fn mark_rows<R: Region>(region: &R, marks: &mut [bool], most: usize) -> bool
 }
 
 /// Marks the blocks to which a store of the log went, or all blocks where the log has more rows of stores a block than are
-/// looked at. A log without a store marks none. Where each block is marked already, the log is not looked through.
+/// looked at. A log without a store marks none. Where each block is marked already, the log is not looked through. It stands
+/// by itself, so that a line which drains nothing does no more than ask for the log's room.
+#[inline(never)]
 fn mark_stored<R: Region>(region: &R, marks: &mut [bool])
     ensures marks { MarksChanges marks.new (R.memory region.now).base (current_words (R.memory region.now)) }
     ensures more { (i : ℕ) → is_marked marks.old i ≡ true → is_marked marks.new i ≡ true }

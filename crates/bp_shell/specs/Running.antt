@@ -22,7 +22,7 @@ use Rattle.bp_session.specs.Files.{AreWordsOf64Bits, HasBytes, HasBlocksOf, Hold
 use Rattle.bp_session.specs.Serving.{BreaksOff, SyncFails, OfLines, Serves, StopsAtSave, Told}
 use Rattle.bp_session.specs.PlainSession.{FollowsTree}
 use Rattle.bp_session.specs.Session.{State}
-use Rattle.bp_shell.specs.Opening.{HoldsFileSystem, OnlyReads, start}
+use Rattle.bp_shell.specs.Opening.{HoldsFileSystem, IsStart, OnlyReads, start}
 use Rattle.bp_shell.specs.Formatting.{new_image, HasPartly, OnlyMakes}
 use Rattle.bp_session.specs.Outside.{Outside, SourceFailed, SinkFailed, FilesFailed, IsFirstFault, IsIdle}
 use Rattle.bp_shell.specs.Checking.{CheckOutcome}
@@ -45,7 +45,7 @@ SavesPartly after first second = HasBlocksOf after.file (image_bytes first) (ima
 -- The file of this name held this image, a file system, and was mounted: no fault came, and no file changed.
 pub record IsMounted (name : List ℕ) (image : Image) (before now : View) (memory : Memory) : Type 0 where
   pub found : HoldsFileSystem (before.contents name) image
-  pub starts : memory ≡ (start image).memory
+  pub starts : IsStart image memory
   pub holds : Holds now name image
   pub flushed : now.is_flushed ≡ before.is_flushed
   pub calm : now.faults ≡ before.faults

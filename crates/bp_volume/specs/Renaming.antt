@@ -67,12 +67,16 @@ are_same ends = is_inode ends.source.inumber ends.target.there
 abbrev pub Allows : Image → Call → Type 0
 Allows image call = (tree : FileTree) → Stands image tree → refusal tree call ≡ None
 
+-- what has the new name can go
+abbrev pub CanUnlinkThere : Image → Ends → FoundEntry → Type 0
+CanUnlinkThere image ends entry =
+    CanUnlink image ends.target.dir entry.slot (inumber_at image ends.target.dir entry.slot)
+
 -- The ends are entries of two inodes, or the second is new. What has the new name may leave, and nothing refuses the rename.
 pub record MayMove (image : Image) (from to : List ℕ) (ends : Ends) : Type 0 where
   pub found : FindsEnds image from to ends
   pub other : are_same ends ≡ false
-  pub leaves : (entry : FoundEntry) → ends.target.there ≡ Some entry →
-      CanUnlink image ends.target.dir entry.slot (inumber_at image ends.target.dir entry.slot)
+  pub leaves : (entry : FoundEntry) → ends.target.there ≡ Some entry → CanUnlinkThere image ends entry
   pub allowed : Allows image (rename from to)
 
 -- the move from end to end

@@ -3,7 +3,8 @@
 ghost use Rattle.std.specs.Prelude.{◌≡◌, length};
 ghost use Rattle.bp_plain.specs.Calls.Call.{links, read, stat};
 ghost use Rattle.bp_volume.specs.Seen.{links_answer, stat_answer_of};
-ghost use Rattle.bpfs_c.specs.Codes.{IsCounted, IsFound, IsLinked, IsRead};
+ghost use Rattle.bpfs_c.specs.Codes.{IsCounted, IsFound, IsLinked};
+ghost use Rattle.bpfs_c.specs.Exports.{ExportsRead};
 ghost use Rattle.bpfs_c.specs.Serves.{Exported};
 
 use crate::codes::{CLOSED, LOG_FULL, OK, number_of};
@@ -44,9 +45,8 @@ pub extern "C" fn bpfs_read(
     into: &mut [u8],
     count: &mut usize,
 ) -> u32
-    ensures { Exported handle.old.held (read path.now off (length into.old))
-        (λ answer. IsRead answer into.old count.old result into.new count.new)
-        ((into.new ≡ into.old) × (count.new ≡ count.old)) result handle.new.held }
+    ensures { ExportsRead handle.old.held (read path.now off (length into.old)) into.old count.old
+        result into.new count.new handle.new.held }
 {
     let Some(mut mounted) = handle.take(alloc) else {
         return CLOSED;

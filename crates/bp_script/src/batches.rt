@@ -1,14 +1,13 @@
 //! The pieces of a batch.
 
-ghost use Rattle.bp_plain.specs.Calls.Call.{batch};
 ghost use Rattle.bp_plain.specs.Seen.{LiesIn, piece_in, spanned};
 ghost use Rattle.bp_script.specs.Commands.Command.{bad_syntax, file_call};
 ghost use Rattle.bp_script.specs.Commands.{asked_by, decoded, path_bytes};
-ghost use Rattle.bp_script.specs.Lines.{len_behind, most_room, piece_decoded, words_at, words_behind, words_len};
+ghost use Rattle.bp_script.specs.Lines.{batch_in, len_behind, most_room, piece_decoded, words_at, words_behind, words_len};
 ghost use Rattle.hex.specs.Hex.{decode_of};
 ghost use Rattle.std.specs.List.{All};
 ghost use Rattle.std.specs.Option.{option_map_or};
-ghost use Rattle.std.specs.Prelude.{if◌then◌else◌, ◌∷◌, ◌+◌, ◌≡◌, ◌≤◌, IfOk, OnErr, OnOk, [], codes, length, map, option_map, take, vec_capacity, vec_len};
+ghost use Rattle.std.specs.Prelude.{if◌then◌else◌, ◌∷◌, ◌+◌, ◌≡◌, ◌≤◌, IfOk, OnErr, OnOk, [], codes, length, option_map, take, vec_capacity, vec_len};
 ghost use Rattle.std.specs.Result.{is_ok, result_ok};
 
 use crate::decoding::{add_path, decode_into, digits_of, split_once};
@@ -42,8 +41,7 @@ pub(crate) fn decode_pieces(
 ) -> Result<(), Syntax>
     requires room { length first.path.now + length first.off.now + length first.rest.now ≤ vec_capacity text.old }
     requires low { length first.path.now + length first.off.now + length first.rest.now ≤ most_room }
-    ensures meaning { (if is_ok result
-        then file_call (batch (map (piece_in text.new.items) pieces.new.items)) else bad_syntax) ≡
+    ensures meaning { (if is_ok result then file_call (batch_in text.new.items pieces.new.items) else bad_syntax) ≡
         decoded (asked_by (codes "batch" ∷ words_at first.entry)) }
     ensures whole { OnOk result (All (LiesIn text.new.items) pieces.new.items) }
     ensures room { vec_capacity text.old ≤ vec_capacity text.new }

@@ -32,8 +32,8 @@ PutsRow words result old new = (image : Image) (i first count : ℕ) → IsRow i
     → OnOk result (new ≡ old ++ entries_named image i first count)
 
 -- the name of the one comes before that of the other, in the order of bytes
-abbrev pub comes_before : ℕ × Name → ℕ × Name → Bool
-comes_before one other = is_lt (slice_cmp nat_cmp one.1 other.1)
+abbrev pub entry_comes_before : ℕ × Name → ℕ × Name → Bool
+entry_comes_before one other = is_lt (slice_cmp nat_cmp one.1 other.1)
 
 -- Names, each behind the inode that directory i has there: all that a plain tree lists at the directory's path, in the same
 -- order.

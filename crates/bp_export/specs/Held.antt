@@ -10,7 +10,7 @@ use Rattle.bp_plain.specs.PlainTree.{PathMap}
 use Rattle.bp_replies.specs.Gathering.{waiting}
 use Rattle.bp_tree.specs.declared.tree.Tree.{Tree}
 use Rattle.bp_export.specs.Telling.{content_of}
-use Rattle.bp_export.specs.Walking.{Place, StandsAt, Tours, itself}
+use Rattle.bp_export.specs.Walking.{Place, Tours, WalkStandsAt, itself}
 use Rattle.bp_export.specs.declared.fault.Fault.{Fault}
 use Rattle.bp_export.specs.declared.work.Work.{Work}
 
@@ -24,7 +24,7 @@ file_calls image tree work = calls_for work.path.items (file (content_of image t
 
 -- The walk stands at the place: its path finds inode i, and what is next there is told behind what was told.
 abbrev pub StandsHeld : Image → List ℕ → (PathMap → Path → List (Path × Node)) → ℕ → Work → Place → Type 0
-StandsHeld image counts next i work place = StandsAt image counts next i work.path.items work.firsts place
+StandsHeld image counts next i work place = WalkStandsAt image counts next i work.path.items work.firsts place
 
 -- at whichever place it stands, what is next there was told
 abbrev pub ToursHeld : {T : Type 0} → Image → List ℕ → (PathMap → Path → List (Path × Node)) → ℕ → Result T Fault

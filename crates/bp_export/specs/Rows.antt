@@ -15,7 +15,7 @@ IsEmptyLeaf image root leaf = (slot : ℕ) → block_entries * leaf ≤ slot →
     → inumber_in image root slot ≡ 0
 
 -- The entry is empty, or has a number of 32 bits and a name that is not too long.
-pub record IsEntry (words : List ℕ) : Type 0 where
+pub record HasEntryForm (words : List ℕ) : Type 0 where
   pub few : slice_index words 0 < 2 ^ 32
   pub short : slice_index words 0 ≢ 0 → slice_index words 1 ≤ max_name
 

@@ -5,7 +5,7 @@ use Rattle.bp_io.specs.Files.{View}
 use Rattle.bp_io.specs.Streams.{SinkView, SourceView}
 use Rattle.bp_layout.specs.Words.{Image}
 use Rattle.bp_session.specs.Outside.{Outside, outside}
-use Rattle.bp_shell.specs.Running.{IsMounted, ProgramOutcome, RunOutcome, RunsProgram, file_name}
+use Rattle.bp_shell.specs.Running.{IsMountedFrom, ProgramOutcome, RunOutcome, RunsProgram, file_name}
 use Rattle.pm_region.specs.Memory.{Memory}
 
 -- ---- a source that is read
@@ -21,7 +21,7 @@ EndsAs Ends name source_of sink_of files_of source sink files source_now sink_no
 abbrev pub RunsMounted : {S K F : Type 0} → ℕ → (S → SourceView) → (K → SinkView) → (F → View)
     → S → K → F → Memory → S → K → F → Type 0
 RunsMounted status source_of sink_of files_of source sink files memory source_now sink_now files_now =
-    (before : View) (name : List ℕ) (image : Image) → IsMounted name image before (files_of files) memory
+    (before : View) (name : List ℕ) (image : Image) → IsMountedFrom name image before (files_of files) memory
     → RunOutcome status (outside (source_of source) (sink_of sink) before name)
     (outside (source_of source_now) (sink_of sink_now) (files_of files_now) name)
 

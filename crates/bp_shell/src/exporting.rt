@@ -7,7 +7,7 @@ ghost use Rattle.bp_limits.specs.Limits.{block_inodes};
 ghost use Rattle.bp_shell.specs.Answering.{EndsUnread};
 ghost use Rattle.bp_shell.specs.Exporting.{ExportOutcome, TellsTreeOf};
 ghost use Rattle.bp_shell.specs.Opening.{HoldsFileSystem, OnlyReads};
-ghost use Rattle.bp_shell.specs.Scanning.{IsScanned};
+ghost use Rattle.bp_shell.specs.Scanning.{ScanFinds};
 ghost use Rattle.bp_shell.specs.Statuses.{code_of};
 ghost use Rattle.bp_shell.specs.Stops.{HasStopCause, IsReason};
 ghost use Rattle.std.specs.Prelude.{◌*◌, ◌≡◌, [], IfErr, IfOk, length};
@@ -49,7 +49,7 @@ fn examine<F: Files>(alloc: Global, name: &str, files: &mut F) -> Result<(RawReg
     ensures holds { IfOk result (λ found. HoldsFileSystem ((F.view files.old).contents name.now) found.0.base) }
     ensures fresh { IfOk result (λ found. found.0.events ≡ []) }
     ensures scanned { IfOk result
-        (λ found. IsScanned found.0.base found.1.sets.frozen found.1.sets.blocks found.1.sets.counts found.1.totals) }
+        (λ found. ScanFinds found.0.base found.1.sets.frozen found.1.sets.blocks found.1.sets.counts found.1.totals) }
     ensures reason { IfErr result (IsReason ((F.view files.old).contents name.now)) }
     ensures cause { HasStopCause (F.view files.old).faults (F.view files.new).faults result }
     ensures reads { OnlyReads name.now (F.view files.old) (F.view files.new) }

@@ -8,7 +8,7 @@ ghost use Rattle.bp_layout.specs.Whole.{IsFileSystem};
 ghost use Rattle.bp_layout.specs.Words.{Image};
 ghost use Rattle.bp_limits.specs.Limits.{block_size, block_words, log_events};
 ghost use Rattle.bp_script.specs.declared.notices.Notice.{Notice};
-ghost use Rattle.bp_session.specs.Files.{AreWordsOf64Bits, HasImage, Holds, HoldsFirstBlocks, IsReady};
+ghost use Rattle.bp_session.specs.Files.{AreWordsOf64Bits, CanSave, HasImage, Holds, HoldsFirstBlocks};
 ghost use Rattle.bp_shell.specs.Opening.{AttachesAs, FindsImage, HasLoaded, HasSized, HoldsFileSystem, IsStart, Mounts, OnlyReads, RefusesFile};
 ghost use Rattle.bp_shell.specs.Stops.{HasStopCause, IsReason, stop_by};
 ghost use Rattle.bp_shell.specs.declared.stop.Stop.TheVariants.{Memory, Outside, Refused};
@@ -182,7 +182,7 @@ fn mount(alloc: Global, region: RawRegion) -> Result<Volume<RawRegion>, Stop>
 /// `Memory` where there is no memory for the volume.
 pub fn open<F: Files>(alloc: Global, name: &str, files: &mut F) -> Result<Volume<RawRegion>, Stop>
     ensures opened { IfOk result (λ volume. Mounts (F.view files.old) name.now (F.view files.new) volume) }
-    ensures ready { IfOk result (λ volume. IsReady volume.base (F.view files.new)) }
+    ensures ready { IfOk result (λ volume. CanSave volume.base (F.view files.new)) }
     ensures capacity { IfOk result (λ volume. volume.capacity ≡ log_events) }
     ensures reason { IfErr result (IsReason ((F.view files.old).contents name.now)) }
     ensures cause { HasStopCause (F.view files.old).faults (F.view files.new).faults result }

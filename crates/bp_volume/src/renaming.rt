@@ -12,7 +12,7 @@ ghost use Rattle.bp_plain.specs.Seen.{refusal_of};
 ghost use Rattle.bp_shapes.specs.Sets.{IsExact};
 ghost use Rattle.bp_volume.specs.Carried.{CarriesOut};
 ghost use Rattle.bp_volume.specs.Ready.{IsReady};
-ghost use Rattle.bp_volume.specs.Renaming.{Allows, AreEnds, CanUnlinkThere, FindsEnds, IsMoveOf, IsNewName, IsTarget, MayMove, MovesName, are_same};
+ghost use Rattle.bp_volume.specs.Renaming.{Allows, AreRenameEnds, CanUnlinkThere, FindsEnds, IsMoveOf, IsNewName, IsTarget, MayMove, MovesName, are_same};
 ghost use Rattle.bp_volume.specs.Seen.{unit_answer};
 ghost use Rattle.bp_volume.specs.Step.{IsEntryOn};
 ghost use Rattle.bp_volume.specs.Told.{Refuses, RefusesRename};
@@ -121,7 +121,7 @@ fn ends_on<'a, R: Region>(
 ) -> Result<Ends<'a>, FsError>
     requires well_formed { IsWellFormed (current_words (R.memory region.now)) }
     requires right { IsCacheOf (current_words (R.memory region.now)) cache.old }
-    ensures found { IfOk result (λ ends. AreEnds (current_words (R.memory region.now)) from.now to.now ends) }
+    ensures found { IfOk result (λ ends. AreRenameEnds (current_words (R.memory region.now)) from.now to.now ends) }
     ensures refused { IfErr result
         (λ e. RefusesRename (current_words (R.memory region.now)) from.now to.now (refusal_of e)) }
     ensures right { IsCacheOf (current_words (R.memory region.now)) cache.new }

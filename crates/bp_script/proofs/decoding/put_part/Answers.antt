@@ -1,11 +1,13 @@
 use Rattle.std.proofs.Common.{arith, rules, ap, length}
 use Rattle.percent_encoding.specs.Iter.{decoded_bytes}
 use Rattle.percent_encoding.proofs.PercentLemmas.{length-percent_decode}
-use Rattle.bp_script.proofs.decoding.add_part.Goals as goal
+use Rattle.bp_script.proofs.decoding.put_part.Goals as goal
 
 pub loop-byte-init : goal.loop-byte-init
 loop-byte-init c = record {
   items = search rules;
+  later = omega arith;
+  within = omega (arith, c.requires.within);
   len = omega (
     arith,
     (length-percent_decode c.args.part.now).0,
@@ -15,5 +17,5 @@ loop-byte-init c = record {
   room = omega arith;
 }
 
-pub add_byte-requires : goal.add_byte-requires
-add_byte-requires c = omega (arith, ap length c.in-Some.ensures.steps, c.requires)
+pub put_byte-requires : goal.put_byte-requires
+put_byte-requires c = omega (arith, ap length c.in-Some.ensures.steps, c.requires)

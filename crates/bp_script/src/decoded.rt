@@ -306,7 +306,7 @@ impl Decoded {
     {
         match (moment, epoch) {
             (Some(moment), Some(epoch)) => {
-                self.mask(digits_of(word))?;
+                self.decode_digits(digits_of(word))?;
                 Ok(self.crash_held(moment, epoch))
             }
             _ => Err(Syntax),
@@ -324,8 +324,8 @@ impl Decoded {
         })
     }
 
-    /// Decodes hexadecimal digits as the bytes of a mask, into the second memory.
-    fn mask(&mut self, digits: &[u8]) -> Result<(), Syntax>
+    /// Decodes hexadecimal digits as bytes, into the second memory.
+    fn decode_digits(&mut self, digits: &[u8]) -> Result<(), Syntax>
         requires { length digits.now ≤ decoded_room self.old }
         ensures bytes { result_ok (decode_of digits.now) ≡
             (if is_ok result then Some (second_held self.new) else None) }
@@ -400,7 +400,7 @@ impl Decoded {
         ensures path { IfOk result (λ parts. parts.0.now ≡ path_bytes path.now) }
         ensures bytes { result_ok (decode_of digits.now) ≡ option_map (λ parts. parts.1.now) (result_ok result) }
     {
-        self.mask(digits)?;
+        self.decode_digits(digits)?;
         let is_decoded = self.decode_path(path);
         Ok(self.path_and_bytes_held(is_decoded, path))
     }

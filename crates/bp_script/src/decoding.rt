@@ -61,14 +61,28 @@ pub(crate) fn decode_into(digits: &[u8], into: &mut [u8]) -> Result<(), Syntax>
     }
 }
 
-/// Decodes a word as a path, in room that is there.
-pub(crate) fn decode(word: &[u8], into: &mut Vec<u8>)
+/// Decodes a word as a path, in room that is there, where it has an escape. False says that the word is its own path, and
+/// that nothing is written.
+pub(crate) fn decode_escaped(word: &[u8], into: &mut Vec<u8>) -> bool
     requires { length word.now ≤ vec_capacity into.old }
-    ensures path { into.new.items ≡ path_bytes word.now }
+    ensures path { (if result then into.new.items else word.now) ≡ path_bytes word.now }
     ensures room { vec_capacity into.old ≤ vec_capacity into.new }
 {
-    let end = put_path(word, into, 0);
-    into.truncate(end);
+    match first_of(b'%', word) {
+        Some(_) => {
+            let end = put_parts(word, into, 0);
+            into.truncate(end);
+            true
+        }
+        None => false,
+    }
+}
+
+/// What was decoded, or the word that is its own path.
+pub(crate) fn decoded_or<'a>(is_decoded: bool, decoded: &'a [u8], word: &'a [u8]) -> &'a [u8]
+    ensures { result.now ≡ (if is_decoded then decoded.now else word.now) }
+{
+    if is_decoded { decoded } else { word }
 }
 
 /// Writes the path of a word into a text from a place on, over what the text has there and in room that is there, and tells

@@ -11,7 +11,7 @@ use Rattle.pm_epochs.specs.May.{StoresMay, EachMay, AnyOf, links_of}
 use Rattle.pm_epochs.proofs.CrashLaws.{quiet-barrier, IsClosed-barrier}
 use Rattle.pm_epochs.proofs.MayLaws.{quiet_may, quiet_prepared, StoresMay-append}
 use Rattle.pm_epochs.proofs.PieceLaws.{IsPiece-append, IsPiece-more, IsPiece-none, IsPiece-links_of, IsPiece-barrier}
-use Rattle.bp_append.specs.Grown.{changed, epoch_of}
+use Rattle.bp_append.specs.Grown.{changed, epoch_of_links}
 
 -- ---- the links that change a word
 
@@ -81,38 +81,38 @@ after_barrier : (words : Image) (links : List (ℕ × ℕ)) → words_after word
 after_barrier words [] = refl
 after_barrier words (link ∷ links) = after_barrier (set words link.0 link.1) links
 
-pub after_epoch : (words : Image) (links : List (ℕ × ℕ)) → words_after words (epoch_of links) ≡ after_stores words links
+pub after_epoch : (words : Image) (links : List (ℕ × ℕ)) → words_after words (epoch_of_links links) ≡ after_stores words links
 after_epoch words [] = refl
 after_epoch words (link ∷ links) = after_barrier (set words link.0 link.1) links
 
 -- ---- the epoch
 
-pub some_epoch : (links : List (ℕ × ℕ)) → 0 < length links → epoch_of links ≡ links_of links ++ Barrier ∷ []
+pub some_epoch : (links : List (ℕ × ℕ)) → 0 < length links → epoch_of_links links ≡ links_of links ++ Barrier ∷ []
 some_epoch [] some = absurd (omega (arith, some))
 some_epoch (link ∷ links) some = refl
 
-pub no_epoch : (links : List (ℕ × ℕ)) → length links ≤ 0 → epoch_of links ≡ links_of links
+pub no_epoch : (links : List (ℕ × ℕ)) → length links ≤ 0 → epoch_of_links links ≡ links_of links
 no_epoch [] none = refl
 no_epoch (link ∷ links) none = absurd (omega (arith, none))
 
 -- stores that nobody sees, a barrier, and such an epoch over the words after them
 pub quiet_epochs : (Same : Likeness) → IsPartialEquivalence Same → (May : ℕ → ℕ → Type 0) (base : List ℕ) (events : List Event) (links : List (ℕ × ℕ)) →
-    ((image : List ℕ) → EachMay May base image → Same base image) → StoresMay May events → AnyOf Same (words_after base events) (words_after base events) links → IsQuiet Same base ((events ++ Barrier ∷ []) ++ epoch_of links)
+    ((image : List ℕ) → EachMay May base image → Same base image) → StoresMay May events → AnyOf Same (words_after base events) (words_after base events) links → IsQuiet Same base ((events ++ Barrier ∷ []) ++ epoch_of_links links)
 quiet_epochs Same equivalence May base events [] unseen may any =
     subst (IsQuiet Same base) (sym (append-nil (events ++ Barrier ∷ []))) (quiet-barrier Same base events (quiet_may Same equivalence May base events unseen may))
 quiet_epochs Same equivalence May base events (link ∷ links) unseen may any = quiet_prepared Same equivalence May base events (link ∷ links) unseen may any
 
-pub closed_epochs : (events : List Event) (links : List (ℕ × ℕ)) → IsClosed ((events ++ Barrier ∷ []) ++ epoch_of links)
+pub closed_epochs : (events : List Event) (links : List (ℕ × ℕ)) → IsClosed ((events ++ Barrier ∷ []) ++ epoch_of_links links)
 closed_epochs events [] = subst IsClosed (sym (append-nil (events ++ Barrier ∷ []))) (IsClosed-barrier events [] tt)
 closed_epochs events (link ∷ links) =
     subst IsClosed (append_assoc (events ++ Barrier ∷ []) (links_of (link ∷ links)) (Barrier ∷ [])) (IsClosed-barrier ((events ++ Barrier ∷ []) ++ links_of (link ∷ links)) [] tt)
 
-pub piece_epoch : (links : List (ℕ × ℕ)) → IsPiece 1 (length links) (epoch_of links)
+pub piece_epoch : (links : List (ℕ × ℕ)) → IsPiece 1 (length links) (epoch_of_links links)
 piece_epoch [] = IsPiece-more 0 0 1 0 [] (omega arith) (omega arith) IsPiece-none
 piece_epoch (link ∷ links) =
     let part = IsPiece-append 0 (length (link ∷ links)) 1 0 (links_of (link ∷ links)) (Barrier ∷ []) (IsPiece-links_of (link ∷ links)) IsPiece-barrier in
-    IsPiece-more _ _ 1 (length (link ∷ links)) (epoch_of (link ∷ links)) (omega arith) (omega arith) part
+    IsPiece-more _ _ 1 (length (link ∷ links)) (epoch_of_links (link ∷ links)) (omega arith) (omega arith) part
 
-pub may_epoch : (May : ℕ → ℕ → Type 0) (links : List (ℕ × ℕ)) → StoresMay May (links_of links) → StoresMay May (epoch_of links)
+pub may_epoch : (May : ℕ → ℕ → Type 0) (links : List (ℕ × ℕ)) → StoresMay May (links_of links) → StoresMay May (epoch_of_links links)
 may_epoch May [] may = tt
 may_epoch May (link ∷ links) may = StoresMay-append May (links_of (link ∷ links)) (Barrier ∷ []) may tt

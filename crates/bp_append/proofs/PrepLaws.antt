@@ -34,7 +34,7 @@ use Rattle.bp_commit.specs.Performs.{InBlock, IsOpen, AddsTaking}
 use Rattle.bp_commit.specs.Performs.IsOpen.{in_live, at_root}
 use Rattle.bp_append.specs.Into.{AddsInto}
 use Rattle.bp_append.specs.Built.{InBlocks}
-use Rattle.bp_append.specs.Grown.{changed, epoch_of, Links}
+use Rattle.bp_append.specs.Grown.{changed, epoch_of_links, Links}
 use Rattle.bp_append.proofs.ChangedLaws.{after_changed, any_changed, may_changed, few_changed, after_epoch, quiet_epochs, closed_epochs, piece_epoch, may_epoch}
 
 -- the root word of an inode is in a block of the inode file
@@ -82,7 +82,7 @@ after_append words (x ∷ xs) ys = after_append (set words x.0 x.1) xs ys
 
 pub words_new : (between new : Memory) (links : List (ℕ × ℕ)) → Links between new links → current_words new ≡ after_stores (current_words between) links
 words_new between new links ends =
-    current_words-adds between new (Barrier ∷ epoch_of (changed (current_words between) links)) ends
+    current_words-adds between new (Barrier ∷ epoch_of_links (changed (current_words between) links)) ends
     ∙ after_epoch (current_words between) (changed (current_words between) links)
     ∙ after_changed (current_words between) links
 
@@ -103,28 +103,28 @@ module _ (kept : ℕ → Bool) (old between new : Memory) (taken : List ℕ) (Ma
   words_between : current_words between ≡ words_after (current_words old) events
   words_between = current_words-adds old between events stores.part.adds
 
-  joined : events ++ (Barrier ∷ epoch_of done) ≡ (events ++ Barrier ∷ []) ++ epoch_of done
-  joined = sym (append_assoc events (Barrier ∷ []) (epoch_of done))
+  joined : events ++ (Barrier ∷ epoch_of_links done) ≡ (events ++ Barrier ∷ []) ++ epoch_of_links done
+  joined = sym (append_assoc events (Barrier ∷ []) (epoch_of_links done))
 
   pub epochs_taking : (more : ℕ) → most + length links ≤ more → AnyOf Same (current_words between) (current_words between) links → AreApart taken → Each (IsFreeBlock (current_words old) kept) taken →
       ((w v : ℕ) → May w v → IsOpen (current_words old) kept taken w) → StoresMay (AnyAt (IsOpen (current_words old) kept taken)) (links_of links) → AddsTaking kept taken 2 more old new
   epochs_taking more few any once free opens open_links = record {
     part = record {
-      added = (events ++ Barrier ∷ []) ++ epoch_of done;
-      adds = subst (Adds old new) joined (adds_both old between new events (Barrier ∷ epoch_of done) stores.part.adds ends);
+      added = (events ++ Barrier ∷ []) ++ epoch_of_links done;
+      adds = subst (Adds old new) joined (adds_both old between new events (Barrier ∷ epoch_of_links done) stores.part.adds ends);
       quiet = quiet_epochs Same same_equivalence (IsHarmless (current_words old)) (current_words old) events done
           (λ image all. same-by_agreement (current_words old) image well (agrees_of (current_words old) image all)) (StoresMay-weaker May (IsHarmless (current_words old)) harmless events stores.part.may)
           (subst (λ ws. AnyOf Same ws ws done) words_between (any_changed Same (current_words between) (current_words between) (current_words between) links any));
       closed = closed_epochs events done;
-      piece = IsPiece-more _ _ 2 more ((events ++ Barrier ∷ []) ++ epoch_of done) (omega arith) (omega (arith, few, few_changed (current_words between) links))
-          (IsPiece-append _ _ _ _ (events ++ Barrier ∷ []) (epoch_of done) (IsPiece-append 0 most 1 0 events (Barrier ∷ []) stores.part.piece IsPiece-barrier) (piece_epoch done));
+      piece = IsPiece-more _ _ 2 more ((events ++ Barrier ∷ []) ++ epoch_of_links done) (omega arith) (omega (arith, few, few_changed (current_words between) links))
+          (IsPiece-append _ _ _ _ (events ++ Barrier ∷ []) (epoch_of_links done) (IsPiece-append 0 most 1 0 events (Barrier ∷ []) stores.part.piece IsPiece-barrier) (piece_epoch done));
     };
     takes = record {
       once = once;
       free = free;
-      stored = each-as (λ b. StoresTo (InBlock b) events) (λ b. StoresTo (InBlock b) ((events ++ Barrier ∷ []) ++ epoch_of done))
-          (λ b found. StoresTo-front (InBlock b) (events ++ Barrier ∷ []) (epoch_of done) (StoresTo-front (InBlock b) events (Barrier ∷ []) found)) taken stores.stored;
-      only = StoresMay-append (AnyAt Open) (events ++ Barrier ∷ []) (epoch_of done)
+      stored = each-as (λ b. StoresTo (InBlock b) events) (λ b. StoresTo (InBlock b) ((events ++ Barrier ∷ []) ++ epoch_of_links done))
+          (λ b found. StoresTo-front (InBlock b) (events ++ Barrier ∷ []) (epoch_of_links done) (StoresTo-front (InBlock b) events (Barrier ∷ []) found)) taken stores.stored;
+      only = StoresMay-append (AnyAt Open) (events ++ Barrier ∷ []) (epoch_of_links done)
           (StoresMay-append (AnyAt Open) events (Barrier ∷ []) (StoresMay-weaker May (AnyAt Open) opens events stores.part.may) tt)
           (may_epoch (AnyAt Open) done (may_changed (AnyAt Open) (current_words between) links open_links));
     };

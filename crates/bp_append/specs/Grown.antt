@@ -39,13 +39,13 @@ changed image (link ∷ links) = if word image link.0 == link.1 then changed ima
     else link ∷ changed (slice_set image link.0 link.1) links
 
 -- the links and a barrier behind them; nothing where there are none
-abbrev pub epoch_of : List (ℕ × ℕ) → List Event
-epoch_of [] = []
-epoch_of (link ∷ links) = links_of (link ∷ links) ++ Barrier ∷ []
+abbrev pub epoch_of_links : List (ℕ × ℕ) → List Event
+epoch_of_links [] = []
+epoch_of_links (link ∷ links) = links_of (link ∷ links) ++ Barrier ∷ []
 
 -- The links that change a word, in an epoch of their own. Where each of them stands already, there is no such epoch.
 abbrev pub Links : Memory → Memory → List (ℕ × ℕ) → Type 0
-Links old new links = Adds old new (Barrier ∷ epoch_of (changed (current_words old) links))
+Links old new links = Adds old new (Barrier ∷ epoch_of_links (changed (current_words old) links))
 
 -- A tree with blocks was prepared. Once the links are done, the higher tree holds the old bytes and behind them the
 -- given ones.

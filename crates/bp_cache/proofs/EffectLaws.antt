@@ -27,7 +27,7 @@ use Rattle.bp_changes.proofs.SlotLaws.{adds_keeps, carries_keeps, links_keeps, m
 use Rattle.bp_index.specs.declared.index.Index.{Index}
 use Rattle.bp_index.proofs.ChangeLaws.{indexed_kept, keeps_same}
 use Rattle.bp_cache.specs.Cache.{IsCacheOf, IsHeldOf, IsIndexIn}
-use Rattle.bp_cache.specs.Changes.{KeepsAllNames, KeepsNamed, NameEnters, NameLeaves, NameMoves, NameReplaces, StandsAt, WasNamed, name_in}
+use Rattle.bp_cache.specs.Changes.{KeepsAllNames, KeepsNamed, NameEnters, NameLeaves, NameMoves, NameReplaces, NameStands, WasNamed, name_in_directory}
 use Rattle.bp_cache.specs.declared.cache.DirectoryCache.{DirectoryCache}
 use Rattle.bp_cache.specs.declared.held.Held.{Held}
 use Rattle.bp_cache.specs.declared.held.Held.TheVariants.{Indexed, Lost, Unindexed}
@@ -42,11 +42,11 @@ pub record IsNameAt (image : Image) (i s : ℕ) (at : NameAt) : Type 0 where
   pub spelled : name_at image i s ≡ at.name.now
 
 module _ (image : Image) (i s : ℕ) (at : NameAt) (is : IsNameAt image i s at) where
-  name_is : name_in at ≡ (i, name_at image i s)
+  name_is : name_in_directory at ≡ (i, name_at image i s)
   name_is = ap₂ (λ d n. (d, n)) is.dir (sym is.spelled)
 
   -- it stands there where the entry names an inode
-  stands_at : (j : ℕ) → IsReached image i → EntryNames image i s j → StandsAt image at
+  stands_at : (j : ℕ) → IsReached image i → EntryNames image i s j → NameStands image at
   stands_at j reached n = record {
     reached = subst (IsReached image) (sym is.dir) reached;
     directory = subst (λ d. IsDirectory image d) (sym is.dir) n.directory;
@@ -64,7 +64,7 @@ module _ (image : Image) (i s : ℕ) (at : NameAt) (is : IsNameAt image i s at) 
   named_at : (old new : Image) → KeepsNamed old new (OneSlot i s) → KeepsNamed old new (OneSlot at.dir at.slot)
   named_at old new keeps = subst₂ (λ d r. KeepsNamed old new (OneSlot d r)) (sym is.dir) (sym is.slot) keeps
 
-  other_at : (old new : Image) → KeepsOther old new (i, name_at image i s) → KeepsOther old new (name_in at)
+  other_at : (old new : Image) → KeepsOther old new (i, name_at image i s) → KeepsOther old new (name_in_directory at)
   other_at old new keeps = subst (KeepsOther old new) (sym name_is) keeps
 
 -- the same of two names, each of an image of its own
@@ -74,7 +74,7 @@ module _ (old new first second : Image) (i s k r : ℕ) (from to : NameAt) (is :
       subst₂ (λ d e. KeepsNamed old new (TwoSlots d from.slot e to.slot)) (sym is.dir) (sym there.dir)
       (subst₂ (λ x y. KeepsNamed old new (TwoSlots i x k y)) (sym is.slot) (sym there.slot) keeps)
 
-  others_both : KeepsOthers old new (i, name_at first i s) (k, name_at second k r) → KeepsOthers old new (name_in from) (name_in to)
+  others_both : KeepsOthers old new (i, name_at first i s) (k, name_at second k r) → KeepsOthers old new (name_in_directory from) (name_in_directory to)
   others_both keeps = subst₂ (λ a b. KeepsOthers old new a b) (sym (name_is first i s from is)) (sym (name_is second k r to there)) keeps
 
 -- ---- entries that are the same keep their names

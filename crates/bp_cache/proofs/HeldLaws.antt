@@ -12,7 +12,7 @@ use Rattle.bp_cache.specs.declared.held.Held.{Held}
 use Rattle.bp_cache.specs.declared.held.Held.TheVariants.{Indexed, Lost, Unindexed}
 use Rattle.bp_cache.specs.declared.name_at.NameAt.{NameAt}
 use Rattle.bp_cache.specs.Cache.{AreHeldOf, IsHeldOf, IsIndexIn}
-use Rattle.bp_cache.specs.Changes.{KeepsNamed, NameEnters, NameLeaves, NameMoves, NameReplaces, StandsAt, WasNamed}
+use Rattle.bp_cache.specs.Changes.{KeepsNamed, NameEnters, NameLeaves, NameMoves, NameReplaces, NameStands, WasNamed}
 use Rattle.bp_cache.specs.Held.{Becomes, ChangesOne, Enters, Leaves}
 use Rattle.bp_cache.proofs.IndexLaws.{KeepsBut, index_kept, index_entered, index_left, index_respelled}
 use Rattle.bp_cache.proofs.Lists.{Directories, Was}
@@ -72,7 +72,7 @@ module _ (old new : Image) (before after : Directories) (right : AreHeldOf old b
           (held_becomes old new at.dir (λ x y. EntersSlot x y at.name.now at.slot)
           (λ x y told index. index_entered old new at x y (outside at.dir at.slot enters.entries) enters.stands told index) was held (step here) is)
 
-  left : (at : NameAt) → ChangesOne at.dir (Leaves at) before after → KeepsNamed old new (OneSlot at.dir at.slot) → StandsAt old at →
+  left : (at : NameAt) → ChangesOne at.dir (Leaves at) before after → KeepsNamed old new (OneSlot at.dir at.slot) → NameStands old at →
       inumber_at new at.dir at.slot ≡ 0 → AreHeldOf new after
   left at changes keeps stood none i held has = go (changes i held has) (cases_eq i at.dir)
     where

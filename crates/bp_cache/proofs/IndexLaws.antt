@@ -12,7 +12,7 @@ use Rattle.bp_index.specs.Index.{EntersSlot, IsIndexed, LeavesSlot}
 use Rattle.bp_index.proofs.ChangeLaws.{indexed_kept, indexed_entered, indexed_left, others_entered, others_left}
 use Rattle.bp_cache.specs.declared.name_at.NameAt.{NameAt}
 use Rattle.bp_cache.specs.Cache.{IsIndexIn}
-use Rattle.bp_cache.specs.Changes.{StandsAt, WasNamed}
+use Rattle.bp_cache.specs.Changes.{NameStands, WasNamed}
 
 -- each entry of directory i but the one in this slot keeps its name
 abbrev pub KeepsBut : Image → Image → ℕ → ℕ → Type 0
@@ -31,7 +31,7 @@ module _ (old new : Image) where
 
   module _ (at : NameAt) (before after : Index) where
     -- the name comes to its slot
-    pub index_entered : KeepsBut old new at.dir at.slot → StandsAt new at → EntersSlot before after at.name.now at.slot → IsIndexIn old at.dir before →
+    pub index_entered : KeepsBut old new at.dir at.slot → NameStands new at → EntersSlot before after at.name.now at.slot → IsIndexIn old at.dir before →
         IsIndexIn new at.dir after
     index_entered keeps stands enters right reached directory = record { each = λ slot live. go slot live (cases_eq slot at.slot) }
       where
@@ -43,7 +43,7 @@ module _ (old new : Image) where
             others_entered new (root_of new at.dir) before after at.name.now at.slot enters slot apart
             (indexed_still at.dir slot before right (keeps slot reached directory live apart))
 
-    module _ (stood : StandsAt old at) (leaves : LeavesSlot before after at.name.now at.slot) (right : IsIndexIn old at.dir before) where
+    module _ (stood : NameStands old at) (leaves : LeavesSlot before after at.name.now at.slot) (right : IsIndexIn old at.dir before) where
       -- what the index told of the entry
       entry_told : IsIndexed old (root_of old at.dir) at.slot before
       entry_told = (right stood.reached stood.directory).each at.slot stood.in_size
@@ -68,7 +68,7 @@ module _ (old new : Image) where
           go slot live (inr apart) = others_told keeps slot reached directory live apart
 
       -- another name comes to the slot that a name leaves
-      pub index_respelled : (to : NameAt) (last : Index) → at.dir ≡ to.dir → at.slot ≡ to.slot → KeepsBut old new at.dir at.slot → StandsAt new to →
+      pub index_respelled : (to : NameAt) (last : Index) → at.dir ≡ to.dir → at.slot ≡ to.slot → KeepsBut old new at.dir at.slot → NameStands new to →
           EntersSlot after last to.name.now to.slot → IsIndexIn new to.dir last
       index_respelled to last same_dir same_slot keeps stands enters reached directory = record { each = λ slot live. go slot live (cases_eq slot to.slot) }
         where

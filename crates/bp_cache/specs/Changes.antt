@@ -26,15 +26,15 @@ KeepsNamed old new IsTouched = (i slot : ℕ) → IsReached new i → IsDirector
     (IsTouched i slot → ⊥) → WasNamed old new i slot
 
 -- the directory is reached, and its entry in the slot has the name
-pub record StandsAt (image : Image) (at : NameAt) : Type 0 where
+pub record NameStands (image : Image) (at : NameAt) : Type 0 where
   pub reached : IsReached image at.dir
   pub directory : IsDirectory image at.dir
   pub in_size : at.slot < entry_count image at.dir
   pub named : HasName image (root_of image at.dir) at.slot at.name.now
 
 -- the name in its directory
-abbrev pub name_in : NameAt → NameIn
-name_in at = (at.dir, at.name.now)
+abbrev pub name_in_directory : NameAt → NameIn
+name_in_directory at = (at.dir, at.name.now)
 
 -- ---- changes
 
@@ -46,28 +46,28 @@ pub record KeepsAllNames (old new : Image) : Type 0 where
 -- the name comes to its slot
 pub record NameEnters (old new : Image) (at : NameAt) : Type 0 where
   pub entries : KeepsNamed old new (OneSlot at.dir at.slot)
-  pub stands : StandsAt new at
+  pub stands : NameStands new at
   pub slots : KeepsSlots old new
 
 -- the name leaves its slot, which is empty then
 pub record NameLeaves (old new : Image) (at : NameAt) : Type 0 where
   pub entries : KeepsNamed old new (OneSlot at.dir at.slot)
-  pub stood : StandsAt old at
+  pub stood : NameStands old at
   pub empty : inumber_at new at.dir at.slot ≡ 0
-  pub slots : KeepsOther old new (name_in at)
+  pub slots : KeepsOther old new (name_in_directory at)
 
 -- The name leaves its slot, which is empty then, and the other stays in its own, where another inode has it now.
 pub record NameReplaces (old new : Image) (from to : NameAt) : Type 0 where
   pub entries : KeepsNamed old new (OneSlot from.dir from.slot)
-  pub stood : StandsAt old from
+  pub stood : NameStands old from
   pub empty : inumber_at new from.dir from.slot ≡ 0
-  pub slots : KeepsOthers old new (name_in from) (name_in to)
+  pub slots : KeepsOthers old new (name_in_directory from) (name_in_directory to)
 
 -- The name leaves its slot, and another comes to its own: in another directory, or as the new name of the same entry.
 pub record NameMoves (old new : Image) (from to : NameAt) : Type 0 where
   pub entries : KeepsNamed old new (TwoSlots from.dir from.slot to.dir to.slot)
-  pub stood : StandsAt old from
-  pub stands : StandsAt new to
+  pub stood : NameStands old from
+  pub stands : NameStands new to
   pub here : from.dir ≡ to.dir → from.slot ≡ to.slot
   pub empty : from.dir ≢ to.dir → inumber_at new from.dir from.slot ≡ 0
-  pub slots : KeepsOthers old new (name_in from) (name_in to)
+  pub slots : KeepsOthers old new (name_in_directory from) (name_in_directory to)

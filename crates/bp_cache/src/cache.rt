@@ -2,7 +2,7 @@
 
 ghost use Rattle.std.specs.Prelude.{◌≡◌, ◌≤◌, length, IfOk, IfSome, ⊤};
 ghost use Rattle.bp_cache.specs.Cache.{HasTree, IsCacheOf};
-ghost use Rattle.bp_cache.specs.Changes.{NameEnters, NameLeaves, NameMoves, NameReplaces, name_in};
+ghost use Rattle.bp_cache.specs.Changes.{NameEnters, NameLeaves, NameMoves, NameReplaces, name_in_directory};
 ghost use Rattle.bp_cache.specs.Held.{ChangesOne, Enters, ForgetsBoth, Leaves};
 ghost use Rattle.bp_cache.specs.Recalled.{IsRecalled};
 ghost use Rattle.bp_dirs.specs.Spots.{FreeIs, found_slot, named_slot};
@@ -303,7 +303,7 @@ impl DirectoryCache {
     /// Forgets two names.
     fn forget_both(&mut self, one: NameAt<'_>, other: NameAt<'_>)
         ensures directories { self.new.directories ≡ self.old.directories }
-        ensures names { ForgetsBoth (known_of self.old.names) (known_of self.new.names) (name_in one.entry) (name_in other.entry) }
+        ensures names { ForgetsBoth (known_of self.old.names) (known_of self.new.names) (name_in_directory one.entry) (name_in_directory other.entry) }
     {
         self.names.forget(one.dir, one.name);
         self.names.forget(other.dir, other.name);

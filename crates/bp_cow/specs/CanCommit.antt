@@ -1,12 +1,14 @@
 -- What a commit asks.
-use Rattle.std.specs.Prelude.{◌≡◌, ◌≢◌, ℕ, suc, ◌-◌, ◌/◌, ◌<◌, ◌≤◌, length, Bool}
+use Rattle.std.specs.Prelude.{◌≡◌, ◌≢◌, ℕ, suc, ◌-◌, ◌*◌, ◌/◌, ◌%◌, ◌<◌, ◌≤◌, [], length, Bool}
 use Rattle.bp_free.specs.Set.{Set, has}
 use Rattle.bp_layout.specs.Free.{AreUnheld}
 use Rattle.bp_layout.specs.Members.{Has}
 use Rattle.bp_layout.specs.Words.{Image, word, block_count, height_of}
 use Rattle.bp_layout.specs.Inode.{root_of, size_of}
 use Rattle.bp_layout.specs.Reached.{IsReached}
-use Rattle.bp_shapes.specs.Forest.{root_trail, IsForest, IsTreePointer}
+use Rattle.bp_layout.specs.WordPaths.{inode_path}
+use Rattle.bp_limits.specs.Limits.{super_root}
+use Rattle.bp_shapes.specs.Forest.{root_trail, tree_trail, IsForest, IsTreePointer}
 use Rattle.bp_shapes.specs.Trail.{trail_of}
 use Rattle.bp_cow.specs.Touched.{IsTouched, run_end, run_path, path_of, word_paths, end_trail, touched_trail}
 use Rattle.bp_cow.specs.declared.touched.Run.{Run}
@@ -55,3 +57,42 @@ pub record CanCommit (old : Image) (bound : ℕ → ℕ) (kept : ℕ → Bool) (
   pub beside : (run : Run) (i k : ℕ) → Has touched.runs.now run → i < length touched.words.now → run.off / 8 ≤ k
       → k ≤ (run_end run - 1) / 8 →
       touched_trail touched i ≢ end_trail (run_path run k)
+
+-- ---- under the sizes that the image has
+
+-- the trees that are given are the image's
+abbrev pub HasTrees : Image → Touched → Type 0
+HasTrees image touched = (tree : TreeSize) → Has touched.trees.now tree → IsTreeIn image (size_of image) tree
+
+-- the runs lie in the image's trees
+abbrev pub HasRunsIn : Image → Touched → Type 0
+HasRunsIn image touched = (run : Run) → Has touched.runs.now run → IsRunIn image (size_of image) run
+
+-- the touched words can be committed, over these free blocks
+abbrev pub CanCommitAsIs : Image → (ℕ → Bool) → Touched → (ℕ → Bool) → Type 0
+CanCommitAsIs image kept touched free = CanCommit image (size_of image) kept touched free
+
+-- one word can, alone, where it is this one of a reached tree, below its size, and no root word in the inode file
+abbrev pub CanCommitWord : Image → (ℕ → Bool) → Touched → (ℕ → Bool) → ℕ → ℕ → Type 0
+CanCommitWord image kept touched free t k =
+    HasTrees image touched → touched.runs.now ≡ [] → length touched.words.now ≡ 1 →
+    IsReached image t → 8 * k < size_of image t → (t ≡ 0 → k % 8 ≢ 1) →
+    touched_trail touched 0 ≡ tree_trail (height_of (word image super_root)) t (suc (height_of (root_of image t))) k →
+    CanCommitAsIs image kept touched free
+
+-- and so can runs alone
+abbrev pub CanCommitRuns : Image → (ℕ → Bool) → Touched → (ℕ → Bool) → Type 0
+CanCommitRuns image kept touched free =
+    HasTrees image touched → length touched.words.now ≡ 0 → HasRunsIn image touched → CanCommitAsIs image kept touched free
+
+-- a tree is the image's that has an inode's root path, height and size
+abbrev pub IsInodeTree : Image → ℕ → TreeSize → Type 0
+IsInodeTree image n tree =
+    tree.root.items ≡ inode_path (height_of (root_of image 0)) n 1 → tree.height ≡ height_of (root_of image n) →
+    tree.size ≡ size_of image n → IsTreeIn image (size_of image) tree
+
+-- a tree is still right of another image, where that has it as high, and no more of it counts
+abbrev pub StaysTree : Image → Image → (ℕ → ℕ) → ℕ → TreeSize → Type 0
+StaysTree old new bound n tree =
+    IsReached new n → height_of (word new super_root) ≡ height_of (word old super_root) →
+    height_of (root_of new n) ≡ height_of (root_of old n) → bound n ≤ size_of old n → IsTreeIn new bound tree

@@ -1,54 +1,21 @@
 //! Laws of commits. Each is the contract of a function that does nothing.
 
-ghost use Rattle.std.specs.Prelude.{
-  ◌≡◌,
-  ◌≢◌,
-  ℕ,
-  suc,
-  ◌+◌,
-  ◌-◌,
-  ◌*◌,
-  ◌/◌,
-  ◌%◌,
-  ◌<◌,
-  ◌≤◌,
-  ◌∷◌,
-  length,
-  slice_index,
-  Bool,
-  [],
-};
-ghost use Rattle.bp_limits.specs.Limits.{block_words, inode_words, super_root};
-ghost use Rattle.bp_changes.specs.Commits.{Commits};
-ghost use Rattle.bp_shapes.specs.Forest.{IsForest, IsTreePointer, tree_trail};
+ghost use Rattle.std.specs.Prelude.{◌≡◌, ℕ, suc, ◌+◌, ◌*◌, ◌<◌, ◌≤◌, length, slice_index, Bool, []};
+ghost use Rattle.bp_shapes.specs.Forest.{IsForest};
 ghost use Rattle.bp_layout.specs.Free.{AreFreeBlocks};
-ghost use Rattle.bp_layout.specs.Inode.{IsDirectory, root_of, size_of};
+ghost use Rattle.bp_layout.specs.Inode.{root_of, size_of};
 ghost use Rattle.bp_layout.specs.Members.{Has};
 ghost use Rattle.bp_layout.specs.Reached.{IsReached};
-ghost use Rattle.bp_shapes.specs.Trail.{Trail, word_on, trail_of, LeadsTo};
-ghost use Rattle.bp_layout.specs.Tree.{IsFull, HasBlock};
-ghost use Rattle.bp_layout.specs.WordPaths.{WordPath, inode_path};
-ghost use Rattle.bp_layout.specs.Words.{word, height_of, byte_of};
+ghost use Rattle.bp_shapes.specs.Trail.{Trail, trail_of};
+ghost use Rattle.bp_layout.specs.WordPaths.{WordPath};
+ghost use Rattle.bp_layout.specs.Words.{height_of, byte_of};
 ghost use Rattle.bp_layout.specs.WellFormed.{IsWellFormed};
-ghost use Rattle.bp_cow.specs.CanCommit.{IsRunIn, IsTreeIn, CanCommit};
+ghost use Rattle.bp_cow.specs.AfterCommit.{CommitsTrees, HasPointer, HasRunBytes, HasSizeWord, HasValue, KeepsWord, LiesInTree};
+ghost use Rattle.bp_cow.specs.CanCommit.{CanCommit, CanCommitRuns, CanCommitWord, IsInodeTree, IsTreeIn, StaysTree};
 ghost use Rattle.bp_cow.specs.Commit.{IsCommittedBy};
-ghost use Rattle.bp_cow.specs.Committed.{after_commit, changes_of};
 ghost use Rattle.bp_cow.specs.Cover.{end_path, BeginAlike, LeadsInside, IsCover, commit_cover};
-ghost use Rattle.bp_cow.specs.Touched.{
-  IsTouched,
-  NoneBegins,
-  run_path,
-  run_end,
-  run_word,
-  laid_word,
-  run_byte,
-  all_paths,
-  end_trail,
-  touched_trail,
-  job_of,
-};
+ghost use Rattle.bp_cow.specs.Touched.{IsTouched, NoneBegins, run_word, run_byte, all_paths};
 ghost use Rattle.bp_cow.specs.declared.touched.Run.{Run};
-ghost use Rattle.bp_cow.specs.declared.touched.TreeSize.{TreeSize};
 
 use crate::touched::{Run, Touched, TreeSize};
 
@@ -83,19 +50,11 @@ pub fn what_can_be_committed_has_a_cover(image: &[u64], touched: &Touched<'_>)
 pub fn touched_words_have_their_values(image: &[u64], touched: &Touched<'_>)
     requires { IsWellFormed image.now }
     ensures words { (bound : ℕ → ℕ) (kept free : ℕ → Bool) (i : ℕ) → CanCommit image.now bound kept touched.now free →
-        i < length touched.now.words.now →
-        after_commit image.now (job_of touched.now) (touched_trail touched.now i) ≡ (job_of touched.now).value i }
+        HasValue image.now touched.now i }
     ensures run { (bound : ℕ → ℕ) (kept free : ℕ → Bool) (run : Run) (k : ℕ) →
-        CanCommit image.now bound kept touched.now free → Has touched.now.runs.now run →
-        run.off / 8 ≤ k → k ≤ (run_end run - 1) / 8 →
-        after_commit image.now (job_of touched.now) (end_trail (run_path run k)) ≡
-        laid_word touched.now.runs.now run.root.items k (word_on image.now (end_trail (run_path run k))) }
+        CanCommit image.now bound kept touched.now free → HasRunBytes image.now touched.now run k }
     ensures others { (bound : ℕ → ℕ) (kept free : ℕ → Bool) (slot : ℕ) (p : Trail) →
-        CanCommit image.now bound kept touched.now free → slot < block_words →
-        ((i : ℕ) → i < length touched.now.words.now → slot ∷ p ≢ touched_trail touched.now i) →
-        ((run : Run) (k : ℕ) → Has touched.now.runs.now run → run.off / 8 ≤ k → k ≤ (run_end run - 1) / 8 →
-        slot ∷ p ≢ end_trail (run_path run k)) →
-        after_commit image.now (job_of touched.now) (slot ∷ p) ≡ word_on image.now (slot ∷ p) }
+        CanCommit image.now bound kept touched.now free → KeepsWord image.now touched.now slot p }
 {}
 
 /// Each byte of a word with a run laid over is the new one, or else the one that it had.
@@ -110,25 +69,13 @@ pub fn words_of_a_run_have_its_bytes(run: &Run<'_>)
 /// value of its word. The blocks to which pointers lead are those of the trees under the sizes that count.
 pub fn commits_are_told_on_trees(old: &[u64], new: &[u64], touched: &Touched<'_>)
     ensures told { (bound : ℕ → ℕ) (cover : ℕ) → IsForest old.now bound →
-        IsCommittedBy bound touched.now cover old.now new.now →
-        ((t : ℕ) → IsReached old.now t → size_of old.now t ≤ bound t) →
-        ((t : ℕ) → IsReached old.now t → size_of new.now t ≤ bound t) → IsFull old.now (root_of old.now 0) (bound 0) →
-        ((i : ℕ) → IsReached old.now i → IsDirectory old.now i → IsFull old.now (root_of old.now i) (bound i)) →
-        Commits old.now new.now (changes_of old.now (job_of touched.now)) }
+        IsCommittedBy bound touched.now cover old.now new.now → CommitsTrees old.now new.now bound touched.now }
     ensures sizes { (bound : ℕ → ℕ) (cover i : ℕ) → IsForest old.now bound →
-        IsCommittedBy bound touched.now cover old.now new.now →
-        IsReached old.now (suc i) → size_of new.now (suc i) ≡
-        after_commit old.now (job_of touched.now)
-        (tree_trail (height_of (word old.now super_root)) 0
-        (suc (height_of (word old.now super_root))) (inode_words * suc i + 2)) }
+        IsCommittedBy bound touched.now cover old.now new.now → HasSizeWord old.now new.now touched.now (suc i) }
     ensures blocks { (bound : ℕ → ℕ) (cover b : ℕ) → IsForest old.now bound →
-        IsCommittedBy bound touched.now cover old.now new.now →
-        LeadsTo new.now (IsTreePointer old.now bound) b →
-        (t : ℕ) × IsReached old.now t × HasBlock new.now (root_of new.now t) (bound t) b }
+        IsCommittedBy bound touched.now cover old.now new.now → LiesInTree old.now new.now bound b }
     ensures led { (bound : ℕ → ℕ) (cover b t : ℕ) → IsForest old.now bound →
-        IsCommittedBy bound touched.now cover old.now new.now →
-        IsReached old.now t → HasBlock new.now (root_of new.now t) (bound t) b →
-        LeadsTo new.now (IsTreePointer old.now bound) b }
+        IsCommittedBy bound touched.now cover old.now new.now → HasPointer old.now new.now bound t b }
 {}
 
 /// One word of a tree that a well-formed image has below its size, but for a root word in the inode file, can be
@@ -137,31 +84,17 @@ pub fn a_word_or_runs_can_be_committed(image: &[u64], touched: &Touched<'_>)
     requires well_formed { IsWellFormed image.now }
     requires touched { IsTouched touched.now }
     ensures word { (kept free : ℕ → Bool) (t k : ℕ) → AreFreeBlocks image.now kept free →
-        ((tree : TreeSize) → Has touched.now.trees.now tree → IsTreeIn image.now (size_of image.now) tree) →
-        touched.now.runs.now ≡ [] →
-        length touched.now.words.now ≡ 1 →
-        IsReached image.now t → 8 * k < size_of image.now t → (t ≡ 0 → k % 8 ≢ 1) →
-        touched_trail touched.now 0 ≡
-        tree_trail (height_of (word image.now super_root)) t (suc (height_of (root_of image.now t))) k →
-        CanCommit image.now (size_of image.now) kept touched.now free }
+        CanCommitWord image.now kept touched.now free t k }
     ensures runs { (kept free : ℕ → Bool) → AreFreeBlocks image.now kept free →
-        ((tree : TreeSize) → Has touched.now.trees.now tree → IsTreeIn image.now (size_of image.now) tree) →
-        length touched.now.words.now ≡ 0 →
-        ((run : Run) → Has touched.now.runs.now run → IsRunIn image.now (size_of image.now) run) →
-        CanCommit image.now (size_of image.now) kept touched.now free }
+        CanCommitRuns image.now kept touched.now free }
 {}
 
 /// The tree of a reached inode, and the inode file, can be given with the size that the image has. It still can where
 /// another image has the tree as high, and no more of it counts.
 pub fn trees_can_be_given_with_their_sizes(old: &[u64], new: &[u64], tree: &TreeSize)
-    ensures inode { (n : ℕ) → IsReached old.now (suc n) →
-        tree.now.root.items ≡ inode_path (height_of (root_of old.now 0)) (suc n) 1 →
-        tree.now.height ≡ height_of (root_of old.now (suc n)) → tree.now.size ≡ size_of old.now (suc n) →
-        IsTreeIn old.now (size_of old.now) tree.now }
+    ensures inode { (n : ℕ) → IsReached old.now (suc n) → IsInodeTree old.now (suc n) tree.now }
     ensures inode_file { tree.now.root.items ≡ [] → tree.now.height ≡ height_of (root_of old.now 0) →
         tree.now.size ≡ size_of old.now 0 → IsTreeIn old.now (size_of old.now) tree.now }
     ensures stays { (bound : ℕ → ℕ) (at : IsTreeIn old.now (size_of old.now) tree.now) →
-        IsReached new.now at.number → height_of (word new.now super_root) ≡ height_of (word old.now super_root) →
-        height_of (root_of new.now at.number) ≡ height_of (root_of old.now at.number) →
-        bound at.number ≤ size_of old.now at.number → IsTreeIn new.now bound tree.now }
+        StaysTree old.now new.now bound at.number tree.now }
 {}

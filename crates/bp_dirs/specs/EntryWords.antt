@@ -1,6 +1,6 @@
 -- Entries and names as the words in which they stand.
 use Rattle.std.specs.Prelude.{◌≡◌, ℕ, ◌+◌, ◌-◌, ◌*◌, ◌/◌, ◌%◌, ◌<◌, ◌≤◌, List, length, slice_index, take, drop}
-use Rattle.bp_limits.specs.Limits.{entry_size, entry_words, block_entries}
+use Rattle.bp_limits.specs.Limits.{entry_size, entry_words, block_entries, block_words}
 use Rattle.bp_layout.specs.Words.{Image, height_of}
 use Rattle.bp_layout.specs.Tree.{node, IsSound}
 use Rattle.bp_layout.specs.Directory.{Name, word_in}
@@ -26,6 +26,12 @@ pub record IsLeaf (image : Image) (leaf : Leaf) : Type 0 where
   pub few : leaf.count ≤ block_entries
   pub live : leaf.first + leaf.count ≤ leaf.tree.size / entry_size
   pub block : leaf.block ≡ node image leaf.tree.root (height_of leaf.tree.root) (leaf.first / block_entries)
+
+-- the word of the region at which a word of the entry in a slot stands
+abbrev pub word_place_in : Image → ℕ → ℕ → ℕ → ℕ
+word_place_in image root slot field =
+    block_words * node image root (height_of root) ((entry_words * slot + field) / block_words)
+    + (entry_words * slot + field) % block_words
 
 -- the eight bytes of a name that stand in a word, fewer in the last
 abbrev pub part_word : Name → ℕ → ℕ

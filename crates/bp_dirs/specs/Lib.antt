@@ -1,4 +1,5 @@
 pub mod EntryWords
+pub mod Leaves
 pub mod Names
 pub mod Spots
 pub mod Written

@@ -1,12 +1,12 @@
 //! What stands in a directory.
 
-ghost use Rattle.std.specs.Prelude.{◌≡◌, ◌≢◌, ◌+◌, ◌*◌, ◌/◌, ◌%◌, ◌<◌, ◌≤◌, ◌↔◌, ℕ, length, IsTrue, IfNone, IfSome};
+ghost use Rattle.std.specs.Prelude.{◌≡◌, ◌≢◌, ◌+◌, ◌*◌, ◌/◌, ◌<◌, ◌≤◌, ◌↔◌, ℕ, length, IsTrue, IfNone, IfSome};
 ghost use Rattle.bp_layout.specs.Words.{height_of};
 ghost use Rattle.bp_layout.specs.Tree.{node, IsSound, IsFull};
 ghost use Rattle.bp_layout.specs.Directory.{inumber_in, word_in, empty_slot_in, slot_named_in};
 ghost use Rattle.bp_limits.specs.Limits.{block_words, entry_size, entry_words, max_name};
 ghost use Rattle.pm_region.specs.Memory.{current_words};
-ghost use Rattle.bp_dirs.specs.EntryWords.{HasWords};
+ghost use Rattle.bp_dirs.specs.EntryWords.{HasWords, word_place_in};
 ghost use Rattle.bp_dirs.specs.Names.{name_count};
 ghost use Rattle.bp_dirs.specs.Spots.{FreeIs, found_slot, named_slot};
 
@@ -180,8 +180,7 @@ pub fn entry_place<R: Region>(region: &R, tree: Tree, slot: u64, field: u32) -> 
     requires full { IsFull (current_words (R.memory region.now)) tree.root tree.size }
     requires live { slot < tree.size / entry_size }
     requires field { field < entry_words }
-    ensures place { result ≡ block_words * node (current_words (R.memory region.now)) tree.root (height_of tree.root)
-        ((entry_words * slot + field) / block_words) + (entry_words * slot + field) % block_words }
+    ensures place { result ≡ word_place_in (current_words (R.memory region.now)) tree.root slot field }
     ensures present { node (current_words (R.memory region.now)) tree.root (height_of tree.root)
         ((entry_words * slot + field) / block_words) ≢ 0 }
     ensures in_range { result < length (current_words (R.memory region.now)) }

@@ -1,11 +1,11 @@
 //! The entries of one leaf of a directory.
 
-ghost use Rattle.std.specs.Prelude.{◌≡◌, ◌≢◌, ℕ, ◌+◌, ◌-◌, ◌*◌, ◌/◌, ◌%◌, ◌<◌, ◌≤◌, ◌==◌, not, min, length, find, filter, Option, IfSome, IfNone};
-ghost use Rattle.std.specs.List.{range_with_len};
+ghost use Rattle.std.specs.Prelude.{◌≡◌, ◌≢◌, ℕ, ◌+◌, ◌-◌, ◌*◌, ◌/◌, ◌%◌, ◌<◌, ◌≤◌, min, length, Option, IfSome, IfNone};
 ghost use Rattle.bp_layout.specs.Tree.{IsSound};
-ghost use Rattle.bp_layout.specs.Directory.{inumber_in, word_in, is_named_in};
+ghost use Rattle.bp_layout.specs.Directory.{inumber_in, word_in};
 ghost use Rattle.pm_region.specs.Memory.{current_words};
 ghost use Rattle.bp_dirs.specs.EntryWords.{HasWords, IsLeaf, IsRow, last_part, part_word};
+ghost use Rattle.bp_dirs.specs.Leaves.{empty_in_leaf, named_in_leaf, names_in_leaf};
 ghost use Rattle.bp_dirs.specs.Spots.{found_slot};
 ghost use Rattle.bp_limits.specs.Limits.{block_entries, entry_size, entry_words, max_name};
 
@@ -95,9 +95,7 @@ impl Leaf {
         requires leaf { IsLeaf (current_words (R.memory region.now)) self.now }
         requires short { length name.now ≤ max_name }
         requires last { last ≡ part_word name.now (last_part name.now) }
-        ensures slot { found_slot result ≡ find
-            (is_named_in (current_words (R.memory region.now)) self.now.tree.root name.now)
-            (range_with_len self.now.first self.now.count) }
+        ensures slot { found_slot result ≡ named_in_leaf (current_words (R.memory region.now)) self.now name.now }
         ensures inumber { IfSome result
             (λ found. found.inumber ≡ inumber_in (current_words (R.memory region.now)) self.now.tree.root found.slot) }
     {
@@ -129,9 +127,8 @@ impl Leaf {
         requires short { length name.now ≤ max_name }
         requires last { last ≡ part_word name.now (last_part name.now) }
         ensures some { IfSome before (λ found. result ≡ before) }
-        ensures slot { IfNone before (found_slot result ≡ find
-            (is_named_in (current_words (R.memory region.now)) self.now.tree.root name.now)
-            (range_with_len self.now.first self.now.count)) }
+        ensures slot { IfNone before
+            (found_slot result ≡ named_in_leaf (current_words (R.memory region.now)) self.now name.now) }
         ensures inumber { IfNone before (IfSome result
             (λ found. found.inumber ≡ inumber_in (current_words (R.memory region.now)) self.now.tree.root found.slot)) }
     {
@@ -144,8 +141,7 @@ impl Leaf {
     /// The first of the slots whose entry is empty.
     pub fn first_empty<R: Region>(&self, region: &R) -> Option<u64>
         requires { IsLeaf (current_words (R.memory region.now)) self.now }
-        ensures { result ≡ find (λ slot. inumber_in (current_words (R.memory region.now)) self.now.tree.root slot == 0)
-            (range_with_len self.now.first self.now.count) }
+        ensures { result ≡ empty_in_leaf (current_words (R.memory region.now)) self.now }
     {
         if self.block == 0 {
             return Some(self.first);
@@ -163,9 +159,7 @@ impl Leaf {
     pub fn first_empty_after<R: Region>(&self, region: &R, before: Option<u64>) -> Option<u64>
         requires { IsLeaf (current_words (R.memory region.now)) self.now }
         ensures some { IfSome before (λ slot. result ≡ before) }
-        ensures none { IfNone before (result ≡ find
-            (λ slot. inumber_in (current_words (R.memory region.now)) self.now.tree.root slot == 0)
-            (range_with_len self.now.first self.now.count)) }
+        ensures none { IfNone before (result ≡ empty_in_leaf (current_words (R.memory region.now)) self.now) }
     {
         match before {
             Some(_) => before,
@@ -176,9 +170,7 @@ impl Leaf {
     /// How many of the entries name an inode.
     pub fn count_names<R: Region>(&self, region: &R) -> u64
         requires { IsLeaf (current_words (R.memory region.now)) self.now }
-        ensures count { result ≡ length (filter
-            (λ slot. not (inumber_in (current_words (R.memory region.now)) self.now.tree.root slot == 0))
-            (range_with_len self.now.first self.now.count)) }
+        ensures count { result ≡ names_in_leaf (current_words (R.memory region.now)) self.now }
         ensures few { result ≤ self.now.count }
     {
         if self.block == 0 {

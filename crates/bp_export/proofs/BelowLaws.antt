@@ -11,7 +11,7 @@ use Rattle.bp_plain.specs.Export.{calls_at}
 use Rattle.bp_plain.proofs.PathWays.{Entry}
 use Rattle.bp_export.specs.Entries.{AreEntries}
 use Rattle.bp_export.specs.Exports.{Goes}
-use Rattle.bp_export.specs.Walking.{Place, RemembersFirsts, StandsAt, Tours, inside, itself, up_to}
+use Rattle.bp_export.specs.Walking.{Place, RemembersFirsts, Tours, WalkStandsAt, inside, itself, up_to}
 use Rattle.bp_export.specs.declared.fault.Fault.{Fault}
 use Rattle.bp_export.specs.declared.fault.Fault.TheVariants.{Memory}
 use Rattle.bp_export.specs.declared.firsts.Firsts.{Firsts}
@@ -28,7 +28,7 @@ pub tours_stop : (S T : Type 0) (image : Image) (counts : List ℕ) (i : ℕ) (p
 tours_stop S T image counts i place e d same after a b t u tours =
     subst (λ (fault : Fault). Tours {T = T} image counts (itself image i) place (Err fault) after a b t u) (sym same) (record { goes = goes_stop S T e _ a b t u tours.goes; remembers = tt })
 
-module _ (image : Image) (counts : List ℕ) (i : ℕ) (text : List ℕ) (before : Firsts) (place : Place) (stands : StandsAt image counts inside i text before place)
+module _ (image : Image) (counts : List ℕ) (i : ℕ) (text : List ℕ) (before : Firsts) (place : Place) (stands : WalkStandsAt image counts inside i text before place)
     (a : List ℕ) (t : SinkView) where
   abbrev calls : List Entry → List Call
   calls es = flat_map (calls_at place.tree) es

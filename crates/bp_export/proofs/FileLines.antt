@@ -10,7 +10,7 @@ use Rattle.bp_limits.specs.Limits.{block_size}
 use Rattle.bp_plain.specs.Calls.{Call}
 use Rattle.bp_plain.specs.Calls.Call.{truncate, write}
 use Rattle.bp_plain.specs.Export.{is_zeros, size_of, stretch, stretches, write_of, writes_of}
-use Rattle.bp_export.specs.Telling.{size_behind}
+use Rattle.bp_export.specs.Telling.{size_behind, write_end}
 use Rattle.bp_export.proofs.Fronts.{all_back, all_front}
 
 -- ---- the writes of the first stretches
@@ -104,14 +104,10 @@ told_written bytes leaf live other = record { whole = whole; low = omega arith; 
         let here : (length bytes + 4095) / 4096 - 1 ≡ leaf = omega (arith, live, is) in
         ap (λ j. is_zeros (stretch bytes j)) here ∙ other
 
--- what a stretch tells of its end
-abbrev pub end_of : List ℕ → ℕ → ℕ → Option ℕ
-end_of bytes leaf size = if is_zeros (stretch bytes leaf) then None else Some (min (block_size * leaf + block_size) size)
-
-pub end_known : (bytes : List ℕ) (leaf size : ℕ) (b : Bool) → is_zeros (stretch bytes leaf) ≡ b → end_of bytes leaf size ≡ (if b then None else Some (min (block_size * leaf + block_size) size))
+pub end_known : (bytes : List ℕ) (leaf size : ℕ) (b : Bool) → is_zeros (stretch bytes leaf) ≡ b → write_end bytes leaf size ≡ (if b then None else Some (min (block_size * leaf + block_size) size))
 end_known bytes leaf size b is = ap (λ (t : Bool). if t then None else Some (min (4096 * leaf + 4096) size)) is
 
-pub told_next : (bytes : List ℕ) (k leaf told size : ℕ) (end : Option ℕ) → length bytes ≡ size → block_size * leaf < size → ToldTo bytes k told → end ≡ end_of bytes leaf size → ToldTo bytes (leaf + 1) (unwrap_or end told)
+pub told_next : (bytes : List ℕ) (k leaf told size : ℕ) (end : Option ℕ) → length bytes ≡ size → block_size * leaf < size → ToldTo bytes k told → end ≡ write_end bytes leaf size → ToldTo bytes (leaf + 1) (unwrap_or end told)
 told_next bytes k leaf told size end len live before is = go (is_zeros (stretch bytes leaf)) refl
   where
     low : 4096 * leaf < length bytes

@@ -18,7 +18,7 @@ use Rattle.bp_script.specs.Export.{FitsText}
 use Rattle.bp_export.specs.Exports.{Goes}
 use Rattle.bp_export.specs.Firsts.{first_text}
 use Rattle.bp_export.specs.Telling.{Tells}
-use Rattle.bp_export.specs.Walking.{Place, RemembersFirsts, StandsAt, Tours, itself, text_of_first}
+use Rattle.bp_export.specs.Walking.{Place, RemembersFirsts, Tours, WalkStandsAt, itself, text_of_first}
 use Rattle.bp_export.specs.declared.fault.Fault.{Fault}
 use Rattle.bp_export.specs.declared.fault.Fault.TheVariants.{Memory, Sink}
 use Rattle.bp_export.specs.declared.firsts.Firsts.{Firsts}
@@ -31,7 +31,7 @@ use Rattle.bp_export.proofs.TreeLaws.{found_low, found_reached, has_count, node_
 module _ (image : Image) (wf : IsWellFormed image) (counts : List ℕ) (i : ℕ) (text : List ℕ) (firsts : Firsts) where
   -- the path at hand is that of inode i, which is told next
   abbrev pub IsHere : Place → Type 0
-  IsHere place = StandsAt image counts (itself image i) i text firsts place
+  IsHere place = WalkStandsAt image counts (itself image i) i text firsts place
 
   abbrev pub calls_here : Place → List Call
   calls_here place = flat_map (calls_at place.tree) (itself image i place.tree place.path)

@@ -29,7 +29,7 @@ use Rattle.bp_plain.specs.PlainTree.{PathMap, path_cmp}
 use Rattle.bp_plain.specs.Stands.{Shows}
 use Rattle.bp_plain.proofs.Kept.{left_holds, right_holds}
 use Rattle.bp_plain.proofs.PathOrder.{same_path_from}
-use Rattle.bp_export.specs.Entries.{AreEntries, comes_before, entries_named}
+use Rattle.bp_export.specs.Entries.{AreEntries, entries_named, entry_comes_before}
 use Rattle.bp_export.proofs.DepthLaws.{finds_name}
 
 abbrev by_bytes : Name → Name → Ordering
@@ -167,22 +167,22 @@ less_from a b above apart = go (by_bytes b a) refl
     go Equal at = absurd (true≢false (sym (ap is_eq (nat_list_cmp_total.antisymm a b ∙ ap ordering_reverse at)) ∙ apart))
     go Greater at = subst (λ o. T (is_lt o)) (sym (nat_list_cmp_total.antisymm a b ∙ ap ordering_reverse at)) tt
 
-sorted-tail : (x : ℕ × Name) (xs : List (ℕ × Name)) → IsSortedBy comes_before (x ∷ xs) → IsSortedBy comes_before xs
+sorted-tail : (x : ℕ × Name) (xs : List (ℕ × Name)) → IsSortedBy entry_comes_before (x ∷ xs) → IsSortedBy entry_comes_before xs
 sorted-tail x xs up k d low high =
-    ap₂ comes_before (sym (get_or-next x xs (k + 1) d)) (sym (get_or-next x xs k d)) ∙ up (k + 1) d (omega arith) (omega (arith, high))
+    ap₂ entry_comes_before (sym (get_or-next x xs (k + 1) d)) (sym (get_or-next x xs k d)) ∙ up (k + 1) d (omega arith) (omega (arith, high))
 
-below_rest : (x : ℕ × Name) (xs : List (ℕ × Name)) → ((k : ℕ) (d : ℕ × Name) → k < length xs → comes_before (get_or xs k d) x ≡ false) →
+below_rest : (x : ℕ × Name) (xs : List (ℕ × Name)) → ((k : ℕ) (d : ℕ × Name) → k < length xs → entry_comes_before (get_or xs k d) x ≡ false) →
     AllByRecursion (λ y. eq_by_cmp by_bytes x.1 y ≡ false) (map (λ e. e.0) (map named_key xs)) → T (below_all by_bytes x.1 (map named_key xs))
 below_rest x [] above apart = tt
 below_rest x (y ∷ xs) above apart =
     both _ _ (less_from x.1 y.1 (above 0 y (omega arith)) apart.0)
-    (below_rest x xs (λ k d low. ap (λ z. comes_before z x) (sym (get_or-next y xs k d)) ∙ above (k + 1) d (omega (arith, low))) apart.1)
+    (below_rest x xs (λ k d low. ap (λ z. entry_comes_before z x) (sym (get_or-next y xs k d)) ∙ above (k + 1) d (omega (arith, low))) apart.1)
 
-sorted_keys : (es : List (ℕ × Name)) → IsSortedBy comes_before es → NamesDiffer (map named_key es) → T (is_sorted by_bytes (map named_key es))
+sorted_keys : (es : List (ℕ × Name)) → IsSortedBy entry_comes_before es → NamesDiffer (map named_key es) → T (is_sorted by_bytes (map named_key es))
 unfolding IsDistinct
 sorted_keys [] up apart = tt
 sorted_keys (x ∷ xs) up apart =
-    both _ _ (below_rest x xs (λ k d low. ap (λ z. comes_before z x) (sym (get_or-next x xs k d)) ∙ sorted_far comes_before (ranks_by nat_list_cmp_total (λ y. y.1)) (x ∷ xs) up 0 (k + 1) d (omega arith) (omega (arith, low))) apart.0)
+    both _ _ (below_rest x xs (λ k d low. ap (λ z. entry_comes_before z x) (sym (get_or-next x xs k d)) ∙ sorted_far entry_comes_before (ranks_by nat_list_cmp_total (λ y. y.1)) (x ∷ xs) up 0 (k + 1) d (omega arith) (omega (arith, low))) apart.0)
     (sorted_keys xs (sorted-tail x xs up) apart.1)
 
 -- ---- the entries of a directory
@@ -257,7 +257,7 @@ module _ (image : Image) (wf : IsWellFormed image) (i : ℕ) (reached : IsReache
 
   -- ---- and sorted
 
-  module _ (done : List (ℕ × Name)) (moved : IsPermutation (entries_named image i 0 (entry_count image i)) done) (up : IsSortedBy comes_before done) where
+  module _ (done : List (ℕ × Name)) (moved : IsPermutation (entries_named image i 0 (entry_count image i)) done) (up : IsSortedBy entry_comes_before done) where
     all_find : All Finds done
     all_find = All-permutation Finds _ done moved (All-from_recursion Finds _ (names_find 0 (entry_count image i) (omega arith)))
 

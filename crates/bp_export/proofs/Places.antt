@@ -28,7 +28,7 @@ use Rattle.bp_plain.proofs.Walked.{map_walked}
 use Rattle.bp_export.specs.Entries.{AreEntries}
 use Rattle.bp_export.specs.Firsts.{first_text}
 use Rattle.bp_script.specs.Export.{FitsText}
-use Rattle.bp_export.specs.Walking.{CanTell, Place, RemembersFirsts, StandsAt, entries_at, inside, itself, names_in, text_of_first}
+use Rattle.bp_export.specs.Walking.{CanTell, Place, RemembersFirsts, WalkStandsAt, entries_at, inside, itself, names_in, text_of_first}
 use Rattle.bp_export.specs.declared.firsts.Firsts.{Firsts}
 use Rattle.bp_export.proofs.FirstTexts.{finds_none, no_file_here}
 
@@ -76,7 +76,7 @@ module _ (image : Image) (tree : PathMap) (can : CanTell image tree) where
   abbrev pub root_place : Place
   root_place = record { tree = tree; path = []; told = ([], dir) ∷ []; later = [] }
 
-  pub stands_at_root : (counts : List ℕ) (firsts : Firsts) → ((i : ℕ) → first_text firsts i ≡ None) → StandsAt image counts inside 1 [] firsts root_place
+  pub stands_at_root : (counts : List ℕ) (firsts : Firsts) → ((i : ℕ) → first_text firsts i ≡ None) → WalkStandsAt image counts inside 1 [] firsts root_place
   stands_at_root counts firsts none = record {
     can = can;
     found = refl;
@@ -96,7 +96,7 @@ module _ (image : Image) (tree : PathMap) (can : CanTell image tree) where
 
 -- ---- the calls of what is next
 
-pub fits_next : (image : Image) (counts : List ℕ) (next : PathMap → Path → List Entry) (i : ℕ) (text : List ℕ) (firsts : Firsts) (place : Place) → StandsAt image counts next i text firsts place
+pub fits_next : (image : Image) (counts : List ℕ) (next : PathMap → Path → List Entry) (i : ℕ) (text : List ℕ) (firsts : Firsts) (place : Place) → WalkStandsAt image counts next i text firsts place
     → All FitsText (flat_map (calls_at place.tree) (next place.tree place.path))
 fits_next image counts next i text firsts place stands =
     All_middle FitsText (flat_map (calls_at place.tree) place.told) (flat_map (calls_at place.tree) (next place.tree place.path)) (flat_map (calls_at place.tree) place.later)
@@ -104,7 +104,7 @@ fits_next image counts next i text firsts place stands =
 
 -- ---- an entry of a directory
 
-module _ (image : Image) (counts : List ℕ) (i : ℕ) (text : List ℕ) (before : Firsts) (place : Place) (stands : StandsAt image counts inside i text before place)
+module _ (image : Image) (counts : List ℕ) (i : ℕ) (text : List ℕ) (before : Firsts) (place : Place) (stands : WalkStandsAt image counts inside i text before place)
     (rows : List (ℕ × Name)) (are : AreEntries image i rows) where
   abbrev tree : PathMap
   tree = place.tree
@@ -186,7 +186,7 @@ module _ (image : Image) (counts : List ℕ) (i : ℕ) (text : List ℕ) (before
     abbrev pub child_place : Place
     child_place = record { tree = tree; path = child; told = told_to k; later = below_node (node_of image j) ++ (behind ++ place.later) }
 
-    pub stands_at_child : (firsts : Firsts) → RemembersFirsts image counts firsts (told_to k) → StandsAt image counts (itself image j) j (text ++ 47 ∷ name) firsts child_place
+    pub stands_at_child : (firsts : Firsts) → RemembersFirsts image counts firsts (told_to k) → WalkStandsAt image counts (itself image j) j (text ++ 47 ∷ name) firsts child_place
     stands_at_child firsts remembers = record {
       can = stands.can;
       found = child_found;
@@ -201,7 +201,7 @@ module _ (image : Image) (counts : List ℕ) (i : ℕ) (text : List ℕ) (before
     pub is_dir : IsDirectory image j → below_node (node_of image j) ≡ inside tree child
     is_dir kind = ap below_node (node-directory image tree stands.can j kind)
 
-    pub stands_in_child : IsDirectory image j → (firsts : Firsts) → RemembersFirsts image counts firsts (told_to k ++ itself image j tree child) → StandsAt image counts inside j (text ++ 47 ∷ name) firsts inner_place
+    pub stands_in_child : IsDirectory image j → (firsts : Firsts) → RemembersFirsts image counts firsts (told_to k ++ itself image j tree child) → WalkStandsAt image counts inside j (text ++ 47 ∷ name) firsts inner_place
     stands_in_child kind firsts remembers = record {
       can = stands.can;
       found = child_found;

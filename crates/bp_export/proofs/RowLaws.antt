@@ -18,7 +18,7 @@ use Rattle.bp_layout.proofs.Reached.{reached-in_file}
 use Rattle.bp_dirs.specs.EntryWords.{HasWords, IsRow}
 use Rattle.bp_dirs.proofs.EntryWords.{entry_of, name_in-words}
 use Rattle.bp_export.specs.Entries.{entries_named, entry_named}
-use Rattle.bp_export.specs.Rows.{EachEntry, IsEntry, NamesReached, row_length}
+use Rattle.bp_export.specs.Rows.{EachEntry, HasEntryForm, NamesReached, row_length}
 
 -- ---- inodes that are reached
 
@@ -67,7 +67,7 @@ module _ (image : Image) (wf : IsWellFormed image) where
         is : slice_index words 0 ≡ inumber_at image i slot
         is = has.each 0 (omega arith)
 
-    has_entry : (words : List ℕ) → NamesReached image words → IsEntry words
+    has_entry : (words : List ℕ) → NamesReached image words → HasEntryForm words
     has_entry words names = record { few = go (slice_index words 0) refl; short = names.short }
       where
         go : (j : ℕ) → slice_index words 0 ≡ j → slice_index words 0 < 2 ^ 32
@@ -82,7 +82,7 @@ module _ (image : Image) (wf : IsWellFormed image) where
           let inside : index < count = omega (arith, low, row.long) in
           has_reached (first + index) _ (omega (arith, live, inside)) (entry_of image (root_of image i) first count index words row inside)
 
-      pub row_entries : EachEntry IsEntry words
+      pub row_entries : EachEntry HasEntryForm words
       row_entries index low = has_entry _ (row_reached index low)
 
 -- ---- one entry

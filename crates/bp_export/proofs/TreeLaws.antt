@@ -18,7 +18,7 @@ use Rattle.bp_plain.specs.Stands.{Stands}
 use Rattle.bp_plain.proofs.Exportable.{image_exportable}
 use Rattle.bp_script.proofs.ExportLines.{export_short}
 use Rattle.bp_export.specs.Firsts.{first_text}
-use Rattle.bp_export.specs.Walking.{CanTell, StandsAt, inside}
+use Rattle.bp_export.specs.Walking.{CanTell, WalkStandsAt, inside}
 use Rattle.bp_export.specs.declared.firsts.Firsts.{Firsts}
 use Rattle.bp_export.proofs.Places.{root_place, stands_at_root}
 
@@ -65,5 +65,5 @@ module _ (image : Image) (tree : FileTree) (stands : Stands image tree) (short :
   -- all but the root itself, which takes no call
   pub all_calls : (counts : List ℕ) (firsts : Firsts) → ((i : ℕ) → first_text firsts i ≡ None) → flat_map (calls_at tree.now) (inside tree.now []) ≡ export_calls tree
   all_calls counts firsts nothing =
-      let stands : StandsAt image counts inside 1 [] firsts (root_place image tree.now can_tell) = stands_at_root image tree.now can_tell counts firsts nothing in
+      let stands : WalkStandsAt image counts inside 1 [] firsts (root_place image tree.now can_tell) = stands_at_root image tree.now can_tell counts firsts nothing in
       ap (flat_map (calls_at tree.now)) (sym (append-nil (inside tree.now []))) ∙ sym (ap (flat_map (calls_at tree.now)) stands.order)

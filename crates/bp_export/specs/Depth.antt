@@ -1,6 +1,8 @@
 -- Which directories have a path below them that is too long.
-use Rattle.std.specs.Prelude.{◌≡◌, ◌≢◌, ℕ, ◌+◌, ◌<◌, ◌≤◌, ◌∷◌, length, Some}
+use Rattle.std.specs.Prelude.{◌≡◌, ◌≢◌, ◌↔◌, ℕ, ◌+◌, ◌<◌, ◌≤◌, List, ◌∷◌, length, Bool, IsTrue, Some}
+use Rattle.bp_dirs.specs.EntryWords.{HasWords, IsRow}
 use Rattle.bp_layout.specs.Directory.{inumber_at, name_at}
+use Rattle.bp_layout.specs.Inode.{root_of}
 use Rattle.bp_layout.specs.Lookup.{Path, lookup_from}
 use Rattle.bp_layout.specs.Words.{Image}
 use Rattle.bp_plain.specs.Export.{path_text}
@@ -26,3 +28,16 @@ pub record HasLongEntry (image : Image) (i first count left : ℕ) : Type 0 wher
   pub low : first ≤ slot
   pub high : slot < first + count
   pub is : IsLongEntry image i slot left
+
+-- ---- entries as the words in which they stand
+
+-- In whichever directory these words are an entry: such a path begins with it, or none does.
+abbrev pub TellsLongEntry : Image → List ℕ → ℕ → Bool → Type 0
+TellsLongEntry image words left long =
+    (i slot : ℕ) → HasWords image (root_of image i) slot words → (IsTrue long ↔ IsLongEntry image i slot left)
+
+-- .. a row of entries: with one of them
+abbrev pub TellsLongRow : Image → List ℕ → ℕ → Bool → Type 0
+TellsLongRow image words left long =
+    (i first count : ℕ) → IsRow image (root_of image i) first count words
+    → (IsTrue long ↔ HasLongEntry image i first count left)

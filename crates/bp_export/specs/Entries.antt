@@ -1,9 +1,11 @@
 -- The entries of a directory in the order of their names.
-use Rattle.std.specs.Prelude.{◌≡◌, ℕ, ◌==◌, List, All, Bool, map, Option, None, Some, if◌then◌else◌}
+use Rattle.std.specs.Prelude.{◌≡◌, ℕ, ◌==◌, List, [], ◌++◌, All, Bool, map, Option, None, Some, Result, OnOk, if◌then◌else◌}
 use Rattle.std.specs.Cmp.Lexicographic.{slice_cmp}
-use Rattle.std.specs.List.{filter_map, range_with_len}
+use Rattle.std.specs.List.{cons_option, filter_map, range_with_len}
 use Rattle.std.specs.Ordering.{is_lt, nat_cmp}
+use Rattle.bp_dirs.specs.EntryWords.{HasWords, IsRow}
 use Rattle.bp_layout.specs.Directory.{Name, inumber_at, lookup_in, name_at}
+use Rattle.bp_layout.specs.Inode.{root_of}
 use Rattle.bp_layout.specs.Lookup.{Path, lookup}
 use Rattle.bp_layout.specs.Words.{Image}
 use Rattle.bp_plain.specs.Plain.{listing}
@@ -19,9 +21,19 @@ entry_named image i slot =
 abbrev pub entries_named : Image → ℕ → ℕ → ℕ → List (ℕ × Name)
 entries_named image i first count = filter_map (entry_named image i) (range_with_len first count)
 
+-- In whichever directory these words are an entry: it was put behind the others, where it names an inode.
+abbrev pub PutsEntry : {T E : Type 0} → List ℕ → Result T E → List (ℕ × Name) → List (ℕ × Name) → Type 0
+PutsEntry words result old new = (image : Image) (i slot : ℕ) → HasWords image (root_of image i) slot words
+    → OnOk result (new ≡ old ++ cons_option (entry_named image i slot) [])
+
+-- .. a row of entries: those of them that name an inode were
+abbrev pub PutsRow : {T E : Type 0} → List ℕ → Result T E → List (ℕ × Name) → List (ℕ × Name) → Type 0
+PutsRow words result old new = (image : Image) (i first count : ℕ) → IsRow image (root_of image i) first count words
+    → OnOk result (new ≡ old ++ entries_named image i first count)
+
 -- the name of the one comes before that of the other, in the order of bytes
-abbrev pub comes_before : ℕ × Name → ℕ × Name → Bool
-comes_before one other = is_lt (slice_cmp nat_cmp one.1 other.1)
+abbrev pub entry_comes_before : ℕ × Name → ℕ × Name → Bool
+entry_comes_before one other = is_lt (slice_cmp nat_cmp one.1 other.1)
 
 -- Names, each behind the inode that directory i has there: all that a plain tree lists at the directory's path, in the same
 -- order.

@@ -6,3 +6,4 @@ pub mod Rows
 pub mod Telling
 pub mod Firsts
 pub mod Walking
+pub mod Held

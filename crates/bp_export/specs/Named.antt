@@ -12,5 +12,5 @@ abbrev pub named_rows : List ℕ → List Row → List (ℕ × Name)
 named_rows bytes rows = map (named_row bytes) rows
 
 -- all bytes of each name are there, and no name is longer than names are
-abbrev pub AreWithin : List ℕ → List Row → Type 0
-AreWithin bytes rows = All (λ row. (row.first + row.len ≤ length bytes) × (row.len ≤ max_name)) rows
+abbrev pub AreRowsWithin : List ℕ → List Row → Type 0
+AreRowsWithin bytes rows = All (λ row. (row.first + row.len ≤ length bytes) × (row.len ≤ max_name)) rows

@@ -1,6 +1,7 @@
 -- Entries of a directory in a row, as the words in which they stand.
-use Rattle.std.specs.Prelude.{◌≢◌, ℕ, ◌+◌, ◌-◌, ◌*◌, ◌/◌, ◌^◌, ◌<◌, ◌≤◌, min, List, length, slice_index, slice_range}
+use Rattle.std.specs.Prelude.{◌≡◌, ◌≢◌, ℕ, ◌+◌, ◌-◌, ◌*◌, ◌/◌, ◌^◌, ◌<◌, ◌≤◌, min, List, length, slice_index, slice_range}
 use Rattle.bp_limits.specs.Limits.{block_entries, entry_size, entry_words, max_name}
+use Rattle.bp_layout.specs.Directory.{inumber_in}
 use Rattle.bp_layout.specs.Reached.{IsReached}
 use Rattle.bp_layout.specs.Words.{Image}
 
@@ -8,8 +9,13 @@ use Rattle.bp_layout.specs.Words.{Image}
 abbrev pub row_length : ℕ → ℕ → ℕ
 row_length size leaf = min block_entries (size / entry_size - block_entries * leaf)
 
+-- each entry of a leaf is empty
+abbrev pub IsEmptyLeaf : Image → ℕ → ℕ → Type 0
+IsEmptyLeaf image root leaf = (slot : ℕ) → block_entries * leaf ≤ slot → slot < block_entries * (leaf + 1)
+    → inumber_in image root slot ≡ 0
+
 -- The entry is empty, or has a number of 32 bits and a name that is not too long.
-pub record IsEntry (words : List ℕ) : Type 0 where
+pub record HasEntryForm (words : List ℕ) : Type 0 where
   pub few : slice_index words 0 < 2 ^ 32
   pub short : slice_index words 0 ≢ 0 → slice_index words 1 ≤ max_name
 

@@ -1,13 +1,19 @@
 -- Lines of calls that are told, one list behind the other.
-use Rattle.std.specs.Prelude.{ℕ, List, [], ◌∷◌, ◌++◌, ◌==◌, Result, OnErr, OnOk, if◌then◌else◌}
+use Rattle.std.specs.Prelude.{ℕ, ◌+◌, ◌*◌, min, List, [], ◌∷◌, ◌++◌, ◌==◌, Option, None, Some, Result, OnErr, OnOk, if◌then◌else◌}
 use Rattle.bp_io.specs.Causes.{HasCause}
 use Rattle.bp_io.specs.Streams.{SinkView}
 use Rattle.bp_io.specs.declared.faults.Failed.{Failed}
+use Rattle.bp_layout.specs.Tree.{content}
+use Rattle.bp_layout.specs.Words.{Image}
+use Rattle.bp_limits.specs.Limits.{block_size}
 use Rattle.bp_plain.specs.Calls.{Call}
 use Rattle.bp_plain.specs.Calls.Call.{truncate}
-use Rattle.bp_replies.specs.Gathering.{PassesOn}
+use Rattle.bp_plain.specs.Export.{is_zeros, stretch}
+use Rattle.bp_replies.specs.Gathering.{PassesOn, waiting}
 use Rattle.bp_replies.specs.Taking.{TakesPart}
+use Rattle.bp_replies.specs.declared.replies.Replies.{Replies}
 use Rattle.bp_script.specs.Export.{call_lines}
+use Rattle.bp_tree.specs.declared.tree.Tree.{Tree}
 
 -- The lines of these calls were added to what waits for a sink. Or the sink failed, which took a proper front of what waited and
 -- of them.
@@ -15,6 +21,21 @@ pub record Tells {T : Type 0} (calls : List Call) (result : Result T Failed) (be
   pub all : OnOk result (PassesOn (call_lines calls) before after old.taken new.taken)
   pub some : OnErr result (TakesPart (before ++ call_lines calls) old.taken new.taken)
   pub cause : HasCause old.faults new.faults result
+
+-- .. to those that wait among these replies
+abbrev pub TellsAmong : {T : Type 0} → List Call → Result T Failed → Replies → SinkView → Replies → SinkView → Type 0
+TellsAmong calls result replies sink replies_now sink_now =
+    Tells calls result (waiting replies) (waiting replies_now) sink sink_now
+
+-- ---- a file
+
+-- the bytes of the file with this tree
+abbrev pub content_of : Image → Tree → List ℕ
+content_of image tree = content image tree.root tree.size
+
+-- where the write of a stretch ends in a file of this size; none, where its bytes are zeros
+abbrev pub write_end : List ℕ → ℕ → ℕ → Option ℕ
+write_end bytes leaf size = if is_zeros (stretch bytes leaf) then None else Some (min (block_size * leaf + block_size) size)
 
 -- the size of a file is told, unless the last stretch that was told ends there
 abbrev pub size_behind : List ℕ → ℕ → ℕ → List Call

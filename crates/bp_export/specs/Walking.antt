@@ -69,7 +69,7 @@ pub record Place : Type 0 where
 
 -- A walk over the tree of the image stands there: the path finds inode i and has this text, and what is next of it is told
 -- behind what was told.
-pub record StandsAt (image : Image) (counts : List ℕ) (next : PathMap → Path → List (Path × Node)) (i : ℕ) (text : List ℕ) (firsts : Firsts) (place : Place) : Type 0 where
+pub record WalkStandsAt (image : Image) (counts : List ℕ) (next : PathMap → Path → List (Path × Node)) (i : ℕ) (text : List ℕ) (firsts : Firsts) (place : Place) : Type 0 where
   pub can : CanTell image place.tree
   pub found : lookup image place.path ≡ Some i
   pub spelled : text ≡ path_text place.path

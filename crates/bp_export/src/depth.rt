@@ -1,10 +1,9 @@
 //! Whether a tree has a path that no call can spell.
 
-ghost use Rattle.std.specs.Prelude.{◌↔◌, ℕ, IsTrue};
-ghost use Rattle.bp_dirs.specs.EntryWords.{HasWords, IsRow};
-ghost use Rattle.bp_export.specs.Depth.{HasLongEntry, HasLongPath, IsLongEntry};
+ghost use Rattle.std.specs.Prelude.{◌↔◌, IsTrue};
+ghost use Rattle.bp_export.specs.Depth.{HasLongPath, TellsLongEntry, TellsLongRow};
 ghost use Rattle.bp_export.specs.Rows.{EachEntry, NamesReached};
-ghost use Rattle.bp_layout.specs.Inode.{IsDirectory, root_of};
+ghost use Rattle.bp_layout.specs.Inode.{IsDirectory};
 ghost use Rattle.bp_layout.specs.Reached.{IsReached};
 ghost use Rattle.bp_layout.specs.WellFormed.{IsWellFormed};
 ghost use Rattle.pm_region.specs.Memory.{current_words};
@@ -40,9 +39,7 @@ pub(crate) fn has_long_path<R: Region>(region: &R, i: u32, left: usize) -> bool
 fn has_long_entry<R: Region>(region: &R, words: &[u64], left: usize) -> bool
     requires well_formed { IsWellFormed (current_words (R.memory region.now)) }
     requires entries { EachEntry (NamesReached (current_words (R.memory region.now))) words.now }
-    ensures { let image = current_words (R.memory region.now) in
-        (i first count : ℕ) → IsRow image (root_of image i) first count words.now
-        → (IsTrue result ↔ HasLongEntry image i first count left) }
+    ensures { TellsLongRow (current_words (R.memory region.now)) words.now left result }
 {
     for index in 0..words.len() / ENTRY {
         let view = EntryView::new(&words[ENTRY * index..ENTRY * index + ENTRY]);
@@ -58,9 +55,7 @@ fn has_long_entry<R: Region>(region: &R, words: &[u64], left: usize) -> bool
 fn is_long<R: Region>(region: &R, view: EntryView<'_>, left: usize) -> bool
     requires well_formed { IsWellFormed (current_words (R.memory region.now)) }
     requires entry { NamesReached (current_words (R.memory region.now)) view.words.now }
-    ensures { let image = current_words (R.memory region.now) in
-        (i slot : ℕ) → HasWords image (root_of image i) slot view.entry.words.now
-        → (IsTrue result ↔ IsLongEntry image i slot left) }
+    ensures { TellsLongEntry (current_words (R.memory region.now)) view.entry.words.now left result }
 {
     let inumber = view.inumber();
     if inumber == 0 {

@@ -1,16 +1,13 @@
 //! The entries of a directory, in the order of their names.
 
-ghost use Rattle.std.specs.Prelude.{[], ◌++◌, ◌≡◌, ◌≤◌, ◌<◌, ◌∷◌, ℕ, IfOk, IsPermutation, OnOk, Some, drop, length, slice_get, take};
-ghost use Rattle.std.specs.List.{cons_option};
+ghost use Rattle.std.specs.Prelude.{[], ◌++◌, ◌≡◌, ◌≤◌, ◌<◌, ◌∷◌, IfOk, IsPermutation, OnOk, Some, drop, length, slice_get, take};
 ghost use Rattle.std.specs.List.Sorted.{IsSortedBy};
-ghost use Rattle.bp_dirs.specs.EntryWords.{HasWords, IsRow};
-ghost use Rattle.bp_export.specs.Entries.{AreEntries, comes_before, entries_named, entry_named};
-ghost use Rattle.bp_export.specs.Rows.{EachEntry, IsEntry};
+ghost use Rattle.bp_export.specs.Entries.{AreEntries, PutsEntry, PutsRow, entries_named, entry_comes_before};
+ghost use Rattle.bp_export.specs.Rows.{EachEntry, HasEntryForm};
 ghost use Rattle.bp_layout.specs.Directory.{entry_count};
-ghost use Rattle.bp_layout.specs.Inode.{IsDirectory, root_of};
+ghost use Rattle.bp_layout.specs.Inode.{IsDirectory};
 ghost use Rattle.bp_layout.specs.Reached.{IsReached};
 ghost use Rattle.bp_layout.specs.WellFormed.{IsWellFormed};
-ghost use Rattle.bp_layout.specs.Words.{Image};
 ghost use Rattle.bp_limits.specs.Limits.{max_name};
 ghost use Rattle.pm_region.specs.Memory.{current_words};
 
@@ -40,14 +37,14 @@ pub(crate) struct Entries {
 impl Model for Entries {
     ghost use Rattle.std.specs.Prelude.{List, ℕ};
     ghost use Rattle.bp_layout.specs.Directory.{Name};
-    ghost use Rattle.bp_export.specs.Named.{AreWithin, named_rows};
+    ghost use Rattle.bp_export.specs.Named.{AreRowsWithin, named_rows};
 
     ghost Value = { List (ℕ × Name) };
 
     ghost view = { λ entries. named_rows entries.bytes.items entries.rows.items };
 
     // So a name that is added moves none of the others.
-    ghost invariant = { λ entries. AreWithin entries.bytes.items entries.rows.items };
+    ghost invariant = { λ entries. AreRowsWithin entries.bytes.items entries.rows.items };
 }
 
 /// The bytes of a name, those of them that stand in `bytes`.
@@ -106,9 +103,8 @@ impl Entries {
 
     /// Adds those entries of a row that name an inode.
     fn add_row(&mut self, words: &[u64]) -> Result<(), AllocError>
-        requires { EachEntry IsEntry words.now }
-        ensures { (image : Image) (i first count : ℕ) → IsRow image (root_of image i) first count words.now
-            → OnOk result (self.new ≡ self.old ++ entries_named image i first count) }
+        requires { EachEntry HasEntryForm words.now }
+        ensures { PutsRow words.now result self.old self.new }
     {
         for index in 0..words.len() / ENTRY {
             self.add(EntryView::new(&words[ENTRY * index..ENTRY * index + ENTRY]))?;
@@ -118,9 +114,8 @@ impl Entries {
 
     /// Adds an entry, where it names an inode.
     fn add(&mut self, view: EntryView<'_>) -> Result<(), AllocError>
-        requires { IsEntry view.words.now }
-        ensures { (image : Image) (i slot : ℕ) → HasWords image (root_of image i) slot view.entry.words.now
-            → OnOk result (self.new ≡ self.old ++ cons_option (entry_named image i slot) []) }
+        requires { HasEntryForm view.words.now }
+        ensures { PutsEntry view.entry.words.now result self.old self.new }
     {
         let inumber = view.inumber();
         if inumber == 0 {
@@ -148,7 +143,7 @@ impl Entries {
     /// Puts the names in the order of their bytes.
     fn sort(&mut self)
         ensures all { IsPermutation self.old self.new }
-        ensures sorted { IsSortedBy comes_before self.new }
+        ensures sorted { IsSortedBy entry_comes_before self.new }
     {
         let bytes = self.bytes.as_slice();
         self.rows.sort_unstable_by(|one, other| name_in(bytes, *one).cmp(name_in(bytes, *other)));

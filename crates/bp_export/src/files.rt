@@ -1,13 +1,12 @@
 //! The lines of a file.
 
-ghost use Rattle.std.specs.Prelude.{All, IfOk, None, Some, ◌+◌, ◌*◌, ◌<◌, ◌≡◌, if◌then◌else◌, length, min};
+ghost use Rattle.std.specs.Prelude.{All, IfOk, ◌*◌, ◌<◌, ◌≡◌, length};
 ghost use Rattle.bp_layout.specs.Lookup.Node.{file};
-ghost use Rattle.bp_layout.specs.Tree.{IsSound, content};
+ghost use Rattle.bp_layout.specs.Tree.{IsSound};
 ghost use Rattle.bp_limits.specs.Limits.{block_size};
-ghost use Rattle.bp_plain.specs.Export.{calls_for, is_zeros, size_of, stretch, write_of, writes_of};
-ghost use Rattle.bp_replies.specs.Gathering.{waiting};
+ghost use Rattle.bp_plain.specs.Export.{calls_for, is_zeros, size_of, write_of, writes_of};
 ghost use Rattle.bp_script.specs.Export.{FitsText};
-ghost use Rattle.bp_export.specs.Telling.{Tells, size_behind};
+ghost use Rattle.bp_export.specs.Telling.{TellsAmong, content_of, size_behind, write_end};
 ghost use Rattle.pm_region.specs.Memory.{current_words};
 
 use crate::telling::tell;
@@ -38,13 +37,11 @@ fn export_stretch<R: Region, K: Sink>(
     requires sound { IsSound (current_words (R.memory region.now)) tree.root tree.size }
     requires live { block_size * leaf < tree.size }
     requires room { length block.old ≡ block_size }
-    requires short { let bytes = content (current_words (R.memory region.now)) tree.root tree.size in
-        All FitsText (write_of path.now bytes leaf) }
-    ensures told { let bytes = content (current_words (R.memory region.now)) tree.root tree.size in
-        IfOk result (λ end. end ≡
-        (if is_zeros (stretch bytes leaf) then None else Some (min (block_size * leaf + block_size) tree.size))) }
-    ensures lines { let bytes = content (current_words (R.memory region.now)) tree.root tree.size in
-        Tells (write_of path.now bytes leaf) result (waiting replies.old) (waiting replies.new) (K.view out.old) (K.view out.new) }
+    requires short { All FitsText (write_of path.now (content_of (current_words (R.memory region.now)) tree) leaf) }
+    ensures told { let bytes = content_of (current_words (R.memory region.now)) tree in
+        IfOk result (λ end. end ≡ write_end bytes leaf tree.size) }
+    ensures lines { TellsAmong (write_of path.now (content_of (current_words (R.memory region.now)) tree) leaf)
+        result replies.old (K.view out.old) replies.new (K.view out.new) }
     ensures room { length block.new ≡ block_size }
 {
     let off = BLOCK_SIZE * leaf;
@@ -69,12 +66,11 @@ fn export_leaves<R: Region, K: Sink>(
 ) -> Result<u64, Failed>
     requires sound { IsSound (current_words (R.memory region.now)) tree.root tree.size }
     requires room { length block.old ≡ block_size }
-    requires short { let bytes = content (current_words (R.memory region.now)) tree.root tree.size in
-        All FitsText (writes_of path.now bytes) }
-    ensures told { let bytes = content (current_words (R.memory region.now)) tree.root tree.size in
+    requires short { All FitsText (writes_of path.now (content_of (current_words (R.memory region.now)) tree)) }
+    ensures told { let bytes = content_of (current_words (R.memory region.now)) tree in
         IfOk result (λ told. size_behind path.now told tree.size ≡ size_of path.now bytes) }
-    ensures lines { let bytes = content (current_words (R.memory region.now)) tree.root tree.size in
-        Tells (writes_of path.now bytes) result (waiting replies.old) (waiting replies.new) (K.view out.old) (K.view out.new) }
+    ensures lines { TellsAmong (writes_of path.now (content_of (current_words (R.memory region.now)) tree))
+        result replies.old (K.view out.old) replies.new (K.view out.new) }
     ensures room { length block.new ≡ block_size }
 {
     let mut told = 0;
@@ -96,7 +92,7 @@ fn export_size<K: Sink>(
     out: &mut K,
 ) -> Result<(), Failed>
     requires { All FitsText (size_behind path.now told size) }
-    ensures { Tells (size_behind path.now told size) result (waiting replies.old) (waiting replies.new) (K.view out.old) (K.view out.new) }
+    ensures { TellsAmong (size_behind path.now told size) result replies.old (K.view out.old) replies.new (K.view out.new) }
 {
     if told == size {
         return Ok(());
@@ -120,10 +116,9 @@ pub(crate) fn export_file<R: Region, K: Sink>(
 ) -> Result<(), Failed>
     requires sound { IsSound (current_words (R.memory region.now)) tree.root tree.size }
     requires room { length block.old ≡ block_size }
-    requires short { let bytes = content (current_words (R.memory region.now)) tree.root tree.size in
-        All FitsText (calls_for path.now (file bytes)) }
-    ensures lines { let bytes = content (current_words (R.memory region.now)) tree.root tree.size in
-        Tells (calls_for path.now (file bytes)) result (waiting replies.old) (waiting replies.new) (K.view out.old) (K.view out.new) }
+    requires short { All FitsText (calls_for path.now (file (content_of (current_words (R.memory region.now)) tree))) }
+    ensures lines { TellsAmong (calls_for path.now (file (content_of (current_words (R.memory region.now)) tree)))
+        result replies.old (K.view out.old) replies.new (K.view out.new) }
     ensures room { length block.new ≡ block_size }
 {
     tell(Call::Create(path), replies, out)?;

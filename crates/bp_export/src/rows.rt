@@ -1,9 +1,8 @@
 //! The entries of a directory, leaf by leaf.
 
-ghost use Rattle.std.specs.Prelude.{◌≡◌, ℕ, ◌+◌, ◌*◌, ◌/◌, ◌<◌, ◌≤◌, IfNone, IfSome};
+ghost use Rattle.std.specs.Prelude.{ℕ, ◌*◌, ◌/◌, ◌<◌, ◌≤◌, IfNone, IfSome};
 ghost use Rattle.bp_dirs.specs.EntryWords.{IsRow};
-ghost use Rattle.bp_export.specs.Rows.{row_length};
-ghost use Rattle.bp_layout.specs.Directory.{inumber_in};
+ghost use Rattle.bp_export.specs.Rows.{IsEmptyLeaf, row_length};
 ghost use Rattle.bp_layout.specs.Tree.{IsSound};
 ghost use Rattle.bp_limits.specs.Limits.{block_entries, entry_size};
 ghost use Rattle.pm_region.specs.Memory.{current_words};
@@ -30,9 +29,7 @@ pub(crate) fn entry_row<R: Region>(region: &R, tree: Tree, leaf: u64) -> Option<
     requires live { block_entries * leaf < tree.size / entry_size }
     ensures some { let image = current_words (R.memory region.now) in
         IfSome result (λ words. IsRow image tree.root (block_entries * leaf) (row_length tree.size leaf) words.now) }
-    ensures none { let image = current_words (R.memory region.now) in
-        IfNone result ((slot : ℕ) → block_entries * leaf ≤ slot → slot < block_entries * (leaf + 1)
-        → inumber_in image tree.root slot ≡ 0) }
+    ensures none { IfNone result (IsEmptyLeaf (current_words (R.memory region.now)) tree.root leaf) }
 {
     match leaf_words(region, tree, leaf) {
         Some(words) => {

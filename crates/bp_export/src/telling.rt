@@ -2,9 +2,8 @@
 
 ghost use Rattle.std.specs.Prelude.{[], ◌∷◌};
 ghost use Rattle.bp_plain.specs.Seen.{call_of};
-ghost use Rattle.bp_replies.specs.Gathering.{waiting};
 ghost use Rattle.bp_script.specs.Export.{FitsText};
-ghost use Rattle.bp_export.specs.Telling.{Tells};
+ghost use Rattle.bp_export.specs.Telling.{TellsAmong};
 
 use bp_io::{Failed, Sink};
 use bp_plain::Call;
@@ -22,7 +21,7 @@ pub(crate) fn tell<K: Sink>(
     out: &mut K,
 ) -> Result<(), Failed>
     requires { FitsText (call_of call) }
-    ensures { Tells (call_of call.entry ∷ []) result (waiting replies.old) (waiting replies.new) (K.view out.old) (K.view out.new) }
+    ensures { TellsAmong (call_of call.entry ∷ []) result replies.old (K.view out.old) replies.new (K.view out.new) }
 {
     replies.tell(&Said::Call(call), out)
 }

@@ -2,20 +2,18 @@
 
 ghost use Rattle.std.specs.Prelude.{◌*◌, ◌++◌, ◌≡◌, ◌≤◌, ◌∷◌, All, IfOk, OnOk, length};
 ghost use Rattle.bp_export.specs.Exports.{EndsExport, Goes};
-ghost use Rattle.bp_export.specs.Walking.{Place, StandsAt, Tours, inside, itself};
+ghost use Rattle.bp_export.specs.Held.{StandsHeld, ToursHeld, ToursItself, file_calls, held_lines};
+ghost use Rattle.bp_export.specs.Walking.{Place, inside, itself};
 ghost use Rattle.bp_layout.specs.Fields.{kind_word};
 ghost use Rattle.bp_layout.specs.Inode.{IsDirectory, IsFile, kind_of, root_of, size_of};
-ghost use Rattle.bp_layout.specs.Lookup.Node.{file};
 ghost use Rattle.bp_layout.specs.Names.{AreCounts};
-ghost use Rattle.bp_layout.specs.Tree.{IsSound, content};
+ghost use Rattle.bp_layout.specs.Tree.{IsSound};
 ghost use Rattle.bp_layout.specs.WellFormed.{IsWellFormed};
 ghost use Rattle.bp_layout.specs.Whole.{IsFileSystem};
 ghost use Rattle.bp_layout.specs.Words.{block_count};
 ghost use Rattle.bp_limits.specs.Limits.{block_inodes};
-ghost use Rattle.bp_plain.specs.Export.{calls_for};
 ghost use Rattle.bp_plain.specs.PlainTree.{FileTree};
 ghost use Rattle.bp_plain.specs.Stands.{Stands};
-ghost use Rattle.bp_replies.specs.Gathering.{waiting};
 ghost use Rattle.bp_script.specs.Export.{FitsText};
 ghost use Rattle.pm_region.specs.Memory.{current_words};
 
@@ -55,11 +53,9 @@ fn export_new<R: Region, K: Sink>(
     out: &mut K,
 ) -> Result<(), Fault>
     requires sound { IsSound (current_words (R.memory region.now)) tree.root tree.size }
-    requires short { let bytes = content (current_words (R.memory region.now)) tree.root tree.size in
-        All FitsText (calls_for work.old.path.items (file bytes)) }
-    ensures goes { let bytes = content (current_words (R.memory region.now)) tree.root tree.size in
-        Goes (calls_for work.old.path.items (file bytes)) result (waiting work.old.replies) (waiting work.new.replies)
-        (K.view out.old) (K.view out.new) }
+    requires short { All FitsText (file_calls (current_words (R.memory region.now)) tree work.old) }
+    ensures goes { Goes (file_calls (current_words (R.memory region.now)) tree work.old) result
+        (held_lines work.old) (held_lines work.new) (K.view out.old) (K.view out.new) }
     ensures path { work.new.path.items ≡ work.old.path.items }
     ensures firsts { work.new.firsts ≡ work.old.firsts }
 {
@@ -97,11 +93,9 @@ fn export_name<R: Region, K: Sink>(
     requires inodes { length counts.now ≡ block_inodes * block_count (current_words (R.memory region.now)) }
     requires below { 1 ≤ length work.old.path.items }
     requires stands { let words = current_words (R.memory region.now) in
-        (place : Place) × StandsAt words counts.now (itself words i) i work.old.path.items work.old.firsts place }
-    ensures tours { let words = current_words (R.memory region.now) in
-        (place : Place) → StandsAt words counts.now (itself words i) i work.old.path.items work.old.firsts place
-        → Tours words counts.now (itself words i) place result work.new.firsts (waiting work.old.replies)
-        (waiting work.new.replies) (K.view out.old) (K.view out.new) }
+        (place : Place) × StandsHeld words counts.now (itself words i) i work.old place }
+    ensures tours { ToursItself (current_words (R.memory region.now)) counts.now i result
+        work.old (K.view out.old) work.new (K.view out.new) }
     ensures path { work.new.path.items ≡ work.old.path.items }
 {
     if counts.names(i) <= 1 {
@@ -137,11 +131,9 @@ fn export_entry<R: Region, K: Sink>(
     requires inodes { length counts.now ≡ block_inodes * block_count (current_words (R.memory region.now)) }
     requires below { 1 ≤ length work.old.path.items }
     requires stands { let words = current_words (R.memory region.now) in
-        (place : Place) × StandsAt words counts.now (itself words i) i work.old.path.items work.old.firsts place }
-    ensures tours { let words = current_words (R.memory region.now) in
-        (place : Place) → StandsAt words counts.now (itself words i) i work.old.path.items work.old.firsts place
-        → Tours words counts.now (itself words i) place result work.new.firsts (waiting work.old.replies)
-        (waiting work.new.replies) (K.view out.old) (K.view out.new) }
+        (place : Place) × StandsHeld words counts.now (itself words i) i work.old place }
+    ensures tours { ToursItself (current_words (R.memory region.now)) counts.now i result
+        work.old (K.view out.old) work.new (K.view out.new) }
     ensures kind { IfOk result (λ kind. kind_word kind ≡ kind_of (current_words (R.memory region.now)) i) }
     ensures path { work.new.path.items ≡ work.old.path.items }
 {
@@ -171,12 +163,10 @@ fn export_below<R: Region, K: Sink>(
     requires directory { IsDirectory (current_words (R.memory region.now)) i }
     requires counts { AreCounts (current_words (R.memory region.now)) counts.now }
     requires inodes { length counts.now ≡ block_inodes * block_count (current_words (R.memory region.now)) }
-    requires stands { (place : Place) × StandsAt (current_words (R.memory region.now)) counts.now inside i
-        work.old.path.items work.old.firsts place }
-    ensures tours { let words = current_words (R.memory region.now) in
-        (place : Place) → StandsAt words counts.now inside i work.old.path.items work.old.firsts place
-        → Tours words counts.now inside place result work.new.firsts (waiting work.old.replies)
-        (waiting work.new.replies) (K.view out.old) (K.view out.new) }
+    requires stands { (place : Place)
+        × StandsHeld (current_words (R.memory region.now)) counts.now inside i work.old place }
+    ensures tours { ToursHeld (current_words (R.memory region.now)) counts.now inside i result
+        work.old (K.view out.old) work.new (K.view out.new) }
     ensures path { OnOk result (work.new.path.items ≡ work.old.path.items) }
 {
     let entries = Entries::of(alloc, region, i)?;

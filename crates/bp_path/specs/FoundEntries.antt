@@ -1,9 +1,10 @@
 -- What the answer of a walk says.
-use Rattle.std.specs.Prelude.{◌≡◌, ℕ, [], ◌∷◌, ◌++◌, Some, Result, Ok, Err}
+use Rattle.std.specs.Prelude.{◌≡◌, ℕ, [], ◌∷◌, ◌++◌, IfOk, Some, Result, Ok, Err}
 use Rattle.bp_layout.specs.Words.{Image}
 use Rattle.bp_layout.specs.Directory.{Name, slot_named}
 use Rattle.bp_layout.specs.Lookup.{Path, lookup}
-use Rattle.bp_path.specs.Walk.{Walked}
+use Rattle.bp_limits.specs.Limits.{root_inumber}
+use Rattle.bp_path.specs.Walk.{Walked, in_directory, walk_from}
 use Rattle.bp_path.specs.Walk.Walked.{found, missing, in_file}
 use Rattle.bp_path.specs.declared.steps.FoundEntry.{FoundEntry}
 use Rattle.bp_path.specs.declared.steps.WalkFault.{WalkFault}
@@ -27,3 +28,13 @@ pub record IsEntryOf (image : Image) (path : Path) (entry : FoundEntry) : Type 0
   pub top : path ≡ [] → (entry.dir ≡ 0) × (entry.slot ≡ 0)
   pub below : (parent : Path) (name : Name) → path ≡ parent ++ name ∷ [] → (lookup image parent ≡ Some entry.dir)
       × (slot_named image entry.dir name ≡ Some entry.slot)
+
+-- a walk to the parent ends where one along all names but the last does, in a directory
+abbrev pub WalksToParent : Image → Path → Result ℕ WalkFault → Type 0
+WalksToParent image path result = (parent : Path) (name : Name) → path ≡ parent ++ name ∷ [] →
+    dir_of result ≡ in_directory image (walk_from image root_inumber parent)
+
+-- and finds the directory to which these names lead
+abbrev pub FindsParent : Image → Path → Result ℕ WalkFault → Type 0
+FindsParent image path result = (parent : Path) (name : Name) → path ≡ parent ++ name ∷ [] →
+    IfOk result (λ dir. lookup image parent ≡ Some dir)

@@ -1,6 +1,6 @@
 //! Where a path leads, name by name from the root directory on.
 
-ghost use Rattle.std.specs.Prelude.{◌≡◌, ◌≢◌, ◌++◌, ◌∷◌, ◌≤◌, [], true, List, ℕ, length, Some, IfOk, IfErr};
+ghost use Rattle.std.specs.Prelude.{◌≡◌, ◌≢◌, ◌∷◌, ◌≤◌, [], true, List, ℕ, length, Some, IfOk, IfErr};
 ghost use Rattle.std.specs.List.{list_all};
 ghost use Rattle.bp_layout.specs.Inode.{IsDirectory};
 ghost use Rattle.bp_layout.specs.Directory.{inumber_at, slot_named};
@@ -12,8 +12,8 @@ ghost use Rattle.bp_layout.specs.Reached.{IsReached};
 ghost use Rattle.bp_layout.specs.WellFormed.{IsWellFormed};
 ghost use Rattle.pm_region.specs.Memory.{current_words};
 ghost use Rattle.bp_path.specs.Names.{path_parts};
-ghost use Rattle.bp_path.specs.Walk.{walk_from, in_directory};
-ghost use Rattle.bp_path.specs.FoundEntries.{IsEntryOf, fault_of, walked_of, dir_of};
+ghost use Rattle.bp_path.specs.Walk.{walk_from};
+ghost use Rattle.bp_path.specs.FoundEntries.{FindsParent, IsEntryOf, WalksToParent, fault_of, walked_of};
 
 use crate::names::{split_first, split_last};
 use crate::path::Path;
@@ -192,12 +192,8 @@ pub fn walk_with<R: Region, H: Hints>(
 pub fn walk_parent<R: Region>(region: &R, path: &Path<'_>) -> Result<u32, WalkFault>
     requires well { IsWellFormed (current_words (R.memory region.now)) }
     requires below { path.now ≢ [] }
-    ensures walked { let words = current_words (R.memory region.now) in
-        (parent : List (List ℕ)) (name : List ℕ) → path.now ≡ parent ++ name ∷ []
-        → dir_of result ≡ in_directory words (walk_from words root_inumber parent) }
-    ensures lookup { let words = current_words (R.memory region.now) in
-        (parent : List (List ℕ)) (name : List ℕ) → path.now ≡ parent ++ name ∷ []
-        → IfOk result (λ dir. lookup words parent ≡ Some dir) }
+    ensures walked { WalksToParent (current_words (R.memory region.now)) path.now result }
+    ensures lookup { FindsParent (current_words (R.memory region.now)) path.now result }
     ensures kind { IfOk result (λ dir. IsDirectory (current_words (R.memory region.now)) dir) }
     ensures reached { IfOk result (λ dir. IsReached (current_words (R.memory region.now)) dir) }
     ensures some { IfOk result (λ dir. 1 ≤ dir) }
@@ -218,12 +214,8 @@ pub fn walk_parent_by<R: Region, F: Finder>(
     requires well { IsWellFormed (current_words (R.memory region.now)) }
     requires below { path.now ≢ [] }
     requires right { F.right finder.old (current_words (R.memory region.now)) }
-    ensures walked { let words = current_words (R.memory region.now) in
-        (parent : List (List ℕ)) (name : List ℕ) → path.now ≡ parent ++ name ∷ []
-        → dir_of result ≡ in_directory words (walk_from words root_inumber parent) }
-    ensures lookup { let words = current_words (R.memory region.now) in
-        (parent : List (List ℕ)) (name : List ℕ) → path.now ≡ parent ++ name ∷ []
-        → IfOk result (λ dir. lookup words parent ≡ Some dir) }
+    ensures walked { WalksToParent (current_words (R.memory region.now)) path.now result }
+    ensures lookup { FindsParent (current_words (R.memory region.now)) path.now result }
     ensures kind { IfOk result (λ dir. IsDirectory (current_words (R.memory region.now)) dir) }
     ensures reached { IfOk result (λ dir. IsReached (current_words (R.memory region.now)) dir) }
     ensures some { IfOk result (λ dir. 1 ≤ dir) }
@@ -252,12 +244,8 @@ pub fn walk_parent_with<R: Region, H: Hints>(
     requires well { IsWellFormed (current_words (R.memory region.now)) }
     requires below { path.now ≢ [] }
     requires right { AreRight (current_words (R.memory region.now)) (H.known hints.old) }
-    ensures walked { let words = current_words (R.memory region.now) in
-        (parent : List (List ℕ)) (name : List ℕ) → path.now ≡ parent ++ name ∷ []
-        → dir_of result ≡ in_directory words (walk_from words root_inumber parent) }
-    ensures lookup { let words = current_words (R.memory region.now) in
-        (parent : List (List ℕ)) (name : List ℕ) → path.now ≡ parent ++ name ∷ []
-        → IfOk result (λ dir. lookup words parent ≡ Some dir) }
+    ensures walked { WalksToParent (current_words (R.memory region.now)) path.now result }
+    ensures lookup { FindsParent (current_words (R.memory region.now)) path.now result }
     ensures kind { IfOk result (λ dir. IsDirectory (current_words (R.memory region.now)) dir) }
     ensures reached { IfOk result (λ dir. IsReached (current_words (R.memory region.now)) dir) }
     ensures some { IfOk result (λ dir. 1 ≤ dir) }

@@ -242,6 +242,11 @@ file_refusal nodes p = first (walk nodes p ∷ when (is_dir_at nodes p) is_dir �
 abbrev pub dir_refusal : Nodes → Path → Option Refusal
 dir_refusal nodes p = first (walk nodes p ∷ when (not (is_dir_at nodes p)) not_dir ∷ [])
 
+-- of a directory that is to go
+abbrev pub rmdir_refusal : Nodes → Path → Option Refusal
+rmdir_refusal nodes p =
+    first (when (is_root_path p) is_root ∷ dir_refusal nodes p ∷ when (not (is_empty_dir nodes p)) not_empty ∷ [])
+
 -- a piece of a batch lies below the size of its file
 abbrev pub piece_refusal : Nodes → Piece → Option Refusal
 piece_refusal nodes piece = first (file_refusal nodes (path_named piece.path)
@@ -264,8 +269,7 @@ refusal tree (truncate text size) = on_path text (λ p. first (
     file_refusal tree.now.nodes p ∷ when (nat_lt (greatest_size tree.version) size) too_big ∷ []))
 refusal tree (unlink text) =
     on_path text (λ p. first (when (is_root_path p) is_dir ∷ file_refusal tree.now.nodes p ∷ []))
-refusal tree (rmdir text) = on_path text (λ p. first (when (is_root_path p) is_root ∷ dir_refusal tree.now.nodes p
-    ∷ when (not (is_empty_dir tree.now.nodes p)) not_empty ∷ []))
+refusal tree (rmdir text) = on_path text (rmdir_refusal tree.now.nodes)
 refusal tree (rename from to) = on_path from (λ p. on_path to (λ q. move_refusal tree.now.nodes p q))
 refusal tree (list text) = on_path text (dir_refusal tree.now.nodes)
 refusal tree (stat text) = on_path text (walk tree.now.nodes)

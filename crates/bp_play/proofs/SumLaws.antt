@@ -12,7 +12,7 @@ use Rattle.bp_plain.specs.Refusals.{refusal_number}
 use Rattle.bp_script.specs.Texts.{LineReply}
 use Rattle.bp_script.specs.Texts.LineReply.{answered, kept_of}
 use Rattle.bp_play.specs.Counting.{IsBounded, CountsReply}
-use Rattle.bp_play.specs.Summaries.{is_carried_out, is_crash, is_ok, is_refusal, kept_in, numbers, sums, total_in}
+use Rattle.bp_play.specs.Summaries.{is_carried_out, is_crash_reply, is_ok, is_refusal, kept_in, numbers, sums, total_in}
 use Rattle.bp_play.specs.declared.summary.Summary.{Summary}
 
 -- one more where it holds
@@ -46,9 +46,9 @@ same_summary : (o p : ℕ) (rs ss : List ℕ) (c d k l t u : ℕ) → o ≡ p �
 same_summary o p rs ss c d k l t u a b e f g = rw (a, b, e, f, g) refl
 
 sums_more : (replies : List LineReply) (reply : LineReply) → sums (replies ++ reply ∷ [])
-    ≡ summary (one_if (is_ok reply) (count_by is_ok replies)) (counted reply (refusals replies) numbers) (one_if (is_crash reply) (count_by is_crash replies)) (sum_by kept_in replies + kept_in reply) (sum_by total_in replies + total_in reply)
+    ≡ summary (one_if (is_ok reply) (count_by is_ok replies)) (counted reply (refusals replies) numbers) (one_if (is_crash_reply reply) (count_by is_crash_reply replies)) (sum_by kept_in replies + kept_in reply) (sum_by total_in replies + total_in reply)
 sums_more replies reply =
-    same_summary _ _ _ _ _ _ _ _ _ _ (count_more is_ok replies reply) (refusals_more replies reply numbers) (count_more is_crash replies reply) (sum_by_push kept_in replies reply) (sum_by_push total_in replies reply)
+    same_summary _ _ _ _ _ _ _ _ _ _ (count_more is_ok replies reply) (refusals_more replies reply numbers) (count_more is_crash_reply replies reply) (sum_by_push kept_in replies reply) (sum_by_push total_in replies reply)
 
 plus_nothing : (n : ℕ) → n ≡ n + 0
 plus_nothing n = omega arith
@@ -80,10 +80,10 @@ none_counted (refused why) count e = absurd (let no : false ≡ true = e in cc)
 pub ok_counted : (old : Summary) (answer : Answer) → is_carried_out answer ≡ true → CountsReply old (answered answer) (summary (old.ok + 1) old.refused old.crashes old.kept old.of)
 ok_counted old answer carried = record {
   sums = λ replies was.
-      let now : summary (old.ok + 1) old.refused old.crashes old.kept old.of ≡ summary (count_by is_ok replies + 1) (map (refusals replies) numbers) (count_by is_crash replies) (sum_by kept_in replies) (sum_by total_in replies) =
+      let now : summary (old.ok + 1) old.refused old.crashes old.kept old.of ≡ summary (count_by is_ok replies + 1) (map (refusals replies) numbers) (count_by is_crash_reply replies) (sum_by kept_in replies) (sum_by total_in replies) =
       ap (λ (s : Summary). summary (s.ok + 1) s.refused s.crashes s.kept s.of) was in
-      let sums_now : summary (count_by is_ok replies + 1) (map (refusals replies) numbers) (count_by is_crash replies) (sum_by kept_in replies) (sum_by total_in replies)
-      ≡ summary (one_if (is_ok (answered answer)) (count_by is_ok replies)) (counted (answered answer) (refusals replies) numbers) (one_if (is_crash (answered answer)) (count_by is_crash replies)) (sum_by kept_in replies + kept_in (answered answer)) (sum_by total_in replies + total_in (answered answer)) =
+      let sums_now : summary (count_by is_ok replies + 1) (map (refusals replies) numbers) (count_by is_crash_reply replies) (sum_by kept_in replies) (sum_by total_in replies)
+      ≡ summary (one_if (is_ok (answered answer)) (count_by is_ok replies)) (counted (answered answer) (refusals replies) numbers) (one_if (is_crash_reply (answered answer)) (count_by is_crash_reply replies)) (sum_by kept_in replies + kept_in (answered answer)) (sum_by total_in replies + total_in (answered answer)) =
       same_summary _ _ _ _ _ _ _ _ _ _ (rw carried refl) (sym (none_counted answer (refusals replies) carried)) refl (plus_nothing _) (plus_nothing _) in
       now ∙ sums_now ∙ sym (sums_more replies (answered answer));
   bounded = λ count bounded. record {
@@ -141,10 +141,10 @@ one_more_at xs i = slice_set xs i (slice_index_or xs i 0 + 1)
 pub refusal_counted : (old : Summary) (why : Refusal) (number : ℕ) → number ≡ refusal_number why → number ≤ 12 → CountsReply old (answered (refused why)) (summary old.ok (one_more_at old.refused (number - 1)) old.crashes old.kept old.of)
 refusal_counted old why number is low = record {
   sums = λ replies was.
-      let now : summary old.ok (one_more_at old.refused (number - 1)) old.crashes old.kept old.of ≡ summary (count_by is_ok replies) (one_more_at (map (refusals replies) numbers) (refusal_number why - 1)) (count_by is_crash replies) (sum_by kept_in replies) (sum_by total_in replies) =
+      let now : summary old.ok (one_more_at old.refused (number - 1)) old.crashes old.kept old.of ≡ summary (count_by is_ok replies) (one_more_at (map (refusals replies) numbers) (refusal_number why - 1)) (count_by is_crash_reply replies) (sum_by kept_in replies) (sum_by total_in replies) =
       ap₂ (λ (s : Summary) (n : ℕ). summary s.ok (one_more_at s.refused (n - 1)) s.crashes s.kept s.of) was is in
-      let sums_now : summary (count_by is_ok replies) (one_more_at (map (refusals replies) numbers) (refusal_number why - 1)) (count_by is_crash replies) (sum_by kept_in replies) (sum_by total_in replies)
-      ≡ summary (count_by is_ok replies) (counted (answered (refused why)) (refusals replies) numbers) (count_by is_crash replies) (sum_by kept_in replies + 0) (sum_by total_in replies + 0) =
+      let sums_now : summary (count_by is_ok replies) (one_more_at (map (refusals replies) numbers) (refusal_number why - 1)) (count_by is_crash_reply replies) (sum_by kept_in replies) (sum_by total_in replies)
+      ≡ summary (count_by is_ok replies) (counted (answered (refused why)) (refusals replies) numbers) (count_by is_crash_reply replies) (sum_by kept_in replies + 0) (sum_by total_in replies + 0) =
       same_summary _ _ _ _ _ _ _ _ _ _ refl (sym (one_counted why (refusals replies) (omega (arith, is, low)))) refl (plus_nothing _) (plus_nothing _) in
       now ∙ sums_now ∙ sym (sums_more replies (answered (refused why)));
   bounded = λ count bounded. record {
@@ -160,7 +160,7 @@ refusal_counted old why number is low = record {
 pub refusal_uncounted : (old : Summary) (why : Refusal) → 12 < refusal_number why → CountsReply old (answered (refused why)) old
 refusal_uncounted old why high = record {
   sums = λ replies was.
-      let same : sums replies ≡ summary (count_by is_ok replies) (counted (answered (refused why)) (refusals replies) numbers) (count_by is_crash replies) (sum_by kept_in replies + 0) (sum_by total_in replies + 0) =
+      let same : sums replies ≡ summary (count_by is_ok replies) (counted (answered (refused why)) (refusals replies) numbers) (count_by is_crash_reply replies) (sum_by kept_in replies + 0) (sum_by total_in replies + 0) =
       same_summary _ _ _ _ _ _ _ _ _ _ refl (sym (none_of_these why (refusals replies) high)) refl (plus_nothing _) (plus_nothing _) in
       was ∙ same ∙ sym (sums_more replies (answered (refused why)));
   bounded = λ count bounded. record {
@@ -180,7 +180,7 @@ storm_adds_no_refusal count total f = refl
 pub storm_counted : (old : Summary) (c n : ℕ) → c ≤ log_events → n ≤ log_events → CountsReply old (kept_of c n) (summary old.ok old.refused (old.crashes + 1) (old.kept + c) (old.of + n))
 storm_counted old c n few all = record {
   sums = λ replies was.
-      let now : summary old.ok old.refused (old.crashes + 1) (old.kept + c) (old.of + n) ≡ summary (count_by is_ok replies) (map (refusals replies) numbers) (count_by is_crash replies + 1) (sum_by kept_in replies + c) (sum_by total_in replies + n) =
+      let now : summary old.ok old.refused (old.crashes + 1) (old.kept + c) (old.of + n) ≡ summary (count_by is_ok replies) (map (refusals replies) numbers) (count_by is_crash_reply replies + 1) (sum_by kept_in replies + c) (sum_by total_in replies + n) =
       ap (λ (s : Summary). summary s.ok s.refused (s.crashes + 1) (s.kept + c) (s.of + n)) was in
       now ∙ sym (sums_more replies (kept_of c n));
   bounded = λ count bounded. record {

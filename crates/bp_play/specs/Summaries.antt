@@ -26,9 +26,9 @@ is_refusal number (answered answer) = refuses number answer
 is_refusal number _ = false
 
 -- the reply of a crash, the calls that it kept, and those of which it kept them
-abbrev pub is_crash : LineReply → Bool
-is_crash (kept_of count total) = true
-is_crash _ = false
+abbrev pub is_crash_reply : LineReply → Bool
+is_crash_reply (kept_of count total) = true
+is_crash_reply _ = false
 
 abbrev pub kept_in : LineReply → ℕ
 kept_in (kept_of count total) = count
@@ -46,7 +46,7 @@ abbrev pub sums : List LineReply → Summary
 sums replies = record {
   ok = count_by is_ok replies;
   refused = map (λ number. count_by (is_refusal number) replies) numbers;
-  crashes = count_by is_crash replies;
+  crashes = count_by is_crash_reply replies;
   kept = sum_by kept_in replies;
   of = sum_by total_in replies;
 }

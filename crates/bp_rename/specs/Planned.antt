@@ -69,7 +69,7 @@ pub record Needs (image : Image) (move : Move) (touched : Touched) (besides : �
 
 -- Behind the thaw the name may still move, with the blocks and the room that this needs. The ways to what is touched are
 -- found. The rename then does what it does with the thaw before it.
-pub record IsReady {R : Type 0} (memory : R → Memory) (move : Move) (touched : Touched) (old new : Parts R)
+pub record IsReadyToRename {R : Type 0} (memory : R → Memory) (move : Move) (touched : Touched) (old new : Parts R)
     (found : FoundWays) : Type 0 where
   pub shape : SameShape (current_words (memory old.region)) (current_words (memory new.region))
   pub can : CanRename (current_words (memory new.region)) move

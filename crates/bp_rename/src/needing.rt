@@ -5,7 +5,7 @@ ghost use Rattle.bp_calls.specs.Space.{HasRoomWhereFree, LacksSpace};
 ghost use Rattle.bp_layout.specs.Directory.{empty_slot};
 ghost use Rattle.bp_layout.specs.Need.{need};
 ghost use Rattle.bp_rename.specs.CanRename.{CanRename, IsSlotAcross, change_across, change_of};
-ghost use Rattle.bp_rename.specs.Planned.{IsPlanned, IsReady, Needs};
+ghost use Rattle.bp_rename.specs.Planned.{IsPlanned, IsReadyToRename, Needs};
 ghost use Rattle.bp_layout.specs.Thaw.{cover_now, targets, thawed};
 ghost use Rattle.bp_shapes.specs.Sets.{IsExact, kept_of};
 ghost use Rattle.bp_thaw.specs.Thaws.{paths_in};
@@ -113,7 +113,7 @@ fn thaw_ways<R: Region>(
     requires need { more ≡ need (current_words (R.memory parts.old.region)) (change_of to_move.now) }
     requires few { more < 2 ^ 31 }
     requires room { HasRoomWhereFree (R.memory parts.old.region) (kept_of parts.old) parts.old.blocks (change_of to_move.now) }
-    ensures ready { IfOk result (λ found. IsReady R.memory to_move.now touched.now parts.old parts.new found) }
+    ensures ready { IfOk result (λ found. IsReadyToRename R.memory to_move.now touched.now parts.old parts.new found) }
     ensures refused { IfErr result (LacksSpace (current_words (R.memory parts.old.region)) (kept_of parts.old)
         (change_of to_move.now)) }
     ensures same { OnErr result (parts.new ≡ parts.old) }
@@ -145,7 +145,7 @@ pub(crate) fn ready_ways<R: Region>(
     requires planned { IsPlanned (current_words (R.memory parts.old.region)) to_move.now touched.now }
     requires needs { Needs (current_words (R.memory parts.old.region)) to_move.now touched.now besides }
     requires room { HasRoomWhereFree (R.memory parts.old.region) (kept_of parts.old) parts.old.blocks (change_of to_move.now) }
-    ensures ready { IfOk result (λ found. IsReady R.memory to_move.now touched.now parts.old parts.new found) }
+    ensures ready { IfOk result (λ found. IsReadyToRename R.memory to_move.now touched.now parts.old parts.new found) }
     ensures refused { IfErr result (LacksSpace (current_words (R.memory parts.old.region)) (kept_of parts.old)
         (change_of to_move.now)) }
     ensures same { OnErr result (parts.new ≡ parts.old) }

@@ -1,12 +1,12 @@
 -- A storm: what a crash finds at a moment, in an epoch and with stores written back that are drawn by lot.
-use Rattle.std.specs.Prelude.{◌≡◌, ℕ, ◌+◌, ◌%◌, ◌==◌, Bool, true, false, not, ◌&&◌, List, [], ◌∷◌, ◌++◌, length, take, replicate, Some, slice_get}
+use Rattle.std.specs.Prelude.{◌≡◌, ◌↔◌, ℕ, ◌+◌, ◌%◌, ◌==◌, Bool, true, false, not, ◌&&◌, List, [], ◌∷◌, ◌++◌, length, take, replicate, Some, slice_get}
 use Rattle.std.proofs.Common.{zero, suc}
 use Rattle.pm_epochs.specs.declared.event.Event.{Event}
 use Rattle.pm_epochs.specs.declared.event.Event.TheVariants.{Store, Barrier, Mark}
 use Rattle.pm_epochs.specs.Log.{barriers}
-use Rattle.pm_epochs.specs.Replay.{PowerCut}
+use Rattle.pm_epochs.specs.Replay.{PowerCut, place_in_epoch, replay}
 use Rattle.pm_steps.specs.WordSet.{is_noted}
-use Rattle.pm_steps.specs.Machine.{is_some_store, ComesFirst, cut_of}
+use Rattle.pm_steps.specs.Machine.{ComesFirst, StepsTo, cut_of, in_log_order, is_some_store, machine_over}
 use Rattle.bp_replay.specs.Generator.{next_state, drawn}
 
 -- whether a store to the word goes back: its draw is odd, and no earlier store to the word waits
@@ -48,6 +48,15 @@ flags_of_storm events seed = flags_from (take (storm_moment events seed) events)
 abbrev pub storm_cut : List Event → ℕ → PowerCut
 storm_cut events seed = cut_of events (flags_of_storm events seed)
 
+-- what is kept at a moment, where the stores of this epoch are drawn for from this state on
+abbrev pub drawn_cut : List Event → ℕ → ℕ → ℕ → PowerCut
+drawn_cut events state moment epoch = cut_of events (storm_flags state epoch [] (take moment events))
+
+-- The write-back machine comes over these words to what a storm leaves, where the stores go back in the order of the log.
+abbrev pub RunsToStorm : List ℕ → List Event → ℕ → Type 0
+RunsToStorm base events seed = StepsTo events (machine_over base) (in_log_order (flags_of_storm events seed))
+    (record { back = flags_of_storm events seed; words = replay base events (storm_cut events seed) })
+
 -- ## The rule by which stores are written back
 
 -- the number that is drawn behind so many others
@@ -65,3 +74,17 @@ IsStoreAt events which = is_some_store (slice_get events which) ≡ true
 -- each store that must go before this one went
 abbrev pub MayGo : List Event → List Bool → ℕ → Type 0
 MayGo events back which = (earlier : ℕ) → ComesFirst events earlier which → slice_get back earlier ≡ Some true
+
+-- where the stores of this epoch are drawn for from this state on: the store at this index is written back
+abbrev pub IsWrittenBack : ℕ → ℕ → List Event → ℕ → Type 0
+IsWrittenBack state epoch events which = slice_get (storm_flags state epoch [] events) which ≡ Some true
+
+-- .. or it is not
+abbrev pub IsNotWrittenBack : ℕ → ℕ → List Event → ℕ → Type 0
+IsNotWrittenBack state epoch events which = slice_get (storm_flags state epoch [] events) which ≡ Some false
+
+-- .. or it is exactly where its own draw is odd and each store went that must go before it
+abbrev pub GoesByItsDraw : ℕ → ℕ → List Event → ℕ → Type 0
+GoesByItsDraw state epoch events which =
+    IsWrittenBack state epoch events which
+    ↔ (IsOdd (draw_at state (place_in_epoch events which)) × MayGo events (storm_flags state epoch [] events) which)

@@ -1,12 +1,11 @@
 //! What holds of all crashes that a script asks for, each law as a function that does nothing.
 
-ghost use Rattle.std.specs.Prelude.{◌≡◌, ◌<◌, ◌↔◌, ℕ, List, [], Some, true, false, slice_get};
+ghost use Rattle.std.specs.Prelude.{◌≡◌, ◌<◌, ℕ, List};
 ghost use Rattle.pm_epochs.specs.declared.event.Event.{Event};
 ghost use Rattle.pm_epochs.specs.Log.{words_after, marks};
-ghost use Rattle.pm_epochs.specs.Replay.{IsRight, replay, kept_calls, epoch_of, place_in_epoch};
-ghost use Rattle.pm_steps.specs.Machine.{machine_over, StepsTo, in_log_order};
+ghost use Rattle.pm_epochs.specs.Replay.{IsRight, replay, kept_calls, epoch_of};
 ghost use Rattle.bp_replay.specs.Generator.{next_state, drawn};
-ghost use Rattle.bp_replay.specs.Storm.{storm_flags, flags_of_storm, storm_cut, draw_at, IsOdd, IsStoreAt, MayGo};
+ghost use Rattle.bp_replay.specs.Storm.{GoesByItsDraw, IsNotWrittenBack, IsStoreAt, IsWrittenBack, RunsToStorm, storm_cut};
 ghost use Rattle.bp_replay.specs.Wanted.{all, nothing, cut_for};
 
 /// A crash that is to keep all keeps each call, and leaves the words as the processor sees them.
@@ -34,9 +33,7 @@ pub fn first_draw()
 /// memory is its replay.
 pub fn a_storm_is_a_run()
     ensures right { (events : List Event) (seed : ℕ) → IsRight events (storm_cut events seed) }
-    ensures runs { (base : List ℕ) (events : List Event) (seed : ℕ) →
-        StepsTo events (machine_over base) (in_log_order (flags_of_storm events seed))
-        (record { back = flags_of_storm events seed; words = replay base events (storm_cut events seed) }) }
+    ensures runs { (base : List ℕ) (events : List Event) (seed : ℕ) → RunsToStorm base events seed }
 {}
 
 /// Which stores a storm writes back, by the machine's own rule. Of earlier epochs than its own all are, of later ones none.
@@ -44,12 +41,9 @@ pub fn a_storm_is_a_run()
 /// epoch's stores, one after the other.
 pub fn a_storm_writes_back_what_may_go()
     ensures earlier { (state epoch : ℕ) (events : List Event) (which : ℕ) → IsStoreAt events which →
-        epoch_of events which < epoch → slice_get (storm_flags state epoch [] events) which ≡ Some true }
+        epoch_of events which < epoch → IsWrittenBack state epoch events which }
     ensures later { (state epoch : ℕ) (events : List Event) (which : ℕ) → IsStoreAt events which →
-        epoch < epoch_of events which → slice_get (storm_flags state epoch [] events) which ≡ Some false }
+        epoch < epoch_of events which → IsNotWrittenBack state epoch events which }
     ensures own { (state epoch : ℕ) (events : List Event) (which : ℕ) → IsStoreAt events which →
-        epoch_of events which ≡ epoch →
-        (slice_get (storm_flags state epoch [] events) which ≡ Some true) ↔
-        (IsOdd (draw_at state (place_in_epoch events which)) ×
-        MayGo events (storm_flags state epoch [] events) which) }
+        epoch_of events which ≡ epoch → GoesByItsDraw state epoch events which }
 {}

@@ -4,9 +4,8 @@ ghost use Rattle.std.specs.Prelude.{◌≡◌, ◌<◌, ◌≤◌, [], length, t
 ghost use Rattle.pm_region.specs.Epochs.{epoch_start};
 ghost use Rattle.pm_epochs.specs.Log.{barriers};
 ghost use Rattle.pm_epochs.specs.Replay.{IsRight};
-ghost use Rattle.pm_steps.specs.Machine.{cut_of};
 ghost use Rattle.bp_replay.specs.Generator.{next_state, drawn};
-ghost use Rattle.bp_replay.specs.Storm.{goes_back, waiting_behind, storm_flags, storm_cut};
+ghost use Rattle.bp_replay.specs.Storm.{drawn_cut, goes_back, waiting_behind, storm_cut};
 
 use super::generator::Generator;
 use pm_epochs::{Choice, Event};
@@ -53,8 +52,8 @@ fn choose_drawn<R: Region>(
     requires waiting { backs.old.waiting ≡ [] }
     requires backs { choice.old.cut.moment ≤ backs.old.room }
     requires choice { choice.old.cut.moment ≤ choice.old.room }
-    ensures chosen { choice.new.cut ≡ cut_of (R.memory region.now).events (storm_flags generator.old.state
-        choice.old.cut.epoch [] (take choice.old.cut.moment (R.memory region.now).events)) }
+    ensures chosen { choice.new.cut ≡
+        drawn_cut (R.memory region.now).events generator.old.state choice.old.cut.moment choice.old.cut.epoch }
     ensures right { IsRight (R.memory region.now).events choice.new.cut }
     ensures backs_room { backs.new.room ≡ backs.old.room }
     ensures choice_room { choice.new.room ≡ choice.old.room }

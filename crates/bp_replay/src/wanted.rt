@@ -3,7 +3,7 @@
 ghost use Rattle.std.specs.Prelude.{◌≡◌, ◌+◌, ◌*◌, ◌<◌, ◌≤◌, ◌↔◌, ◌++◌, true, IsOk, OnOk, Some, length, take, replicate, slice_get, ◌^◌, []};
 ghost use Rattle.pm_epochs.specs.Log.{barriers, epoch_stores};
 ghost use Rattle.pm_epochs.specs.Replay.{IsRight};
-ghost use Rattle.bp_replay.specs.Wanted.{wanted_by, bits, trimmed, cut_for, mask_places};
+ghost use Rattle.bp_replay.specs.Wanted.{all, wanted_by, bits, trimmed, cut_for, mask_places};
 
 use super::cut::Cut;
 use pm_epochs::{BadChoice, Choice, Event};
@@ -58,14 +58,7 @@ fn stores_before<R: Region>(region: &R, moment: usize, epoch: usize) -> usize
 /// Chooses each store of the log.
 fn choose_all<R: Region>(region: &R, choice: &mut Choice)
     requires { length (R.memory region.now).events ≤ choice.old.room }
-    ensures { choice.new ≡ record {
-      cut = record {
-        moment = length (R.memory region.now).events;
-        epoch = barriers (R.memory region.now).events;
-        mask = replicate (epoch_stores (barriers (R.memory region.now).events) (R.memory region.now).events) true;
-      };
-      room = choice.old.room;
-    } }
+    ensures { choice.new ≡ record { cut = cut_for (R.memory region.now).events all; room = choice.old.room } }
 {
     let moment = region.event_count();
     let epoch = region.barriers_before(moment);

@@ -3,7 +3,7 @@
 
 ghost use Rattle.bp_io.specs.Memory.{fair_view};
 ghost use Rattle.bp_limits.specs.Limits.{log_events};
-ghost use Rattle.bp_session.specs.Files.{IsReady};
+ghost use Rattle.bp_session.specs.Files.{CanSave};
 ghost use Rattle.std.specs.Prelude.{◌≡◌, ◌≤◌};
 
 use crate::stage::{serve_bytes, serve_script};
@@ -42,9 +42,9 @@ fn serve_scripts<R: Region>(
     files: &mut FairFiles,
     report: &mut String,
 ) -> Result<(), AllocError>
-    requires ready { IsReady volume.old.base (fair_view files.old) }
+    requires ready { CanSave volume.old.base (fair_view files.old) }
     requires roomy { volume.old.capacity ≤ log_events }
-    ensures ready { IsReady volume.new.base (fair_view files.new) }
+    ensures ready { CanSave volume.new.base (fair_view files.new) }
     ensures capacity { volume.new.capacity ≡ volume.old.capacity }
 {
     serve_script(alloc, volume, work, files, "create /a\nstat /", report)?;
@@ -60,7 +60,7 @@ fn serve_lines<R: Region>(
     files: &mut FairFiles,
     report: &mut String,
 ) -> Result<(), AllocError>
-    requires ready { IsReady volume.old.base (fair_view files.old) }
+    requires ready { CanSave volume.old.base (fair_view files.old) }
     requires roomy { volume.old.capacity ≤ log_events }
 {
     let long = vec![in alloc; b'x'; LONG]?;
@@ -78,7 +78,7 @@ fn serve_over<R: Region>(
     files: &mut FairFiles,
     report: &mut String,
 ) -> Result<(), AllocError>
-    requires ready { IsReady volume.old.base (fair_view files.old) }
+    requires ready { CanSave volume.old.base (fair_view files.old) }
     requires roomy { volume.old.capacity ≤ log_events }
 {
     let mut work = Work::new(alloc)?;
@@ -93,7 +93,7 @@ fn serve_with<R: Region>(
     files: &mut FairFiles,
     report: &mut String,
 ) -> Result<(), AllocError>
-    requires ready { IsReady volume.old.base (fair_view files.old) }
+    requires ready { CanSave volume.old.base (fair_view files.old) }
     requires roomy { volume.old.capacity ≤ log_events }
 {
     serve_scripts(alloc, volume, work, files, report)?;

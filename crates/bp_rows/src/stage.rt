@@ -2,7 +2,7 @@
 
 ghost use Rattle.bp_io.specs.Memory.{fair_view};
 ghost use Rattle.bp_limits.specs.Limits.{log_events};
-ghost use Rattle.bp_session.specs.Files.{IsReady};
+ghost use Rattle.bp_session.specs.Files.{CanSave};
 ghost use Rattle.std.specs.Prelude.{◌≡◌, ◌≤◌};
 
 use crate::report::tell;
@@ -24,9 +24,9 @@ pub fn serve_script<R: Region>(
     script: &str,
     report: &mut String,
 ) -> Result<(), AllocError>
-    requires ready { IsReady volume.old.base (fair_view files.old) }
+    requires ready { CanSave volume.old.base (fair_view files.old) }
     requires roomy { volume.old.capacity ≤ log_events }
-    ensures ready { IsReady volume.new.base (fair_view files.new) }
+    ensures ready { CanSave volume.new.base (fair_view files.new) }
     ensures capacity { volume.new.capacity ≡ volume.old.capacity }
 {
     let mut source = FairSource::new(script.as_bytes());
@@ -44,9 +44,9 @@ pub fn serve_bytes<R: Region>(
     line: &[u8],
     report: &mut String,
 ) -> Result<(), AllocError>
-    requires ready { IsReady volume.old.base (fair_view files.old) }
+    requires ready { CanSave volume.old.base (fair_view files.old) }
     requires roomy { volume.old.capacity ≤ log_events }
-    ensures ready { IsReady volume.new.base (fair_view files.new) }
+    ensures ready { CanSave volume.new.base (fair_view files.new) }
     ensures capacity { volume.new.capacity ≡ volume.old.capacity }
 {
     work.set_line(line);

@@ -182,12 +182,12 @@ fn lines_outside_the_table(rt: HostRuntime) -> Result<(), Fail> {
 fn two_words(rt: HostRuntime) -> Result<(), Fail> {
     let mut decoded = Decoded::new(rt.alloc(), 64)?;
     assert!(rt; decoded.room() >= 64);
-    decoded.pair(b"/a%20b", b"/c%2Fd");
-    assert_eq!(rt; decoded.first(), b"/a b".as_slice());
-    assert_eq!(rt; decoded.second(), b"/c\0d".as_slice());
-    assert_eq!(rt; decoded.path_and_bytes(b"/e", b"00fF"), Ok(()));
-    assert_eq!(rt; decoded.first(), b"/e".as_slice());
-    assert_eq!(rt; decoded.second(), b"\x00\xff".as_slice());
+    let (one, other) = decoded.pair(b"/a%20b", b"/c%2Fd");
+    assert_eq!(rt; one, b"/a b".as_slice());
+    assert_eq!(rt; other, b"/c\0d".as_slice());
+    let (path, bytes) = decoded.path_and_bytes(b"/e", b"00fF")?;
+    assert_eq!(rt; path, b"/e".as_slice());
+    assert_eq!(rt; bytes, b"\x00\xff".as_slice());
     assert_eq!(rt; decoded.path_and_bytes(b"/e", b"00f"), Err(Syntax));
     assert_eq!(rt; decoded.path_and_bytes(b"/e", b"0g"), Err(Syntax));
     Ok(())

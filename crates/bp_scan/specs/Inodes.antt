@@ -50,10 +50,14 @@ pub record EntersInode (image : Image) (i : ℕ) (old new : Scan) : Type 0 where
   pub directory : IsDirectory image i → new.todo ≡ with old.todo i
   pub file : kind_of image i ≢ directory_kind → new.todo ≡ old.todo
 
+-- the check that the tree of inode i fails
+abbrev pub FailsTreeOf : Image → ℕ → Bool → Set → Check → ℕ → Type 0
+FailsTreeOf image i holes old check place =
+    FailsTree image (root_place image i) (root_of image i) (size_of image i) holes old check place
+
 -- the check that inode i or its tree fails
 pub data FailsInode (image : Image) (i : ℕ) (old : Set) : Check → ℕ → Type 0 where
   words : {c : Check} {p : ℕ} → IsWrong i (kind_of image i) (size_of image i) (inode_place image i 0) c p
       → FailsInode image i old c p
   tree : {c : Check} {p : ℕ} (holes : Bool) → (holes ≡ false → IsDirectory image i)
-      → FailsTree image (root_place image i) (root_of image i) (size_of image i) holes old c p →
-      FailsInode image i old c p
+      → FailsTreeOf image i holes old c p → FailsInode image i old c p

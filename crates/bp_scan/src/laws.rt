@@ -3,13 +3,13 @@
 ghost use Rattle.std.specs.Prelude.{◌≡◌, ℕ, ◌%◌, ◌<◌, ◌≤◌, false, true};
 ghost use Rattle.bp_free.specs.Set.{has};
 ghost use Rattle.bp_limits.specs.Limits.{block_size, root_inumber};
-ghost use Rattle.bp_layout.specs.Checks.{Fails, IsFound, root_place};
+ghost use Rattle.bp_layout.specs.Checks.{Fails, IsFound};
 ghost use Rattle.bp_layout.specs.Formatted.{IsFormatted};
 ghost use Rattle.bp_layout.specs.declared.check.Check.{Check};
 ghost use Rattle.bp_layout.specs.Free.{AreFreeBlocks, AreFreeInodes};
-ghost use Rattle.bp_layout.specs.Inode.{IsDirectory, inode_count, root_of, size_of};
+ghost use Rattle.bp_layout.specs.Inode.{IsDirectory, inode_count, size_of};
 ghost use Rattle.bp_layout.specs.WellFormed.{IsWellFormed};
-ghost use Rattle.bp_walk.specs.Walk.{FailsTree};
+ghost use Rattle.bp_scan.specs.Inodes.{FailsTreeOf};
 ghost use Rattle.bp_scan.specs.Progress.{IsMidway};
 ghost use Rattle.bp_layout.specs.Thaw.{none_kept};
 
@@ -48,7 +48,5 @@ pub fn fault_of_a_tree(
     requires found { IsFound image.now inode }
     requires kind { holes ≡ false → IsDirectory image.now inode }
     ensures { (check : Check) (place : ℕ) →
-        FailsTree image.now (root_place image.now inode) (root_of image.now inode) (size_of image.now inode)
-        holes blocks.now check place →
-        Fails image.now check place }
+        FailsTreeOf image.now inode holes blocks.now check place → Fails image.now check place }
 {}

@@ -3,8 +3,8 @@ use Rattle.std.proofs.Common.{◌≡◌, ℕ, ◌+◌, ◌-◌, ◌≤◌, ◌&&
 use Rattle.std.specs.List.{All, list_any}
 use Rattle.std.specs.Option.{option_map_or}
 use Rattle.std.proofs.lemmas.Bool.{le-leb, leb-true, ne_eqb}
-use Rattle.std.proofs.lemmas.List.{append-nil, drop-take, length-append, length-map, length-take, map-append, take-take}
-use Rattle.std.proofs.lemmas.List.Elements.{All-head, All-tail}
+use Rattle.std.proofs.lemmas.List.{append-nil, drop-take, drop_at, length-append, length-map, length-take, length-take-le, map-append, take-take, take_at}
+use Rattle.std.proofs.lemmas.List.Elements.{All-append, All-cons, All-head, All-tail}
 use Rattle.bp_limits.specs.Limits.{max_pieces}
 use Rattle.bp_plain.specs.Calls.{Piece}
 use Rattle.bp_plain.specs.Calls.Call.{batch}
@@ -15,35 +15,68 @@ use Rattle.bp_script.specs.Commands.{Command, and_pieces, asked_by, batch_of, by
 use Rattle.bp_script.specs.Commands.Command.{bad_syntax, file_call}
 use Rattle.bp_script.specs.Lines.{len_behind, piece_decoded}
 
--- ---- parts of a text that gets longer
+-- ---- parts of a text that keeps its front
 
-pub part_kept : (text longer : List ℕ) (part : Span) → take (length text) longer ≡ text → part.at + part.len ≤ length text → spanned longer part ≡ spanned text part
-part_kept text longer part front inside =
+pub front_kept : (at end : ℕ) (text longer : List ℕ) → at ≤ end → take end longer ≡ take end text → take at longer ≡ take at text
+front_kept at end text longer before same = sym (take-take at end longer before) ∙ ap (take at) same ∙ take-take at end text before
+
+pub part_kept : (end : ℕ) (text longer : List ℕ) (part : Span) → take end longer ≡ take end text → part.at + part.len ≤ end → spanned longer part ≡ spanned text part
+part_kept end text longer part same inside =
     let n : (part.at + part.len) - part.at ≡ part.len = omega arith in
     rw (n) (
     sym (drop-take part.at part.len longer)
-    ∙ ap (drop part.at) (sym (take-take (part.at + part.len) (length text) longer inside) ∙ ap (take (part.at + part.len)) front)
+    ∙ ap (drop part.at) (front_kept (part.at + part.len) end text longer inside same)
     ∙ drop-take part.at part.len text
     )
 
-pub piece_kept : (text longer : List ℕ) (piece : GivenPiece) → take (length text) longer ≡ text → LiesIn text piece → piece_in longer piece ≡ piece_in text piece
-piece_kept text longer piece front lies =
-    ap₂ (λ (path bytes : List ℕ). record { path = path; off = piece.off; bytes = bytes }) (part_kept text longer piece.path front lies.path) (part_kept text longer piece.bytes front lies.bytes)
+pub piece_kept : (end : ℕ) (text longer : List ℕ) (piece : GivenPiece) → take end longer ≡ take end text → LiesIn (take end text) piece → piece_in longer piece ≡ piece_in text piece
+piece_kept end text longer piece same lies =
+    let n = length-take end text in
+    ap₂ (λ (path bytes : List ℕ). record { path = path; off = piece.off; bytes = bytes })
+    (part_kept end text longer piece.path same (omega (arith, n, lies.path)))
+    (part_kept end text longer piece.bytes same (omega (arith, n, lies.bytes)))
 
-pub pieces_kept : (text longer : List ℕ) (pieces : List GivenPiece) → take (length text) longer ≡ text → All (LiesIn text) pieces → map (piece_in longer) pieces ≡ map (piece_in text) pieces
-pieces_kept text longer [] front lie = refl
-pieces_kept text longer (piece ∷ pieces) front lie =
-    ap₂ (λ (one : Piece) (more : List Piece). one ∷ more) (piece_kept text longer piece front (All-head (LiesIn text) piece pieces lie)) (pieces_kept text longer pieces front (All-tail (LiesIn text) piece pieces lie))
+pub pieces_kept : (end : ℕ) (text longer : List ℕ) (pieces : List GivenPiece) → take end longer ≡ take end text → All (LiesIn (take end text)) pieces → map (piece_in longer) pieces ≡ map (piece_in text) pieces
+pieces_kept end text longer [] same lie = refl
+pieces_kept end text longer (piece ∷ pieces) same lie =
+    ap₂ (λ (one : Piece) (more : List Piece). one ∷ more) (piece_kept end text longer piece same (All-head (LiesIn (take end text)) piece pieces lie)) (pieces_kept end text longer pieces same (All-tail (LiesIn (take end text)) piece pieces lie))
 
 -- the pieces of a text that gets one more
-pub one_more : (text longer : List ℕ) (pieces : List GivenPiece) (piece : GivenPiece) → take (length text) longer ≡ text → All (LiesIn text) pieces
+pub one_more : (end : ℕ) (text longer : List ℕ) (pieces : List GivenPiece) (piece : GivenPiece) → take end longer ≡ take end text → All (LiesIn (take end text)) pieces
     → map (piece_in longer) (pieces ++ piece ∷ []) ≡ map (piece_in text) pieces ++ piece_in longer piece ∷ []
-one_more text longer pieces piece front lie = map-append (piece_in longer) pieces (piece ∷ []) ∙ ap (λ ps. ps ++ piece_in longer piece ∷ []) (pieces_kept text longer pieces front lie)
+one_more end text longer pieces piece same lie = map-append (piece_in longer) pieces (piece ∷ []) ∙ ap (λ ps. ps ++ piece_in longer piece ∷ []) (pieces_kept end text longer pieces same lie)
 
-pub lie_on : (text longer : List ℕ) (pieces : List GivenPiece) → take (length text) longer ≡ text → All (LiesIn text) pieces → All (LiesIn longer) pieces
-lie_on text longer pieces front lie =
-    let fits : length text ≤ length longer = omega (arith, ap length front, length-take (length text) longer) in
+pub lie_on : (text longer : List ℕ) (pieces : List GivenPiece) → length text ≤ length longer → All (LiesIn text) pieces → All (LiesIn longer) pieces
+lie_on text longer pieces fits lie =
     λ i piece at. let here = lie i piece at in record { path = omega (arith, here.path, fits); bytes = omega (arith, here.bytes, fits) }
+
+pub lie_in_all : (end : ℕ) (text : List ℕ) (pieces : List GivenPiece) → All (LiesIn (take end text)) pieces → All (LiesIn text) pieces
+lie_in_all end text pieces lie = lie_on (take end text) text pieces (omega (arith, length-take end text)) lie
+
+-- one more, behind them
+pub one_more_lies : (end behind : ℕ) (text longer : List ℕ) (pieces : List GivenPiece) (piece : GivenPiece) → All (LiesIn (take end text)) pieces → end ≤ behind → behind ≤ length longer
+    → piece.path.at + piece.path.len ≤ behind → piece.bytes.at + piece.bytes.len ≤ behind → All (LiesIn (take behind longer)) (pieces ++ piece ∷ [])
+one_more_lies end behind text longer pieces piece lie later inside path bytes =
+    let n : length (take behind longer) ≡ behind = length-take-le behind longer inside in
+    All-append (LiesIn (take behind longer)) pieces (piece ∷ [])
+    (lie_on (take end text) (take behind longer) pieces (omega (arith, n, length-take end text, later)) lie)
+    (All-cons (LiesIn (take behind longer)) piece [] (record { path = omega (arith, n, path); bytes = omega (arith, n, bytes) }) (λ k d low. absurd (omega (arith, low))))
+
+-- ---- a part that is written behind the front of a text
+
+pub part_written : (front part_bytes longer : List ℕ) (end : ℕ) (part : Span) → take end longer ≡ front ++ part_bytes → length front ≡ part.at → part.at + part.len ≡ end → spanned longer part ≡ part_bytes
+part_written front part_bytes longer end part is len ends =
+    let n : (part.at + part.len) - part.at ≡ part.len = omega arith in
+    rw (n) (
+    sym (drop-take part.at part.len longer)
+    ∙ ap (λ n. drop part.at (take n longer)) ends
+    ∙ ap (drop part.at) is
+    ∙ drop_at front part_bytes part.at len
+    )
+
+pub front_stays : (at end : ℕ) (text part_bytes longer : List ℕ) → at ≤ length text → at ≤ end → take end longer ≡ take at text ++ part_bytes → take at longer ≡ take at text
+front_stays at end text part_bytes longer within later is =
+    sym (take-take at end longer later) ∙ ap (take at) is ∙ take_at (take at text) part_bytes at (length-take-le at text within)
 
 -- ---- the piece of three words
 

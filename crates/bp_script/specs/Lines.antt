@@ -5,10 +5,11 @@ use Rattle.std.specs.List.{All}
 use Rattle.std.specs.Option.{option_map_or}
 use Rattle.std.specs.Io.BufRead.{Rests}
 use Rattle.std.specs.Vec.{vec_capacity}
-use Rattle.bp_plain.specs.Calls.Call.{create, mkdir, unlink, rmdir, list, stat, rename, link, links, snap_list, snap_stat}
-use Rattle.bp_plain.specs.Calls.{Piece}
+use Rattle.bp_plain.specs.Calls.Call.{batch, create, mkdir, unlink, rmdir, list, stat, rename, link, links, snap_list, snap_stat}
+use Rattle.bp_plain.specs.Calls.{Call, Piece}
 use Rattle.bp_plain.specs.Seen.{CanAsk, LiesIn, call_of, piece_in}
 use Rattle.bp_plain.specs.declared.calls.Call.TheVariants as given
+use Rattle.bp_plain.specs.declared.calls.Piece.{Piece as GivenPiece}
 use Rattle.bp_replay.specs.Wanted.{wanted_by}
 use Rattle.bp_script.specs.declared.batches.PieceWords.{PieceWords}
 use Rattle.bp_script.specs.declared.decoded.Decoded.{Decoded}
@@ -87,6 +88,10 @@ words_behind text = option_map_or (λ t. words_of t.now) text []
 
 abbrev pub len_behind : Option (Bor (List ℕ)) → ℕ
 len_behind text = option_map_or (λ t. length t.now) text 0
+
+-- the batch of pieces whose paths and bytes are parts of a text
+abbrev pub batch_in : List ℕ → List GivenPiece → Call
+batch_in text pieces = batch (map (piece_in text) pieces)
 
 -- a piece decoded from its three words, of which none is empty
 abbrev pub piece_decoded : List ℕ → List ℕ → List ℕ → Option Piece

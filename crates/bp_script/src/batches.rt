@@ -1,17 +1,16 @@
 //! The pieces of a batch.
 
-ghost use Rattle.bp_plain.specs.Calls.Call.{batch};
 ghost use Rattle.bp_plain.specs.Seen.{LiesIn, piece_in, spanned};
 ghost use Rattle.bp_script.specs.Commands.Command.{bad_syntax, file_call};
 ghost use Rattle.bp_script.specs.Commands.{asked_by, decoded, path_bytes};
-ghost use Rattle.bp_script.specs.Lines.{len_behind, most_room, piece_decoded, words_at, words_behind, words_len};
+ghost use Rattle.bp_script.specs.Lines.{batch_in, len_behind, most_room, piece_decoded, words_at, words_behind, words_len};
 ghost use Rattle.hex.specs.Hex.{decode_of};
 ghost use Rattle.std.specs.List.{All};
 ghost use Rattle.std.specs.Option.{option_map_or};
-ghost use Rattle.std.specs.Prelude.{if◌then◌else◌, ◌∷◌, ◌+◌, ◌≡◌, ◌≤◌, IfOk, OnErr, OnOk, [], codes, length, map, option_map, take, vec_capacity, vec_len};
+ghost use Rattle.std.specs.Prelude.{if◌then◌else◌, ◌∷◌, ◌+◌, ◌≡◌, ◌≤◌, IfOk, OnErr, OnOk, [], codes, length, option_map, take, vec_capacity};
 ghost use Rattle.std.specs.Result.{is_ok, result_ok};
 
-use crate::decoding::{add_path, decode_into, digits_of, split_once};
+use crate::decoding::{decode_into, digits_of, lengthen, put_path, split_once};
 use crate::lines::Syntax;
 use crate::numbers::number;
 use arrayvec::ArrayVec;
@@ -30,7 +29,7 @@ pub(crate) struct PieceWords<'a> {
 }
 
 /// Decodes the pieces of a batch, from the words of the first one on: paths and bytes into a text, one behind the other, in
-/// room that is there.
+/// room that is there. They are written over what the text has, so that only what it lacks has to be filled.
 ///
 /// # Errors
 ///
@@ -42,21 +41,21 @@ pub(crate) fn decode_pieces(
 ) -> Result<(), Syntax>
     requires room { length first.path.now + length first.off.now + length first.rest.now ≤ vec_capacity text.old }
     requires low { length first.path.now + length first.off.now + length first.rest.now ≤ most_room }
-    ensures meaning { (if is_ok result
-        then file_call (batch (map (piece_in text.new.items) pieces.new.items)) else bad_syntax) ≡
+    ensures meaning { (if is_ok result then file_call (batch_in text.new.items pieces.new.items) else bad_syntax) ≡
         decoded (asked_by (codes "batch" ∷ words_at first.entry)) }
     ensures whole { OnOk result (All (LiesIn text.new.items) pieces.new.items) }
     ensures room { vec_capacity text.old ≤ vec_capacity text.new }
 {
-    text.clear();
     pieces.clear();
+    let mut end = 0;
     let mut left = Some(first);
     while let Some(words) = left {
         if pieces.is_full() {
             return Err(Syntax);
         }
         let (bytes, more) = split_once(words.rest, b' ');
-        let piece = add_piece(words.path, words.off, bytes, text)?;
+        let piece = add_piece(words.path, words.off, bytes, text, end)?;
+        end = end_of(piece.bytes);
         pieces.push(piece);
         left = next_words(more)?;
     }
@@ -82,18 +81,27 @@ fn next_words(text: Option<&[u8]>) -> Result<Option<PieceWords<'_>>, Syntax>
     Ok(Some(PieceWords { path, off, rest }))
 }
 
-/// Decodes the words of a piece: its path and its bytes go to the end of a text, in room that is there.
+/// Decodes the words of a piece: its path and its bytes go into a text, from a place on, in room that is there.
 ///
 /// # Errors
 ///
 /// `Syntax` exactly where a word is empty, the offset is no number or the bytes are none.
-fn add_piece(path: &[u8], off: &[u8], bytes: &[u8], text: &mut Vec<u8>) -> Result<Piece, Syntax>
-    requires room { vec_len text.old + length path.now + length bytes.now ≤ vec_capacity text.old }
-    requires low { vec_len text.old + length path.now + length bytes.now ≤ most_room }
+fn add_piece(
+    path: &[u8],
+    off: &[u8],
+    bytes: &[u8],
+    text: &mut Vec<u8>,
+    at: usize,
+) -> Result<Piece, Syntax>
+    requires within { at ≤ length text.old.items }
+    requires room { at + length path.now + length bytes.now ≤ vec_capacity text.old }
+    requires low { at + length path.now + length bytes.now ≤ most_room }
     ensures piece { option_map (piece_in text.new.items) (result_ok result) ≡ piece_decoded path.now off.now bytes.now }
     ensures lies { IfOk result (LiesIn text.new.items) }
-    ensures front { OnOk result (take (length text.old.items) text.new.items ≡ text.old.items) }
-    ensures len { OnOk result (vec_len text.new ≤ vec_len text.old + length path.now + length bytes.now) }
+    ensures later { IfOk result (λ piece. at ≤ piece.bytes.at) }
+    ensures order { IfOk result (λ piece. piece.path.at + piece.path.len ≤ piece.bytes.at) }
+    ensures front { OnOk result (take at text.new.items ≡ take at text.old.items) }
+    ensures len { IfOk result (λ piece. piece.bytes.at + piece.bytes.len ≤ at + length path.now + length bytes.now) }
     ensures room { vec_capacity text.old ≤ vec_capacity text.new }
 {
     if path.is_empty() || bytes.is_empty() {
@@ -102,50 +110,57 @@ fn add_piece(path: &[u8], off: &[u8], bytes: &[u8], text: &mut Vec<u8>) -> Resul
     let Some(off) = number(off) else {
         return Err(Syntax);
     };
-    let path = add_path_part(path, text);
-    let bytes = add_bytes_part(digits_of(bytes), text)?;
+    let path = add_path_part(path, text, at);
+    let bytes = add_bytes_part(digits_of(bytes), text, end_of(path))?;
     Ok(Piece { path, off, bytes })
 }
 
-/// Adds the path of a word to a text, and tells which part of it that is.
-fn add_path_part(word: &[u8], text: &mut Vec<u8>) -> Span
-    requires room { vec_len text.old + length word.now ≤ vec_capacity text.old }
-    requires low { vec_len text.old + length word.now ≤ most_room }
+/// Where a part of a text ends.
+fn end_of(part: Span) -> usize
+    requires { part.at + part.len ≤ most_room }
+    ensures { result ≡ part.at + part.len }
+{
+    (part.at + part.len) as usize
+}
+
+/// Writes the path of a word into a text from a place on, and tells which part of it that is.
+fn add_path_part(word: &[u8], text: &mut Vec<u8>, at: usize) -> Span
+    requires within { at ≤ length text.old.items }
+    requires room { at + length word.now ≤ vec_capacity text.old }
+    requires low { at + length word.now ≤ most_room }
     ensures part { spanned text.new.items result ≡ path_bytes word.now }
+    ensures place { result.at ≡ at }
     ensures lies { result.at + result.len ≤ length text.new.items }
-    ensures front { take (length text.old.items) text.new.items ≡ text.old.items }
-    ensures len { vec_len text.new ≤ vec_len text.old + length word.now }
+    ensures front { take at text.new.items ≡ take at text.old.items }
+    ensures len { result.len ≤ length word.now }
     ensures room { vec_capacity text.old ≤ vec_capacity text.new }
 {
-    let at = text.len();
-    add_path(word, text);
+    let end = put_path(word, text, at);
     Span {
         at: at as u32,
-        len: (text.len() - at) as u32,
+        len: (end - at) as u32,
     }
 }
 
-/// Adds the bytes of hexadecimal digits to a text, and tells which part of it they are.
+/// Writes the bytes of hexadecimal digits into a text from a place on, and tells which part of it they are.
 ///
 /// # Errors
 ///
 /// `Syntax` exactly where the digits are none of bytes.
-fn add_bytes_part(digits: &[u8], text: &mut Vec<u8>) -> Result<Span, Syntax>
-    requires room { vec_len text.old + length digits.now ≤ vec_capacity text.old }
-    requires low { vec_len text.old + length digits.now ≤ most_room }
+fn add_bytes_part(digits: &[u8], text: &mut Vec<u8>, at: usize) -> Result<Span, Syntax>
+    requires within { at ≤ length text.old.items }
+    requires room { at + length digits.now ≤ vec_capacity text.old }
+    requires low { at + length digits.now ≤ most_room }
     ensures part { option_map (spanned text.new.items) (result_ok result) ≡ result_ok (decode_of digits.now) }
+    ensures place { IfOk result (λ part. part.at ≡ at) }
     ensures lies { IfOk result (λ part. part.at + part.len ≤ length text.new.items) }
-    ensures front { take (length text.old.items) text.new.items ≡ text.old.items }
-    ensures len { vec_len text.new ≤ vec_len text.old + length digits.now }
+    ensures front { take at text.new.items ≡ take at text.old.items }
+    ensures len { IfOk result (λ part. part.len ≤ length digits.now) }
     ensures room { vec_capacity text.old ≤ vec_capacity text.new }
 {
-    let at = text.len();
     let len = digits.len() / 2;
-    match text.resize(at + len, 0) {
-        Ok(()) => {}
-        Err(_) => unreachable!(),
-    }
-    decode_into(digits, &mut text[at..])?;
+    lengthen(at + len, text);
+    decode_into(digits, &mut text[at..at + len])?;
     Ok(Span {
         at: at as u32,
         len: len as u32,

@@ -1,6 +1,6 @@
 //! Memory for the words of a line, and what the line asks for.
 
-ghost use Rattle.bp_plain.specs.Calls.Call.{batch, link, rename, write};
+ghost use Rattle.bp_plain.specs.Calls.Call.{batch, link, rename};
 ghost use Rattle.bp_replay.specs.Wanted.Wanted.{at};
 ghost use Rattle.bp_script.specs.Commands.Command.{bad_syntax, crash, file_call};
 ghost use Rattle.bp_script.specs.Commands.{IsServedCommand, asked_by, bytes_spelled, decoded, in_grammar, long_command, mask_in, masked_crash, pair_command, path_bytes, word_command, words_of, write_command};
@@ -8,10 +8,10 @@ ghost use Rattle.bp_script.specs.Lines.{CanBeAsked, HasItsParts, HoldsParts, Kee
 ghost use Rattle.std.specs.Borrow.{sem};
 ghost use Rattle.hex.specs.Hex.{decode_of};
 ghost use Rattle.std.specs.Result.{is_ok, result_ok};
-ghost use Rattle.std.specs.Prelude.{◌*◌, if◌then◌else◌, None, Ok, Some, IfOk, OnOk, codes, length, min, ◌∷◌, ◌+◌, ◌<◌, ◌≡◌, ◌≤◌};
+ghost use Rattle.std.specs.Prelude.{◌*◌, if◌then◌else◌, None, Ok, Some, IfOk, OnOk, codes, length, min, option_map, ◌∷◌, ◌+◌, ◌<◌, ◌≡◌, ◌≤◌};
 
 use crate::batches::{PieceWords, decode_pieces};
-use crate::decoding::{decode, decode_bytes, digits_of, split_once};
+use crate::decoding::{decode_bytes, decode_escaped, decoded_or, digits_of, split_once};
 use crate::lines::{
     Line, Syntax, bare, cache, path_line, read, snap_read, storm, truncate, whole_crash,
 };
@@ -59,13 +59,14 @@ impl Decoded {
             .min(MOST_ROOM)
     }
 
-    /// What a line of a script asks for. Its paths, its bytes and its mask are decoded, and lie in this memory. A mask has at most
-    /// half as many bytes as the line. A call is one that a volume carries out: the parts of a batch lie in its text.
+    /// What a line of a script asks for. Its paths, its bytes and its mask are decoded, and lie in this memory, but a path with
+    /// no escape is lent from the line. A mask has at most half as many bytes as the line. A call is one that a volume carries
+    /// out: the parts of a batch lie in its text.
     ///
     /// # Errors
     ///
     /// `Syntax` exactly where the line is none of the table of commands.
-    pub fn line(&mut self, bytes: &[u8]) -> Result<Line<'_>, Syntax>
+    pub fn line<'a>(&'a mut self, bytes: &'a [u8]) -> Result<Line<'a>, Syntax>
         requires room { length bytes.now ≤ decoded_room self.old }
         ensures* keeps_room { sem 𝓛 (KeepsRoom self.entry) }
         ensures meaning { line_asks result ≡ in_grammar bytes.now }
@@ -81,7 +82,7 @@ impl Decoded {
     }
 
     /// What a word and the text behind its space ask for.
-    fn behind_verb(&mut self, verb: &[u8], rest: &[u8]) -> Result<Line<'_>, Syntax>
+    fn behind_verb<'a>(&'a mut self, verb: &[u8], rest: &'a [u8]) -> Result<Line<'a>, Syntax>
         requires { length rest.now ≤ decoded_room self.old }
         ensures* keeps_room { sem 𝓛 (KeepsRoom self.entry) }
         ensures meaning { line_asks result ≡ decoded (asked_by (verb.now ∷ words_of rest.now)) }
@@ -98,7 +99,12 @@ impl Decoded {
     }
 
     /// What two words and the text behind the second one's space ask for.
-    fn behind_pair(&mut self, verb: &[u8], first: &[u8], rest: &[u8]) -> Result<Line<'_>, Syntax>
+    fn behind_pair<'a>(
+        &'a mut self,
+        verb: &[u8],
+        first: &'a [u8],
+        rest: &'a [u8],
+    ) -> Result<Line<'a>, Syntax>
         requires some { 0 < length first.now }
         requires fits { length first.now + length rest.now ≤ decoded_room self.old }
         ensures* keeps_room { sem 𝓛 (KeepsRoom self.entry) }
@@ -116,7 +122,7 @@ impl Decoded {
     }
 
     /// What a line of two words asks for.
-    fn on_word(&mut self, verb: &[u8], word: &[u8]) -> Result<Line<'_>, Syntax>
+    fn on_word<'a>(&'a mut self, verb: &[u8], word: &'a [u8]) -> Result<Line<'a>, Syntax>
         requires { length word.now ≤ decoded_room self.old }
         ensures* keeps_room { sem 𝓛 (KeepsRoom self.entry) }
         ensures meaning { line_asks result ≡ decoded (word_command verb.now word.now) }
@@ -131,7 +137,7 @@ impl Decoded {
     }
 
     /// The line of a verb and a path.
-    fn on_path(&mut self, verb: PathVerb, path: &[u8]) -> Line<'_>
+    fn on_path<'a>(&'a mut self, verb: PathVerb, path: &'a [u8]) -> Line<'a>
         requires { length path.now ≤ decoded_room self.old }
         ensures* keeps_room { sem 𝓛 (KeepsRoom self.entry) }
         ensures meaning { line_asks (Ok result) ≡ decoded (path_row verb path.now) }
@@ -140,7 +146,12 @@ impl Decoded {
     }
 
     /// What a line of a word, a path and a last word asks for.
-    fn on_pair(&mut self, verb: &[u8], path: &[u8], last: &[u8]) -> Result<Line<'_>, Syntax>
+    fn on_pair<'a>(
+        &'a mut self,
+        verb: &[u8],
+        path: &'a [u8],
+        last: &'a [u8],
+    ) -> Result<Line<'a>, Syntax>
         requires path { length path.now ≤ decoded_room self.old }
         requires last { length last.now ≤ decoded_room self.old }
         ensures* keeps_room { sem 𝓛 (KeepsRoom self.entry) }
@@ -155,56 +166,36 @@ impl Decoded {
     }
 
     /// The line of a rename.
-    fn rename(&mut self, from: &[u8], to: &[u8]) -> Line<'_>
+    fn rename<'a>(&'a mut self, from: &'a [u8], to: &'a [u8]) -> Line<'a>
         requires from { length from.now ≤ decoded_room self.old }
         requires to { length to.now ≤ decoded_room self.old }
         ensures* keeps_room { sem 𝓛 (KeepsRoom self.entry) }
         ensures meaning { line_asks (Ok result) ≡ file_call (rename (path_bytes from.now) (path_bytes to.now)) }
     {
-        self.pair(from, to);
-        self.rename_held()
-    }
-
-    /// The line of a rename with the paths that are held.
-    fn rename_held(&self) -> Line<'_>
-        ensures { line_asks (Ok result) ≡ file_call (rename (first_held self.now) (second_held self.now)) }
-    {
-        Line::Call(Call::Rename {
-            from: self.first.as_slice(),
-            to: self.second.as_slice(),
-        })
+        let (from, to) = self.pair(from, to);
+        Line::Call(Call::Rename { from, to })
     }
 
     /// The line of one more name.
-    fn link(&mut self, from: &[u8], to: &[u8]) -> Line<'_>
+    fn link<'a>(&'a mut self, from: &'a [u8], to: &'a [u8]) -> Line<'a>
         requires from { length from.now ≤ decoded_room self.old }
         requires to { length to.now ≤ decoded_room self.old }
         ensures* keeps_room { sem 𝓛 (KeepsRoom self.entry) }
         ensures meaning { line_asks (Ok result) ≡ file_call (link (path_bytes from.now) (path_bytes to.now)) }
     {
-        self.pair(from, to);
-        self.link_held()
-    }
-
-    /// The line of one more name with the paths that are held.
-    fn link_held(&self) -> Line<'_>
-        ensures { line_asks (Ok result) ≡ file_call (link (first_held self.now) (second_held self.now)) }
-    {
-        Line::Call(Call::Link {
-            from: self.first.as_slice(),
-            to: self.second.as_slice(),
-        })
+        let (from, to) = self.pair(from, to);
+        Line::Call(Call::Link { from, to })
     }
 
     /// What three words and the text behind the third one's space ask for. But for a batch, a space in that text is no digit
     /// of any kind, so where there is one the line is none of the table, as it must be: it has more words than four.
-    fn long(
-        &mut self,
+    fn long<'a>(
+        &'a mut self,
         verb: &[u8],
-        first: &[u8],
+        first: &'a [u8],
         second: &[u8],
         rest: &[u8],
-    ) -> Result<Line<'_>, Syntax>
+    ) -> Result<Line<'a>, Syntax>
         requires some_first { 0 < length first.now }
         requires some_second { 0 < length second.now }
         requires fits { length first.now + length second.now + length rest.now ≤ decoded_room self.old }
@@ -260,13 +251,13 @@ impl Decoded {
     }
 
     /// What a line of four words asks for, where the last may hold spaces.
-    fn on_long(
-        &mut self,
+    fn on_long<'a>(
+        &'a mut self,
         verb: &[u8],
-        first: &[u8],
+        first: &'a [u8],
         second: &[u8],
         third: &[u8],
-    ) -> Result<Line<'_>, Syntax>
+    ) -> Result<Line<'a>, Syntax>
         requires first { length first.now ≤ decoded_room self.old }
         requires third { length third.now ≤ decoded_room self.old }
         ensures* keeps_room { sem 𝓛 (KeepsRoom self.entry) }
@@ -282,7 +273,12 @@ impl Decoded {
     }
 
     /// The line of a write.
-    fn write(&mut self, path: &[u8], off: Option<u64>, word: &[u8]) -> Result<Line<'_>, Syntax>
+    fn write<'a>(
+        &'a mut self,
+        path: &'a [u8],
+        off: Option<u64>,
+        word: &[u8],
+    ) -> Result<Line<'a>, Syntax>
         requires path { length path.now ≤ decoded_room self.old }
         requires word { length word.now ≤ decoded_room self.old }
         ensures* keeps_room { sem 𝓛 (KeepsRoom self.entry) }
@@ -290,22 +286,11 @@ impl Decoded {
     {
         match off {
             Some(off) => {
-                self.path_and_bytes(path, digits_of(word))?;
-                Ok(self.write_held(off))
+                let (path, bytes) = self.path_and_bytes(path, digits_of(word))?;
+                Ok(Line::Call(Call::Write { path, off, bytes }))
             }
             None => Err(Syntax),
         }
-    }
-
-    /// The line of a write with the path and the bytes that are held.
-    fn write_held(&self, off: u64) -> Line<'_>
-        ensures { line_asks (Ok result) ≡ file_call (write (first_held self.now) off (second_held self.now)) }
-    {
-        Line::Call(Call::Write {
-            path: self.first.as_slice(),
-            off,
-            bytes: self.second.as_slice(),
-        })
     }
 
     /// The line of a crash at a moment.
@@ -321,7 +306,7 @@ impl Decoded {
     {
         match (moment, epoch) {
             (Some(moment), Some(epoch)) => {
-                self.mask(digits_of(word))?;
+                self.decode_digits(digits_of(word))?;
                 Ok(self.crash_held(moment, epoch))
             }
             _ => Err(Syntax),
@@ -339,8 +324,8 @@ impl Decoded {
         })
     }
 
-    /// Decodes hexadecimal digits as the bytes of a mask, into the second memory.
-    fn mask(&mut self, digits: &[u8]) -> Result<(), Syntax>
+    /// Decodes hexadecimal digits as bytes, into the second memory.
+    fn decode_digits(&mut self, digits: &[u8]) -> Result<(), Syntax>
         requires { length digits.now ≤ decoded_room self.old }
         ensures bytes { result_ok (decode_of digits.now) ≡
             (if is_ok result then Some (second_held self.new) else None) }
@@ -350,57 +335,94 @@ impl Decoded {
     }
 
     /// The path of a word.
-    fn path_of(&mut self, word: &[u8]) -> &[u8]
+    fn path_of<'a>(&'a mut self, word: &'a [u8]) -> &'a [u8]
         requires { length word.now ≤ decoded_room self.old }
         ensures* keeps_room { sem 𝓛 (KeepsRoom self.entry) }
         ensures path { result.now ≡ path_bytes word.now }
     {
-        decode(word, &mut self.first);
-        self.first.as_slice()
+        let is_decoded = decode_escaped(word, &mut self.first);
+        decoded_or(is_decoded, self.first.as_slice(), word)
     }
 
-    /// What the first memory holds.
-    pub fn first(&self) -> &[u8]
-        ensures { result.now ≡ first_held self.now }
-    {
-        self.first.as_slice()
-    }
-
-    /// What the second memory holds.
-    pub fn second(&self) -> &[u8]
-        ensures { result.now ≡ second_held self.now }
-    {
-        self.second.as_slice()
-    }
-
-    /// Decodes two words as paths, the one into the first memory and the other into the second.
-    pub fn pair(&mut self, one: &[u8], other: &[u8])
+    /// The paths of two words.
+    pub fn pair<'a>(&'a mut self, one: &'a [u8], other: &'a [u8]) -> (&'a [u8], &'a [u8])
         requires one { length one.now ≤ decoded_room self.old }
         requires other { length other.now ≤ decoded_room self.old }
-        ensures first { first_held self.new ≡ path_bytes one.now }
-        ensures second { second_held self.new ≡ path_bytes other.now }
+        ensures* keeps_room { sem 𝓛 (KeepsRoom self.entry) }
+        ensures first { result.0.now ≡ path_bytes one.now }
+        ensures second { result.1.now ≡ path_bytes other.now }
+    {
+        let are_decoded = self.decode_pair(one, other);
+        self.pair_held(are_decoded, one, other)
+    }
+
+    /// Decodes two words as paths, where they have an escape: which of them it did.
+    fn decode_pair(&mut self, one: &[u8], other: &[u8]) -> (bool, bool)
+        requires one { length one.now ≤ decoded_room self.old }
+        requires other { length other.now ≤ decoded_room self.old }
+        ensures first { (if result.0 then first_held self.new else one.now) ≡ path_bytes one.now }
+        ensures second { (if result.1 then second_held self.new else other.now) ≡ path_bytes other.now }
         ensures room { decoded_room self.old ≤ decoded_room self.new }
     {
         let Decoded { first, second, .. } = self;
-        decode(one, first);
-        decode(other, second);
+        (decode_escaped(one, first), decode_escaped(other, second))
     }
 
-    /// Decodes a word as a path into the first memory, and hexadecimal digits as bytes into the second.
+    /// What is held of two paths, each of them or its word.
+    fn pair_held<'a>(
+        &'a self,
+        are_decoded: (bool, bool),
+        one: &'a [u8],
+        other: &'a [u8],
+    ) -> (&'a [u8], &'a [u8])
+        ensures first { result.0.now ≡ (if are_decoded.0 then first_held self.now else one.now) }
+        ensures second { result.1.now ≡ (if are_decoded.1 then second_held self.now else other.now) }
+    {
+        (
+            decoded_or(are_decoded.0, self.first.as_slice(), one),
+            decoded_or(are_decoded.1, self.second.as_slice(), other),
+        )
+    }
+
+    /// The path of a word, and the bytes that hexadecimal digits stand for.
     ///
     /// # Errors
     ///
     /// `Syntax` exactly where the digits are none of bytes.
-    pub fn path_and_bytes(&mut self, path: &[u8], digits: &[u8]) -> Result<(), Syntax>
+    pub fn path_and_bytes<'a>(
+        &'a mut self,
+        path: &'a [u8],
+        digits: &[u8],
+    ) -> Result<(&'a [u8], &'a [u8]), Syntax>
         requires path { length path.now ≤ decoded_room self.old }
         requires digits { length digits.now ≤ decoded_room self.old }
-        ensures first { first_held self.new ≡ path_bytes path.now }
-        ensures second { result_ok (decode_of digits.now) ≡
-            (if is_ok result then Some (second_held self.new) else None) }
+        ensures* keeps_room { sem 𝓛 (KeepsRoom self.entry) }
+        ensures path { IfOk result (λ parts. parts.0.now ≡ path_bytes path.now) }
+        ensures bytes { result_ok (decode_of digits.now) ≡ option_map (λ parts. parts.1.now) (result_ok result) }
+    {
+        self.decode_digits(digits)?;
+        let is_decoded = self.decode_path(path);
+        Ok(self.path_and_bytes_held(is_decoded, path))
+    }
+
+    /// Decodes a word as a path, where it has an escape: whether it did.
+    fn decode_path(&mut self, word: &[u8]) -> bool
+        requires { length word.now ≤ decoded_room self.old }
+        ensures first { (if result then first_held self.new else word.now) ≡ path_bytes word.now }
+        ensures second { second_held self.new ≡ second_held self.old }
         ensures room { decoded_room self.old ≤ decoded_room self.new }
     {
-        let Decoded { first, second, .. } = self;
-        decode(path, first);
-        decode_bytes(digits, second)
+        decode_escaped(word, &mut self.first)
+    }
+
+    /// What is held of a path, or its word, and the bytes that are held.
+    fn path_and_bytes_held<'a>(&'a self, is_decoded: bool, path: &'a [u8]) -> (&'a [u8], &'a [u8])
+        ensures path { result.0.now ≡ (if is_decoded then first_held self.now else path.now) }
+        ensures bytes { result.1.now ≡ second_held self.now }
+    {
+        (
+            decoded_or(is_decoded, self.first.as_slice(), path),
+            self.second.as_slice(),
+        )
     }
 }

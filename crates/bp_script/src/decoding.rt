@@ -5,7 +5,7 @@ ghost use Rattle.std.specs.List.{slice_split};
 ghost use Rattle.std.specs.Option.{option_map_or};
 ghost use Rattle.hex.specs.Hex.{decode_of};
 ghost use Rattle.std.specs.Result.{is_ok, result_ok};
-ghost use Rattle.std.specs.Prelude.{◌/◌, if◌then◌else◌, None, Some, length, vec_capacity, vec_len, [], ◌∷◌, ◌+◌, ◌++◌, ◌==◌, ◌<◌, ◌≡◌, ◌≤◌};
+ghost use Rattle.std.specs.Prelude.{◌/◌, if◌then◌else◌, None, Some, length, take, vec_capacity, vec_len, [], ◌∷◌, ◌+◌, ◌++◌, ◌==◌, ◌<◌, ◌≡◌, ◌≤◌};
 
 use crate::digits::decode_digits;
 use crate::lines::Syntax;
@@ -61,26 +61,136 @@ pub(crate) fn decode_into(digits: &[u8], into: &mut [u8]) -> Result<(), Syntax>
     }
 }
 
-/// Decodes a word as a path, in room that is there.
-pub(crate) fn decode(word: &[u8], into: &mut Vec<u8>)
+/// Decodes a word as a path, in room that is there, where it has an escape. False says that the word is its own path, and
+/// that nothing is written.
+pub(crate) fn decode_escaped(word: &[u8], into: &mut Vec<u8>) -> bool
     requires { length word.now ≤ vec_capacity into.old }
-    ensures path { into.new.items ≡ path_bytes word.now }
-    ensures room { vec_capacity into.old ≤ vec_capacity into.new }
-{
-    into.clear();
-    add_path(word, into);
-}
-
-/// Adds the path of a word, in room that is there.
-pub(crate) fn add_path(word: &[u8], into: &mut Vec<u8>)
-    requires { vec_len into.old + length word.now ≤ vec_capacity into.old }
-    ensures path { into.new.items ≡ into.old.items ++ path_bytes word.now }
-    ensures len { vec_len into.new ≤ vec_len into.old + length word.now }
+    ensures path { (if result then into.new.items else word.now) ≡ path_bytes word.now }
     ensures room { vec_capacity into.old ≤ vec_capacity into.new }
 {
     match first_of(b'%', word) {
-        Some(_) => add_parts(word, into),
-        None => add(word, into),
+        Some(_) => {
+            let end = put_parts(word, into, 0);
+            into.truncate(end);
+            true
+        }
+        None => false,
+    }
+}
+
+/// What was decoded, or the word that is its own path.
+pub(crate) fn decoded_or<'a>(is_decoded: bool, decoded: &'a [u8], word: &'a [u8]) -> &'a [u8]
+    ensures { result.now ≡ (if is_decoded then decoded.now else word.now) }
+{
+    if is_decoded { decoded } else { word }
+}
+
+/// Writes the path of a word into a text from a place on, over what the text has there and in room that is there, and tells
+/// where the path ends.
+pub(crate) fn put_path(word: &[u8], text: &mut Vec<u8>, at: usize) -> usize
+    requires within { at ≤ length text.old.items }
+    requires room { at + length word.now ≤ vec_capacity text.old }
+    ensures path { take result text.new.items ≡ take at text.old.items ++ path_bytes word.now }
+    ensures later { at ≤ result }
+    ensures within { result ≤ length text.new.items }
+    ensures len { result ≤ at + length word.now }
+    ensures room { vec_capacity text.old ≤ vec_capacity text.new }
+{
+    match first_of(b'%', word) {
+        Some(_) => put_parts(word, text, at),
+        None => {
+            put(word, text, at);
+            at + word.len()
+        }
+    }
+}
+
+/// The same part by part.
+fn put_parts(word: &[u8], text: &mut Vec<u8>, at: usize) -> usize
+    requires within { at ≤ length text.old.items }
+    requires room { at + length word.now ≤ vec_capacity text.old }
+    ensures path { take result text.new.items ≡ take at text.old.items ++ path_bytes word.now }
+    ensures later { at ≤ result }
+    ensures within { result ≤ length text.new.items }
+    ensures len { result ≤ at + length word.now }
+    ensures room { vec_capacity text.old ≤ vec_capacity text.new }
+{
+    let (first, mut left) = split_once(word, b'/');
+    let mut end = put_part(first, text, at);
+    while let Some(parts) = left {
+        put_byte(b'/', text, end);
+        let (part, more) = split_once(parts, b'/');
+        end = put_part(part, text, end + 1);
+        left = more;
+    }
+    end
+}
+
+/// Writes what a part of a path stands for into a text from a place on, and tells where it ends.
+fn put_part(part: &[u8], text: &mut Vec<u8>, at: usize) -> usize
+    requires within { at ≤ length text.old.items }
+    requires room { at + length part.now ≤ vec_capacity text.old }
+    ensures items { take result text.new.items ≡ take at text.old.items ++ part_bytes part.now }
+    ensures later { at ≤ result }
+    ensures within { result ≤ length text.new.items }
+    ensures len { result ≤ at + length part.now }
+    ensures room { vec_capacity text.old ≤ vec_capacity text.new }
+{
+    let mut end = at;
+    for byte in percent_decode(part) {
+        put_byte(without_slash(byte), text, end);
+        end += 1;
+    }
+    end
+}
+
+/// Writes bytes into a text from a place on, over what the text has there and in room that is there.
+fn put(bytes: &[u8], text: &mut Vec<u8>, at: usize)
+    requires within { at ≤ length text.old.items }
+    requires room { at + length bytes.now ≤ vec_capacity text.old }
+    ensures items { take (at + length bytes.now) text.new.items ≡ take at text.old.items ++ bytes.now }
+    ensures within { at + length bytes.now ≤ length text.new.items }
+    ensures room { vec_capacity text.old ≤ vec_capacity text.new }
+{
+    let end = at + bytes.len();
+    if end <= text.len() {
+        text[at..end].copy_from_slice(bytes);
+    } else {
+        // Added as they are, with nothing filled before.
+        text.truncate(at);
+        add(bytes, text);
+    }
+}
+
+/// The same of one byte.
+fn put_byte(byte: u8, text: &mut Vec<u8>, at: usize)
+    requires within { at ≤ length text.old.items }
+    requires room { at < vec_capacity text.old }
+    ensures items { take (at + 1) text.new.items ≡ take at text.old.items ++ byte ∷ [] }
+    ensures within { at + 1 ≤ length text.new.items }
+    ensures room { vec_capacity text.old ≤ vec_capacity text.new }
+{
+    if at < text.len() {
+        text[at] = byte;
+    } else {
+        add_byte(byte, text);
+    }
+}
+
+/// Gives a text at least so many bytes, in room that is there: only what it lacks has to be filled.
+pub(crate) fn lengthen(len: usize, text: &mut Vec<u8>)
+    requires { len ≤ vec_capacity text.old }
+    ensures front { take (length text.old.items) text.new.items ≡ text.old.items }
+    ensures longer { length text.old.items ≤ length text.new.items }
+    ensures len { len ≤ length text.new.items }
+    ensures room { vec_capacity text.old ≤ vec_capacity text.new }
+{
+    if len <= text.len() {
+        return;
+    }
+    match text.resize(len, 0) {
+        Ok(()) => {}
+        Err(_) => unreachable!(),
     }
 }
 
@@ -94,35 +204,6 @@ fn add(bytes: &[u8], into: &mut Vec<u8>)
     match into.extend_from_slice(bytes) {
         Ok(()) => {}
         Err(_) => unreachable!(),
-    }
-}
-
-/// Adds the parts of a word decoded one by one, in room that is there.
-fn add_parts(word: &[u8], into: &mut Vec<u8>)
-    requires { vec_len into.old + length word.now ≤ vec_capacity into.old }
-    ensures path { into.new.items ≡ into.old.items ++ path_bytes word.now }
-    ensures len { vec_len into.new ≤ vec_len into.old + length word.now }
-    ensures room { vec_capacity into.old ≤ vec_capacity into.new }
-{
-    let (first, mut left) = split_once(word, b'/');
-    add_part(first, into);
-    while let Some(text) = left {
-        add_byte(b'/', into);
-        let (part, more) = split_once(text, b'/');
-        add_part(part, into);
-        left = more;
-    }
-}
-
-/// Adds what a part of a path stands for, in room that is there.
-fn add_part(part: &[u8], path: &mut Vec<u8>)
-    requires { vec_len path.old + length part.now ≤ vec_capacity path.old }
-    ensures items { path.new.items ≡ path.old.items ++ part_bytes part.now }
-    ensures len { vec_len path.new ≤ vec_len path.old + length part.now }
-    ensures room { vec_capacity path.old ≤ vec_capacity path.new }
-{
-    for byte in percent_decode(part) {
-        add_byte(without_slash(byte), path);
     }
 }
 

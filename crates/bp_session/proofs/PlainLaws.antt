@@ -34,7 +34,7 @@ use Rattle.pm_epochs.proofs.CrashLaws.{crash_right_none}
 use Rattle.bp_plain.specs.Calls.{Refusal}
 use Rattle.std.specs.Prelude.{Option, Some, None, is_none, ◌&&◌, ◌⊎◌, nat_le, nat_lt, if◌then◌else◌}
 use Rattle.std.proofs.lemmas.Bool.{leb-true, leb-false}
-use Rattle.bp_session.specs.PlainSession.{PlainSession, PlainLine, PlainState, PlainCall, latest, tree_at, tree_now, after_crash, with_call, fresh, Follows, FollowsTree, IsPlainly, PlainCrashes}
+use Rattle.bp_session.specs.PlainSession.{PlainSession, PlainLine, PlainState, PlainCall, latest, tree_at, tree_now, after_crash, with_call, fresh, FollowsPlainState, FollowsTree, IsPlainly, PlainCrashes}
 use Rattle.bp_session.proofs.ServingLaws.{session_split}
 use Rattle.bp_session.specs.PlainSession.PlainCall.{plainly, no_room as finds_no_room, no_listing as finds_no_memory, no_snap_listing as snap_finds_no_memory}
 
@@ -159,7 +159,7 @@ nothing_stored words (Mark ∷ events) (suc count) low = nothing_stored words ev
 -- ---- what follows
 
 follows : (memory : Memory) (p : PlainState) → Stands (current_words memory) (tree_now p) → marks memory.events ≡ length p.since
-    → ((count : ℕ) → Stands (after_calls memory.base memory.events count) (after_crash p count)) → CrashRight SameFiles memory.base memory.events → Follows memory p
+    → ((count : ℕ) → Stands (after_calls memory.base memory.events count) (after_crash p count)) → CrashRight SameFiles memory.base memory.events → FollowsPlainState memory p
 follows memory p now calls after right = record {
   now = now;
   calls = calls;
@@ -168,7 +168,7 @@ follows memory p now calls after right = record {
 }
 
 -- with an empty log
-pub follows_fresh : (memory : Memory) (tree : FileTree) → memory.events ≡ [] → Stands memory.base tree → Follows memory (fresh tree)
+pub follows_fresh : (memory : Memory) (tree : FileTree) → memory.events ≡ [] → Stands memory.base tree → FollowsPlainState memory (fresh tree)
 follows_fresh memory tree empty stands = follows memory (fresh tree)
     (rw empty stands)
     (rw empty refl)
@@ -176,8 +176,8 @@ follows_fresh memory tree empty stands = follows memory (fresh tree)
     (rw empty (crash_right_none SameFiles memory.base (same_by_stands memory.base tree stands)))
 
 -- one more call
-follows_more : (old new : Memory) (p : PlainState) (added : List Event) (tree : FileTree) → Follows old p → marks added ≡ 0 → Adds old new (added ++ Mark ∷ []) → CrashRight SameFiles new.base new.events
-    → Stands (current_words new) tree → Follows new (with_call p tree)
+follows_more : (old new : Memory) (p : PlainState) (added : List Event) (tree : FileTree) → FollowsPlainState old p → marks added ≡ 0 → Adds old new (added ++ Mark ∷ []) → CrashRight SameFiles new.base new.events
+    → Stands (current_words new) tree → FollowsPlainState new (with_call p tree)
 follows_more old new p added tree before none adds right stands =
     let base : new.base ≡ old.base = ap (λ (m : Memory). m.base) adds in
     let events : new.events ≡ old.events ++ (added ++ Mark ∷ []) = ap (λ (m : Memory). m.events) adds in
@@ -191,17 +191,17 @@ follows_more old new p added tree before none adds right stands =
     follows new (with_call p tree) (rw (latest-append p.certain tree p.since) stands) calls (λ count. go count (nat_le count (length p.since)) refl) right
 
 -- a crash leaves the tree after the calls that it keeps
-follows_crash : (memory : Memory) (p : PlainState) (cut : PowerCut) → Follows memory p → IsRight memory.events cut → Follows (crashed memory cut) (fresh (after_crash p (kept_calls memory.events cut)))
+follows_crash : (memory : Memory) (p : PlainState) (cut : PowerCut) → FollowsPlainState memory p → IsRight memory.events cut → FollowsPlainState (crashed memory cut) (fresh (after_crash p (kept_calls memory.events cut)))
 follows_crash memory p cut before right = follows_fresh (crashed memory cut) (after_crash p (kept_calls memory.events cut)) refl (before.crash cut right)
 
 -- ---- lines
 
 pub record SettlesTo (old : PlainState) (memory : Memory) : Type 0 where
   pub plain : PlainState
-  pub follows : Follows memory plain
+  pub follows : FollowsPlainState memory plain
   pub is : (plain ≡ old) ⊎ (plain ≡ fresh (tree_now old))
 
-pub settles : (wanted : ℕ) (memory : Memory) (p : PlainState) → Follows memory p → SettlesTo p (with_room wanted memory)
+pub settles : (wanted : ℕ) (memory : Memory) (p : PlainState) → FollowsPlainState memory p → SettlesTo p (with_room wanted memory)
 settles wanted memory p before = elim (nat_lt (room_in memory) wanted) as (λ full. SettlesTo p (if full then drained memory else memory)) [
   | true ↦ record { plain = fresh (tree_now p); follows = follows_fresh (drained memory) (tree_now p) refl before.now; is = inr refl }
   | false ↦ record { plain = p; follows = before; is = inl refl }
@@ -210,10 +210,10 @@ settles wanted memory p before = elim (nat_lt (room_in memory) wanted) as (λ fu
 pub record Follower (old : State) (p : PlainState) (command : Command) (reply : LineReply) (new : State) : Type 0 where
   pub plain : PlainState
   pub line : PlainLine p command reply plain
-  pub follows : Follows new.memory plain
+  pub follows : FollowsPlainState new.memory plain
 
 -- a crash that keeps so many calls
-crash_follower : (old : State) (p : PlainState) (command : Command) (cut : PowerCut) (count : ℕ) (reply : LineReply) (new : State) → Follows old.memory p → Crashes old cut reply new → kept_calls old.memory.events cut ≡ count
+crash_follower : (old : State) (p : PlainState) (command : Command) (cut : PowerCut) (count : ℕ) (reply : LineReply) (new : State) → FollowsPlainState old.memory p → Crashes old cut reply new → kept_calls old.memory.events cut ≡ count
     → ((plain : PlainState) → PlainCrashes p count reply plain → PlainLine p command reply plain) → Follower old p command reply new
 crash_follower old p command cut count reply new before does is line = record {
   plain = fresh (after_crash p count);
@@ -226,7 +226,7 @@ crash_follower old p command cut count reply new before does is line = record {
 }
 
 -- the calls that changed nothing left the certain tree
-certain_tree : (memory : Memory) (p : PlainState) → Follows memory p → (count : ℕ) → count ≤ kept_calls memory.events (cut_for memory.events nothing) → after_crash p count ≡ p.certain
+certain_tree : (memory : Memory) (p : PlainState) → FollowsPlainState memory p → (count : ℕ) → count ≤ kept_calls memory.events (cut_for memory.events nothing) → after_crash p count ≡ p.certain
 certain_tree memory p before count low =
     let here : Stands memory.base (after_crash p count) = rw (nothing_stored memory.base memory.events count low) at (before.after count) in
     stands_once memory.base (after_crash p count) p.certain here (before.after 0)
@@ -234,7 +234,7 @@ certain_tree memory p before count low =
 nothing_right : (events : List Event) → IsRight events (cut_for events nothing)
 nothing_right events = record { moment = omega arith; epoch = omega arith; mask = omega arith }
 
-nothing_follower : (old : State) (p : PlainState) (reply : LineReply) (new : State) → Follows old.memory p → Crashes old (cut_for old.memory.events nothing) reply new → Follower old p (crash nothing) reply new
+nothing_follower : (old : State) (p : PlainState) (reply : LineReply) (new : State) → FollowsPlainState old.memory p → Crashes old (cut_for old.memory.events nothing) reply new → Follower old p (crash nothing) reply new
 nothing_follower old p reply new before does =
     let cut = cut_for old.memory.events nothing in
     let unchanged = certain_tree old.memory p before in
@@ -251,14 +251,14 @@ nothing_follower old p reply new before does =
       follows = rw (does.done, ← is) (follows_crash old.memory p cut before does.right);
     }
 
-refused_follower : (old : State) (p : PlainState) (moment epoch : ℕ) (mask : List ℕ) (reply : LineReply) (new : State) → Follows old.memory p → RefusesCut old (cut_for old.memory.events (at moment epoch mask)) reply new → Follower old p (crash (at moment epoch mask)) reply new
+refused_follower : (old : State) (p : PlainState) (moment epoch : ℕ) (mask : List ℕ) (reply : LineReply) (new : State) → FollowsPlainState old.memory p → RefusesCut old (cut_for old.memory.events (at moment epoch mask)) reply new → Follower old p (crash (at moment epoch mask)) reply new
 refused_follower old p moment epoch mask reply new before does = record {
   plain = p;
   line = inl (record { told = does.told; same = refl });
   follows = rw does.same before;
 }
 
-pub plain_line : (old : State) (p : PlainState) (command : Command) (reply : LineReply) (new : State) → Follows old.memory p → SessionLine old command reply new → Follower old p command reply new
+pub plain_line : (old : State) (p : PlainState) (command : Command) (reply : LineReply) (new : State) → FollowsPlainState old.memory p → SessionLine old command reply new → Follower old p command reply new
 plain_line old p (file_call call) reply new before line =
     let first = settles call_room old.memory p before in
     let step = plain_step (current_words old.memory) (tree_now p) call line.answer (current_words new.memory) before.now (line.does.step (tree_now p) before.now) in
@@ -305,9 +305,9 @@ plain_line old p too_long reply new before line = record { plain = p; line = rec
 pub record PlainRun (p : PlainState) (commands : List Command) (replies : List LineReply) (new : State) : Type 0 where
   pub plain : PlainState
   pub session : PlainSession p commands replies plain
-  pub follows : Follows new.memory plain
+  pub follows : FollowsPlainState new.memory plain
 
-pub plain_session : (old : State) (p : PlainState) (commands : List Command) (replies : List LineReply) (new : State) → Follows old.memory p → Session old commands replies new → PlainRun p commands replies new
+pub plain_session : (old : State) (p : PlainState) (commands : List Command) (replies : List LineReply) (new : State) → FollowsPlainState old.memory p → Session old commands replies new → PlainRun p commands replies new
 plain_session old p [] [] new before same = record { plain = p; session = refl; follows = rw same before }
 plain_session old p [] (reply ∷ replies) new before never = absurd never
 plain_session old p (command ∷ commands) [] new before never = absurd never

@@ -11,7 +11,7 @@ use Rattle.bp_io.specs.Files.{block_bytes, blocks_of, with_blocks, IsMixed, Know
 use Rattle.bp_session.proofs.BlockLaws.{length-image_bytes}
 use Rattle.bp_layout.specs.Words.{Image}
 use Rattle.bp_session.specs.Changed.{AreUnmarked, HasChanged, IsChanged, is_marked}
-use Rattle.bp_session.specs.Files.{HasBytes, HasBlocksOf, IsReady}
+use Rattle.bp_session.specs.Files.{HasBytes, HasBlocksOf, CanSave}
 
 -- ---- bytes before, within and behind those that are written
 
@@ -250,7 +250,7 @@ stays_attached a b c one two = record {
 pub still_attached : (a : View) → StaysAttached a a
 still_attached a = record { attached = λ name. refl; blocks = refl; may_write = refl }
 
-pub still_ready : (base next : Image) (a b : View) → IsReady base a → length next ≡ length base → StaysAttached a b → IsReady next b
+pub still_ready : (base next : Image) (a b : View) → CanSave base a → length next ≡ length base → StaysAttached a b → CanSave next b
 still_ready base next a b ready size stays = record {
   size = omega (arith, size, ready.size, stays.blocks);
   attached = (ready.attached.0, stays.attached ready.attached.0 ∙ ready.attached.1);

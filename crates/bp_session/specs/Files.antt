@@ -77,7 +77,7 @@ HoldsFirstBlocks files count words = (name : List ℕ) → files.is_attached nam
     TellsFile (files.contents name) (λ bytes. image_bytes words ≡ take (block_size * count) bytes)
 
 -- A file is attached that has the words' blocks, and may be written.
-pub record IsReady (base : Image) (files : View) : Type 0 where
+pub record CanSave (base : Image) (files : View) : Type 0 where
   pub size : length base ≡ block_words * files.blocks
   pub attached : (name : List ℕ) × (files.is_attached name ≡ true)
   pub may_write : files.may_write ≡ true

@@ -20,8 +20,8 @@ use Rattle.bp_session.specs.declared.work.Work.{Work}
 use Rattle.pm_region.specs.Memory.{Memory}
 
 -- the moment at which these blocks are stale, and the region, the files and the sink are so
-abbrev pub seen : List Bool → Memory → View → SinkView → Moment
-seen stale memory files sink = with_stale stale (moment memory files sink)
+abbrev pub instant : List Bool → Memory → View → SinkView → Moment
+instant stale memory files sink = with_stale stale (moment memory files sink)
 
 -- ---- the line of the buffers
 
@@ -29,15 +29,15 @@ seen stale memory files sink = with_stale stale (moment memory files sink)
 abbrev pub DoesHeld : LineBuffers → List Bool → Memory → View → SinkView
     → LineBuffers → List Bool → Memory → View → SinkView → Outcome → Type 0
 DoesHeld before stale memory files sink after stale_now memory_now files_now sink_now outcome =
-    DoesLine (seen stale memory files sink) (command_of (line_in before)) (reply_of outcome (answer_in after))
-    (seen stale_now memory_now files_now sink_now)
+    DoesLine (instant stale memory files sink) (command_of (line_in before)) (reply_of outcome (answer_in after))
+    (instant stale_now memory_now files_now sink_now)
 
 -- It was broken off by this cause, over the replies that wait.
 abbrev pub StopsBy : LineBuffers → List Bool → Memory → View → SinkView
     → LineBuffers → List Bool → Memory → View → SinkView → Broken → Type 0
 StopsBy before stale memory files sink after stale_now memory_now files_now sink_now broken =
     LineGathers (broken_status broken) (command_of (line_in before)) (waiting_in before) (waiting_in after)
-    (seen stale memory files sink) (seen stale_now memory_now files_now sink_now)
+    (instant stale memory files sink) (instant stale_now memory_now files_now sink_now)
 
 -- Behind it the replies that waited still wait, or a sink took them.
 abbrev pub ClearsHeld : LineBuffers → View → SinkView → LineBuffers → View → SinkView → Type 0
@@ -51,7 +51,7 @@ abbrev pub GathersHeld : {T : Type 0} → Result T Broken → Work → List Bool
     → Work → List Bool → Memory → View → SinkView → Type 0
 GathersHeld result work stale memory files sink work_now stale_now memory_now files_now sink_now =
     LineGathers (status_of result) (command_of (held_line work)) (held_replies work) (held_replies work_now)
-    (seen stale memory files sink) (seen stale_now memory_now files_now sink_now)
+    (instant stale memory files sink) (instant stale_now memory_now files_now sink_now)
 
 -- what it does where its reply is handed over at once
 abbrev pub ServesHeld : {T : Type 0} → Result T Broken → Work → Moment → Moment → Type 0
@@ -68,14 +68,14 @@ abbrev pub TakesPiece : {T : Type 0} → Result T Broken → ℕ → ℕ → Wor
     → Work → List Bool → Memory → View → SinkView → Type 0
 TakesPiece result most count work stale memory files sink work_now stale_now memory_now files_now sink_now =
     PieceOutcome (status_of result) most (held_line work) (take count (read_piece work)) (held_line work_now)
-    (seen stale memory files sink) (seen stale_now memory_now files_now sink_now)
+    (instant stale memory files sink) (instant stale_now memory_now files_now sink_now)
 
 -- what a source does, of which this function is the view, where replies of at most so many bytes may wait
 abbrev pub ServesBy : {T S : Type 0} → Result T Broken → ℕ → (S → SourceView) → S → List Bool → Memory → View → SinkView
     → S → List Bool → Memory → View → SinkView → Type 0
 ServesBy result most view source stale memory files sink source_now stale_now memory_now files_now sink_now =
     ServeOutcome (status_of result) most (view source) (view source_now)
-    (seen stale memory files sink) (seen stale_now memory_now files_now sink_now)
+    (instant stale memory files sink) (instant stale_now memory_now files_now sink_now)
 
 -- .. where they are gathered, and the marks are those of a run
 abbrev pub ServesGathered : {T S : Type 0} → Result T Broken → (S → SourceView) → S → Stale → Memory → View → SinkView
@@ -84,6 +84,6 @@ ServesGathered result view source stale memory files sink source_now stale_now m
     ServesBy result gathered_size view source (stale_in stale) memory files sink
     source_now (stale_in stale_now) memory_now files_now sink_now
 
--- what a source does where each reply is handed over at once, and any block may be stale
-abbrev pub Answers : {T : Type 0} → Result T Broken → SourceView → SourceView → Moment → Moment → Type 0
-Answers result before after old new = ServeOutcome (status_of result) 0 before after old new
+-- what a source does, of which this function is the view, where each reply is handed over at once, and any block may be stale
+abbrev pub ServesAtOnce : {T S : Type 0} → Result T Broken → (S → SourceView) → S → S → Moment → Moment → Type 0
+ServesAtOnce result view before after old new = ServeOutcome (status_of result) 0 (view before) (view after) old new

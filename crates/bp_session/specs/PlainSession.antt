@@ -130,7 +130,7 @@ PlainSession old (command ∷ commands) (reply ∷ replies) new =
 
 -- The words now stand for the tree now, and after a crash at any moment they stand for the tree after the calls that it
 -- keeps.
-pub record Follows (memory : Memory) (p : PlainState) : Type 0 where
+pub record FollowsPlainState (memory : Memory) (p : PlainState) : Type 0 where
   pub now : Stands (current_words memory) (tree_now p)
   pub calls : marks memory.events ≡ length p.since
   pub after : (count : ℕ) → Stands (after_calls memory.base memory.events count) (after_crash p count)
@@ -148,7 +148,7 @@ pub record IsPlainly (tree : FileTree) (commands : List Command) (replies : List
     (memory : Memory) : Type 0 where
   pub plain : PlainState
   pub session : PlainSession (fresh tree) commands replies plain
-  pub follows : Follows memory plain
+  pub follows : FollowsPlainState memory plain
 
 -- The first of a session's commands lead to a state of its own, which the rest goes on from, and are a plain tree's
 -- too.

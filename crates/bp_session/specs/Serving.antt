@@ -13,7 +13,7 @@ use Rattle.bp_script.specs.Texts.{LineReply, reply_text}
 use Rattle.bp_session.specs.Lines.{commands_from, text_of}
 use Rattle.bp_session.specs.Acting.{state}
 use Rattle.bp_session.specs.Changed.{AreMarked}
-use Rattle.bp_session.specs.Files.{HoldsAs, HoldsPartly, IsReady}
+use Rattle.bp_session.specs.Files.{CanSave, HoldsAs, HoldsPartly}
 use Rattle.bp_session.specs.Outside.{IsFirstFault, counts}
 use Rattle.bp_session.specs.Session.{State, SessionLine, Session}
 use Rattle.bp_session.specs.Pieces.{piece_size}
@@ -169,12 +169,12 @@ pub record Keeps (status : ℕ) (old new : Moment) : Type 0 where
 -- What serving asks of a volume and of the files: a file is attached that has the volume's blocks and may be written,
 -- and the volume's log has no more room than the memory of the work.
 pub record CanServe (volume : Memory) (files : View) : Type 0 where
-  pub ready : IsReady volume.base files
+  pub ready : CanSave volume.base files
   pub roomy : volume.capacity ≤ log_events
 
 -- What it leaves of both: the file is still ready for the volume, whose log keeps its room. So more can be served.
 pub record ServesAgain (old new : Memory) (files : View) : Type 0 where
-  pub ready : IsReady new.base files
+  pub ready : CanSave new.base files
   pub capacity : new.capacity ≡ old.capacity
 
 -- What serving commands does, by the status that it leads to: 0 where all were answered, 4 where a reply broke off, 5

@@ -7,7 +7,7 @@ use Rattle.bp_script.specs.Commands.{Command}
 use Rattle.bp_script.specs.Export.{export_text}
 use Rattle.bp_script.specs.Texts.{LineReply}
 use Rattle.bp_session.specs.Lines.{commands_from}
-use Rattle.bp_session.specs.PlainSession.{Follows, PlainSession, PlainState, TellsNoSpace, after_crash, fresh}
+use Rattle.bp_session.specs.PlainSession.{FollowsPlainState, PlainSession, PlainState, TellsNoSpace, after_crash, fresh}
 use Rattle.bp_session.specs.Session.{Session, State}
 use Rattle.pm_epochs.specs.Replay.{IsRight, PowerCut, kept_calls, replay}
 use Rattle.pm_region.specs.Memory.{Memory, current_words}
@@ -16,13 +16,13 @@ use Rattle.pm_region.specs.Memory.{Memory, current_words}
 abbrev pub IsOfTree : FileTree → State → List Command → List LineReply → State → Type 0
 IsOfTree tree old commands replies new =
     old.memory.events ≡ [] → Stands old.memory.base tree → Session old commands replies new →
-    (plain : PlainState) × PlainSession (fresh tree) commands replies plain × Follows new.memory plain
+    (plain : PlainState) × PlainSession (fresh tree) commands replies plain × FollowsPlainState new.memory plain
 
 -- so is one whose words follow a plain tree as it begins
 abbrev pub StaysPlain : PlainState → State → List Command → List LineReply → State → Type 0
 StaysPlain plain old commands replies new =
-    Follows old.memory plain → Session old commands replies new →
-    (after : PlainState) × PlainSession plain commands replies after × Follows new.memory after
+    FollowsPlainState old.memory plain → Session old commands replies new →
+    (after : PlainState) × PlainSession plain commands replies after × FollowsPlainState new.memory after
 
 -- what any right cut of the log leaves stands for the tree after the calls that the cut keeps
 abbrev pub LeavesTrees : Memory → PlainState → Type 0
@@ -44,8 +44,8 @@ SplitsAt old first rest replies new =
 
 -- a session over the tree's export, from an empty file system and an empty log, in which no reply is that there is no
 -- space, ends in the tree without its snapshot
-abbrev pub MakesTree : FileTree → State → List LineReply → State → Type 0
-MakesTree tree old replies new =
+abbrev pub ExportMakesTree : FileTree → State → List LineReply → State → Type 0
+ExportMakesTree tree old replies new =
     old.memory.events ≡ [] → Stands old.memory.base (empty_tree tree.version) →
     Session old (commands_from [] (export_text tree)) replies new → All (λ reply. ¬ TellsNoSpace reply) replies →
     Stands (current_words new.memory) (without_snapshot tree)

@@ -13,7 +13,7 @@ ghost use Rattle.bp_script.specs.Texts.{LineReply};
 ghost use Rattle.bp_session.specs.Lines.{commands_from};
 ghost use Rattle.bp_session.specs.Session.{State, Session};
 ghost use Rattle.bp_session.specs.PlainSession.{PlainState};
-ghost use Rattle.bp_session.specs.SessionLaws.{IsOfTree, KeepsCalls, MakesTree, SplitsAt, StaysPlain};
+ghost use Rattle.bp_session.specs.SessionLaws.{ExportMakesTree, IsOfTree, KeepsCalls, SplitsAt, StaysPlain};
 
 /// A session over an image that stands for a tree is one of that plain tree: the replies are the plain tree's, and at
 /// the session's end every right choice leaves an image that stands for the tree after the calls that it keeps.
@@ -56,5 +56,5 @@ pub fn exports_ask_for_their_calls()
 /// snapshot, where no reply is that there is no space.
 pub fn exports_make_their_trees()
     ensures { (old new : State) (tree : FileTree) (replies : List LineReply) → IsExportable tree → IsOfBytes tree →
-        MakesTree tree old replies new }
+        ExportMakesTree tree old replies new }
 {}

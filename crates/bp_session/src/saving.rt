@@ -6,7 +6,7 @@ ghost use Rattle.bp_io.specs.Causes.{HasCause};
 ghost use Rattle.bp_io.specs.Files.{KeepsFiles, KeepsOthers, StaysAttached};
 ghost use Rattle.bp_limits.specs.Limits.{block_words, max_blocks};
 ghost use Rattle.bp_session.specs.Changed.{AreMarked, AreUnmarked, MarksChanges, MarksDrain, is_marked, stale_in};
-ghost use Rattle.bp_session.specs.Files.{Holds, HoldsPartly, IsReady, StaysTold};
+ghost use Rattle.bp_session.specs.Files.{CanSave, Holds, HoldsPartly, StaysTold};
 ghost use Rattle.bp_session.specs.Saving.{KeepsUnmarked, SavesMarked, SavesPartly, SavesWords};
 ghost use Rattle.pm_epochs.specs.Log.{stores};
 ghost use Rattle.pm_region.specs.Memory.{current_words, drained};
@@ -165,7 +165,7 @@ fn write_changed<R: Region, F: Files>(
     marks: &[bool],
     files: &mut F,
 ) -> Result<(), Failed>
-    requires { IsReady (R.memory region.now).base (F.view files.old) }
+    requires { CanSave (R.memory region.now).base (F.view files.old) }
     ensures saved { OnOk result (SavesMarked marks.now (current_words (R.memory region.now)) (F.view files.old) (F.view files.new)) }
     ensures partly { OnErr result (SavesPartly (current_words (R.memory region.now)) (F.view files.old) (F.view files.new)) }
     ensures kept { AreUnmarked marks.now → length (R.memory region.now).base ≤ block_words * length marks.now →
@@ -206,7 +206,7 @@ fn flush<F: Files>(files: &mut F) -> Result<(), Failed>
 
 /// Writes each block that is marked to the attached file, in order, and flushes it.
 fn save<R: Region, F: Files>(region: &R, marks: &[bool], files: &mut F) -> Result<(), Failed>
-    requires { IsReady (R.memory region.now).base (F.view files.old) }
+    requires { CanSave (R.memory region.now).base (F.view files.old) }
     ensures saved { OnOk result (SavesMarked marks.now (current_words (R.memory region.now)) (F.view files.old) (F.view files.new)) }
     ensures partly { OnErr result (SavesPartly (current_words (R.memory region.now)) (F.view files.old) (F.view files.new)) }
     ensures kept { AreUnmarked marks.now → length (R.memory region.now).base ≤ block_words * length marks.now →
@@ -228,7 +228,7 @@ pub(crate) fn sync_marked<R: Region, F: Files>(
     stale: &mut [bool],
     files: &mut F,
 ) -> Result<(), Failed>
-    requires { IsReady volume.old.base (F.view files.old) }
+    requires { CanSave volume.old.base (F.view files.old) }
     ensures drained { volume.new ≡ drained volume.old }
     ensures saved { OnOk result (SavesWords stale.old volume.old (F.view files.old) (F.view files.new)) }
     ensures partly { OnErr result ((name : List ℕ) (was : Image) → Holds (F.view files.old) name was →
@@ -265,7 +265,7 @@ pub fn sync_and_save<R: Region, F: Files>(
     stale: &mut Stale,
     files: &mut F,
 ) -> Result<(), Failed>
-    requires { IsReady volume.old.base (F.view files.old) }
+    requires { CanSave volume.old.base (F.view files.old) }
     ensures drained { volume.new ≡ drained volume.old }
     ensures saved { OnOk result (SavesWords (stale_in stale.old) volume.old (F.view files.old) (F.view files.new)) }
     ensures partly { OnErr result ((name : List ℕ) (was : Image) → Holds (F.view files.old) name was →

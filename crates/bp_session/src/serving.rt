@@ -7,9 +7,9 @@ ghost use Rattle.std.specs.Io.KnownBytes.{ReadConsumes};
 ghost use Rattle.bp_io.specs.Causes.{HasCause};
 ghost use Rattle.bp_script.specs.Commands.Command.{sync};
 ghost use Rattle.bp_script.specs.Commands.{command_of};
-ghost use Rattle.bp_session.specs.Files.{IsReady};
+ghost use Rattle.bp_session.specs.Files.{CanSave};
 ghost use Rattle.bp_session.specs.Lines.{commands_from};
-ghost use Rattle.bp_session.specs.Held.{Answers, EndsHeld, GathersHeld, ServesBy, ServesGathered, ServesHeld, TakesPiece, seen};
+ghost use Rattle.bp_session.specs.Held.{EndsHeld, GathersHeld, ServesAtOnce, ServesBy, ServesGathered, ServesHeld, TakesPiece, instant};
 ghost use Rattle.bp_session.specs.Pieces.{piece_size};
 ghost use Rattle.bp_session.specs.Serving.{CanServe, ServesAgain, moment};
 ghost use Rattle.bp_session.specs.Statuses.{status_of};
@@ -45,7 +45,7 @@ fn answer_line<R: Region, K: Sink, F: Files>(
     ensures few { OnOk result (length (held_replies work.new) ≤ most) }
     ensures synced { held_replies work.old ≡ [] → ¬ (status_of result ≡ 5) → command_of (held_line work.old) ≡ sync →
         (F.view files.new).is_flushed ≡ true }
-    ensures ready { IsReady volume.new.base (F.view files.new) }
+    ensures ready { CanSave volume.new.base (F.view files.new) }
     ensures line { held_line work.new ≡ held_line work.old }
     ensures piece { read_piece work.new ≡ read_piece work.old }
 {
@@ -68,8 +68,8 @@ fn answer_alone<R: Region, K: Sink, F: Files>(
 ) -> Result<(), Broken>
     requires { CanServe volume.old (F.view files.old) }
     ensures outcome { ServesHeld result work.old
-        (seen stale.old volume.old (F.view files.old) (K.view out.old))
-        (seen stale.new volume.new (F.view files.new) (K.view out.new)) }
+        (instant stale.old volume.old (F.view files.old) (K.view out.old))
+        (instant stale.new volume.new (F.view files.new) (K.view out.new)) }
     ensures synced { ¬ (status_of result ≡ 5) → command_of (held_line work.old) ≡ sync → (F.view files.new).is_flushed ≡ true }
     ensures again { ServesAgain volume.old volume.new (F.view files.new) }
     ensures line { held_line work.new ≡ held_line work.old }
@@ -117,7 +117,7 @@ fn end_line<R: Region, K: Sink, F: Files>(
         work.old stale.old volume.old (F.view files.old) (K.view out.old)
         work.new stale.new volume.new (F.view files.new) (K.view out.new) }
     ensures few { OnOk result (length (held_replies work.new) ≤ most) }
-    ensures ready { IsReady volume.new.base (F.view files.new) }
+    ensures ready { CanSave volume.new.base (F.view files.new) }
     ensures line { held_line work.new ≡ [] }
     ensures piece { read_piece work.new ≡ read_piece work.old }
 {
@@ -196,8 +196,8 @@ fn finish<R: Region, K: Sink, F: Files>(
 ) -> Result<(), Broken>
     requires { CanServe volume.old (F.view files.old) }
     ensures { EndsHeld result work.old
-        (seen stale.old volume.old (F.view files.old) (K.view out.old))
-        (seen stale.new volume.new (F.view files.new) (K.view out.new)) }
+        (instant stale.old volume.old (F.view files.old) (K.view out.old))
+        (instant stale.new volume.new (F.view files.new) (K.view out.new)) }
 {
     if work.buffers.line.is_empty() {
         return Ok(());
@@ -263,8 +263,7 @@ pub fn serve<R: Region, S: Source, K: Sink, F: Files>(
     files: &mut F,
 ) -> Result<(), Broken>
     requires { CanServe volume.old (F.view files.old) }
-    ensures outcome { Answers result
-        (S.view src.old) (S.view src.new)
+    ensures outcome { ServesAtOnce result S.view src.old src.new
         (moment volume.old (F.view files.old) (K.view out.old))
         (moment volume.new (F.view files.new) (K.view out.new)) }
     ensures again { ServesAgain volume.old volume.new (F.view files.new) }

@@ -20,7 +20,7 @@ use Rattle.bp_replies.specs.Room.{gathered_size}
 use Rattle.bp_shell.specs.Opening.{HoldsFileSystem, RefusesFile, start}
 use Rattle.bp_shell.specs.Opening.RefusesFile.{by_length, not_formatted, by_count, damaged}
 use Rattle.bp_session.specs.PlainSession.{FollowsTree}
-use Rattle.bp_shell.specs.Running.{BeginsRun, BreaksOffPlainly, IsComplete, Runs, RunsBroken, RunsLong, RunsPart, RunsStopped, RunsUnsaved, Saves, SavesPartly, StopsPlainly}
+use Rattle.bp_shell.specs.Running.{BeginsRun, BreaksOffPlainly, IsComplete, Runs, RunsBroken, RunsLong, RunsPart, RunsStopped, RunsUnsaved, Saves, SavesSomeBlocks, StopsPlainly}
 use Rattle.bp_session.specs.Outside.{Outside, SourceFailed, SinkFailed, FilesFailed}
 use Rattle.bp_shell.specs.Ending.{IsReadComplete}
 use Rattle.bp_session.specs.Serving.{BreaksOff, OfLines, Serves, ServesAll, StopsAtSave, Told}
@@ -99,13 +99,13 @@ module _ (before after : Outside) (image : Image) (memory new : Memory) (found :
     ];
   }
 
-  stops_plainly : (partly : Image → Image → Type 0) → ((i j : Image) → partly i j → SavesPartly after i j) → (commands : List Command) → StopsAtSave (state memory image) new partly commands before.taken after.taken
+  stops_plainly : (partly : Image → Image → Type 0) → ((i j : Image) → partly i j → SavesSomeBlocks after i j) → (commands : List Command) → StopsAtSave (state memory image) new partly commands before.taken after.taken
       → StopsPlainly image (tree_of image found.well_formed.first found.well_formed.second) new before after commands
   stops_plainly partly f commands stops =
-      let told : StopsAtSave (start image) new (SavesPartly after) commands before.taken after.taken = stops_as (start image) new before.taken after.taken partly (SavesPartly after) f commands (rw same at stops) in
+      let told : StopsAtSave (start image) new (SavesSomeBlocks after) commands before.taken after.taken = stops_as (start image) new before.taken after.taken partly (SavesSomeBlocks after) f commands (rw same at stops) in
       record { stops = told; plainly = plainly _ _ _ told.told.session }
 
-  pub runs_stopped : (input : List ℕ) (partly : Image → Image → Type 0) → ((i j : Image) → partly i j → SavesPartly after i j) → Consumes before.left after.left input
+  pub runs_stopped : (input : List ℕ) (partly : Image → Image → Type 0) → ((i j : Image) → partly i j → SavesSomeBlocks after i j) → Consumes before.left after.left input
       → OfLines after.left input (λ commands. StopsAtSave (state memory image) new partly commands before.taken after.taken) → RunsStopped before after
   runs_stopped input partly f read stops = record {
     begins = begins input read;
@@ -118,7 +118,7 @@ module _ (before after : Outside) (image : Image) (memory new : Memory) (found :
 
   -- the sync at the input's end
   pub runs_unsaved : (input : List ℕ) (middle : Memory) (holds : Image → Type 0) → Consumes before.left after.left input → IsAtEnd after.left → length input ≤ 1073741824
-      → (all : ServesAll (state memory image) middle holds (commands_from [] input) before.taken after.taken) → new ≡ drained middle → SavesPartly after all.after (current_words middle) → RunsUnsaved before after
+      → (all : ServesAll (state memory image) middle holds (commands_from [] input) before.taken after.taken) → new ≡ drained middle → SavesSomeBlocks after all.after (current_words middle) → RunsUnsaved before after
   runs_unsaved input middle holds read end few all done file =
       let told : Told (start image) (state middle all.after) (commands_from [] input) before.taken after.taken = rw same at all.told in
       record {

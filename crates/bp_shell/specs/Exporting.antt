@@ -4,6 +4,7 @@ use Rattle.std.specs.Io.KnownBytes.{Appends}
 use Rattle.bp_export.specs.Exports.{TakesFront}
 use Rattle.bp_io.specs.Causes.{Rose}
 use Rattle.bp_io.specs.Files.{Known}
+use Rattle.bp_io.specs.Streams.{SinkView}
 use Rattle.bp_layout.specs.Bytes.{image_bytes}
 use Rattle.bp_layout.specs.Whole.{IsFileSystem}
 use Rattle.bp_layout.specs.Words.{Image}
@@ -36,6 +37,11 @@ TellsTree tree status.SinkFailed taken taken_now faults faults_now =
 TellsTree tree status.Deep taken taken_now faults faults_now =
     (¬ HasShortPaths tree) × Prints (notice_text Deep) taken taken_now faults faults_now
 TellsTree tree _ taken taken_now faults faults_now = ⊥
+
+-- the tree for which an image stands is told so to a sink
+abbrev pub TellsTreeOf : Image → Status → SinkView → SinkView → Type 0
+TellsTreeOf image status sink sink_now = (tree : FileTree) → Stands image tree
+    → TellsTree tree status sink.taken sink_now.taken sink.faults sink_now.faults
 
 -- ---- a file
 

@@ -8,3 +8,4 @@ pub mod Checking
 pub mod Exporting
 pub mod Playing
 pub mod Running
+pub mod Answering

@@ -13,9 +13,10 @@ use Rattle.bp_layout.specs.Whole.{FailsWhole, IsFileSystem}
 use Rattle.bp_scan.specs.Length.{wanted_length}
 use Rattle.bp_script.specs.declared.notices.Notice.{Notice}
 use Rattle.bp_script.specs.declared.notices.Notice.TheVariants.{NotFormatted, BadSize, Damaged}
-use Rattle.bp_session.specs.Files.{AreWordsOf64Bits, HasLength, HasImage, HoldsFirstBlocks}
+use Rattle.bp_session.specs.Files.{AreWordsOf64Bits, HasLength, HasImage, Holds, HoldsFirstBlocks}
 use Rattle.bp_session.specs.Session.{State}
 use Rattle.pm_raw.specs.Part.{Part}
+use Rattle.pm_region.specs.Memory.{Memory}
 
 -- The file holds this image, which is a file system.
 pub record HoldsFileSystem (known : Known) (image : Image) : Type 0 where
@@ -70,3 +71,12 @@ pub data RefusesFile (known : Known) : Notice → Type 0 where
 -- the state with which a run begins
 abbrev pub start : Image → State
 start image = record { memory = record { base = image; events = []; capacity = log_events; drains = 0 }; saved = image }
+
+-- the memory with which a run over an image begins
+abbrev pub IsStart : Image → Memory → Type 0
+IsStart image memory = memory ≡ (start image).memory
+
+-- The file of this name was mounted: it held an image, a file system, with which the memory begins, and holds it now.
+abbrev pub Mounts : View → List ℕ → View → Memory → Type 0
+Mounts old name new memory =
+    (image : Image) × HoldsFileSystem (old.contents name) image × IsStart image memory × Holds new name image

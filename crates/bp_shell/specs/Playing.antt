@@ -31,6 +31,11 @@ crashes_text crashes kept total =
     codes "\ncrashes " ++ decimal crashes ++ codes " kept " ++ decimal kept ++ codes " of " ++ decimal total
     ++ codes "\n"
 
+-- the lines of a summary
+abbrev pub summary_text : ℕ → Summary → List ℕ
+summary_text count summary =
+    turns_text count summary.ok ++ spaced summary.refused ++ crashes_text summary.crashes summary.kept summary.of
+
 abbrev pub tree_text : Totals → ℕ → List ℕ
 tree_text totals free =
     codes "tree " ++ decimal totals.files ++ codes " " ++ decimal totals.dirs ++ codes " " ++ decimal totals.bytes

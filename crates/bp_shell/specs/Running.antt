@@ -22,7 +22,7 @@ use Rattle.bp_session.specs.Files.{AreWordsOf64Bits, HasBytes, HasBlocksOf, Hold
 use Rattle.bp_session.specs.Serving.{BreaksOff, SyncFails, OfLines, Serves, StopsAtSave, Told}
 use Rattle.bp_session.specs.PlainSession.{FollowsTree}
 use Rattle.bp_session.specs.Session.{State}
-use Rattle.bp_shell.specs.Opening.{HoldsFileSystem, OnlyReads, start}
+use Rattle.bp_shell.specs.Opening.{HoldsFileSystem, IsStart, OnlyReads, start}
 use Rattle.bp_shell.specs.Formatting.{new_image, HasPartly, OnlyMakes}
 use Rattle.bp_session.specs.Outside.{Outside, SourceFailed, SinkFailed, FilesFailed, IsFirstFault, IsIdle}
 use Rattle.bp_shell.specs.Checking.{CheckOutcome}
@@ -39,13 +39,14 @@ use Rattle.bp_replies.specs.Taking.{TakesPart}
 abbrev pub Saves : Outside → Image → Type 0
 Saves after image = HasBytes after.file (image_bytes image)
 
-abbrev pub SavesPartly : Outside → Image → Image → Type 0
-SavesPartly after first second = HasBlocksOf after.file (image_bytes first) (image_bytes second)
+-- Each of its blocks is then that of the first image or of the second.
+abbrev pub SavesSomeBlocks : Outside → Image → Image → Type 0
+SavesSomeBlocks after first second = HasBlocksOf after.file (image_bytes first) (image_bytes second)
 
 -- The file of this name held this image, a file system, and was mounted: no fault came, and no file changed.
-pub record IsMounted (name : List ℕ) (image : Image) (before now : View) (memory : Memory) : Type 0 where
+pub record IsMountedFrom (name : List ℕ) (image : Image) (before now : View) (memory : Memory) : Type 0 where
   pub found : HoldsFileSystem (before.contents name) image
-  pub starts : memory ≡ (start image).memory
+  pub starts : IsStart image memory
   pub holds : Holds now name image
   pub flushed : now.is_flushed ≡ before.is_flushed
   pub calm : now.faults ≡ before.faults
@@ -112,7 +113,7 @@ pub record RunsBroken (before after : Outside) : Type 0 where
 -- one now.
 pub record StopsPlainly (image : Image) (tree : FileTree) (memory : Memory) (before after : Outside)
     (commands : List Command) : Type 0 where
-  pub stops : StopsAtSave (start image) memory (SavesPartly after) commands before.taken after.taken
+  pub stops : StopsAtSave (start image) memory (SavesSomeBlocks after) commands before.taken after.taken
   pub plainly : FollowsTree tree (start image) stops.front stops.told.replies stops.middle
 
 -- A sync couldn't save. Its line was read whole, or ended the input.
@@ -129,7 +130,7 @@ pub record RunsUnsaved (before after : Outside) : Type 0 where
   pub memory : Memory
   pub middle : State
   pub told : Told (start begins.image) middle (commands_from [] begins.input) before.taken after.taken
-  pub fails : SyncFails middle memory (SavesPartly after) sync
+  pub fails : SyncFails middle memory (SavesSomeBlocks after) sync
   pub plainly : FollowsTree begins.tree (start begins.image) (commands_from [] begins.input) told.replies middle
 
 -- Where FILE is told to have the bytes of a file system, the source has no more than the most bytes, and nothing

@@ -12,7 +12,7 @@ use Rattle.bp_scan.specs.declared.totals.Totals.{Totals}
 
 -- The image is a file system, of which a scan found the blocks of the snapshot, those that are in neither tree, how many names
 -- each inode has in the first tree, and what it holds in all.
-pub record IsScanned (image : Image) (kept blocks : Set) (counts : List ℕ) (totals : Totals) : Type 0 where
+pub record ScanFinds (image : Image) (kept blocks : Set) (counts : List ℕ) (totals : Totals) : Type 0 where
   pub whole : IsFileSystem image
   pub frozen : AreFrozen image (has kept)
   pub free : AreFreeBlocks image (has kept) (has blocks)

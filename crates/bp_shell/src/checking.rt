@@ -1,14 +1,13 @@
 //! The program `check`.
 
 ghost use Rattle.bp_io.specs.Files.{Known};
-ghost use Rattle.bp_io.specs.Streams.{SourceView};
 ghost use Rattle.bp_layout.specs.Formatted.{IsSized};
 ghost use Rattle.bp_layout.specs.Whole.{IsFileSystem};
 ghost use Rattle.bp_script.specs.declared.notices.Notice.{Notice};
+ghost use Rattle.bp_shell.specs.Answering.{EndsUnread};
 ghost use Rattle.bp_shell.specs.Checking.{CheckOutcome, Checks, IsClean};
 ghost use Rattle.bp_session.specs.Files.{HasImage};
 ghost use Rattle.bp_shell.specs.Opening.{OnlyReads, RefusesFile};
-ghost use Rattle.bp_session.specs.Outside.{outside};
 ghost use Rattle.bp_shell.specs.Statuses.{code_of};
 ghost use Rattle.bp_shell.specs.Stops.{HasStopCause, IsReason};
 ghost use Rattle.bp_shell.specs.declared.stop.Stop.TheVariants.{Memory, Refused};
@@ -65,9 +64,8 @@ pub(crate) fn check_file<K: Sink, F: Files>(
     files: &mut F,
 ) -> Status
     // Whatever a source has left.
-    ensures outcome { (source : SourceView) → CheckOutcome (code_of result)
-        (outside source (K.view out.old) (F.view files.old) name.now)
-        (outside source (K.view out.new) (F.view files.new) name.now) }
+    ensures outcome { EndsUnread (CheckOutcome (code_of result)) name.now
+        (K.view out.old) (F.view files.old) (K.view out.new) (F.view files.new) }
     ensures reads { OnlyReads name.now (F.view files.old) (F.view files.new) }
 {
     let notice = match examine(alloc, name, files) {

@@ -1,16 +1,13 @@
 //! The program `export`. It tells of the first tree alone: a script makes no snapshot's old bytes.
 
-ghost use Rattle.bp_io.specs.Streams.{SourceView};
 ghost use Rattle.bp_layout.specs.Names.{AreCounts};
 ghost use Rattle.bp_layout.specs.Whole.{IsFileSystem};
 ghost use Rattle.bp_layout.specs.Words.{block_count};
 ghost use Rattle.bp_limits.specs.Limits.{block_inodes};
-ghost use Rattle.bp_plain.specs.PlainTree.{FileTree};
-ghost use Rattle.bp_plain.specs.Stands.{Stands};
-ghost use Rattle.bp_session.specs.Outside.{outside};
-ghost use Rattle.bp_shell.specs.Exporting.{ExportOutcome, TellsTree};
+ghost use Rattle.bp_shell.specs.Answering.{EndsUnread};
+ghost use Rattle.bp_shell.specs.Exporting.{ExportOutcome, TellsTreeOf};
 ghost use Rattle.bp_shell.specs.Opening.{HoldsFileSystem, OnlyReads};
-ghost use Rattle.bp_shell.specs.Scanning.{IsScanned};
+ghost use Rattle.bp_shell.specs.Scanning.{ScanFinds};
 ghost use Rattle.bp_shell.specs.Statuses.{code_of};
 ghost use Rattle.bp_shell.specs.Stops.{HasStopCause, IsReason};
 ghost use Rattle.std.specs.Prelude.{◌*◌, ◌≡◌, [], IfErr, IfOk, length};
@@ -34,8 +31,7 @@ fn tell_tree<K: Sink>(alloc: Global, region: &RawRegion, counts: &Counts, out: &
     requires whole { IsFileSystem region.now.base }
     requires counts { AreCounts region.now.base counts.now }
     requires inodes { length counts.now ≡ block_inodes * block_count region.now.base }
-    ensures { (tree : FileTree) → Stands region.now.base tree →
-        TellsTree tree result (K.view out.old).taken (K.view out.new).taken (K.view out.old).faults (K.view out.new).faults }
+    ensures { TellsTreeOf region.now.base result (K.view out.old) (K.view out.new) }
 {
     match export(alloc, region, counts, out) {
         Ok(()) => Status::Done,
@@ -53,7 +49,7 @@ fn examine<F: Files>(alloc: Global, name: &str, files: &mut F) -> Result<(RawReg
     ensures holds { IfOk result (λ found. HoldsFileSystem ((F.view files.old).contents name.now) found.0.base) }
     ensures fresh { IfOk result (λ found. found.0.events ≡ []) }
     ensures scanned { IfOk result
-        (λ found. IsScanned found.0.base found.1.sets.frozen found.1.sets.blocks found.1.sets.counts found.1.totals) }
+        (λ found. ScanFinds found.0.base found.1.sets.frozen found.1.sets.blocks found.1.sets.counts found.1.totals) }
     ensures reason { IfErr result (IsReason ((F.view files.old).contents name.now)) }
     ensures cause { HasStopCause (F.view files.old).faults (F.view files.new).faults result }
     ensures reads { OnlyReads name.now (F.view files.old) (F.view files.new) }
@@ -74,9 +70,8 @@ pub(crate) fn export_file<K: Sink, F: Files>(
     files: &mut F,
 ) -> Status
     // Whatever a source has left.
-    ensures outcome { (source : SourceView) → ExportOutcome (code_of result)
-        (outside source (K.view out.old) (F.view files.old) name.now)
-        (outside source (K.view out.new) (F.view files.new) name.now) }
+    ensures outcome { EndsUnread (ExportOutcome (code_of result)) name.now
+        (K.view out.old) (F.view files.old) (K.view out.new) (F.view files.new) }
     ensures reads { OnlyReads name.now (F.view files.old) (F.view files.new) }
 {
     match examine(alloc, name, files) {

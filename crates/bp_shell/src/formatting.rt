@@ -2,12 +2,11 @@
 
 ghost use Rattle.bp_io.specs.Causes.{HasCause};
 ghost use Rattle.bp_io.specs.Files.{resized_file};
-ghost use Rattle.bp_io.specs.Streams.{SourceView};
 ghost use Rattle.bp_layout.specs.Bytes.{image_bytes};
 ghost use Rattle.bp_limits.specs.Limits.{block_size, block_words};
 ghost use Rattle.bp_session.specs.Files.{HasBytes};
+ghost use Rattle.bp_shell.specs.Answering.{EndsUnread};
 ghost use Rattle.bp_shell.specs.Formatting.{HasPartly, OnlyMakes, new_image};
-ghost use Rattle.bp_session.specs.Outside.{outside};
 ghost use Rattle.bp_shell.specs.Running.{FormatOutcome};
 ghost use Rattle.bp_shell.specs.Statuses.{code_of};
 ghost use Rattle.pm_region.specs.Memory.{current_words};
@@ -99,9 +98,8 @@ pub(crate) fn format_file<K: Sink, F: Files>(
     requires least { MIN_BLOCKS ≤ blocks }
     requires most { blocks ≤ MAX_BLOCKS }
     // Whatever a source has left.
-    ensures outcome { (source : SourceView) → FormatOutcome (code_of result) version blocks
-        (outside source (K.view out.old) (F.view files.old) name.now)
-        (outside source (K.view out.new) (F.view files.new) name.now) }
+    ensures outcome { EndsUnread (FormatOutcome (code_of result) version blocks) name.now
+        (K.view out.old) (F.view files.old) (K.view out.new) (F.view files.new) }
     ensures makes { OnlyMakes name.now (F.view files.old) (F.view files.new) }
 {
     let front = match new_front(alloc, blocks, version) {

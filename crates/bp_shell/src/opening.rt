@@ -8,8 +8,8 @@ ghost use Rattle.bp_layout.specs.Whole.{IsFileSystem};
 ghost use Rattle.bp_layout.specs.Words.{Image};
 ghost use Rattle.bp_limits.specs.Limits.{block_size, block_words, log_events};
 ghost use Rattle.bp_script.specs.declared.notices.Notice.{Notice};
-ghost use Rattle.bp_session.specs.Files.{AreWordsOf64Bits, HasImage, Holds, HoldsFirstBlocks, IsReady};
-ghost use Rattle.bp_shell.specs.Opening.{AttachesAs, FindsImage, HasLoaded, HasSized, HoldsFileSystem, OnlyReads, RefusesFile, start};
+ghost use Rattle.bp_session.specs.Files.{AreWordsOf64Bits, CanSave, HasImage, Holds, HoldsFirstBlocks};
+ghost use Rattle.bp_shell.specs.Opening.{AttachesAs, FindsImage, HasLoaded, HasSized, HoldsFileSystem, IsStart, Mounts, OnlyReads, RefusesFile};
 ghost use Rattle.bp_shell.specs.Stops.{HasStopCause, IsReason, stop_by};
 ghost use Rattle.bp_shell.specs.declared.stop.Stop.TheVariants.{Memory, Outside, Refused};
 
@@ -136,7 +136,7 @@ pub(crate) fn load_file<F: Files>(
     requires { makes access ≡ false }
     ensures image { IfOk result (λ region. HasSized ((F.view files.old).contents name.now) region.base) }
     ensures holds { IfOk result (λ region. Holds (F.view files.new) name.now region.base) }
-    ensures starts { IfOk result (λ region. region ≡ (start region.base).memory) }
+    ensures starts { IfOk result (λ region. IsStart region.base region) }
     ensures may_write { OnOk result ((F.view files.new).may_write ≡ may_change access) }
     ensures reason { IfErr result (IsReason ((F.view files.old).contents name.now)) }
     ensures cause { HasStopCause (F.view files.old).faults (F.view files.new).faults result }
@@ -160,7 +160,7 @@ pub(crate) fn load_file<F: Files>(
 
 /// Mounts a region of the words of an image.
 fn mount(alloc: Global, region: RawRegion) -> Result<Volume<RawRegion>, Stop>
-    requires starts { region ≡ (start region.base).memory }
+    requires starts { IsStart region.base region }
     requires sized { IsSized region.base }
     ensures same { IfOk result (λ volume. volume ≡ region) }
     ensures well_formed { OnOk result (IsFileSystem region.base) }
@@ -181,10 +181,8 @@ fn mount(alloc: Global, region: RawRegion) -> Result<Volume<RawRegion>, Stop>
 /// `Missing` where the file is not there; `Outside` where the files failed; `Refused` where it is no file system;
 /// `Memory` where there is no memory for the volume.
 pub fn open<F: Files>(alloc: Global, name: &str, files: &mut F) -> Result<Volume<RawRegion>, Stop>
-    ensures opened { IfOk result (λ volume. (image : Image)
-        × HoldsFileSystem ((F.view files.old).contents name.now) image
-        × (volume ≡ (start image).memory) × Holds (F.view files.new) name.now image) }
-    ensures ready { IfOk result (λ volume. IsReady volume.base (F.view files.new)) }
+    ensures opened { IfOk result (λ volume. Mounts (F.view files.old) name.now (F.view files.new) volume) }
+    ensures ready { IfOk result (λ volume. CanSave volume.base (F.view files.new)) }
     ensures capacity { IfOk result (λ volume. volume.capacity ≡ log_events) }
     ensures reason { IfErr result (IsReason ((F.view files.old).contents name.now)) }
     ensures cause { HasStopCause (F.view files.old).faults (F.view files.new).faults result }
@@ -203,7 +201,7 @@ pub(crate) fn open_to_read<F: Files>(
     files: &mut F,
 ) -> Result<Volume<RawRegion>, Stop>
     ensures opened { IfOk result (λ volume. (image : Image)
-        × HoldsFileSystem ((F.view files.old).contents name.now) image × (volume ≡ (start image).memory)) }
+        × HoldsFileSystem ((F.view files.old).contents name.now) image × IsStart image volume) }
     ensures reason { IfErr result (IsReason ((F.view files.old).contents name.now)) }
     ensures cause { HasStopCause (F.view files.old).faults (F.view files.new).faults result }
     ensures reads { OnlyReads name.now (F.view files.old) (F.view files.new) }

@@ -1,12 +1,11 @@
 //! The program `play`.
 
 ghost use Rattle.bp_io.specs.Files.{Known};
-ghost use Rattle.bp_io.specs.Streams.{SourceView};
 ghost use Rattle.bp_layout.specs.Words.{Image};
 ghost use Rattle.bp_limits.specs.Limits.{log_events, max_turns};
-ghost use Rattle.bp_session.specs.Outside.{outside};
-ghost use Rattle.bp_shell.specs.Opening.{HoldsFileSystem, OnlyReads, start};
-ghost use Rattle.bp_shell.specs.Playing.{EndsPlay, PlayOutcome, PlaysFile, crashes_text, play_text, spaced, tree_text, turns_text};
+ghost use Rattle.bp_shell.specs.Answering.{EndsUnread};
+ghost use Rattle.bp_shell.specs.Opening.{HoldsFileSystem, IsStart, OnlyReads};
+ghost use Rattle.bp_shell.specs.Playing.{EndsPlay, PlayOutcome, PlaysFile, play_text, spaced, summary_text, tree_text};
 ghost use Rattle.bp_shell.specs.Statuses.{code_of};
 ghost use Rattle.bp_shell.specs.Stops.{HasStopCause, IsReason};
 ghost use Rattle.std.specs.Prelude.{◌≡◌, ◌≤◌, ◌++◌, ℕ, IfErr, IfOk, OnOk};
@@ -65,8 +64,7 @@ fn write_spaced(text: &mut String, numbers: &[u64]) -> Result<(), AllocError>
 
 /// Writes the lines of a summary.
 fn write_summary(text: &mut String, count: u32, summary: &Summary) -> Result<(), AllocError>
-    ensures { OnOk result (text.new.bytes.items ≡ text.old.bytes.items ++ turns_text count summary.now.ok
-        ++ spaced summary.now.refused ++ crashes_text summary.now.crashes summary.now.kept summary.now.of) }
+    ensures { OnOk result (text.new.bytes.items ≡ text.old.bytes.items ++ summary_text count summary.now) }
 {
     write!(text, "turns {count}\nok {}\nrefused", summary.ok)?;
     write_spaced(text, &summary.refused)?;
@@ -110,7 +108,7 @@ fn tell_play<R: Region>(
     requires few { count ≤ max_turns }
     requires roomy { volume.old.capacity ≤ log_events }
     // Of whichever file it was mounted.
-    ensures plays { (known : Known) (image : Image) → HoldsFileSystem known image → volume.old ≡ (start image).memory →
+    ensures plays { (known : Known) (image : Image) → HoldsFileSystem known image → IsStart image volume.old →
         IfOk result (λ text. PlaysFile known seed count text.bytes.items) }
     ensures reason { (known : Known) → IfErr result (IsReason known) }
     ensures cause { (faults : ℕ) → HasStopCause faults faults result }
@@ -157,9 +155,8 @@ pub(crate) fn play_file<K: Sink, F: Files>(
 ) -> Status
     requires { count ≤ max_turns }
     // Whatever a source has left.
-    ensures outcome { (source : SourceView) → PlayOutcome (code_of result) seed count
-        (outside source (K.view out.old) (F.view files.old) name.now)
-        (outside source (K.view out.new) (F.view files.new) name.now) }
+    ensures outcome { EndsUnread (PlayOutcome (code_of result) seed count) name.now
+        (K.view out.old) (F.view files.old) (K.view out.new) (F.view files.new) }
     ensures reads { OnlyReads name.now (F.view files.old) (F.view files.new) }
 {
     let text = match perform(alloc, name, seed, count, files) {

@@ -1,16 +1,16 @@
 //! The programs.
 
 ghost use Rattle.bp_command.specs.Commands.{IsTaken};
-ghost use Rattle.bp_command.specs.Programs.{Asks, HasNumbersInRange, Program as Asked, Requests, program_of};
-ghost use Rattle.bp_io.specs.Files.{KeepsOthers, StaysAttached, View};
-ghost use Rattle.bp_layout.specs.Words.{Image};
+ghost use Rattle.bp_command.specs.Programs.{HasNumbersInRange, Program as Asked, Requests, program_of};
+ghost use Rattle.bp_io.specs.Files.{KeepsOthers, StaysAttached};
 ghost use Rattle.bp_script.specs.Sayings.{notice_text};
 ghost use Rattle.bp_script.specs.declared.notices.Notice.TheVariants.{Usage};
-ghost use Rattle.bp_session.specs.Outside.{Prints, outside};
+ghost use Rattle.bp_session.specs.Outside.{Prints};
 ghost use Rattle.bp_session.specs.Serving.{CanServe};
-ghost use Rattle.bp_shell.specs.Running.{IsMounted, LeavesFiles, OnlyWrites, RunsProgram, ProgramOutcome, RunOutcome, file_name};
+ghost use Rattle.bp_shell.specs.Answering.{AnswersAsAsked, EndsAs, ProgramEnds, RunsMounted, RunsOrLacksMemory};
+ghost use Rattle.bp_shell.specs.Running.{LeavesFiles, OnlyWrites, RunOutcome};
 ghost use Rattle.bp_shell.specs.Statuses.{code_of};
-ghost use Rattle.std.specs.Prelude.{◌≡◌, ◌⊎◌, ℕ, List, map};
+ghost use Rattle.std.specs.Prelude.{◌≡◌, ◌⊎◌, map};
 
 use crate::checking::check_file;
 use crate::exporting::export_file;
@@ -41,10 +41,8 @@ fn serve_and_save<R: Region, S: Source, K: Sink, F: Files>(
 ) -> Status
     requires { CanServe volume.old (F.view files.old) }
     // From whichever file it was mounted.
-    ensures outcome { (before : View) (name : List ℕ) (image : Image) →
-        IsMounted name image before (F.view files.old) volume.old → RunOutcome (code_of result)
-        (outside (S.view src.old) (K.view out.old) before name)
-        (outside (S.view src.new) (K.view out.new) (F.view files.new) name) }
+    ensures outcome { RunsMounted (code_of result) S.view K.view F.view
+        src.old out.old files.old volume.old src.new out.new files.new }
     ensures unread { (code_of result ≡ 1) ⊎ (code_of result ≡ 7) ⊎ (code_of result ≡ 8) → src.new ≡ src.old }
     ensures attached { StaysAttached (F.view files.old) (F.view files.new) }
     ensures others { KeepsOthers (F.view files.old) (F.view files.new) }
@@ -69,10 +67,8 @@ fn run_over<R: Region, S: Source, K: Sink, F: Files>(
 ) -> Status
     requires { CanServe volume.old (F.view files.old) }
     // From whichever file it was mounted.
-    ensures outcome { (before : View) (name : List ℕ) (image : Image) →
-        IsMounted name image before (F.view files.old) volume.old → RunOutcome (code_of result)
-        (outside (S.view src.old) (K.view out.old) before name)
-        (outside (S.view src.new) (K.view out.new) (F.view files.new) name) }
+    ensures outcome { RunsMounted (code_of result) S.view K.view F.view
+        src.old out.old files.old volume.old src.new out.new files.new }
     ensures unread { (code_of result ≡ 1) ⊎ (code_of result ≡ 7) ⊎ (code_of result ≡ 8) → src.new ≡ src.old }
     ensures attached { StaysAttached (F.view files.old) (F.view files.new) }
     ensures others { KeepsOthers (F.view files.old) (F.view files.new) }
@@ -91,9 +87,8 @@ fn run_file<S: Source, K: Sink, F: Files>(
     out: &mut K,
     files: &mut F,
 ) -> Status
-    ensures outcome { RunOutcome (code_of result)
-        (outside (S.view src.old) (K.view out.old) (F.view files.old) name.now)
-        (outside (S.view src.new) (K.view out.new) (F.view files.new) name.now) }
+    ensures outcome { EndsAs (RunOutcome (code_of result)) name.now S.view K.view F.view
+        src.old out.old files.old src.new out.new files.new }
     ensures unread { (code_of result ≡ 1) ⊎ (code_of result ≡ 7) ⊎ (code_of result ≡ 8) → src.new ≡ src.old }
     ensures files { OnlyWrites name.now (F.view files.old) (F.view files.new) }
 {
@@ -112,10 +107,8 @@ fn run_program<S: Source, K: Sink, F: Files>(
     files: &mut F,
 ) -> Status
     requires { HasNumbersInRange (program_of program.now) }
-    ensures outcome { let name = file_name (program_of program.now) in
-        ProgramOutcome (program_of program.now) (code_of result)
-        (outside (S.view src.old) (K.view out.old) (F.view files.old) name)
-        (outside (S.view src.new) (K.view out.new) (F.view files.new) name) }
+    ensures outcome { ProgramEnds (program_of program.now) (code_of result) S.view K.view F.view
+        src.old out.old files.old src.new out.new files.new }
     ensures unread { (code_of result ≡ 1) ⊎ (code_of result ≡ 7) ⊎ (code_of result ≡ 8) ⊎ (code_of result ≡ 9)
         → src.new ≡ src.old }
     ensures asked { ¬ (code_of result ≡ 2) }
@@ -159,18 +152,12 @@ pub fn run<S: Source, K: Sink, F: Files>(
     ensures untouched { result ≡ 2 → files.new ≡ files.old }
 
     // Words that ask for a program in the plain way.
-    ensures plain { (program : Asked) → Asks (map (λ word. word.now) words.now) program →
-        let name = file_name program in ProgramOutcome program result
-        (outside (S.view src.old) (K.view out.old) (F.view files.old) name)
-        (outside (S.view src.new) (K.view out.new) (F.view files.new) name) }
+    ensures plain { AnswersAsAsked (map (λ word. word.now) words.now) result S.view K.view F.view
+        src.old out.old files.old src.new out.new files.new }
 
     // All other words that are taken. Want of memory may come before they are read.
-    ensures others { ¬ (result ≡ 2) → RunsProgram (map (λ word. word.now) words.now) result
-        (λ name. outside (S.view src.old) (K.view out.old)
-        (F.view files.old) name)
-        (λ name. outside (S.view src.new) (K.view out.new)
-        (F.view files.new) name)
-        ⊎ ((result ≡ 8) × (src.new ≡ src.old) × (out.new ≡ out.old) × (files.new ≡ files.old)) }
+    ensures others { ¬ (result ≡ 2) → RunsOrLacksMemory (map (λ word. word.now) words.now) result S.view K.view F.view
+        src.old out.old files.old src.new out.new files.new }
 
     // What whichever words leave of the files, FILE and others.
     ensures files { (program : Asked) → Requests (map (λ word. word.now) words.now) program →

@@ -7,7 +7,7 @@ ghost use Rattle.bp_limits.specs.Limits.{block_inodes};
 ghost use Rattle.bp_script.specs.declared.notices.Notice.{Notice};
 ghost use Rattle.bp_session.specs.Files.{HasImage};
 ghost use Rattle.bp_shell.specs.Opening.{RefusesFile};
-ghost use Rattle.bp_shell.specs.Scanning.{IsScanned};
+ghost use Rattle.bp_shell.specs.Scanning.{ScanFinds};
 ghost use Rattle.bp_shell.specs.declared.stop.Stop.TheVariants.{Memory, Refused};
 ghost use Rattle.std.specs.Prelude.{◌*◌, ◌≡◌, ◌⊎◌, [], IfErr, IfOk, length};
 
@@ -39,7 +39,7 @@ fn scan_with(region: &RawRegion, sets: &mut Sets) -> Result<Totals, Stop>
     requires frozen { length sets.old.frozen ≡ block_count region.now.base }
     requires pending { sets.old.pending ≡ block_inodes * block_count region.now.base }
     ensures found { IfOk result
-        (λ totals. IsScanned region.now.base sets.new.frozen sets.new.blocks sets.new.counts totals) }
+        (λ totals. ScanFinds region.now.base sets.new.frozen sets.new.blocks sets.new.counts totals) }
     ensures refused { IfErr result (λ stop. (known : Known) (notice : Notice) → HasImage known region.now.base →
         stop ≡ Refused notice → RefusesFile known notice) }
     ensures kinds { IfErr result (λ stop. ((notice : Notice) × (stop ≡ Refused notice)) ⊎ (stop ≡ Memory)) }
@@ -66,7 +66,7 @@ pub(crate) fn scan_image(alloc: Global, region: &RawRegion) -> Result<Scanned, S
     requires fresh { region.now.events ≡ [] }
     requires sized { IsSized region.now.base }
     ensures found { IfOk result
-        (λ found. IsScanned region.now.base found.sets.frozen found.sets.blocks found.sets.counts found.totals) }
+        (λ found. ScanFinds region.now.base found.sets.frozen found.sets.blocks found.sets.counts found.totals) }
     ensures refused { IfErr result (λ stop. (known : Known) (notice : Notice) → HasImage known region.now.base →
         stop ≡ Refused notice → RefusesFile known notice) }
     ensures kinds { IfErr result (λ stop. ((notice : Notice) × (stop ≡ Refused notice)) ⊎ (stop ≡ Memory)) }

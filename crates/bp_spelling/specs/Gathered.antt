@@ -1,8 +1,9 @@
 -- What is written down of a directory's entries.
-use Rattle.std.specs.Prelude.{◌≡◌, ◌≢◌, ℕ, ◌-◌, ◌<◌, ◌≤◌, List, ◌++◌, take, All}
+use Rattle.std.specs.Prelude.{◌≡◌, ◌≢◌, ℕ, ◌+◌, ◌-◌, ◌/◌, ◌<◌, ◌≤◌, List, ◌++◌, min, take, All}
 use Rattle.std.specs.List.{range_with_len}
 use Rattle.bp_layout.specs.Words.{Image}
 use Rattle.bp_layout.specs.Directory.{IsName, inumber_in, name_in}
+use Rattle.bp_limits.specs.Limits.{block_entries, entry_size}
 use Rattle.bp_spelling.specs.declared.entry.Spelled.{Spelled}
 use Rattle.bp_spelling.specs.Hashes.{IsSpelled, places_of}
 use Rattle.bp_spelling.specs.Places.{used_places}
@@ -16,3 +17,7 @@ pub record IsGathered (image : Image) (root end slot : ℕ) (entries : List Spel
   pub hashed : All (IsSpelled image) (take count entries)
   pub present : All IsPresent (take count entries)
   pub forms : (k : ℕ) → k < slot → inumber_in image root k ≢ 0 → IsName (name_in image root k)
+
+-- the slot behind a leaf that begins with this one, in a directory of this size
+abbrev pub leaf_end : ℕ → ℕ → ℕ
+leaf_end size first = min (first + block_entries) (size / entry_size)

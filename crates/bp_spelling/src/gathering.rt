@@ -1,10 +1,10 @@
 //! The entries of a directory, by their places.
 
-ghost use Rattle.std.specs.Prelude.{◌≡◌, ◌+◌, ◌/◌, ◌%◌, ◌<◌, ◌≤◌, min, length, take, All, IfOk, OnOk, IfErr};
+ghost use Rattle.std.specs.Prelude.{◌≡◌, ◌/◌, ◌%◌, ◌<◌, ◌≤◌, length, take, All, IfOk, OnOk, IfErr};
 ghost use Rattle.bp_layout.specs.Directory.{slots};
 ghost use Rattle.bp_layout.specs.Tree.{IsSound, IsFull};
 ghost use Rattle.bp_limits.specs.Limits.{block_entries, entry_size};
-ghost use Rattle.bp_spelling.specs.Gathered.{IsGathered};
+ghost use Rattle.bp_spelling.specs.Gathered.{IsGathered, leaf_end};
 ghost use Rattle.bp_spelling.specs.Hashes.{IsSpelled, places_of};
 ghost use Rattle.bp_spelling.specs.Names.{AreNumbers};
 ghost use Rattle.bp_spelling.specs.Places.{used_places, HaveForms, IsMisspelled};
@@ -39,11 +39,10 @@ fn gather_leaf<R: Region>(
     requires numbers { AreNumbers (current_words (R.memory region.now)) tree.root first numbers.old }
     requires before { let words = current_words (R.memory region.now) in
         IsGathered words tree.root (tree.size / entry_size) first entries.old before }
-    ensures gathered { let words = current_words (R.memory region.now) in
-        let end = tree.size / entry_size in
-        IfOk result (λ count. IsGathered words tree.root end (min (first + block_entries) end) entries.new count) }
+    ensures gathered { IfOk result (λ count. IsGathered (current_words (R.memory region.now))
+        tree.root (tree.size / entry_size) (leaf_end tree.size first) entries.new count) }
     ensures numbers { let words = current_words (R.memory region.now) in
-        OnOk result (AreNumbers words tree.root (min (first + block_entries) (tree.size / entry_size)) numbers.new) }
+        OnOk result (AreNumbers words tree.root (leaf_end tree.size first) numbers.new) }
     ensures err { IfErr result (IsMisspelled (current_words (R.memory region.now)) tree.root tree.size) }
     ensures room { length entries.new ≡ length entries.old }
     ensures number_room { length numbers.new ≡ length numbers.old }

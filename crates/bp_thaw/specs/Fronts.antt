@@ -1,5 +1,5 @@
 -- The ways to some words, and how the kept blocks on them are found.
-use Rattle.std.specs.Prelude.{◌≡◌, ℕ, zero, suc, ◌/◌, ◌≤◌, List, [], ◌∷◌, ◌++◌, length, take, Bool, not, ◌&&◌, ◌==◌, if◌then◌else◌}
+use Rattle.std.specs.Prelude.{◌≡◌, ℕ, zero, suc, ◌/◌, ◌≤◌, List, [], ◌∷◌, ◌++◌, length, map, take, Bool, not, ◌&&◌, ◌==◌, if◌then◌else◌}
 use Rattle.std.specs.List.{list_any}
 use Rattle.bp_limits.specs.Limits.{block_words, super_root}
 use Rattle.bp_layout.specs.Inode.{root_of}
@@ -51,3 +51,8 @@ found_on image kept found path (suc depth) =
 abbrev pub found_in : Image → (ℕ → Bool) → List WordPath → List WordPath → List WordPath
 found_in image kept found [] = found
 found_in image kept found (path ∷ paths) = found_in image kept (found_on image kept found path (length path)) paths
+
+-- where the places were those of some paths, they are now with those that are found on a way besides
+abbrev pub FindsOn : Image → (ℕ → Bool) → WordPath → List ℕ → List ℕ → Type 0
+FindsOn image kept way before after = (found : List WordPath) → before ≡ map (address image) found →
+    after ≡ map (address image) (found_on image kept found way (length way))

@@ -38,6 +38,11 @@ pub record TakesAll (before after : Set) (taken : List ℕ) : Type 0 where
 abbrev pub InBlocks : List ℕ → ℕ → Type 0
 InBlocks blocks place = Has blocks (place / block_words)
 
+-- a copy has the words of a block now, with the pointers turned to the copies
+abbrev pub IsTurnedCopy : Copies → ℕ → ℕ → Memory → Memory → Type 0
+IsTurnedCopy copies block copy old new = (slot : ℕ) → slot < block_words →
+    word (current_words new) (block_words * copy + slot) ≡ turned_word (current_words old) copies (block_words * block + slot)
+
 -- Stores went to the copies alone, to each of them one at least. Each has the words of its block now, with the pointers
 -- turned to the other copies.
 pub record FillsCopies (copies : Copies) (old new : Memory) : Type 0 where

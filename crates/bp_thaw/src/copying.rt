@@ -7,8 +7,8 @@ ghost use Rattle.bp_layout.specs.Members.{AreApart};
 ghost use Rattle.bp_layout.specs.Words.{word, block_count, block_of};
 ghost use Rattle.pm_region.specs.Memory.{current_words};
 ghost use Rattle.bp_cow.specs.Copies.{CanFillBlock, FillsBlock, pointing_to};
-ghost use Rattle.bp_thaw.specs.Copies.{blocks_of, copy_at, places_of, turned_to, turned_word};
-ghost use Rattle.bp_thaw.specs.Steps.{CanFillCopies, FillsCopies, TakesAll};
+ghost use Rattle.bp_thaw.specs.Copies.{blocks_of, copy_at, places_of, turned_to};
+ghost use Rattle.bp_thaw.specs.Steps.{CanFillCopies, FillsCopies, IsTurnedCopy, TakesAll};
 
 use crate::finding::Places;
 use arrayvec::ArrayVec;
@@ -63,9 +63,8 @@ fn fill_copy<R: Region>(region: &mut R, copies: &Copies, place: u32, copy: u32)
         block_count (current_words (R.memory region.old)) }
     requires copy { CanFillBlock copy (R.memory region.old) }
     ensures fills { FillsBlock copy (R.memory region.old) (R.memory region.new) }
-    ensures words { (slot : ℕ) → slot < block_words → word (current_words (R.memory region.new)) (block_words * copy + slot) ≡
-        turned_word (current_words (R.memory region.old)) copies.now.items
-        (block_words * block_of (word (current_words (R.memory region.old)) place) + slot) }
+    ensures words { IsTurnedCopy copies.now.items (block_of (word (current_words (R.memory region.old)) place)) copy
+        (R.memory region.old) (R.memory region.new) }
 {
     let _words = region.words();
     let block = pm_words::block_of(region.load(place)) as u32;

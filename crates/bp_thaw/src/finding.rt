@@ -1,6 +1,6 @@
 //! The kept blocks on the ways to some words.
 
-ghost use Rattle.std.specs.Prelude.{◌≡◌, ◌+◌, ◌<◌, ◌≤◌, ◌==◌, List, [], ◌∷◌, ◌++◌, true, false, length, map};
+ghost use Rattle.std.specs.Prelude.{◌≡◌, ◌+◌, ◌<◌, ◌≤◌, ◌==◌, [], ◌∷◌, ◌++◌, true, false, length, map};
 ghost use Rattle.std.specs.List.{list_any};
 ghost use Rattle.bp_free.specs.Set.{has};
 ghost use Rattle.bp_layout.specs.Members.{Has};
@@ -8,7 +8,7 @@ ghost use Rattle.bp_layout.specs.WellFormed.{IsWellFormed};
 ghost use Rattle.bp_layout.specs.WordPaths.{WordPath, address};
 ghost use Rattle.bp_layout.specs.Words.{block_count};
 ghost use Rattle.pm_region.specs.Memory.{current_words};
-ghost use Rattle.bp_thaw.specs.Fronts.{IsWay, found_in, found_on};
+ghost use Rattle.bp_thaw.specs.Fronts.{FindsOn, IsWay, found_in};
 ghost use Rattle.bp_thaw.specs.Thaws.{paths_in};
 
 use crate::ways::is_there;
@@ -52,9 +52,8 @@ fn find_on<R: Region>(region: &R, frozen: &Blocks, way: &Slots, places: &mut Pla
     requires frozen { block_count (current_words (R.memory region.now)) ≤ length frozen.now }
     requires way { IsWay (current_words (R.memory region.now)) way.now.items }
     requires room { length places.old.items + 12 ≤ 96 }
-    ensures places { (found : List WordPath) → places.old.items ≡ map (address (current_words (R.memory region.now))) found →
-        places.new.items ≡ map (address (current_words (R.memory region.now)))
-        (found_on (current_words (R.memory region.now)) (has frozen.now) found way.now.items (length way.now.items)) }
+    ensures places { FindsOn (current_words (R.memory region.now)) (has frozen.now) way.now.items
+        places.old.items places.new.items }
     ensures few { length places.new.items ≤ length places.old.items + 12 }
 {
     let mut place = SUPER_ROOT;

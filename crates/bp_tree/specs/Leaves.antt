@@ -1,8 +1,8 @@
 -- The live leaves of a tree that are there: not null, and below no null.
-use Rattle.std.specs.Prelude.{◌≡◌, ◌≢◌, ℕ, ◌*◌, ◌<◌, ◌≤◌}
-use Rattle.bp_limits.specs.Limits.{block_size}
+use Rattle.std.specs.Prelude.{◌≡◌, ◌≢◌, ℕ, ◌+◌, ◌*◌, ◌<◌, ◌≤◌, List, slice_index}
+use Rattle.bp_limits.specs.Limits.{block_size, block_words}
 use Rattle.bp_layout.specs.Words.{Image, height_of}
-use Rattle.bp_layout.specs.Tree.{node}
+use Rattle.bp_layout.specs.Tree.{content_word, node}
 
 -- each live leaf from one on is null
 abbrev pub HasNoLeafFrom : Image → ℕ → ℕ → ℕ → Type 0
@@ -15,3 +15,8 @@ pub record IsNextLeaf (image : Image) (root size from leaf : ℕ) : Type 0 where
   pub live : block_size * leaf < size
   pub present : node image root (height_of root) leaf ≢ 0
   pub first : (other : ℕ) → from ≤ other → other < leaf → node image root (height_of root) other ≡ 0
+
+-- these are the content words of a leaf
+abbrev pub AreLeafWords : Image → ℕ → ℕ → List ℕ → Type 0
+AreLeafWords image root leaf words =
+    (i : ℕ) → i < block_words → slice_index words i ≡ content_word image root (block_words * leaf + i)

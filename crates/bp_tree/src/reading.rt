@@ -1,10 +1,11 @@
 //! Reading bytes: a walk for each leaf, and then eight words at a time.
 
-ghost use Rattle.std.specs.Prelude.{◌≡◌, ℕ, ◌+◌, ◌-◌, ◌*◌, ◌/◌, ◌%◌, ◌<◌, ◌≤◌, IfNone, IfSome, length, slice_index, take, drop, min};
+ghost use Rattle.std.specs.Prelude.{◌≡◌, ℕ, ◌+◌, ◌-◌, ◌*◌, ◌/◌, ◌%◌, ◌<◌, ◌≤◌, IfNone, IfSome, length, take, drop, min};
 ghost use Rattle.bp_layout.specs.Tree.{IsSound, content_word};
 ghost use Rattle.bp_limits.specs.Limits.{block_size, block_words};
 ghost use Rattle.pm_region.specs.Memory.{current_words};
 ghost use Rattle.bp_tree.specs.Bytes.{stored_bytes, content_part};
+ghost use Rattle.bp_tree.specs.Leaves.{AreLeafWords};
 
 use crate::tree::{Tree, leaf_block};
 use bp_limits::{BLOCK_SIZE, BLOCK_WORDS};
@@ -139,9 +140,8 @@ pub fn leaf_words<R: Region>(region: &R, tree: Tree, leaf: u64) -> Option<&[u64]
     requires sound { IsSound (current_words (R.memory region.now)) tree.root tree.size }
     requires live { block_size * leaf < tree.size }
     ensures len { IfSome result (λ words. length words.now ≡ block_words) }
-    ensures words { let image = current_words (R.memory region.now) in
-        IfSome result (λ words. (i : ℕ) → i < block_words →
-        slice_index words.now i ≡ content_word image tree.root (block_words * leaf + i)) }
+    ensures words { IfSome result
+        (λ words. AreLeafWords (current_words (R.memory region.now)) tree.root leaf words.now) }
     ensures none { IfNone result ((i : ℕ) → i < block_words →
         content_word (current_words (R.memory region.now)) tree.root (block_words * leaf + i) ≡ 0) }
 {

@@ -25,7 +25,7 @@ use Rattle.bp_plain.specs.Plain.{changes, first, is_a_dir, is_dir_at, is_empty_d
 use Rattle.bp_plain.specs.PlainTree.{FileTree, is_one}
 use Rattle.bp_plain.specs.Stands.{Stands}
 use Rattle.bp_volume.specs.FileCall.{has_changed}
-use Rattle.bp_volume.specs.Renaming.{Allows, AreEnds, FindsEnds, IsTarget, MayMove, are_same, is_inode}
+use Rattle.bp_volume.specs.Renaming.{Allows, AreRenameEnds, FindsEnds, IsTarget, MayMove, are_same, is_inode}
 use Rattle.bp_volume.specs.Step.{FindsEntry, IsEntryOn, StepFor, last_of}
 use Rattle.bp_volume.specs.Told.{Refuses, RefusesEntry, RefusesParent, RefusesRename, Tells}
 use Rattle.bp_volume.specs.declared.renaming.Ends.{Ends}
@@ -110,7 +110,7 @@ are_apart tree p q = not (same_path p q) && not (is_one tree.now.one p q)
 file_found : (image : Image) (path : Path) (i : ℕ) → lookup image path ≡ Some i → kind_of image i ≡ 1 → file_at image path ≡ Some i
 file_found image path i at kind = ap (option_and_then (if_file image)) at ∙ ap (λ k. if k == 1 then Some i else None) kind
 
-module _ (image : Image) (p q : Path) (ends : Ends) (are : AreEnds image p q ends) where
+module _ (image : Image) (p q : Path) (ends : Ends) (are : AreRenameEnds image p q ends) where
   past_all : (tree : FileTree) → Stands image tree → move_refusal tree.now.nodes p q ≡ by_kinds (is_dir_at tree.now.nodes p) (is_dir_at tree.now.nodes q) (is_some (get tree.now.nodes q)) (same_path p q) (is_empty_dir tree.now.nodes q)
   past_all tree stands =
       past_walks image p q are.source.below are.target.below ends.source.dir ends.source.slot ends.source.inumber are.source ends.target are.target tree stands

@@ -9,3 +9,4 @@ pub mod Seen
 pub mod Carried
 pub mod Renaming
 pub mod Snapped
+pub mod VolumeLaws

@@ -40,7 +40,7 @@ pub record IsTarget (image : Image) (path : Path) (target : Target) : Type 0 whe
   pub empty : target.there ≡ None → target.empty ≡ empty_slot image target.dir
 
 -- The first path finds an entry, by its name. The second is a name in a directory, and not below the first.
-pub record AreEnds (image : Image) (p q : Path) (ends : Ends) : Type 0 where
+pub record AreRenameEnds (image : Image) (p q : Path) (ends : Ends) : Type 0 where
   pub source : IsEntryOn image p ends.source.dir ends.source.slot ends.source.inumber
   pub named : slot_named image ends.source.dir ends.source.name.now ≡ Some ends.source.slot
   pub target : IsTarget image q ends.target
@@ -52,7 +52,7 @@ pub record FindsEnds (image : Image) (from to : List ℕ) (ends : Ends) : Type 0
   pub source_parsed : parse from ≡ Some source_path
   pub target_path : Path
   pub target_parsed : parse to ≡ Some target_path
-  pub are : AreEnds image source_path target_path ends
+  pub are : AreRenameEnds image source_path target_path ends
 
 -- there is something, and it is this inode
 abbrev pub is_inode : ℕ → Option FoundEntry → Bool
@@ -67,12 +67,16 @@ are_same ends = is_inode ends.source.inumber ends.target.there
 abbrev pub Allows : Image → Call → Type 0
 Allows image call = (tree : FileTree) → Stands image tree → refusal tree call ≡ None
 
+-- what has the new name can go
+abbrev pub CanUnlinkThere : Image → Ends → FoundEntry → Type 0
+CanUnlinkThere image ends entry =
+    CanUnlink image ends.target.dir entry.slot (inumber_at image ends.target.dir entry.slot)
+
 -- The ends are entries of two inodes, or the second is new. What has the new name may leave, and nothing refuses the rename.
 pub record MayMove (image : Image) (from to : List ℕ) (ends : Ends) : Type 0 where
   pub found : FindsEnds image from to ends
   pub other : are_same ends ≡ false
-  pub leaves : (entry : FoundEntry) → ends.target.there ≡ Some entry →
-      CanUnlink image ends.target.dir entry.slot (inumber_at image ends.target.dir entry.slot)
+  pub leaves : (entry : FoundEntry) → ends.target.there ≡ Some entry → CanUnlinkThere image ends entry
   pub allowed : Allows image (rename from to)
 
 -- the move from end to end

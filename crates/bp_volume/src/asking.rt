@@ -5,7 +5,7 @@ ghost use Rattle.bp_cache.specs.Cache.{IsCacheOf};
 ghost use Rattle.bp_calls.specs.Mounted.{IsMounted};
 ghost use Rattle.bp_plain.specs.Calls.Call.{links, list, read, stat};
 ghost use Rattle.bp_layout.specs.WellFormed.{IsWellFormed};
-ghost use Rattle.bp_volume.specs.Seen.{links_answer, list_answer_of, read_answer, stat_answer_of};
+ghost use Rattle.bp_volume.specs.Seen.{links_answer, list_answer_of, read_answer_of, stat_answer_of};
 ghost use Rattle.bp_volume.specs.Step.{PathFinds};
 ghost use Rattle.bp_volume.specs.Told.{Tells};
 ghost use Rattle.pm_region.specs.Memory.{current_words};
@@ -97,7 +97,7 @@ pub(crate) fn read_at<R: Region, F: Finder>(
     requires well_formed { IsWellFormed (current_words (R.memory region.now)) }
     requires right { F.right finder.old (current_words (R.memory region.now)) }
     ensures told { Tells (current_words (R.memory region.now)) (read text.now off (length into.old))
-        (read_answer result into.new) }
+        (read_answer_of result into.new) }
     ensures fits { IfOk result (λ count. count ≤ length into.new) }
     ensures rest { IfOk result (λ count. drop count into.new ≡ drop count into.old) }
     ensures unread { OnErr result (into.new ≡ into.old) }

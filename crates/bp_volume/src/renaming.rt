@@ -2,8 +2,7 @@
 
 ghost use Rattle.std.specs.Prelude.{◌≡◌, ◌≢◌, ◌≤◌, IfErr, IfOk, OnOk, None, Some, [], false, option_map};
 ghost use Rattle.bp_cache.specs.Cache.{IsCacheOf};
-ghost use Rattle.bp_changes.specs.Effects.{CanUnlink};
-ghost use Rattle.bp_layout.specs.Directory.{empty_slot, inumber_at, slot_named};
+ghost use Rattle.bp_layout.specs.Directory.{empty_slot, slot_named};
 ghost use Rattle.bp_layout.specs.Reached.{IsReached};
 ghost use Rattle.bp_layout.specs.WellFormed.{IsWellFormed};
 ghost use Rattle.bp_layout.specs.Words.{Image};
@@ -13,7 +12,7 @@ ghost use Rattle.bp_plain.specs.Seen.{refusal_of};
 ghost use Rattle.bp_shapes.specs.Sets.{IsExact};
 ghost use Rattle.bp_volume.specs.Carried.{CarriesOut};
 ghost use Rattle.bp_volume.specs.Ready.{IsReady};
-ghost use Rattle.bp_volume.specs.Renaming.{Allows, AreEnds, FindsEnds, IsMoveOf, IsNewName, IsTarget, MayMove, MovesName, are_same};
+ghost use Rattle.bp_volume.specs.Renaming.{Allows, AreRenameEnds, CanUnlinkThere, FindsEnds, IsMoveOf, IsNewName, IsTarget, MayMove, MovesName, are_same};
 ghost use Rattle.bp_volume.specs.Seen.{unit_answer};
 ghost use Rattle.bp_volume.specs.Step.{IsEntryOn};
 ghost use Rattle.bp_volume.specs.Told.{Refuses, RefusesRename};
@@ -122,7 +121,7 @@ fn ends_on<'a, R: Region>(
 ) -> Result<Ends<'a>, FsError>
     requires well_formed { IsWellFormed (current_words (R.memory region.now)) }
     requires right { IsCacheOf (current_words (R.memory region.now)) cache.old }
-    ensures found { IfOk result (λ ends. AreEnds (current_words (R.memory region.now)) from.now to.now ends) }
+    ensures found { IfOk result (λ ends. AreRenameEnds (current_words (R.memory region.now)) from.now to.now ends) }
     ensures refused { IfErr result
         (λ e. RefusesRename (current_words (R.memory region.now)) from.now to.now (refusal_of e)) }
     ensures right { IsCacheOf (current_words (R.memory region.now)) cache.new }
@@ -173,8 +172,7 @@ fn may_replace<R: Region>(
     requires found { FindsEnds (current_words (R.memory region.now)) from.now to.now ends.now }
     requires there { ends.now.target.there ≡ Some there }
     requires other { are_same ends.now ≡ false }
-    ensures leaves { let words = current_words (R.memory region.now) in
-        OnOk result (CanUnlink words ends.now.target.dir there.slot (inumber_at words ends.now.target.dir there.slot)) }
+    ensures leaves { OnOk result (CanUnlinkThere (current_words (R.memory region.now)) ends.now there) }
     ensures allowed { OnOk result (Allows (current_words (R.memory region.now)) (rename from.now to.now)) }
     ensures refused { IfErr result
         (λ e. Refuses (current_words (R.memory region.now)) (rename from.now to.now) (refusal_of e)) }

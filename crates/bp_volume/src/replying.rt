@@ -2,7 +2,7 @@
 
 ghost use Rattle.std.specs.Prelude.{◌≡◌, ◌≤◌, IfOk};
 ghost use Rattle.bp_limits.specs.Limits.{max_read};
-ghost use Rattle.bp_volume.specs.Seen.{links_answer, list_answer_of, read_answer, stat_answer_of, unit_answer};
+ghost use Rattle.bp_volume.specs.Seen.{links_answer, list_answer_of, read_answer_of, stat_answer_of, unit_answer};
 
 use bp_layout::{Listing, Stat};
 use bp_plain::{FsError, Reply};
@@ -51,7 +51,7 @@ pub(crate) fn tell_list(reply: &mut Reply, outcome: Result<Listing, FsError>)
 /// Tells the result of `read`, whose bytes stand in the reply's memory.
 pub(crate) fn tell_read(reply: &mut Reply, outcome: Result<usize, FsError>)
     requires { IfOk outcome (λ count. count ≤ max_read) }
-    ensures { reply.new.answer ≡ read_answer outcome reply.old.buffer }
+    ensures { reply.new.answer ≡ read_answer_of outcome reply.old.buffer }
 {
     match outcome {
         Ok(count) => reply.set_bytes(count),

@@ -14,7 +14,7 @@ ghost use Rattle.bp_plain.specs.Plain.{on_path};
 ghost use Rattle.bp_plain.specs.Seen.{refusal_of};
 ghost use Rattle.bp_shapes.specs.Sets.{IsExact, kept_of};
 ghost use Rattle.bp_volume.specs.Ready.{IsReady};
-ghost use Rattle.bp_volume.specs.Seen.{list_answer_of, read_answer, stat_answer_of, unit_answer};
+ghost use Rattle.bp_volume.specs.Seen.{list_answer_of, read_answer_of, stat_answer_of, unit_answer};
 ghost use Rattle.bp_volume.specs.Snapped.{Snaps, Unsnaps, snap_events, unsnap_events};
 ghost use Rattle.bp_volume.specs.Told.{Tells};
 ghost use Rattle.pm_region.specs.Memory.{Adds, current_words, room_in};
@@ -159,7 +159,7 @@ pub(crate) fn snap_read_at<R: Region>(
 ) -> Result<usize, FsError>
     requires { IsFileSystem (current_words (R.memory region.now)) }
     ensures told { Tells (current_words (R.memory region.now)) (snap_read text.now off (length into.old))
-        (read_answer result into.new) }
+        (read_answer_of result into.new) }
     ensures fits { IfOk result (λ count. count ≤ length into.new) }
     ensures rest { IfOk result (λ count. drop count into.new ≡ drop count into.old) }
     ensures unread { OnErr result (into.new ≡ into.old) }

@@ -22,7 +22,7 @@ ghost use Rattle.bp_scan.specs.Faults.{IsFault};
 ghost use Rattle.bp_scan.specs.Totals.{HasLive, HasTotals};
 ghost use Rattle.bp_volume.specs.FileCall.{FileCall};
 ghost use Rattle.bp_volume.specs.Laid.{formatted_memory};
-ghost use Rattle.bp_volume.specs.Seen.{links_answer, list_answer_of, read_answer, stat_answer_of, unit_answer};
+ghost use Rattle.bp_volume.specs.Seen.{links_answer, list_answer_of, read_answer_of, stat_answer_of, unit_answer};
 
 use crate::asking::{links_at, list_at, read_at, stat_at};
 use crate::batching::batch_at;
@@ -370,7 +370,7 @@ impl<R: Region> Volume<R> {
     ///
     /// Those of `stat`; and then `IsDir` where a directory stands there. `into` stays as it was then.
     pub fn read(&mut self, path: &[u8], off: u64, into: &mut [u8]) -> Result<usize, FsError>
-        ensures called { FileCall self.old (read path.now off (length into.old)) (read_answer result into.new)
+        ensures called { FileCall self.old (read path.now off (length into.old)) (read_answer_of result into.new)
             self.new }
         ensures fits { IfOk result (λ count. count ≤ length into.new) }
         ensures rest { IfOk result (λ count. drop count into.new ≡ drop count into.old) }
@@ -471,7 +471,7 @@ impl<R: Region> Volume<R> {
     /// `BadPath` where the text is no path; `NoSnap` where there is no snapshot; then those of [`Volume::read`], as it was
     /// then. `into` stays as it was.
     pub fn snap_read(&mut self, path: &[u8], off: u64, into: &mut [u8]) -> Result<usize, FsError>
-        ensures called { FileCall self.old (snap_read path.now off (length into.old)) (read_answer result into.new)
+        ensures called { FileCall self.old (snap_read path.now off (length into.old)) (read_answer_of result into.new)
             self.new }
         ensures fits { IfOk result (λ count. count ≤ length into.new) }
         ensures rest { IfOk result (λ count. drop count into.new ≡ drop count into.old) }
@@ -566,7 +566,7 @@ impl<R: Region> Volume<R> {
         buffer: &mut [u8],
     ) -> Result<usize, FsError>
         requires { len ≤ length buffer.old }
-        ensures called { FileCall self.old (read path.now off len) (read_answer result buffer.new) self.new }
+        ensures called { FileCall self.old (read path.now off len) (read_answer_of result buffer.new) self.new }
         ensures fits { IfOk result (λ count. count ≤ len) }
     {
         self.read(path, off, &mut buffer[..len])
@@ -598,7 +598,7 @@ impl<R: Region> Volume<R> {
         buffer: &mut [u8],
     ) -> Result<usize, FsError>
         requires { len ≤ length buffer.old }
-        ensures called { FileCall self.old (snap_read path.now off len) (read_answer result buffer.new) self.new }
+        ensures called { FileCall self.old (snap_read path.now off len) (read_answer_of result buffer.new) self.new }
         ensures fits { IfOk result (λ count. count ≤ len) }
     {
         self.snap_read(path, off, &mut buffer[..len])

@@ -156,9 +156,8 @@ fn take_below<R: Region>(
     requires block { node (current_words (R.memory region.now)) tree.root top.depth top.index ≡ top.block }
     requires present { top.block ≢ 0 }
     requires taken { has blocks.old top.block ≡ false }
-    ensures ok { let words = current_words (R.memory region.now) in
-        OnOk result
-        (WalksBelow words 0 tree.root tree.size holes top.depth top.index block_words blocks.old blocks.new) }
+    ensures ok { OnOk result (WalksBelow (current_words (R.memory region.now))
+        0 tree.root tree.size holes top.depth top.index block_words blocks.old blocks.new) }
     ensures err { let words = current_words (R.memory region.now) in
         IfErr result (λ f. FailsBelow words 0 tree.root tree.size holes top.block blocks.old f.check f.place) }
     ensures room { length blocks.new ≡ length blocks.old }

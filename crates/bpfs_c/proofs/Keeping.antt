@@ -3,7 +3,7 @@ use Rattle.std.proofs.Common.{◌≡◌, ℕ, List, Option, Result, Ok, Err, ref
 use Rattle.bp_layout.specs.declared.fields.Stat.{Stat}
 use Rattle.bp_layout.specs.declared.fields.Stat.TheVariants.{Dir, File}
 use Rattle.bp_plain.specs.declared.errors.FsError.{FsError}
-use Rattle.bp_volume.specs.Seen.{links_answer, read_answer, stat_answer_of, unit_answer}
+use Rattle.bp_volume.specs.Seen.{links_answer, read_answer_of, stat_answer_of, unit_answer}
 use Rattle.bpfs_c.specs.Listings.{Names, listing_after}
 
 module _ (kept : Option Names) where
@@ -11,7 +11,7 @@ module _ (kept : Option Names) where
   unit_keeps (Ok nothing) = refl
   unit_keeps (Err error) = refl
 
-  pub read_keeps : (ending : Result ℕ FsError) (content : List ℕ) → listing_after (read_answer ending content) kept ≡ kept
+  pub read_keeps : (ending : Result ℕ FsError) (content : List ℕ) → listing_after (read_answer_of ending content) kept ≡ kept
   read_keeps (Ok count) content = refl
   read_keeps (Err error) content = refl
 

@@ -1,12 +1,12 @@
 -- What is told of a read.
 use Rattle.std.proofs.Common.{◌≡◌, ◌≤◌, ℕ, List, Result, Ok, Err, IfOk, OnErr, drop, length, take, refl, sym, subst}
 use Rattle.bp_plain.specs.declared.errors.FsError.{FsError}
-use Rattle.bp_volume.specs.Seen.{read_answer}
-use Rattle.bpfs_c.specs.Codes.{IsCounted, IsRead}
+use Rattle.bp_volume.specs.Seen.{read_answer_of}
+use Rattle.bpfs_c.specs.Codes.{IsRead, TellsCount}
 
-pub read_told : (ending : Result ℕ FsError) (into new : List ℕ) (count code new_count : ℕ) → IsCounted ending count code new_count
+pub read_told : (ending : Result ℕ FsError) (into new : List ℕ) (count code new_count : ℕ) → TellsCount ending count code new_count
     → IfOk ending (λ n. n ≤ length new) → IfOk ending (λ n. drop n new ≡ drop n into) → OnErr ending (new ≡ into)
-    → IsRead (read_answer ending new) into count code new new_count
+    → IsRead (read_answer_of ending new) into count code new new_count
 read_told (Ok n) into new count code new_count counted fits rest unread =
     subst (λ k. (code ≡ 0) × (take k new ≡ take n new) × (k ≤ length new) × (drop k new ≡ drop k into)) (sym counted.1)
     (counted.0, refl, fits, rest)

@@ -28,9 +28,9 @@ IsEndedBy (refused why) code = code ≡ refusal_number why
 IsEndedBy answer code = ⊥
 
 -- a number is told, or a refusal
-abbrev pub IsCounted : Result ℕ FsError → ℕ → ℕ → ℕ → Type 0
-IsCounted (Ok count) old code new = (code ≡ 0) × (new ≡ count)
-IsCounted (Err error) old code new = (code ≡ refusal_number (refusal_of error)) × (new ≡ old)
+abbrev pub TellsCount : Result ℕ FsError → ℕ → ℕ → ℕ → Type 0
+TellsCount (Ok count) old code new = (code ≡ 0) × (new ≡ count)
+TellsCount (Err error) old code new = (code ≡ refusal_number (refusal_of error)) × (new ≡ old)
 
 -- bytes were read: they stand in front, and how many they are is told
 abbrev pub IsRead : Answer → List ℕ → ℕ → ℕ → List ℕ → ℕ → Type 0
@@ -42,17 +42,17 @@ IsRead (refused why) into count code new_into new_count =
 IsRead answer into count code new_into new_count = ⊥
 
 -- what stands at a path is told
-abbrev pub IsFound : Answer → Found → ℕ → Found → Type 0
-IsFound (file_of size) old code new = (code ≡ 0) × (new ≡ record { size = size; is_dir = false })
-IsFound (dir_of count) old code new = (code ≡ 0) × (new ≡ record { size = count; is_dir = true })
-IsFound (refused why) old code new = (code ≡ refusal_number why) × (new ≡ old)
-IsFound answer old code new = ⊥
+abbrev pub TellsFound : Answer → Found → ℕ → Found → Type 0
+TellsFound (file_of size) old code new = (code ≡ 0) × (new ≡ record { size = size; is_dir = false })
+TellsFound (dir_of count) old code new = (code ≡ 0) × (new ≡ record { size = count; is_dir = true })
+TellsFound (refused why) old code new = (code ≡ refusal_number why) × (new ≡ old)
+TellsFound answer old code new = ⊥
 
 -- how many names a file has is told
-abbrev pub IsLinked : Answer → ℕ → ℕ → ℕ → Type 0
-IsLinked (links_of count) old code new = (code ≡ 0) × (new ≡ count)
-IsLinked (refused why) old code new = (code ≡ refusal_number why) × (new ≡ old)
-IsLinked answer old code new = ⊥
+abbrev pub TellsLinks : Answer → ℕ → ℕ → ℕ → Type 0
+TellsLinks (links_of count) old code new = (code ≡ 0) × (new ≡ count)
+TellsLinks (refused why) old code new = (code ≡ refusal_number why) × (new ≡ old)
+TellsLinks answer old code new = ⊥
 
 -- how many names a directory has is told
 abbrev pub IsListed : Answer → ℕ → ℕ → ℕ → Type 0

@@ -12,9 +12,9 @@ seen_event Barrier = record { kind = 1; word = 0; value = 0 }
 seen_event Mark = record { kind = 2; word = 0; value = 0 }
 
 -- the log of what a handle holds; a closed one has none
-abbrev pub events_of : Option Mounted → List Event
-events_of None = []
-events_of (Some held) = held.volume.events
+abbrev pub held_events : Option Mounted → List Event
+held_events None = []
+held_events (Some held) = held.volume.events
 
 -- so many events of the log stand in front, those from one on: as many as there are and as there is room for
 pub record HasEvents (events : List Event) (first : ℕ) (old : List Logged) (count : ℕ) (new : List Logged) : Type 0 where

@@ -11,3 +11,4 @@ pub mod Words
 pub mod Formats
 pub mod Opens
 pub mod Patches
+pub mod Exports

@@ -50,6 +50,6 @@ pub data Opens (words : List ℕ) (old : Option Mounted) (fault : Fault) (code :
       Opens words old fault code new new_fault
 
 -- a handle that holds nothing is told so
-abbrev pub IsClosed : Option Mounted → ℕ → Type 0
-IsClosed None code = code ≡ 32
-IsClosed (Some held) code = code ≡ 0
+abbrev pub TellsWhetherHeld : Option Mounted → ℕ → Type 0
+TellsWhetherHeld None code = code ≡ 32
+TellsWhetherHeld (Some held) code = code ≡ 0

@@ -2,7 +2,9 @@
 use Rattle.std.specs.List.{All}
 use Rattle.std.specs.Prelude.{◌≤◌, ℕ, List, length, map}
 use Rattle.bp_limits.specs.Limits.{max_pieces}
-use Rattle.bp_plain.specs.Seen.{LiesIn}
+use Rattle.bp_plain.specs.Calls.{Call}
+use Rattle.bp_plain.specs.Calls.Call.{batch}
+use Rattle.bp_plain.specs.Seen.{LiesIn, piece_in}
 use Rattle.bp_plain.specs.declared.calls.Piece.{Piece}
 use Rattle.bpfs_c.specs.declared.batching.Patch.{Patch}
 
@@ -17,3 +19,7 @@ piece_of patch = record {
 pub record AreFit (text : List ℕ) (patches : List Patch) : Type 0 where
   pub few : length patches ≤ max_pieces
   pub lie : All (LiesIn text) (map piece_of patches)
+
+-- the batch that they ask for
+abbrev pub patch_batch : List ℕ → List Patch → Call
+patch_batch text patches = batch (map (piece_in text) (map piece_of patches))

@@ -7,8 +7,8 @@ use Rattle.bp_scan.specs.declared.totals.Totals.{Totals}
 use Rattle.bpfs_c.specs.declared.space.Blocks.{Blocks}
 use Rattle.bpfs_c.specs.declared.space.Sums.{Sums}
 
-abbrev pub HasBlocks : Memory → Blocks → Type 0
-HasBlocks memory blocks = HasSpace (current_words memory) blocks.free × HasLive (current_words memory) blocks.live
+abbrev pub HasBlockCounts : Memory → Blocks → Type 0
+HasBlockCounts memory blocks = HasSpace (current_words memory) blocks.free × HasLive (current_words memory) blocks.live
 
 -- the bytes are above 2^64 only in sum: so many times, and the rest
 abbrev pub sums_of : Totals → Sums

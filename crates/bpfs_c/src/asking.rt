@@ -3,7 +3,8 @@
 ghost use Rattle.std.specs.Prelude.{◌≡◌, length};
 ghost use Rattle.bp_plain.specs.Calls.Call.{links, read, stat};
 ghost use Rattle.bp_volume.specs.Seen.{links_answer, stat_answer_of};
-ghost use Rattle.bpfs_c.specs.Codes.{IsCounted, IsFound, IsLinked, IsRead};
+ghost use Rattle.bpfs_c.specs.Codes.{TellsCount, TellsFound, TellsLinks};
+ghost use Rattle.bpfs_c.specs.Exports.{ExportsRead};
 ghost use Rattle.bpfs_c.specs.Serves.{Exported};
 
 use crate::codes::{CLOSED, LOG_FULL, OK, number_of};
@@ -23,7 +24,7 @@ pub struct Found {
 
 /// Tells how many bytes were read.
 pub(crate) fn tell_count(ending: Result<usize, FsError>, count: &mut usize) -> u32
-    ensures { IsCounted ending count.old result count.new }
+    ensures { TellsCount ending count.old result count.new }
 {
     match ending {
         Ok(read) => {
@@ -44,9 +45,8 @@ pub extern "C" fn bpfs_read(
     into: &mut [u8],
     count: &mut usize,
 ) -> u32
-    ensures { Exported handle.old.held (read path.now off (length into.old))
-        (λ answer. IsRead answer into.old count.old result into.new count.new)
-        ((into.new ≡ into.old) × (count.new ≡ count.old)) result handle.new.held }
+    ensures { ExportsRead handle.old.held (read path.now off (length into.old)) into.old count.old
+        result into.new count.new handle.new.held }
 {
     let Some(mut mounted) = handle.take(alloc) else {
         return CLOSED;
@@ -62,7 +62,7 @@ pub extern "C" fn bpfs_read(
 
 /// Tells what stands at a path.
 pub(crate) fn tell_found(ending: Result<Stat, FsError>, found: &mut Found) -> u32
-    ensures { IsFound (stat_answer_of ending) found.old result found.new }
+    ensures { TellsFound (stat_answer_of ending) found.old result found.new }
 {
     match ending {
         Ok(Stat::File { size }) => {
@@ -91,7 +91,7 @@ pub extern "C" fn bpfs_stat(
     path: &[u8],
     found: &mut Found,
 ) -> u32
-    ensures { Exported handle.old.held (stat path.now) (λ answer. IsFound answer found.old result found.new)
+    ensures { Exported handle.old.held (stat path.now) (λ answer. TellsFound answer found.old result found.new)
         (found.new ≡ found.old) result handle.new.held }
 {
     let Some(mut mounted) = handle.take(alloc) else {
@@ -108,7 +108,7 @@ pub extern "C" fn bpfs_stat(
 
 /// Tells how many names a file has.
 fn tell_links(ending: Result<u32, FsError>, count: &mut u32) -> u32
-    ensures { IsLinked (links_answer ending) count.old result count.new }
+    ensures { TellsLinks (links_answer ending) count.old result count.new }
 {
     match ending {
         Ok(links) => {
@@ -127,7 +127,7 @@ pub extern "C" fn bpfs_links(
     path: &[u8],
     count: &mut u32,
 ) -> u32
-    ensures { Exported handle.old.held (links path.now) (λ answer. IsLinked answer count.old result count.new)
+    ensures { Exported handle.old.held (links path.now) (λ answer. TellsLinks answer count.old result count.new)
         (count.new ≡ count.old) result handle.new.held }
 {
     let Some(mut mounted) = handle.take(alloc) else {

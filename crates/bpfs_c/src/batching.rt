@@ -1,11 +1,9 @@
 //! Bytes into several files at once.
 
 ghost use Rattle.std.specs.Prelude.{◌≡◌, ◌≤◌, ◌↔◌, ◌+◌, IsTrue, MatchOption, map};
-ghost use Rattle.bp_plain.specs.Calls.Call.{batch};
-ghost use Rattle.bp_plain.specs.Seen.{LiesIn, piece_in};
-ghost use Rattle.bpfs_c.specs.Codes.{IsEndedAs};
-ghost use Rattle.bpfs_c.specs.Patches.{AreFit, piece_of};
-ghost use Rattle.bpfs_c.specs.Serves.{Exported};
+ghost use Rattle.bp_plain.specs.Seen.{LiesIn};
+ghost use Rattle.bpfs_c.specs.Exports.{ExportsChange};
+ghost use Rattle.bpfs_c.specs.Patches.{AreFit, patch_batch, piece_of};
 
 use crate::codes::{CLOSED, LOG_FULL, Lack, OUT_OF_RANGE, ended};
 use crate::handle::Handle;
@@ -87,8 +85,7 @@ pub extern "C" fn bpfs_batch(
     lack: &mut Lack,
 ) -> u32
     ensures fit { AreFit text.now patches.now →
-        Exported handle.old.held (batch (map (piece_in text.now) (map piece_of patches.now)))
-        (λ answer. IsEndedAs answer lack.old result lack.new) (lack.new ≡ lack.old) result handle.new.held }
+        ExportsChange handle.old.held (patch_batch text.now patches.now) lack.old result lack.new handle.new.held }
     ensures unfit { ¬ AreFit text.now patches.now →
         (result ≡ 38) × (handle.new.held ≡ handle.old.held) × (lack.new ≡ lack.old) }
 {

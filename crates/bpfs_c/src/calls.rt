@@ -3,7 +3,7 @@
 ghost use Rattle.std.specs.Prelude.{◌≡◌};
 ghost use Rattle.bp_plain.specs.Calls.Answer.{done};
 ghost use Rattle.bp_plain.specs.Calls.Call.{create, link, mkdir, rename, rmdir, truncate, unlink, upgrade, write};
-ghost use Rattle.bpfs_c.specs.Codes.{IsEndedAs};
+ghost use Rattle.bpfs_c.specs.Exports.{ExportsChange};
 ghost use Rattle.bpfs_c.specs.Serves.{Exported};
 
 use crate::codes::{CLOSED, LOG_FULL, Lack, OK, ended};
@@ -19,8 +19,7 @@ pub extern "C" fn bpfs_create(
     path: &[u8],
     lack: &mut Lack,
 ) -> u32
-    ensures { Exported handle.old.held (create path.now) (λ answer. IsEndedAs answer lack.old result lack.new)
-        (lack.new ≡ lack.old) result handle.new.held }
+    ensures { ExportsChange handle.old.held (create path.now) lack.old result lack.new handle.new.held }
 {
     let Some(mut mounted) = handle.take(alloc) else {
         return CLOSED;
@@ -42,8 +41,7 @@ pub extern "C" fn bpfs_mkdir(
     path: &[u8],
     lack: &mut Lack,
 ) -> u32
-    ensures { Exported handle.old.held (mkdir path.now) (λ answer. IsEndedAs answer lack.old result lack.new)
-        (lack.new ≡ lack.old) result handle.new.held }
+    ensures { ExportsChange handle.old.held (mkdir path.now) lack.old result lack.new handle.new.held }
 {
     let Some(mut mounted) = handle.take(alloc) else {
         return CLOSED;
@@ -65,8 +63,7 @@ pub extern "C" fn bpfs_unlink(
     path: &[u8],
     lack: &mut Lack,
 ) -> u32
-    ensures { Exported handle.old.held (unlink path.now) (λ answer. IsEndedAs answer lack.old result lack.new)
-        (lack.new ≡ lack.old) result handle.new.held }
+    ensures { ExportsChange handle.old.held (unlink path.now) lack.old result lack.new handle.new.held }
 {
     let Some(mut mounted) = handle.take(alloc) else {
         return CLOSED;
@@ -88,8 +85,7 @@ pub extern "C" fn bpfs_rmdir(
     path: &[u8],
     lack: &mut Lack,
 ) -> u32
-    ensures { Exported handle.old.held (rmdir path.now) (λ answer. IsEndedAs answer lack.old result lack.new)
-        (lack.new ≡ lack.old) result handle.new.held }
+    ensures { ExportsChange handle.old.held (rmdir path.now) lack.old result lack.new handle.new.held }
 {
     let Some(mut mounted) = handle.take(alloc) else {
         return CLOSED;
@@ -112,8 +108,7 @@ pub extern "C" fn bpfs_rename(
     to: &[u8],
     lack: &mut Lack,
 ) -> u32
-    ensures { Exported handle.old.held (rename from.now to.now) (λ answer. IsEndedAs answer lack.old result lack.new)
-        (lack.new ≡ lack.old) result handle.new.held }
+    ensures { ExportsChange handle.old.held (rename from.now to.now) lack.old result lack.new handle.new.held }
 {
     let Some(mut mounted) = handle.take(alloc) else {
         return CLOSED;
@@ -136,8 +131,7 @@ pub extern "C" fn bpfs_link(
     to: &[u8],
     lack: &mut Lack,
 ) -> u32
-    ensures { Exported handle.old.held (link from.now to.now) (λ answer. IsEndedAs answer lack.old result lack.new)
-        (lack.new ≡ lack.old) result handle.new.held }
+    ensures { ExportsChange handle.old.held (link from.now to.now) lack.old result lack.new handle.new.held }
 {
     let Some(mut mounted) = handle.take(alloc) else {
         return CLOSED;
@@ -161,8 +155,7 @@ pub extern "C" fn bpfs_write(
     bytes: &[u8],
     lack: &mut Lack,
 ) -> u32
-    ensures { Exported handle.old.held (write path.now off bytes.now) (λ answer. IsEndedAs answer lack.old result lack.new)
-        (lack.new ≡ lack.old) result handle.new.held }
+    ensures { ExportsChange handle.old.held (write path.now off bytes.now) lack.old result lack.new handle.new.held }
 {
     let Some(mut mounted) = handle.take(alloc) else {
         return CLOSED;
@@ -185,8 +178,7 @@ pub extern "C" fn bpfs_truncate(
     size: u64,
     lack: &mut Lack,
 ) -> u32
-    ensures { Exported handle.old.held (truncate path.now size) (λ answer. IsEndedAs answer lack.old result lack.new)
-        (lack.new ≡ lack.old) result handle.new.held }
+    ensures { ExportsChange handle.old.held (truncate path.now size) lack.old result lack.new handle.new.held }
 {
     let Some(mut mounted) = handle.take(alloc) else {
         return CLOSED;

@@ -4,8 +4,9 @@ ghost use Rattle.std.specs.Prelude.{◌≡◌};
 ghost use Rattle.bp_plain.specs.Calls.Call.{list};
 ghost use Rattle.bp_volume.specs.Seen.{list_answer_of};
 ghost use Rattle.bpfs_c.specs.Codes.{IsListed};
+ghost use Rattle.bpfs_c.specs.Exports.{LooksAtName};
 ghost use Rattle.bpfs_c.specs.Listings.{TellsName, entry_at, listing_after};
-ghost use Rattle.bpfs_c.specs.Serves.{Exported, Looked};
+ghost use Rattle.bpfs_c.specs.Serves.{Exported};
 
 use crate::codes::{CLOSED, LOG_FULL, OK, OUT_OF_RANGE, number_of};
 use crate::handle::Handle;
@@ -94,10 +95,8 @@ pub extern "C" fn bpfs_listed(
     length: &mut usize,
     is_dir: &mut bool,
 ) -> u32
-    ensures { Looked handle.old.held
-        (λ held. TellsName (entry_at held.listing index) name.old length.old is_dir.old result name.new length.new
-        is_dir.new)
-        ((name.new ≡ name.old) × (length.new ≡ length.old) × (is_dir.new ≡ is_dir.old)) result handle.new.held }
+    ensures { LooksAtName handle.old.held index name.old length.old is_dir.old
+        result name.new length.new is_dir.new handle.new.held }
 {
     let Some(mounted) = handle.take(alloc) else {
         return CLOSED;

@@ -2,7 +2,7 @@
 
 ghost use Rattle.std.specs.Prelude.{◌≡◌, ◌≤◌, ◌<◌, ◌+◌, ◌^◌, length, slice_range};
 ghost use Rattle.pm_region.specs.Memory.{current_words};
-ghost use Rattle.bpfs_c.specs.Events.{HasEvents, IsDrained, events_of, seen_event};
+ghost use Rattle.bpfs_c.specs.Events.{HasEvents, IsDrained, held_events, seen_event};
 ghost use Rattle.bpfs_c.specs.Serves.{Looked};
 ghost use Rattle.bpfs_c.specs.Words.{TellsWords};
 
@@ -68,7 +68,7 @@ pub(crate) fn copy_events(region: &RawRegion, first: usize, into: &mut [Logged])
 /// How many events the log has.
 #[unsafe(no_mangle)]
 pub extern "C" fn bpfs_event_count(alloc: Global, handle: &mut Handle) -> usize
-    ensures count { result ≡ length (events_of handle.old.held) }
+    ensures count { result ≡ length (held_events handle.old.held) }
     ensures same { handle.new.held ≡ handle.old.held }
 {
     let Some(mounted) = handle.take(alloc) else {
@@ -87,7 +87,7 @@ pub extern "C" fn bpfs_events(
     first: usize,
     into: &mut [Logged],
 ) -> usize
-    ensures events { HasEvents (events_of handle.old.held) first into.old result into.new }
+    ensures events { HasEvents (held_events handle.old.held) first into.old result into.new }
     ensures same { handle.new.held ≡ handle.old.held }
 {
     let Some(mounted) = handle.take(alloc) else {

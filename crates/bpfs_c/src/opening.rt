@@ -3,7 +3,7 @@
 ghost use Rattle.std.specs.Prelude.{[], ◌≡◌, ◌↔◌, IfOk, IsTrue, None};
 ghost use Rattle.bp_layout.specs.Formatted.{IsSized};
 ghost use Rattle.bp_limits.specs.Limits.{log_events};
-ghost use Rattle.bpfs_c.specs.Opens.{Holds, IsClosed, IsMountFault, Mounts, Opens};
+ghost use Rattle.bpfs_c.specs.Opens.{Holds, IsMountFault, Mounts, Opens, TellsWhetherHeld};
 
 use crate::codes::{BAD_SIZE, CLOSED, DAMAGED, NO_MEMORY, NOT_FORMATTED, OK, OPEN};
 use crate::handle::Handle;
@@ -137,7 +137,7 @@ pub extern "C" fn bpfs_mount(
 /// Lets the volume of a handle go.
 #[unsafe(no_mangle)]
 pub extern "C" fn bpfs_close(alloc: Global, handle: &mut Handle) -> u32
-    ensures code { IsClosed handle.old.held result }
+    ensures code { TellsWhetherHeld handle.old.held result }
     ensures closed { handle.new.held ≡ None }
 {
     match handle.take(alloc) {

@@ -2,7 +2,7 @@
 
 ghost use Rattle.std.specs.Prelude.{◌≡◌};
 ghost use Rattle.pm_runs.specs.Runs.{run_length};
-ghost use Rattle.bpfs_c.specs.Events.{events_of};
+ghost use Rattle.bpfs_c.specs.Events.{held_events};
 ghost use Rattle.bpfs_c.specs.Runs.{HasPiece, seen_run};
 
 use crate::handle::Handle;
@@ -66,7 +66,7 @@ pub extern "C" fn bpfs_run_at(
     told: &mut Told,
     values: &mut [u64],
 ) -> usize
-    ensures run { HasPiece (events_of handle.old.held) first told.old values.old result told.new values.new }
+    ensures run { HasPiece (held_events handle.old.held) first told.old values.old result told.new values.new }
     ensures same { handle.new.held ≡ handle.old.held }
 {
     let Some(mounted) = handle.take(alloc) else {

@@ -3,7 +3,8 @@
 ghost use Rattle.std.specs.Prelude.{◌≡◌, length};
 ghost use Rattle.bp_plain.specs.Calls.Call.{snap, snap_list, snap_read, snap_stat, unsnap};
 ghost use Rattle.bp_volume.specs.Seen.{unit_answer};
-ghost use Rattle.bpfs_c.specs.Codes.{IsEndedBy, IsFound, IsListed, IsRead};
+ghost use Rattle.bpfs_c.specs.Codes.{IsEndedBy, IsListed, TellsFound};
+ghost use Rattle.bpfs_c.specs.Exports.{ExportsRead};
 ghost use Rattle.bpfs_c.specs.Serves.{Exported};
 
 use crate::asking::{Found, tell_count, tell_found};
@@ -68,9 +69,8 @@ pub extern "C" fn bpfs_snap_read(
     into: &mut [u8],
     count: &mut usize,
 ) -> u32
-    ensures { Exported handle.old.held (snap_read path.now off (length into.old))
-        (λ answer. IsRead answer into.old count.old result into.new count.new)
-        ((into.new ≡ into.old) × (count.new ≡ count.old)) result handle.new.held }
+    ensures { ExportsRead handle.old.held (snap_read path.now off (length into.old)) into.old count.old
+        result into.new count.new handle.new.held }
 {
     let Some(mut mounted) = handle.take(alloc) else {
         return CLOSED;
@@ -92,7 +92,7 @@ pub extern "C" fn bpfs_snap_stat(
     path: &[u8],
     found: &mut Found,
 ) -> u32
-    ensures { Exported handle.old.held (snap_stat path.now) (λ answer. IsFound answer found.old result found.new)
+    ensures { Exported handle.old.held (snap_stat path.now) (λ answer. TellsFound answer found.old result found.new)
         (found.new ≡ found.old) result handle.new.held }
 {
     let Some(mut mounted) = handle.take(alloc) else {

@@ -2,7 +2,7 @@
 
 ghost use Rattle.std.specs.Prelude.{◌≡◌};
 ghost use Rattle.bpfs_c.specs.Serves.{Looked};
-ghost use Rattle.bpfs_c.specs.Sums.{HasBlocks, HasSums, sums_of};
+ghost use Rattle.bpfs_c.specs.Sums.{HasBlockCounts, HasSums, sums_of};
 
 use crate::codes::{CLOSED, OK};
 use crate::handle::Handle;
@@ -31,7 +31,7 @@ pub struct Sums {
 /// Tells the free and the live blocks.
 #[unsafe(no_mangle)]
 pub extern "C" fn bpfs_space(alloc: Global, handle: &mut Handle, blocks: &mut Blocks) -> u32
-    ensures { Looked handle.old.held (λ held. (result ≡ 0) × HasBlocks held.volume blocks.new)
+    ensures { Looked handle.old.held (λ held. (result ≡ 0) × HasBlockCounts held.volume blocks.new)
         (blocks.new ≡ blocks.old) result handle.new.held }
 {
     let Some(mounted) = handle.take(alloc) else {

@@ -135,6 +135,17 @@ after_barrier caches core = logged caches (Barrier core)
 abbrev pub IsDirtyUnder : Caches → ℕ → Owner → Type 0
 IsDirtyUnder caches word owner = slice_get caches.owners word ≡ Some (Some owner)
 
+-- the dirty words of a word's line are this core's
+abbrev pub IsOpenToLoad : Caches → ℕ → ℕ → Type 0
+IsOpenToLoad caches core word =
+    (other : ℕ) (owner : Owner) → IsDirtyUnder caches other owner → line_at other ≡ line_at word → owner.core ≡ core
+
+-- .. and of its epoch now
+abbrev pub IsOpenToStore : Caches → ℕ → ℕ → Type 0
+IsOpenToStore caches core word =
+    (other : ℕ) (owner : Owner) → IsDirtyUnder caches other owner → line_at other ≡ line_at word →
+    owner ≡ record { core = core; epoch = core_barriers core caches.log }
+
 -- the word is dirty, and its owner has no dirty word of an earlier epoch
 pub record MayLeave (caches : Caches) (word : ℕ) : Type 0 where
   pub owner : Owner

@@ -1,12 +1,12 @@
 -- The caches as code holds them.
-use Rattle.std.specs.Prelude.{◌≡◌, ℕ, ◌-◌, ◌*◌, ◌^◌, ◌<◌, ◌≤◌, nat_le, not, Bool, true, false, Option, Some, None, List, length, map, take, slice_get, slice_index, vec_len, vec_capacity}
+use Rattle.std.specs.Prelude.{◌≡◌, ℕ, ◌-◌, ◌*◌, ◌^◌, ◌<◌, ◌≤◌, nat_le, not, Bool, true, false, Option, Some, None, List, [], ◌∷◌, length, map, take, slice_get, slice_index, vec_len, vec_capacity, if◌then◌else◌}
 use Rattle.std.specs.List.{range_with_len}
 use Rattle.std.proofs.Common.{zero, suc}
 use Rattle.pm_cores.specs.declared.entry.Entry.{Entry}
 use Rattle.pm_cores.specs.declared.entry.Entry.TheVariants.{Load, Store, Barrier}
 use Rattle.pm_cores.specs.declared.entry.Owner.{Owner}
 use Rattle.pm_cores.specs.Log.{core_of, core_barriers, epoch_at, last_value, line_at, IsStore, IsUse}
-use Rattle.pm_cores.specs.Caches.{Caches}
+use Rattle.pm_cores.specs.Caches.{Caches, owner_is_up_to}
 use Rattle.pm_cores.specs.declared.cores.Cores.TheInside.{Inside}
 
 -- whether a store at a place waits, where so many entries stand up to the first one to its word that does
@@ -24,6 +24,14 @@ owner_by (Some (Barrier core)) epoch = None
 abbrev pub owner_since : List Entry → List ℕ → ℕ → Option Owner
 owner_since log epochs zero = None
 owner_since log epochs (suc first) = owner_by (slice_get log first) (slice_index epochs first)
+
+-- that number behind a settle: none where the word's owner is settled
+abbrev pub since_after : Owner → List Entry → List ℕ → ℕ → ℕ
+since_after owner log epochs since = if owner_is_up_to owner (owner_since log epochs since) then 0 else since
+
+-- of a store that counts whether it is back, by that number
+abbrev pub flag_if : Bool → ℕ → ℕ → List Bool
+flag_if counts since place = if counts then not (waits_at since place) ∷ [] else []
 
 -- whether an entry at a place is a store that is back
 abbrev pub entry_is_back : List ℕ → ℕ → Option Entry → Bool

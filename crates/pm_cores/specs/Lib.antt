@@ -4,3 +4,4 @@ pub mod Inside
 pub mod Order
 pub mod Choice
 pub mod Played
+pub mod MemoryLaws

@@ -4,7 +4,7 @@ ghost use Rattle.std.specs.Prelude.{◌≡◌, ◌≢◌, ◌<◌, ◌≤◌, �
 ghost use Rattle.pm_cores.specs.declared.entry.Entry.TheVariants.{Load};
 ghost use Rattle.pm_cores.specs.declared.entry.Owner.{Owner as TheOwner};
 ghost use Rattle.pm_cores.specs.Log.{core_barriers, line_at};
-ghost use Rattle.pm_cores.specs.Caches.{Caches, caches_over, memory_over, value_at, owner_at as owner_in, line_owner as line_owner_in, settled, ready_to_load, ready_to_store, after_load, after_store, after_barrier, stored, with_back, logged, IsDirtyUnder, MayLeave, IsNeeded};
+ghost use Rattle.pm_cores.specs.Caches.{Caches, caches_over, memory_over, value_at, owner_at as owner_in, line_owner as line_owner_in, settled, ready_to_load, ready_to_store, after_load, after_store, after_barrier, stored, with_back, logged, IsDirtyUnder, IsOpenToLoad, IsOpenToStore, MayLeave, IsNeeded};
 ghost use Rattle.pm_cores.specs.Order.{IsCoherent, words_up_to, BacksTo};
 ghost use Rattle.pm_cores.specs.Choice.{dirty_epoch, cut_at};
 ghost use Rattle.pm_cores.specs.Inside.{told_by};
@@ -327,8 +327,7 @@ impl Cores {
     fn open_to_load(&mut self, core: u32, i: u32)
         requires { i < self.old.words }
         ensures after { self.new ≡ ready_to_load self.old core (line_owner_in self.old i) }
-        ensures ready { (other : ℕ) (owner : TheOwner) → IsDirtyUnder self.new other owner → line_at other ≡ line_at i →
-            owner.core ≡ core }
+        ensures ready { IsOpenToLoad self.new core i }
     {
         if let Some(owner) = self.owner_of_line(i) {
             if owner.core != core {
@@ -343,8 +342,7 @@ impl Cores {
         requires core { core < self.old.cores }
         ensures after { self.new ≡
             ready_to_store self.old core (core_barriers core self.old.log) (line_owner_in self.old i) }
-        ensures ready { (other : ℕ) (owner : TheOwner) → IsDirtyUnder self.new other owner → line_at other ≡ line_at i →
-            owner ≡ record { core = core; epoch = core_barriers core self.new.log } }
+        ensures ready { IsOpenToStore self.new core i }
     {
         let epoch = self.epoch(core);
         if let Some(owner) = self.owner_of_line(i) {
@@ -359,8 +357,7 @@ impl Cores {
     fn push_load(&mut self, core: u32, i: u32)
         requires core { core < self.old.cores }
         requires room { length self.old.log < self.old.capacity }
-        requires ready { (other : ℕ) (owner : TheOwner) → IsDirtyUnder self.old other owner → line_at other ≡ line_at i →
-            owner.core ≡ core }
+        requires ready { IsOpenToLoad self.old core i }
         ensures { self.new ≡ logged self.old (Load core i) }
     {
         let epoch = self.counts[core as usize];
@@ -374,8 +371,7 @@ impl Cores {
         requires core { core < self.old.cores }
         requires word { i < self.old.words }
         requires room { length self.old.log < self.old.capacity }
-        requires ready { (other : ℕ) (owner : TheOwner) → IsDirtyUnder self.old other owner → line_at other ≡ line_at i →
-            owner ≡ record { core = core; epoch = core_barriers core self.old.log } }
+        requires ready { IsOpenToStore self.old core i }
         ensures { self.new ≡ stored self.old core i v }
     {
         let epoch = self.counts[core as usize];

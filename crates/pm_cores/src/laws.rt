@@ -1,12 +1,10 @@
 //! What holds of all caches, each law as a function that does nothing.
 
-ghost use Rattle.std.specs.Prelude.{◌≡◌, ◌≤◌, ℕ, List, length, take, slice_set};
+ghost use Rattle.std.specs.Prelude.{◌≡◌, ℕ, List};
 ghost use Rattle.pm_epochs.specs.declared.event.Event.{Event};
-ghost use Rattle.pm_epochs.specs.Replay.{IsRight, replay};
-ghost use Rattle.pm_cores.specs.Choice.{cut_at};
-ghost use Rattle.pm_cores.specs.Played.{IsPlayed};
 ghost use Rattle.pm_cores.specs.declared.entry.Entry.{Entry};
-ghost use Rattle.pm_cores.specs.Caches.{Caches, caches_over, memory_over, value_at, logged, with_back, MayLeave};
+ghost use Rattle.pm_cores.specs.Caches.{Caches, caches_over, memory_over, logged, MayLeave};
+ghost use Rattle.pm_cores.specs.MemoryLaws.{IsRightChoice, LeavesMemory, WritesOneWord};
 ghost use Rattle.pm_cores.specs.Order.{IsCoherent};
 
 /// The memory, which is the base with those stores that are back, in the order of the log: nothing done leaves it the base, an
@@ -16,15 +14,14 @@ pub fn a_write_back_writes_one_word()
     ensures entry { (base : List ℕ) (caches : Caches) (entry : Entry) → IsCoherent caches →
         memory_over base (logged caches entry) ≡ memory_over base caches }
     ensures back { (base : List ℕ) (caches : Caches) (word : ℕ) → IsCoherent caches → MayLeave caches word →
-        memory_over base (with_back caches word) ≡ slice_set (memory_over base caches) word (value_at base caches word) }
+        WritesOneWord base caches word }
 {}
 
 /// Where core 0 alone stored, and did so many events of a log, the choice is right for the log, and the memory is its replay over
 /// the base.
 pub fn a_choice_leaves_the_memory()
-    ensures right { (caches : Caches) (events : List Event) (moment : ℕ) → IsCoherent caches → moment ≤ length events →
-        IsPlayed (take moment events) caches.log → IsRight events (cut_at caches moment) }
+    ensures right { (caches : Caches) (events : List Event) (moment : ℕ) → IsCoherent caches →
+        IsRightChoice caches events moment }
     ensures replay { (base : List ℕ) (caches : Caches) (events : List Event) (moment : ℕ) → IsCoherent caches →
-        moment ≤ length events → IsPlayed (take moment events) caches.log →
-        replay base events (cut_at caches moment) ≡ memory_over base caches }
+        LeavesMemory base caches events moment }
 {}

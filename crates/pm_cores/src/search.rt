@@ -1,12 +1,12 @@
 //! Searches in the log, and writing back by it.
 
-ghost use Rattle.std.specs.Prelude.{◌≡◌, ℕ, ◌+◌, ◌*◌, ◌<◌, ◌≤◌, ◌^◌, ◌-◌, ◌==◌, ◌&&◌, nat_lt, if◌then◌else◌, length, take, drop, slice_index, replicate, Some, [], ◌∷◌, ◌++◌, not};
+ghost use Rattle.std.specs.Prelude.{◌≡◌, ℕ, ◌+◌, ◌*◌, ◌<◌, ◌≤◌, ◌^◌, ◌-◌, ◌==◌, ◌&&◌, nat_lt, if◌then◌else◌, length, take, drop, slice_index, replicate, Some, [], ◌++◌};
 ghost use Rattle.std.proofs.Common.{suc};
 ghost use Rattle.pm_cores.specs.declared.entry.Entry.TheVariants.{Store};
 ghost use Rattle.pm_cores.specs.Log.{line_at, IsStore};
-ghost use Rattle.pm_cores.specs.Caches.{first_owner, owner_is_up_to};
+ghost use Rattle.pm_cores.specs.Caches.{first_owner};
 ghost use Rattle.pm_cores.specs.Choice.{mask_to};
-ghost use Rattle.pm_cores.specs.Inside.{waits_at, owner_since, owners_of, flags_of, AreSound, AreCounted, IsLow, Waits, told_by};
+ghost use Rattle.pm_cores.specs.Inside.{waits_at, owner_since, owners_of, flag_if, flags_of, since_after, AreSound, AreCounted, IsLow, Waits, told_by};
 
 use super::entry::{Entry, Owner};
 use pm_epochs::Choice;
@@ -87,8 +87,7 @@ pub fn settle_words(
     requires low { IsLow since.old log.now owner.core low }
     requires high { low ≤ length log.now }
     ensures since { (word : ℕ) → slice_index since.new word ≡
-        (if owner_is_up_to owner (owner_since log.now epochs.now (slice_index since.old word))
-        then 0 else slice_index since.old word) }
+        since_after owner log.now epochs.now (slice_index since.old word) }
     ensures low { IsLow since.new log.now owner.core result }
     ensures high { result ≤ length log.now }
 {
@@ -253,7 +252,7 @@ fn push_flag(counts: bool, since: u32, place: usize, choice: &mut Choice)
     requires { length choice.old.cut.mask < choice.old.room }
     ensures { choice.new ≡ record {
       cut = record choice.old.cut {
-        mask = choice.old.cut.mask ++ (if counts then not (waits_at since place) ∷ [] else []);
+        mask = choice.old.cut.mask ++ flag_if counts since place;
       };
       room = choice.old.room;
     } }

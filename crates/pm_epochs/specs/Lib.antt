@@ -1,4 +1,5 @@
 pub mod Log
 pub mod Replay
+pub mod Keeping
 pub mod Crash
 pub mod May

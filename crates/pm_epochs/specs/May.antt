@@ -1,8 +1,8 @@
 -- Stores of values that may stand at their words, and stores of which a crash may keep any.
-use Rattle.std.specs.Prelude.{◌≡◌, ◌⊎◌, ℕ, List, [], ◌∷◌, length, slice_index, slice_set}
+use Rattle.std.specs.Prelude.{◌≡◌, ◌⊎◌, ℕ, Bool, IsTrue, List, [], ◌∷◌, length, slice_index, slice_set}
 use Rattle.pm_epochs.specs.declared.event.Event.{Event}
 use Rattle.pm_epochs.specs.declared.event.Event.TheVariants.{Store, Barrier, Mark}
-use Rattle.pm_epochs.specs.Crash.{Likeness}
+use Rattle.pm_epochs.specs.Crash.{IsQuiet, Likeness}
 
 -- each store of the log puts a value that may stand at its word
 abbrev pub StoresMay : (ℕ → ℕ → Type 0) → List Event → Type 0
@@ -19,6 +19,12 @@ AnyAt Inside word value = Inside word
 pub record EachMay (May : ℕ → ℕ → Type 0) (old new : List ℕ) : Type 0 where
   pub size : length new ≡ length old
   pub each : (word : ℕ) → (slice_index new word ≡ slice_index old word) ⊎ May word (slice_index new word)
+
+-- stores of values that pass a test are quiet, where nobody sees which words have such values
+abbrev pub IsQuietByTest : Likeness → (ℕ → ℕ → Bool) → List ℕ → List Event → Type 0
+IsQuietByTest Same may base events =
+    ((image : List ℕ) → EachMay (λ word value. IsTrue (may word value)) base image → Same base image) →
+    StoresMay (λ word value. IsTrue (may word value)) events → IsQuiet Same base events
 
 -- the stores of these values at these words, in a row
 abbrev pub links_of : List (ℕ × ℕ) → List Event

@@ -1,12 +1,12 @@
 //! What holds of all logs, each law as a function that does nothing.
 
-ghost use Rattle.std.specs.Prelude.{◌≡◌, ℕ, ◌⊎◌, Bool, IsTrue, List, [], ◌∷◌, ◌++◌};
+ghost use Rattle.std.specs.Prelude.{◌≡◌, ℕ, Bool, List, [], ◌∷◌, ◌++◌};
 ghost use Rattle.pm_epochs.specs.declared.event.Event.{Event};
 ghost use Rattle.pm_epochs.specs.declared.event.Event.TheVariants.{Barrier, Mark};
-ghost use Rattle.pm_epochs.specs.Log.{words_after, marks, IsClosed};
-ghost use Rattle.pm_epochs.specs.Replay.{PowerCut, IsRight, IsReplay, kept_calls, kept_stores, kept_indices, events_at, IsGreatestKept};
-ghost use Rattle.pm_epochs.specs.Crash.{CrashRight, IsQuiet, commit};
-ghost use Rattle.pm_epochs.specs.May.{StoresMay, EachMay, links_of, AnyOf};
+ghost use Rattle.pm_epochs.specs.Log.{marks, IsClosed};
+ghost use Rattle.pm_epochs.specs.Replay.{PowerCut, IsRight, IsReplay, SplitsReplays, kept_calls, kept_stores, kept_indices, events_at, IsGreatestKept};
+ghost use Rattle.pm_epochs.specs.Crash.{CommitsRight, CrashRight, IsQuiet, IsQuietIfSame, StaysQuiet, StaysRight, commit};
+ghost use Rattle.pm_epochs.specs.May.{AnyOf, IsQuietByTest, links_of};
 
 /// A relation between the words of two memories, as "they stand for the same tree". Words that are like themselves are
 /// well formed.
@@ -34,22 +34,17 @@ pub fn kept_stores_by_index()
 /// Where each store of the first log has a barrier behind it, a replay of two logs in a row is one of the
 /// first, or one of the second over the words that the first leaves.
 pub fn replays_of_joined_logs()
-    ensures { (base : List ℕ) (first rest : List Event) → IsClosed first →
-        (image : List ℕ) → IsReplay base (first ++ rest) image →
-        IsReplay base first image ⊎ IsReplay (words_after base first) rest image }
+    ensures { (base : List ℕ) (first rest : List Event) → IsClosed first → SplitsReplays base first rest }
 {}
 
 /// Quiet pieces, the first of them closed, are quiet together.
 pub fn quiet_pieces<L: Likeness>()
-    ensures { (base : List ℕ) (first rest : List Event) → IsClosed first → IsQuiet L.same base first →
-        IsQuiet L.same (words_after base first) rest → IsQuiet L.same base (first ++ rest) }
+    ensures { (base : List ℕ) (first rest : List Event) → IsClosed first → StaysQuiet L.same base first rest }
 {}
 
 /// Stores of values that may stand at their words are quiet where nobody sees the difference.
 pub fn quiet_where_nobody_looks<L: Likeness>()
-    ensures { (base : List ℕ) (events : List Event) (may : ℕ → ℕ → Bool) →
-        ((image : List ℕ) → EachMay (λ word value. IsTrue (may word value)) base image → L.same base image) →
-        StoresMay (λ word value. IsTrue (may word value)) events → IsQuiet L.same base events }
+    ensures { (base : List ℕ) (events : List Event) (may : ℕ → ℕ → Bool) → IsQuietByTest L.same may base events }
 {}
 
 /// Links in one epoch are quiet where nobody sees which of them are done.
@@ -61,22 +56,18 @@ pub fn quiet_whichever_is_kept<L: Likeness>()
 /// A quiet preparation with one store alone in its epoch is quiet where that leaves words like those before.
 pub fn quiet_commit<L: Likeness>()
     ensures { (base : List ℕ) (prepared : List Event) (word value : ℕ) → IsQuiet L.same base prepared →
-        let events = prepared ++ commit word value in
-        L.same (words_after base events) base → IsQuiet L.same base events }
+        IsQuietIfSame L.same base (prepared ++ commit word value) }
 {}
 
 /// A log that is right and closed may go on with one that is right over the words that the first leaves.
 pub fn right_logs_in_a_row<L: Likeness>()
-    ensures { (base : List ℕ) (first rest : List Event) → IsClosed first → CrashRight L.same base first →
-        CrashRight L.same (words_after base first) rest → CrashRight L.same base (first ++ rest) }
+    ensures { (base : List ℕ) (first rest : List Event) → IsClosed first → StaysRight L.same base first rest }
 {}
 
 /// A call that prepares quietly and then commits by one store alone in its epoch is right.
 pub fn committed_call<L: Likeness>()
     ensures right { (base : List ℕ) (prepared : List Event) (word value : ℕ) → marks prepared ≡ 0 →
-        IsQuiet L.same base prepared →
-        let new = words_after base (prepared ++ commit word value) in
-        L.same new new → CrashRight L.same base (prepared ++ commit word value ++ Mark ∷ []) }
+        CommitsRight L.same base prepared word value }
     ensures closed { (prepared : List Event) (word value : ℕ) → IsClosed (prepared ++ commit word value ++ Mark ∷ []) }
 {}
 

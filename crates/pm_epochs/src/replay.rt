@@ -1,9 +1,10 @@
 //! What a crash leaves, and how many calls it keeps.
 
-ghost use Rattle.std.specs.Prelude.{◌≡◌, ℕ, ◌+◌, ◌-◌, ◌<◌, ◌≤◌, ◌↔◌, not, ◌&&◌, if◌then◌else◌, [], ◌∷◌, ◌++◌, IsOk, IfOk};
-ghost use Rattle.std.specs.Prelude.{MatchOption, List, slice_index, length};
+ghost use Rattle.std.specs.Prelude.{◌≡◌, ◌+◌, ◌-◌, ◌<◌, ◌≤◌, ◌↔◌, not, ◌&&◌, if◌then◌else◌, [], ◌∷◌, ◌++◌, IsOk, IfOk};
+ghost use Rattle.std.specs.Prelude.{MatchOption, List};
 ghost use Rattle.pm_epochs.specs.Log.{word_after, barriers, marks, epoch_stores};
-ghost use Rattle.pm_epochs.specs.Replay.{IsRight, is_store, stores_of, replay, marks_of, kept_calls as kept_calls_of};
+ghost use Rattle.pm_epochs.specs.Keeping.{calls_by, kept_by};
+ghost use Rattle.pm_epochs.specs.Replay.{IsRight, LeavesWord, is_store, stores_of, marks_of, kept_calls as kept_calls_of};
 
 use super::choice::{BadChoice, Choice};
 use super::event::Event;
@@ -30,11 +31,10 @@ impl Keeper<'_> {
     /// Takes the next event, and says whether it is a store that is kept. What is kept of a log that goes on with the event
     /// is the event, where it is kept, and then what is kept of the rest. Its calls are counted up to a store that is lost.
     pub fn keeps(&mut self, event: Event) -> bool
-        ensures stores { (rest : List Event) → stores_of self.old.epoch self.old.mask.now (event ∷ rest) ≡
-            (if result then event ∷ [] else []) ++ stores_of self.new.epoch self.new.mask.now rest }
-        ensures marks { (rest : List Event) → marks_of self.old.epoch self.old.mask.now (event ∷ rest) ≡
-            (if is_store event && not result then 0
-            else marks (event ∷ []) + marks_of self.new.epoch self.new.mask.now rest) }
+        ensures stores { (rest : List Event) → kept_by self.old (event ∷ rest) ≡
+            (if result then event ∷ [] else []) ++ kept_by self.new rest }
+        ensures marks { (rest : List Event) → calls_by self.old (event ∷ rest) ≡
+            (if is_store event && not result then 0 else marks (event ∷ []) + calls_by self.new rest) }
         ensures epoch { self.new.epoch ≡ self.old.epoch - barriers (event ∷ []) }
     {
         match event {
@@ -162,8 +162,7 @@ pub fn replay_word(
     word: u32,
 ) -> Result<u64, BadChoice>
     ensures right { IsOk result ↔ IsRight events.now choice.now.cut }
-    ensures value { IfOk result (λ value. (words : List ℕ) → word < length words → slice_index words word ≡ base →
-        slice_index (replay words events.now choice.now.cut) word ≡ value) }
+    ensures value { IfOk result (λ value. LeavesWord events.now choice.now.cut word base value) }
 {
     check_choice(events, choice)?;
     Ok(word_of(

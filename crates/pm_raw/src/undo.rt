@@ -1,10 +1,8 @@
 //! Words as they were before the last events of a log.
 
-ghost use Rattle.std.specs.Prelude.{◌≡◌, ◌+◌, ℕ, List, ◌^◌, ◌<◌, ◌≤◌, true, false, drop, length, slice_index};
-ghost use Rattle.std.specs.List.{range_with_len};
+ghost use Rattle.std.specs.Prelude.{◌≡◌, ◌+◌, ◌^◌, ◌<◌, ◌≤◌, true, false, drop, length, slice_index};
 ghost use Rattle.pm_region.specs.Memory.{with_values};
-ghost use Rattle.pm_raw.specs.Entries.{events_of};
-ghost use Rattle.pm_raw.specs.Undo.{undone};
+ghost use Rattle.pm_raw.specs.Undo.{UndoesRow, undone};
 
 use super::log::{Log, Piece};
 
@@ -20,8 +18,7 @@ fn put_back(words: &mut [u64], first: usize, values: &[u64])
 fn undo_row(words: &mut [u64], word: u32, replaced: &[u64])
     requires few { length words.old < 2 ^ 32 }
     requires in_range { word + length replaced.now ≤ 2 ^ 32 }
-    ensures { (values : List ℕ) → length values ≡ length replaced.now →
-        words.new ≡ undone words.old (events_of (range_with_len word (length replaced.now)) values) replaced.now }
+    ensures { UndoesRow word replaced.now words.old words.new }
 {
     let first = word as usize;
     if first < words.len() {

@@ -1,9 +1,10 @@
 //! The processor and the engine that writes back, over a region's log.
 
-ghost use Rattle.std.specs.Prelude.{◌≡◌, ℕ, ◌<◌, ◌≤◌, ◌↔◌, [], ◌∷◌, ◌++◌, IsOk, OnOk, IfErr, OnErr, MatchOption, length, slice_get, slice_index, slice_set, Some, true, false};
+ghost use Rattle.std.specs.Prelude.{◌≡◌, ◌<◌, ◌≤◌, ◌↔◌, [], ◌∷◌, ◌++◌, IsOk, OnOk, IfErr, OnErr, MatchOption, length, slice_get, slice_index, slice_set, Some, true, false};
 ghost use Rattle.pm_epochs.specs.Log.{marks};
-ghost use Rattle.pm_epochs.specs.Replay.{IsRight, epoch_of, replay, kept_calls};
-ghost use Rattle.pm_steps.specs.Machine.{IsInOrder, MayGoBack, IsFirstMissing, IsBackBelow, IsWaiting, AllToBack, IsFirstTo, ComesFirst, is_some_store, cut_of, open_epoch, epoch_flags, waiting_marks};
+ghost use Rattle.pm_epochs.specs.Replay.{IsRight, epoch_of, kept_calls};
+ghost use Rattle.pm_steps.specs.Machine.{IsInOrder, MayGoBack, IsFirstMissing, IsBackBelow, IsWaiting, AllToBack, IsFirstTo, is_some_store, cut_of, open_epoch, epoch_flags, waiting_marks};
+ghost use Rattle.pm_steps.specs.Runs.{AreBackBefore, words_in};
 
 use super::backs::Backs;
 use pm_epochs::{Choice, Event, Kept};
@@ -118,8 +119,7 @@ impl<'a, R: Region> Machine<'a, R> {
     /// were executed.
     pub fn image_word(&self, word: u32) -> u64
         requires { word < length (R.memory self.now.region.now).base }
-        ensures { result ≡ slice_index (replay (R.memory self.now.region.now).base (R.memory self.now.region.now).events
-            (cut_of (R.memory self.now.region.now).events self.now.backs.now.back)) word }
+        ensures { result ≡ slice_index (words_in (R.memory self.now.region.now) self.now.backs.now.back) word }
     {
         image_word_of(self.region, self.backs, word)
     }
@@ -235,9 +235,7 @@ fn first_missing<R: Region>(region: &R, backs: &Backs, low: usize, which: usize)
     requires below { IsBackBelow (R.memory region.now).events backs.now.back low }
     requires low { IsWaiting (R.memory region.now).events backs.now.back low }
     requires which { IsWaiting (R.memory region.now).events backs.now.back which }
-    ensures { MatchOption result
-        ((earlier : ℕ) → ComesFirst (R.memory region.now).events earlier which →
-        slice_get backs.now.back earlier ≡ Some true)
+    ensures { MatchOption result (AreBackBefore (R.memory region.now).events backs.now.back which)
         (IsFirstMissing (R.memory region.now).events backs.now.back which) }
 {
     let word = match region.event(which) {
@@ -258,8 +256,7 @@ fn first_missing<R: Region>(region: &R, backs: &Backs, low: usize, which: usize)
 fn image_word_of<R: Region>(region: &R, backs: &Backs, word: u32) -> u64
     requires in_order { IsInOrder (R.memory region.now).events backs.now.back }
     requires in_range { word < length (R.memory region.now).base }
-    ensures { result ≡ slice_index (replay (R.memory region.now).base (R.memory region.now).events
-        (cut_of (R.memory region.now).events backs.now.back)) word }
+    ensures { result ≡ slice_index (words_in (R.memory region.now) backs.now.back) word }
 {
     let mut now = region.base_word(word);
     for i in 0..backs.len() {

@@ -5,14 +5,13 @@ ghost use Rattle.bp_layout.specs.Listing.{listed};
 ghost use Rattle.bp_layout.specs.Lookup.{are_one};
 ghost use Rattle.bp_limits.specs.Limits.{max_read};
 ghost use Rattle.bp_plain.specs.Calls.Answer.{names};
-ghost use Rattle.bp_plain.specs.Calls.Refusal.{is_root, not_empty};
 ghost use Rattle.bp_plain.specs.Plain as plain;
 ghost use Rattle.bp_plain.specs.Plain.{is_dir_at, listing};
 ghost use Rattle.bp_plain.specs.PlainTree.{empty_map, is_one};
 ghost use Rattle.bp_plain.specs.Seen.{refusal_of};
 ghost use Rattle.bp_plain.specs.SeenTree.{names_of, node_seen};
 ghost use Rattle.std.specs.FinMap.{get};
-ghost use Rattle.std.specs.Prelude.{IfOk, None, OnErr, OnOk, [], ◌+◌, ◌∷◌, ◌≡◌, ◌≤◌, false, is_some, not, option_map, true};
+ghost use Rattle.std.specs.Prelude.{IfOk, None, OnErr, OnOk, ◌+◌, ◌≡◌, ◌≤◌, false, is_some, option_map, true};
 
 use super::entries::{Change, Files, Node, copy};
 use crate::contents::{answer_bytes, part, resized, written};
@@ -170,10 +169,8 @@ impl FileMap {
         alloc: Global,
         path: &[Name],
     ) -> Result<Option<FsError>, AllocError>
-        ensures { IfOk result (λ found. option_map refusal_of found ≡ plain.first (
-            plain.when (plain.is_root_path (names_of path.now)) is_root
-            ∷ plain.dir_refusal self.now.nodes (names_of path.now)
-            ∷ plain.when (not (plain.is_empty_dir self.now.nodes (names_of path.now))) not_empty ∷ [])) }
+        ensures { IfOk result (λ found. option_map refusal_of found ≡
+            plain.rmdir_refusal self.now.nodes (names_of path.now)) }
     {
         let is_empty = self.is_empty_dir(alloc, path)?;
         Ok(first(&[

@@ -6,7 +6,7 @@ use Rattle.bp_layout.specs.Inode.{IsDirectory}
 use Rattle.bp_replies.specs.Gathering.{waiting}
 use Rattle.pm_region.specs.Memory.{current_words}
 use Rattle.bp_export.specs.declared.work.Work.{Work}
-use Rattle.bp_export.specs.Walking.{StandsAt, inside, itself}
+use Rattle.bp_export.specs.Walking.{WalkStandsAt, inside, itself}
 use Rattle.bp_export.proofs.BelowLaws.{all_told, directory_fails, directory_told, ends_at_once, entry_fails, file_told, none_told, text_fails}
 use Rattle.bp_export.proofs.Places.{child_place, child_short, inner_place, stands_at_child, stands_in_child}
 use Rattle.bp_export.proofs.TreeLaws.{found_reached}
@@ -86,7 +86,7 @@ returns-in_err-export_entry-clause-tours g t c place stands =
     let is : c.go_down.new.path.items ≡ c.args.work.now.path.items ++ 47 ∷ c.at-inode.result.1.now = c.in_ok-go_down.ensures ∙ ap (λ l. l ++ 47 ∷ c.at-inode.result.1.now) c.loop-k.invariant.path in
     let told = c.loop-k.invariant.tours place stands in
     let child = child_place _ _ _ _ _ place stands c.in_ok-entries.entries c.in_ok-entries.ensures c.loop-k.k c.at-inode.result.0 c.at-inode.result.1.now c.at-inode.ensures.entry in
-    let there : StandsAt (current_words (g.R.Region.memory c.args.region.now)) c.args.counts.now (itself (current_words (g.R.Region.memory c.args.region.now)) c.at-inode.result.0) c.at-inode.result.0 c.go_down.new.path.items c.loop-k.work.firsts child =
+    let there : WalkStandsAt (current_words (g.R.Region.memory c.args.region.now)) c.args.counts.now (itself (current_words (g.R.Region.memory c.args.region.now)) c.at-inode.result.0) c.at-inode.result.0 c.go_down.new.path.items c.loop-k.work.firsts child =
     rw is (stands_at_child _ _ _ _ _ place stands c.in_ok-entries.entries c.in_ok-entries.ensures c.loop-k.k c.at-inode.result.0 c.at-inode.result.1.now c.at-inode.ensures.entry c.loop-k.work.firsts told.remembers) in
     rw p.1
     (entry_fails _ _ _ _ _ place stands (waiting c.args.work.now.replies) (g.K.Sink.view c.args.out.now) c.in_ok-entries.entries c.in_ok-entries.ensures
@@ -108,11 +108,11 @@ export_below-requires g t c κs within =
     let path_is : c.export_entry.new.work.path.items ≡ c.args.work.now.path.items ++ 47 ∷ c.at-inode.result.1.now = c.in_ok-export_entry.ensures.path ∙ is in
     let told = c.loop-k.invariant.tours place stands in
     let child = child_place _ _ _ _ _ place stands c.in_ok-entries.entries c.in_ok-entries.ensures c.loop-k.k c.at-inode.result.0 c.at-inode.result.1.now c.at-inode.ensures.entry in
-    let there : StandsAt image c.args.counts.now (itself image c.at-inode.result.0) c.at-inode.result.0 c.go_down.new.path.items c.loop-k.work.firsts child =
+    let there : WalkStandsAt image c.args.counts.now (itself image c.at-inode.result.0) c.at-inode.result.0 c.go_down.new.path.items c.loop-k.work.firsts child =
     rw is (stands_at_child _ _ _ _ _ place stands c.in_ok-entries.entries c.in_ok-entries.ensures c.loop-k.k c.at-inode.result.0 c.at-inode.result.1.now c.at-inode.ensures.entry c.loop-k.work.firsts told.remembers) in
     let kind : IsDirectory image c.at-inode.result.0 = sym c.in_ok-export_entry.ensures.kind ∙ ap kind_word c.in-Dir.is in
     let inner = inner_place _ _ _ _ _ place stands c.in_ok-entries.entries c.in_ok-entries.ensures c.loop-k.k c.at-inode.result.0 c.at-inode.result.1.now c.at-inode.ensures.entry in
-    let below : StandsAt image c.args.counts.now inside c.at-inode.result.0 c.export_entry.new.work.path.items c.export_entry.new.work.firsts inner =
+    let below : WalkStandsAt image c.args.counts.now inside c.at-inode.result.0 c.export_entry.new.work.path.items c.export_entry.new.work.firsts inner =
     rw path_is (stands_in_child _ _ _ _ _ place stands c.in_ok-entries.entries c.in_ok-entries.ensures c.loop-k.k c.at-inode.result.0 c.at-inode.result.1.now c.at-inode.ensures.entry kind c.export_entry.new.work.firsts (c.in_ok-export_entry.ensures.tours child there).remembers) in
     let short : length (c.args.work.now.path.items ++ 47 ∷ c.at-inode.result.1.now) ≤ 4096 = child_short _ _ _ _ _ place stands c.in_ok-entries.entries c.in_ok-entries.ensures c.loop-k.k c.at-inode.result.0 c.at-inode.result.1.now c.at-inode.ensures.entry in (
       omega (arith, c.decreases, short, ap length path_is, length-append c.args.work.now.path.items (47 ∷ c.at-inode.result.1.now)),
@@ -127,12 +127,12 @@ returns-in_err-export_below-in-Dir-clause-tours g t c place stands =
     let path_is : c.export_entry.new.work.path.items ≡ c.args.work.now.path.items ++ 47 ∷ c.at-inode.result.1.now = c.in_ok-export_entry.ensures.path ∙ is in
     let told = c.loop-k.invariant.tours place stands in
     let child = child_place _ _ _ _ _ place stands c.in_ok-entries.entries c.in_ok-entries.ensures c.loop-k.k c.at-inode.result.0 c.at-inode.result.1.now c.at-inode.ensures.entry in
-    let there : StandsAt image c.args.counts.now (itself image c.at-inode.result.0) c.at-inode.result.0 c.go_down.new.path.items c.loop-k.work.firsts child =
+    let there : WalkStandsAt image c.args.counts.now (itself image c.at-inode.result.0) c.at-inode.result.0 c.go_down.new.path.items c.loop-k.work.firsts child =
     rw is (stands_at_child _ _ _ _ _ place stands c.in_ok-entries.entries c.in_ok-entries.ensures c.loop-k.k c.at-inode.result.0 c.at-inode.result.1.now c.at-inode.ensures.entry c.loop-k.work.firsts told.remembers) in
     let entry = c.in_ok-export_entry.ensures.tours child there in
     let kind : IsDirectory image c.at-inode.result.0 = sym c.in_ok-export_entry.ensures.kind ∙ ap kind_word c.in-Dir.is in
     let inner = inner_place _ _ _ _ _ place stands c.in_ok-entries.entries c.in_ok-entries.ensures c.loop-k.k c.at-inode.result.0 c.at-inode.result.1.now c.at-inode.ensures.entry in
-    let below : StandsAt image c.args.counts.now inside c.at-inode.result.0 c.export_entry.new.work.path.items c.export_entry.new.work.firsts inner =
+    let below : WalkStandsAt image c.args.counts.now inside c.at-inode.result.0 c.export_entry.new.work.path.items c.export_entry.new.work.firsts inner =
     rw path_is (stands_in_child _ _ _ _ _ place stands c.in_ok-entries.entries c.in_ok-entries.ensures c.loop-k.k c.at-inode.result.0 c.at-inode.result.1.now c.at-inode.ensures.entry kind c.export_entry.new.work.firsts entry.remembers) in
     rw p.1
     (directory_fails _ _ _ _ _ place stands (waiting c.args.work.now.replies) (g.K.Sink.view c.args.out.now) c.in_ok-entries.entries c.in_ok-entries.ensures c.loop-k.k c.at-inode.result.0 c.at-inode.result.1.now c.at-inode.ensures.entry c.loop-k.work.firsts (waiting c.loop-k.work.replies) (g.K.Sink.view c.loop-k.out) told
@@ -155,7 +155,7 @@ loop-k-preserved g t c =
         tours = λ place stands.
             let told = c.loop-k.invariant.tours place stands in
             let child = child_place _ _ _ _ _ place stands c.in_ok-entries.entries c.in_ok-entries.ensures c.loop-k.k c.at-inode.result.0 c.at-inode.result.1.now c.at-inode.ensures.entry in
-            let there : StandsAt image c.args.counts.now (itself image c.at-inode.result.0) c.at-inode.result.0 c.go_down.new.path.items c.loop-k.work.firsts child =
+            let there : WalkStandsAt image c.args.counts.now (itself image c.at-inode.result.0) c.at-inode.result.0 c.go_down.new.path.items c.loop-k.work.firsts child =
             rw is (stands_at_child _ _ _ _ _ place stands c.in_ok-entries.entries c.in_ok-entries.ensures c.loop-k.k c.at-inode.result.0 c.at-inode.result.1.now c.at-inode.ensures.entry c.loop-k.work.firsts told.remembers) in
             let entry = c.in_ok-export_entry.ensures.tours child there in
             rw (w.work-is, w.out-is)
@@ -167,12 +167,12 @@ loop-k-preserved g t c =
         tours = λ place stands.
             let told = c.loop-k.invariant.tours place stands in
             let child = child_place _ _ _ _ _ place stands c.in_ok-entries.entries c.in_ok-entries.ensures c.loop-k.k c.at-inode.result.0 c.at-inode.result.1.now c.at-inode.ensures.entry in
-            let there : StandsAt image c.args.counts.now (itself image c.at-inode.result.0) c.at-inode.result.0 c.go_down.new.path.items c.loop-k.work.firsts child =
+            let there : WalkStandsAt image c.args.counts.now (itself image c.at-inode.result.0) c.at-inode.result.0 c.go_down.new.path.items c.loop-k.work.firsts child =
             rw is (stands_at_child _ _ _ _ _ place stands c.in_ok-entries.entries c.in_ok-entries.ensures c.loop-k.k c.at-inode.result.0 c.at-inode.result.1.now c.at-inode.ensures.entry c.loop-k.work.firsts told.remembers) in
             let entry = c.in_ok-export_entry.ensures.tours child there in
             let kind : IsDirectory image c.at-inode.result.0 = sym c.in_ok-export_entry.ensures.kind ∙ ap kind_word w.in-Dir.is in
             let inner = inner_place _ _ _ _ _ place stands c.in_ok-entries.entries c.in_ok-entries.ensures c.loop-k.k c.at-inode.result.0 c.at-inode.result.1.now c.at-inode.ensures.entry in
-            let below : StandsAt image c.args.counts.now inside c.at-inode.result.0 c.export_entry.new.work.path.items c.export_entry.new.work.firsts inner =
+            let below : WalkStandsAt image c.args.counts.now inside c.at-inode.result.0 c.export_entry.new.work.path.items c.export_entry.new.work.firsts inner =
             rw path_is (stands_in_child _ _ _ _ _ place stands c.in_ok-entries.entries c.in_ok-entries.ensures c.loop-k.k c.at-inode.result.0 c.at-inode.result.1.now c.at-inode.ensures.entry kind c.export_entry.new.work.firsts entry.remembers) in
             rw (w.work-is, w.out-is)
             (directory_told _ _ _ _ _ place stands (waiting c.args.work.now.replies) (g.K.Sink.view c.args.out.now) c.in_ok-entries.entries c.in_ok-entries.ensures c.loop-k.k c.at-inode.result.0 c.at-inode.result.1.now c.at-inode.ensures.entry c.loop-k.work.firsts (waiting c.loop-k.work.replies) (g.K.Sink.view c.loop-k.out) told

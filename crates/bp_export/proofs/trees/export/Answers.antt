@@ -13,7 +13,7 @@ use Rattle.bp_export.proofs.EndLaws.{ends_deep, ends_handed, ends_unhanded, ends
 use Rattle.bp_export.proofs.GoingLaws.{goes_nowhere}
 use Rattle.bp_export.proofs.Places.{root_place, stands_at_root}
 use Rattle.bp_export.proofs.TreeLaws.{all_calls, can_tell}
-use Rattle.bp_export.specs.Walking.{CanTell, StandsAt, inside}
+use Rattle.bp_export.specs.Walking.{CanTell, WalkStandsAt, inside}
 use Rattle.bp_export.proofs.trees.export.Goals as goal
 
 pub has_long_path-requires-clause-well_formed : goal.has_long_path-requires-clause-well_formed
@@ -65,7 +65,7 @@ returns-in_err-export_below g c tree stands =
     let image = current_words (g.R.Region.memory c.args.region.now) in
     let short : HasShortPaths tree = short_if_none image tree stands (λ has. true≢false (sym (c.has_long_path.ensures.1 has) ∙ c.if-has_long_path.false)) in
     let can : CanTell image tree.now = can_tell image tree stands short in
-    let there : StandsAt image c.args.counts.now inside 1 c.in_ok-work.work.path.items c.in_ok-work.work.firsts (root_place image tree.now can) =
+    let there : WalkStandsAt image c.args.counts.now inside 1 c.in_ok-work.work.path.items c.in_ok-work.work.firsts (root_place image tree.now can) =
     rw c.in_ok-work.ensures.path (stands_at_root image tree.now can c.args.counts.now c.in_ok-work.work.firsts c.in_ok-work.ensures.firsts) in
     rw (p.1, p.2)
     (ends_walk (Unit {0}) tree (g.K.Sink.view c.args.out.now) short (Unit {0}) c.in_err-export_below.field-0.0 (waiting c.export_below.new.work.replies) (g.K.Sink.view c.export_below.new.out)
@@ -78,7 +78,7 @@ returns-in_err-hand_over g c tree stands =
     let image = current_words (g.R.Region.memory c.args.region.now) in
     let short : HasShortPaths tree = short_if_none image tree stands (λ has. true≢false (sym (c.has_long_path.ensures.1 has) ∙ c.if-has_long_path.false)) in
     let can : CanTell image tree.now = can_tell image tree stands short in
-    let there : StandsAt image c.args.counts.now inside 1 c.in_ok-work.work.path.items c.in_ok-work.work.firsts (root_place image tree.now can) =
+    let there : WalkStandsAt image c.args.counts.now inside 1 c.in_ok-work.work.path.items c.in_ok-work.work.firsts (root_place image tree.now can) =
     rw c.in_ok-work.ensures.path (stands_at_root image tree.now can c.args.counts.now c.in_ok-work.work.firsts c.in_ok-work.ensures.firsts) in
     rw p.1
     (ends_unhanded (Unit {0}) tree (g.K.Sink.view c.args.out.now) short c.in_ok-export_below.field-0 p.0 p.2 (waiting c.export_below.new.work.replies) (g.K.Sink.view c.export_below.new.out) (g.K.Sink.view c.hand_over.new.out)
@@ -91,7 +91,7 @@ returns g c tree stands =
     let image = current_words (g.R.Region.memory c.args.region.now) in
     let short : HasShortPaths tree = short_if_none image tree stands (λ has. true≢false (sym (c.has_long_path.ensures.1 has) ∙ c.if-has_long_path.false)) in
     let can : CanTell image tree.now = can_tell image tree stands short in
-    let there : StandsAt image c.args.counts.now inside 1 c.in_ok-work.work.path.items c.in_ok-work.work.firsts (root_place image tree.now can) =
+    let there : WalkStandsAt image c.args.counts.now inside 1 c.in_ok-work.work.path.items c.in_ok-work.work.firsts (root_place image tree.now can) =
     rw c.in_ok-work.ensures.path (stands_at_root image tree.now can c.args.counts.now c.in_ok-work.work.firsts c.in_ok-work.ensures.firsts) in
     ends_handed (Unit {0}) tree (g.K.Sink.view c.args.out.now) short c.in_ok-export_below.field-0 (tt {0}) (waiting c.export_below.new.work.replies) (g.K.Sink.view c.export_below.new.out) (g.K.Sink.view c.hand_over.new.out)
     (from_root {T = Unit {0}} (Ok c.in_ok-export_below.field-0) tree _ (waiting c.in_ok-work.work.replies) (waiting c.export_below.new.work.replies) (g.K.Sink.view c.args.out.now) (g.K.Sink.view c.export_below.new.out)

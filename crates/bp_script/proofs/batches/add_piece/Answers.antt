@@ -1,14 +1,19 @@
-use Rattle.std.proofs.Common.{◌≡◌, ◌∙◌, Some, sym, ap, List, ℕ}
+use Rattle.std.proofs.Common.{◌≡◌, ◌∙◌, Some, sym, ap, arith, List, ℕ}
 use Rattle.bp_script.specs.Commands.{bytes_spelled, path_bytes}
 use Rattle.bp_plain.specs.Seen.{spanned}
-use Rattle.bp_script.proofs.BatchWords.{part_kept, piece_is}
+use Rattle.bp_script.proofs.BatchWords.{front_kept, part_kept, piece_is}
 use Rattle.bp_script.proofs.batches.add_piece.Goals as goal
 
 pub returns-clause-piece : goal.returns-clause-piece
 returns-clause-piece c =
     let longer = c.add_bytes_part.new.text.items in
     let path : spanned longer c.add_path_part-path.result ≡ path_bytes c.args.path.now =
-    part_kept c.add_path_part-path.new.text.items longer c.add_path_part-path.result c.in_ok-bytes.ensures.front c.add_path_part-path.ensures.lies ∙ c.add_path_part-path.ensures.part in
+    part_kept c.end_of.result c.add_path_part-path.new.text.items longer c.add_path_part-path.result c.in_ok-bytes.ensures.front (omega (arith, c.end_of.ensures)) ∙ c.add_path_part-path.ensures.part in
     let bytes : bytes_spelled c.args.bytes.now ≡ Some (spanned longer c.in_ok-bytes.bytes) = sym (c.in_ok-bytes.ensures.part ∙ c.digits_of.ensures.bytes) in
     ap (λ (text : List ℕ). Some (record { path = text; off = c.in-Some.off; bytes = spanned longer c.in_ok-bytes.bytes })) path
     ∙ sym (piece_is c.args.path.now c.args.off.now c.args.bytes.now c.in-Some.off (spanned longer c.in_ok-bytes.bytes) (sym c.is_empty.ensures ∙ c.if-is_empty.false) (sym c.is_empty-else-is_empty.ensures ∙ c.if-is_empty-2.false) (sym c.number.ensures ∙ c.in-Some.is) bytes)
+
+pub returns-clause-front : goal.returns-clause-front
+returns-clause-front c =
+    front_kept c.args.at c.end_of.result c.add_path_part-path.new.text.items c.add_bytes_part.new.text.items (omega (arith, c.end_of.ensures, c.add_path_part-path.ensures.place)) c.in_ok-bytes.ensures.front
+    ∙ c.add_path_part-path.ensures.front

@@ -2,14 +2,13 @@ use Rattle.std.proofs.Common.{◌≡◌, ◌∙◌, ◌∷◌, ◌++◌, ◌+◌
 use Rattle.std.specs.Option.{option_map_or}
 use Rattle.std.proofs.lemmas.Bool.{eqb-false, eqb-true}
 use Rattle.std.proofs.lemmas.List.{length-map}
-use Rattle.std.proofs.lemmas.List.Elements.{All-append, All-cons}
 use Rattle.std.proofs.lemmas.Result.{err_from_is_err_and}
 use Rattle.bp_plain.specs.Calls.{Piece}
 use Rattle.bp_plain.specs.Calls.Call.{batch}
-use Rattle.bp_plain.specs.Seen.{LiesIn, piece_in}
+use Rattle.bp_plain.specs.Seen.{piece_in}
 use Rattle.bp_script.specs.Commands.Command.{bad_syntax, file_call}
 use Rattle.bp_script.specs.Lines.{words_at, words_behind}
-use Rattle.bp_script.proofs.BatchWords.{asked_so, asks_on, len_behind_less, lie_on, no_piece, on_few, on_full, on_none, on_piece, one_more}
+use Rattle.bp_script.proofs.BatchWords.{asked_so, asks_on, len_behind_less, lie_in_all, no_piece, on_few, on_full, on_none, on_piece, one_more, one_more_lies}
 use Rattle.bp_script.proofs.Splitting.{slice_split-cons}
 use Rattle.bp_script.proofs.batches.decode_pieces.Goals as goal
 
@@ -47,22 +46,29 @@ returns-in_err-left-clause-meaning c =
 
 pub loop-left-preserved : goal.loop-left-preserved
 loop-left-preserved c =
+    let end = c.loop-left.end in
     let text = c.loop-left.text.items in
     let longer = c.add_piece.new.text.items in
     let pieces = c.loop-left.pieces.items in
     let done = map (piece_in text) pieces in
     let words = c.in-Some.words in
-    let piece = piece_in longer c.in_ok-piece.piece in
+    let given = c.in_ok-piece.piece in
+    let piece = piece_in longer given in
     let asks : asks_on (map (piece_in longer) c.push.new.self.items) (option_map_or words_at c.in_ok-left.left []) ≡ asks_on [] (words_at c.args.first) =
-    ap₂ (λ (ps : List Piece) (ws : List (List ℕ)). asks_on ps ws) (ap (map (piece_in longer)) c.push.ensures.items ∙ one_more text longer pieces c.in_ok-piece.piece c.in_ok-piece.ensures.front c.loop-left.invariant.whole) c.in_ok-left.ensures.split
+    ap₂ (λ (ps : List Piece) (ws : List (List ℕ)). asks_on ps ws) (ap (map (piece_in longer)) c.push.ensures.items ∙ one_more end text longer pieces given c.in_ok-piece.ensures.front c.loop-left.invariant.whole) c.in_ok-left.ensures.split
     ∙ sym (on_piece done words.path.now words.off.now c.split_once.result.0.now (words_behind c.split_once.result.1) piece (sym c.in_ok-piece.ensures.piece))
     ∙ ap (λ ws. asks_on done (words.path.now ∷ words.off.now ∷ ws)) (sym c.split_once.ensures.split)
     ∙ (rw c.in-Some.is at c.loop-left.invariant.asks) in record {
       asks = asks;
-      whole = rw c.push.ensures.items (All-append (LiesIn longer) pieces (c.in_ok-piece.piece ∷ []) (lie_on text longer pieces c.in_ok-piece.ensures.front c.loop-left.invariant.whole) (All-cons (LiesIn longer) c.in_ok-piece.piece [] c.in_ok-piece.ensures.lies (λ k d low. absurd (omega (arith, low)))));
+      whole = rw c.push.ensures.items (
+          one_more_lies end c.end_of-end.result text longer pieces given c.loop-left.invariant.whole
+          (omega (arith, c.end_of-end.ensures, c.in_ok-piece.ensures.later)) (omega (arith, c.end_of-end.ensures, c.in_ok-piece.ensures.lies.bytes))
+          (omega (arith, c.end_of-end.ensures, c.in_ok-piece.ensures.order)) (omega (arith, c.end_of-end.ensures))
+          );
+      within = omega (arith, c.end_of-end.ensures, c.in_ok-piece.ensures.lies.bytes);
       some = omega (arith, c.push.ensures.len);
       few = omega (arith, c.push.ensures.len, c.is_full.ensures.fits, eqb-false _ _ (sym c.is_full.ensures.value ∙ c.if-is_full.false));
-      fits = omega (arith, (rw c.in-Some.is at c.loop-left.invariant.fits), c.in_ok-piece.ensures.len, c.in_ok-left.ensures.len, len_behind_less c.split_once.result.1, c.split_once.ensures.len);
+      fits = omega (arith, (rw c.in-Some.is at c.loop-left.invariant.fits), c.end_of-end.ensures, c.in_ok-piece.ensures.len, c.in_ok-left.ensures.len, len_behind_less c.split_once.result.1, c.split_once.ensures.len);
       room = omega (arith, c.loop-left.invariant.room, c.in_ok-piece.ensures.room);
     }
 
@@ -73,3 +79,6 @@ returns-clause-meaning c =
     let len = length-map c.loop-left.pieces.items (piece_in c.loop-left.text.items) in
     asked_so (words_at c.args.first) done [] (file_call (batch done)) (rw c.in_default.is at c.loop-left.invariant.asks)
     (on_none done (omega (arith, some, len)) (omega (arith, len, c.loop-left.invariant.few)))
+
+pub returns-clause-whole : goal.returns-clause-whole
+returns-clause-whole c = lie_in_all c.loop-left.end c.loop-left.text.items c.loop-left.pieces.items c.loop-left.invariant.whole

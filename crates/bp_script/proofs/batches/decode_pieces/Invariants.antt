@@ -1,4 +1,4 @@
-use Rattle.std.proofs.Common.{◌≡◌, ◌≤◌, ◌+◌, [], length, map, vec_capacity, vec_len}
+use Rattle.std.proofs.Common.{◌≡◌, ◌≤◌, ◌+◌, [], length, map, take, vec_capacity}
 use Rattle.std.specs.List.{All}
 use Rattle.std.specs.Option.{option_map_or}
 use Rattle.bp_limits.specs.Limits.{max_pieces}
@@ -10,10 +10,11 @@ use Rattle.bp_script.proofs.batches.decode_pieces.Given as goal
 abbrev pub invariant-loop-left : goal.invariant-loop-left
 invariant-loop-left l = record {
   asks : asks_on (map (piece_in l.text.items) l.pieces.items) (option_map_or words_at l.left []) ≡ asks_on [] (words_at l.fn.first);
-  whole : All (LiesIn l.text.items) l.pieces.items;
+  whole : All (LiesIn (take l.end l.text.items)) l.pieces.items;
+  within : l.end ≤ length l.text.items;
   some : 1 ≤ length l.pieces.items + option_map_or (λ words. 1) l.left 0;
   few : length l.pieces.items ≤ max_pieces;
-  fits : vec_len l.text + option_map_or words_len l.left 0 ≤ words_len l.fn.first;
+  fits : l.end + option_map_or words_len l.left 0 ≤ words_len l.fn.first;
   room : vec_capacity l.fn.text ≤ vec_capacity l.text;
 }
 

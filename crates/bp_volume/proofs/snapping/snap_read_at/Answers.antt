@@ -4,7 +4,7 @@ use Rattle.bp_layout.specs.Words.{Image}
 use Rattle.bp_plain.specs.Calls.Call.{read}
 use Rattle.bp_scan.proofs.BothScans.{second_words}
 use Rattle.bp_tree.proofs.RegionWords.{length_now}
-use Rattle.bp_volume.specs.Seen.{read_answer}
+use Rattle.bp_volume.specs.Seen.{read_answer_of}
 use Rattle.bp_volume.specs.Told.{Tells}
 use Rattle.bp_volume.proofs.SafeLaws.{long_words}
 use Rattle.bp_volume.proofs.SecondAsking.{no_read, second_read}
@@ -22,5 +22,5 @@ read_at-requires-clause-well_formed g c =
 
 pub returns-clause-told : goal.returns-clause-told
 returns-clause-told g c =
-    second_read _ c.requires (sym c.has_second.ensures ∙ c.if-not-has_second.false) c.args.text.now c.args.off (length c.args.into.now) (read_answer c.read_at.result c.read_at.new.into)
-    (subst (λ (image : Image). Tells image (read c.args.text.now c.args.off (length c.args.into.now)) (read_answer c.read_at.result c.read_at.new.into)) (second_words _ (g.R.Region.memory c.args.region.now) c.second-second.ensures) c.read_at.ensures.told)
+    second_read _ c.requires (sym c.has_second.ensures ∙ c.if-not-has_second.false) c.args.text.now c.args.off (length c.args.into.now) (read_answer_of c.read_at.result c.read_at.new.into)
+    (subst (λ (image : Image). Tells image (read c.args.text.now c.args.off (length c.args.into.now)) (read_answer_of c.read_at.result c.read_at.new.into)) (second_words _ (g.R.Region.memory c.args.region.now) c.second-second.ensures) c.read_at.ensures.told)

@@ -1,10 +1,10 @@
 use Rattle.std.proofs.Common.{◌≡◌, rules, subst}
-use Rattle.bpfs_c.specs.Events.{events_of}
+use Rattle.bpfs_c.specs.Events.{held_events}
 use Rattle.bpfs_c.specs.Runs.{HasPiece}
 use Rattle.bpfs_c.proofs.running.bpfs_run_at.Goals as goal
 
 pub returns-clause-run : goal.returns-clause-run
 returns-clause-run c =
     let told = c.copy_run-count in
-    let is : c.region.result.now.events ≡ events_of c.args.handle.now.held = search rules in
+    let is : c.region.result.now.events ≡ held_events c.args.handle.now.held = search rules in
     subst (λ events. HasPiece events c.args.first c.args.told.now c.args.values.now told.result told.new.told told.new.values) is told.ensures

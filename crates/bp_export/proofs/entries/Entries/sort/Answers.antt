@@ -5,7 +5,7 @@ use Rattle.std.proofs.lemmas.List.Sorted.{All-permutation, IsPermutation-map, ra
 use Rattle.bp_limits.specs.Limits.{max_name}
 use Rattle.bp_layout.proofs.ListedLaws.{sorted-map}
 use Rattle.bp_export.specs.declared.entries.Row.{Row}
-use Rattle.bp_export.specs.Entries.{comes_before}
+use Rattle.bp_export.specs.Entries.{entry_comes_before}
 use Rattle.bp_export.specs.Named.{named_row}
 use Rattle.bp_export.proofs.entries.Entries.sort.Goals as goal
 
@@ -18,5 +18,5 @@ returns-clause-all c = rw (← c.self.view_is) (IsPermutation-map (named_row c.s
 pub returns-clause-sorted : goal.returns-clause-sorted
 returns-clause-sorted c =
     let bytes = c.self.inside.bytes.items in
-    sorted-map (named_row bytes) comes_before _
-    (c.sort_unstable_by.ensures.sorted (λ one other. comes_before (named_row bytes one) (named_row bytes other)) (ranks_by nat_list_cmp_total (λ e. (named_row bytes e).1)) (always_returns_same _ _ _ (λ a r f k. search rules)))
+    sorted-map (named_row bytes) entry_comes_before _
+    (c.sort_unstable_by.ensures.sorted (λ one other. entry_comes_before (named_row bytes one) (named_row bytes other)) (ranks_by nat_list_cmp_total (λ e. (named_row bytes e).1)) (always_returns_same _ _ _ (λ a r f k. search rules)))

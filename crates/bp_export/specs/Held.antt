@@ -1,0 +1,39 @@
+-- What a walk tells, in words of what it works with: the path at hand, the lines that wait and the first paths.
+use Rattle.std.specs.Prelude.{ℕ, List, Result}
+use Rattle.bp_io.specs.Streams.{SinkView}
+use Rattle.bp_layout.specs.Lookup.{Node, Path}
+use Rattle.bp_layout.specs.Lookup.Node.{file}
+use Rattle.bp_layout.specs.Words.{Image}
+use Rattle.bp_plain.specs.Calls.{Call}
+use Rattle.bp_plain.specs.Export.{calls_for}
+use Rattle.bp_plain.specs.PlainTree.{PathMap}
+use Rattle.bp_replies.specs.Gathering.{waiting}
+use Rattle.bp_tree.specs.declared.tree.Tree.{Tree}
+use Rattle.bp_export.specs.Telling.{content_of}
+use Rattle.bp_export.specs.Walking.{Place, Tours, WalkStandsAt, itself}
+use Rattle.bp_export.specs.declared.fault.Fault.{Fault}
+use Rattle.bp_export.specs.declared.work.Work.{Work}
+
+-- the lines that no sink has taken yet
+abbrev pub held_lines : Work → List ℕ
+held_lines work = waiting work.replies
+
+-- the calls that make the file with this tree at the path at hand
+abbrev pub file_calls : Image → Tree → Work → List Call
+file_calls image tree work = calls_for work.path.items (file (content_of image tree))
+
+-- The walk stands at the place: its path finds inode i, and what is next there is told behind what was told.
+abbrev pub StandsHeld : Image → List ℕ → (PathMap → Path → List (Path × Node)) → ℕ → Work → Place → Type 0
+StandsHeld image counts next i work place = WalkStandsAt image counts next i work.path.items work.firsts place
+
+-- at whichever place it stands, what is next there was told
+abbrev pub ToursHeld : {T : Type 0} → Image → List ℕ → (PathMap → Path → List (Path × Node)) → ℕ → Result T Fault
+    → Work → SinkView → Work → SinkView → Type 0
+ToursHeld image counts next i result work sink work_now sink_now =
+    (place : Place) → StandsHeld image counts next i work place
+    → Tours image counts next place result work_now.firsts (held_lines work) (held_lines work_now) sink sink_now
+
+-- .. where that is what stands at its path itself
+abbrev pub ToursItself : {T : Type 0} → Image → List ℕ → ℕ → Result T Fault → Work → SinkView → Work → SinkView → Type 0
+ToursItself image counts i result work sink work_now sink_now =
+    ToursHeld image counts (itself image i) i result work sink work_now sink_now

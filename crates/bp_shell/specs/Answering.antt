@@ -1,0 +1,55 @@
+-- What programs answer, told of the source, the sink and the files that they are given, before and behind.
+use Rattle.std.specs.Prelude.{◌≡◌, ◌⊎◌, ℕ, List}
+use Rattle.bp_command.specs.Programs.{Asks, Program}
+use Rattle.bp_io.specs.Files.{View}
+use Rattle.bp_io.specs.Streams.{SinkView, SourceView}
+use Rattle.bp_layout.specs.Words.{Image}
+use Rattle.bp_session.specs.Outside.{Outside, outside}
+use Rattle.bp_shell.specs.Running.{IsMountedFrom, ProgramOutcome, RunOutcome, RunsProgram, file_name}
+use Rattle.pm_region.specs.Memory.{Memory}
+
+-- ---- a source that is read
+
+-- it ends so, by what is told of them before and behind, where FILE is the file of this name
+abbrev pub EndsAs : {S K F : Type 0} → (Outside → Outside → Type 0) → List ℕ → (S → SourceView) → (K → SinkView) → (F → View)
+    → S → K → F → S → K → F → Type 0
+EndsAs Ends name source_of sink_of files_of source sink files source_now sink_now files_now =
+    Ends (outside (source_of source) (sink_of sink) (files_of files) name)
+    (outside (source_of source_now) (sink_of sink_now) (files_of files_now) name)
+
+-- what `run` answers over a volume, from whichever file it was mounted
+abbrev pub RunsMounted : {S K F : Type 0} → ℕ → (S → SourceView) → (K → SinkView) → (F → View)
+    → S → K → F → Memory → S → K → F → Type 0
+RunsMounted status source_of sink_of files_of source sink files memory source_now sink_now files_now =
+    (before : View) (name : List ℕ) (image : Image) → IsMountedFrom name image before (files_of files) memory
+    → RunOutcome status (outside (source_of source) (sink_of sink) before name)
+    (outside (source_of source_now) (sink_of sink_now) (files_of files_now) name)
+
+-- what a program answers
+abbrev pub ProgramEnds : {S K F : Type 0} → Program → ℕ → (S → SourceView) → (K → SinkView) → (F → View)
+    → S → K → F → S → K → F → Type 0
+ProgramEnds program status source_of sink_of files_of source sink files source_now sink_now files_now =
+    EndsAs (ProgramOutcome program status) (file_name program) source_of sink_of files_of
+    source sink files source_now sink_now files_now
+
+-- what the program answers for which these words ask in the plain way
+abbrev pub AnswersAsAsked : {S K F : Type 0} → List (List ℕ) → ℕ → (S → SourceView) → (K → SinkView) → (F → View)
+    → S → K → F → S → K → F → Type 0
+AnswersAsAsked words status source_of sink_of files_of source sink files source_now sink_now files_now =
+    (program : Program) → Asks words program
+    → ProgramEnds program status source_of sink_of files_of source sink files source_now sink_now files_now
+
+-- The words ask for a program, and this is what it answers; or there was no memory in which they are read, and nothing changed.
+abbrev pub RunsOrLacksMemory : {S K F : Type 0} → List (List ℕ) → ℕ → (S → SourceView) → (K → SinkView) → (F → View)
+    → S → K → F → S → K → F → Type 0
+RunsOrLacksMemory words status source_of sink_of files_of source sink files source_now sink_now files_now =
+    RunsProgram words status (λ name. outside (source_of source) (sink_of sink) (files_of files) name)
+    (λ name. outside (source_of source_now) (sink_of sink_now) (files_of files_now) name)
+    ⊎ ((status ≡ 8) × (source_now ≡ source) × (sink_now ≡ sink) × (files_now ≡ files))
+
+-- ---- no source
+
+-- it ends so, whatever a source has left, where FILE is the file of this name
+abbrev pub EndsUnread : (Outside → Outside → Type 0) → List ℕ → SinkView → View → SinkView → View → Type 0
+EndsUnread Ends name sink files sink_now files_now =
+    (source : SourceView) → Ends (outside source sink files name) (outside source sink_now files_now name)

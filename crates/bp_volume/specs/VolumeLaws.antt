@@ -1,0 +1,29 @@
+-- What holds of all volumes.
+use Rattle.std.specs.Prelude.{ℕ, ◌≤◌, List, length}
+use Rattle.bp_calls.specs.InPlace.{LiesInWord}
+use Rattle.bp_layout.specs.Whole.{SameFiles}
+use Rattle.bp_layout.specs.Words.{Image}
+use Rattle.bp_plain.specs.Calls.Call.{truncate, write}
+use Rattle.bp_plain.specs.Plain.{bytes_at, path_named}
+use Rattle.bp_plain.specs.PlainTree.{FileTree}
+use Rattle.bp_volume.specs.Step.{IsNeverShort, PathFinds}
+use Rattle.pm_epochs.specs.Replay.{after_calls, kept_calls}
+use Rattle.pm_region.specs.Memory.{Memory}
+use Rattle.pm_steps.specs.Machine.{MachineState, MachineStep, StepsTo, cut_of, machine_over}
+
+-- where these steps lead to this state, its words show what the first calls of the log had made, as many as are kept whole
+abbrev pub ShowsFirstCalls : Memory → List MachineStep → MachineState → Type 0
+ShowsFirstCalls memory steps state =
+    StepsTo memory.events (machine_over memory.base) steps state →
+    SameFiles state.words (after_calls memory.base memory.events
+    (kept_calls memory.events (cut_of memory.events state.back)))
+
+-- a truncate to no more bytes than there are is never short of space
+abbrev pub ShortensInPlace : Image → FileTree → List ℕ → ℕ → Type 0
+ShortensInPlace image tree text size =
+    size ≤ length (bytes_at tree.now.nodes (path_named text)) → IsNeverShort image tree (truncate text size)
+
+-- nor is a write of bytes that lie in one word of the file that the path finds
+abbrev pub WritesInPlace : Image → FileTree → List ℕ → ℕ → ℕ → List ℕ → Type 0
+WritesInPlace image tree text i off new =
+    PathFinds image text i → LiesInWord image i off (length new) → IsNeverShort image tree (write text off new)

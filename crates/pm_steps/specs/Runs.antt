@@ -1,0 +1,48 @@
+-- What the memory holds after steps of the processor and the engine.
+use Rattle.std.specs.Prelude.{◌≡◌, ℕ, Bool, Some, true, List, slice_get}
+use Rattle.pm_epochs.specs.declared.event.Event.{Event}
+use Rattle.pm_epochs.specs.Crash.{CrashRight, Likeness}
+use Rattle.pm_epochs.specs.Replay.{IsRight, PowerCut, after_calls, kept_calls, replay}
+use Rattle.pm_region.specs.Memory.{Memory}
+use Rattle.pm_steps.specs.Machine.{ComesFirst, MachineState, MachineStep, StepsTo, cut_of, machine_over}
+
+-- each store that has to be written back before this one is back
+abbrev pub AreBackBefore : List Event → List Bool → ℕ → Type 0
+AreBackBefore events back which = (earlier : ℕ) → ComesFirst events earlier which → slice_get back earlier ≡ Some true
+
+-- the words of the memory while these stores are back: the replay of the cut at which the machine stands
+abbrev pub words_by : List ℕ → List Event → List Bool → List ℕ
+words_by base events back = replay base events (cut_of events back)
+
+-- the same over a region's memory
+abbrev pub words_in : Memory → List Bool → List ℕ
+words_in memory back = words_by memory.base memory.events back
+
+-- ---- whole runs
+
+-- from nothing executed over these words by steps that are allowed
+abbrev pub RunsTo : List ℕ → List Event → List MachineStep → MachineState → Type 0
+RunsTo base events steps state = StepsTo events (machine_over base) steps state
+
+-- the cut at which the machine stands is right
+abbrev pub StandsRight : List Event → MachineState → Type 0
+StandsRight events state = IsRight events (cut_of events state.back)
+
+-- the memory is its replay
+abbrev pub HoldsReplay : List ℕ → List Event → MachineState → Type 0
+HoldsReplay base events state = state.words ≡ words_by base events state.back
+
+-- the machine with these stores back, and that memory
+abbrev pub machine_at : List ℕ → List Event → List Bool → MachineState
+machine_at base events back = record { back = back; words = words_by base events back }
+
+-- some steps that are allowed lead to what this cut leaves
+abbrev pub HasRunTo : List ℕ → List Event → PowerCut → Type 0
+HasRunTo base events cut = (steps : List MachineStep) × (state : MachineState) ×
+    RunsTo base events steps state × (state.words ≡ replay base events cut)
+
+-- over a log that a crash at any moment leaves right, the memory is like what the calls had made that are kept whole
+abbrev pub HoldsCalls : Likeness → List ℕ → List Event → List MachineStep → MachineState → Type 0
+HoldsCalls Same base events steps state =
+    CrashRight Same base events → RunsTo base events steps state →
+    Same state.words (after_calls base events (kept_calls events (cut_of events state.back)))

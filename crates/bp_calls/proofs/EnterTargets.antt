@@ -19,7 +19,7 @@ use Rattle.bp_layout.specs.Words.{Image, height_of}
 use Rattle.bp_layout.proofs.MemberLaws.{has-behind, has-front}
 use Rattle.bp_layout.proofs.ThawLaws.{loose-on}
 use Rattle.bp_layout.proofs.TreeLaws.{live_above, live_content}
-use Rattle.bp_thaw.specs.Fronts.{IsWay}
+use Rattle.bp_thaw.specs.Fronts.{IsWayIn}
 use Rattle.bp_tree.proofs.ExistingPaths.{AllThere, content_path-there, cover_of-one}
 use Rattle.bp_tree.proofs.LooseWays.{loose_inode_word, loose_word}
 use Rattle.bp_calls.specs.Steps.{HasLooseEntry, HasLooseWord}
@@ -84,30 +84,30 @@ module _ (image : Image) (wf : IsWellFormed image) (i : ℕ) (reached : IsReache
 
   -- ---- each is a way
 
-  entry_are : (found : Option ℕ) → empty_slot image i ≡ found → (path : WordPath) → Has (entry_ways image i found) path → IsWay image path
-  entry_are None is path (inl e) = subst (IsWay image) e (inode_way image wf i 2 reached (omega arith))
-  entry_are None is path (inr (inl e)) = subst (IsWay image) e (root_way image wf i reached)
-  entry_are None is path (inr (inr (inl e))) = subst (IsWay image) e (end_way image wf i reached)
+  entry_are : (found : Option ℕ) → empty_slot image i ≡ found → (path : WordPath) → Has (entry_ways image i found) path → IsWayIn image path
+  entry_are None is path (inl e) = subst (IsWayIn image) e (inode_way image wf i 2 reached (omega arith))
+  entry_are None is path (inr (inl e)) = subst (IsWayIn image) e (root_way image wf i reached)
+  entry_are None is path (inr (inr (inl e))) = subst (IsWayIn image) e (end_way image wf i reached)
   entry_are None is path (inr (inr (inr never))) = absurd never
   entry_are (Some s) is path (inl e) =
       let low : s < entry_count image i = (found_empty image i s is).0 in
-      subst (IsWay image) e (content_way image wf i (32 * s + 0) reached (omega (arith, low)))
+      subst (IsWayIn image) e (content_way image wf i (32 * s + 0) reached (omega (arith, low)))
   entry_are (Some s) is path (inr never) = absurd never
 
-  entrant_are : (e : Entrant) → IsEntrant image e → (path : WordPath) → Has (entrant_ways image e) path → IsWay image path
-  entrant_are (taken j) inside path (inl e) = subst (IsWay image) e (content_way image wf 0 (8 * j + 0) inode_file (omega (arith, inside)))
+  entrant_are : (e : Entrant) → IsEntrant image e → (path : WordPath) → Has (entrant_ways image e) path → IsWayIn image path
+  entrant_are (taken j) inside path (inl e) = subst (IsWayIn image) e (content_way image wf 0 (8 * j + 0) inode_file (omega (arith, inside)))
   entrant_are (taken j) inside path (inr never) = absurd never
-  entrant_are grown inside path (inl e) = subst (IsWay image) e (root_way image wf 0 inode_file)
-  entrant_are grown inside path (inr (inl e)) = subst (IsWay image) e (end_way image wf 0 inode_file)
+  entrant_are grown inside path (inl e) = subst (IsWayIn image) e (root_way image wf 0 inode_file)
+  entrant_are grown inside path (inr (inl e)) = subst (IsWayIn image) e (end_way image wf 0 inode_file)
   entrant_are grown inside path (inr (inr never)) = absurd never
   entrant_are linked inside path never = absurd never
 
-  either_are : (front rest : List WordPath) → ((path : WordPath) → Has front path → IsWay image path) → ((path : WordPath) → Has rest path → IsWay image path) → (path : WordPath) → Has (front ++ rest) path → IsWay image path
+  either_are : (front rest : List WordPath) → ((path : WordPath) → Has front path → IsWayIn image path) → ((path : WordPath) → Has rest path → IsWayIn image path) → (path : WordPath) → Has (front ++ rest) path → IsWayIn image path
   either_are [] rest one two path has = two path has
   either_are (p ∷ front) rest one two path (inl e) = one path (inl e)
   either_are (p ∷ front) rest one two path (inr later) = either_are front rest (λ q has. one q (inr has)) two path later
 
-  pub enter_ways : (e : Entrant) → IsEntrant image e → (path : WordPath) → Has (targets image (enters i e)) path → IsWay image path
+  pub enter_ways : (e : Entrant) → IsEntrant image e → (path : WordPath) → Has (targets image (enters i e)) path → IsWayIn image path
   enter_ways e inside path has =
       either_are (entry_ways image i (empty_slot image i)) (entrant_ways image e) (entry_are (empty_slot image i) refl) (entrant_are e inside) path (subst (λ (ps : List WordPath). Has ps path) (enter_targets e) has)
 

@@ -17,7 +17,7 @@ use Rattle.bp_layout.specs.WellFormed.{IsWellFormed}
 use Rattle.bp_layout.specs.WordPaths.{WordPath}
 use Rattle.bp_layout.specs.Words.{Image}
 use Rattle.bp_shapes.specs.Sets.{kept_of}
-use Rattle.bp_thaw.specs.Fronts.{IsWay}
+use Rattle.bp_thaw.specs.Fronts.{IsWayIn}
 use Rattle.pm_region.specs.Memory.{Memory, current_words, room_in}
 use Rattle.bp_calls.specs.Mounted.{IsMounted}
 use Rattle.bp_calls.specs.Space.{HasRoomWhereFree, LacksSpace}
@@ -49,7 +49,7 @@ module _ {R : Type 0} (memory : R → Memory) (change : Change) (more : ℕ) (ol
     none_thawed : thaw_count memory ways old ≡ 0
     none_thawed = nothing memory change more old needs room mounted of none
 
-    module _ (enough : more ≤ length (members old.blocks)) (are : (path : WordPath) → Has ways path → IsWay image path) where
+    module _ (enough : more ≤ length (members old.blocks)) (are : (path : WordPath) → Has ways path → IsWayIn image path) where
       pub thaws_unthawed : ThawsFor memory ways old old
       thaws_unthawed =
           let fits = room_unthawed memory change more old needs room mounted of none enough in

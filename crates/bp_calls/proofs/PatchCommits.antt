@@ -32,7 +32,7 @@ use Rattle.bp_cow.specs.Touched.{IsTouched, NoneBegins, all_paths, job_of, leave
 use Rattle.bp_cow.proofs.CopiesNeed.{none-begins}
 use Rattle.bp_cow.proofs.FewCopies.{runs_copies}
 use Rattle.bp_cow.proofs.WaysAlike.{first-range}
-use Rattle.bp_thaw.specs.Fronts.{IsWay}
+use Rattle.bp_thaw.specs.Fronts.{IsWayIn}
 use Rattle.bp_cow.proofs.CommitTaking.{commit_performs, stores_few}
 use Rattle.bp_calls.specs.Overwritten.{AreRuns, CanOverwrite, CanOverwriteThawed, IsPatchIn, stretches_of}
 use Rattle.bp_calls.specs.Mounted.{IsMounted}
@@ -82,8 +82,8 @@ module _ (image : Image) (wf : IsWellFormed image) (patches : List Patch) (touch
   pub overwrite_targets : commit_cover image touched ∷ [] ≡ targets image (overwrites (stretches_of patches))
   overwrite_targets = ap (λ (path : WordPath). path ∷ []) (overwrite_cover ∙ sym (overwrites_now image (stretches_of patches)))
 
-  pub overwrite_ways : (path : WordPath) → Has (targets image (overwrites (stretches_of patches))) path → IsWay image path
-  overwrite_ways path (inl e) = subst (IsWay image) e (patches_way image wf patches touched overwrite_shape are none asks.each first_run.0 first_run.1 (at_run first_run.0 first_run.1))
+  pub overwrite_ways : (path : WordPath) → Has (targets image (overwrites (stretches_of patches))) path → IsWayIn image path
+  overwrite_ways path (inl e) = subst (IsWayIn image) e (patches_way image wf patches touched overwrite_shape are none asks.each first_run.0 first_run.1 (at_run first_run.0 first_run.1))
   overwrite_ways path (inr never) = absurd never
 
   module _ {kept : ℕ → Bool} (free : ℕ → Bool) (unheld : AreFreeBlocks image kept free) where

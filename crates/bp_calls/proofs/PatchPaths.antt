@@ -27,7 +27,7 @@ use Rattle.bp_calls.specs.Overwritten.AreRuns.{none, empty, more}
 use Rattle.bp_calls.specs.TouchedBelow.{IsRunFor}
 use Rattle.bp_calls.proofs.PatchRuns.{IsInFile}
 use Rattle.bp_calls.proofs.TargetPaths.{content_way, cover_way}
-use Rattle.bp_thaw.specs.Fronts.{IsWay}
+use Rattle.bp_thaw.specs.Fronts.{IsWayIn}
 
 module _ (image : Image) where
   -- the heights that the trees have
@@ -107,12 +107,12 @@ module _ (image : Image) (wf : IsWellFormed image) (patches : List Patch) (commi
   same_paths = patches_touched image patches commits are no_word each
 
   -- the cover is a way
-  pub patches_way : IsWay image (cover_now image change)
+  pub patches_way : IsWayIn image (cover_now image change)
   patches_way =
-      let word_way : IsWay image word_path = content_way image wf (suc at.inode) (run.off / 8) at.reached (omega (arith, at.of.below, at.of.some)) in
-      subst (λ (paths : List WordPath). IsWay image (cover_of (is_there_now image) paths)) same_paths
+      let word_way : IsWayIn image word_path = content_way image wf (suc at.inode) (run.off / 8) at.reached (omega (arith, at.of.below, at.of.some)) in
+      subst (λ (paths : List WordPath). IsWayIn image (cover_of (is_there_now image) paths)) same_paths
       (cover_way image wf (all_paths commits) (run_path run (run.off / 8)) (has-of-run commits shape run (run.off / 8) has (omega arith) (omega (arith, at.of.some)))
-      (subst (IsWay image) (sym path_is) word_way))
+      (subst (IsWayIn image) (sym path_is) word_way))
 
   pub patches_cover : commit_cover image commits ≡ cover image change
   patches_cover = change_cover image change commits same_paths agree

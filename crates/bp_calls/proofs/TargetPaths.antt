@@ -20,7 +20,7 @@ use Rattle.bp_layout.specs.WellFormed.{IsWellFormed}
 use Rattle.bp_layout.specs.WordPaths.{WordPath, digits, inode_path, tree_path}
 use Rattle.bp_layout.specs.Words.{Image, height_of}
 use Rattle.bp_limits.specs.Limits.{max_height}
-use Rattle.bp_thaw.specs.Fronts.{HasDigits, IsWay}
+use Rattle.bp_thaw.specs.Fronts.{HasDigits, IsWayIn}
 use Rattle.bp_layout.specs.Tree.{node, span}
 use Rattle.bp_layout.proofs.TreeLaws.{span-is}
 use Rattle.bp_layout.proofs.ThawLaws.{loose-on}
@@ -45,7 +45,7 @@ few_digits zero k low = omega (arith, low)
 few_digits (suc d) k low = few_digits d (k / 512) (let more = rw pow-suc at low in omega (arith, more))
 
 -- the way to a content word of a reached tree
-pub content_way : (image : Image) → IsWellFormed image → (t k : ℕ) → IsReached image t → 8 * k < size_of image t → IsWay image (tree_path (height_of (root_of image 0)) t (suc (height_of (root_of image t))) k)
+pub content_way : (image : Image) → IsWellFormed image → (t k : ℕ) → IsReached image t → 8 * k < size_of image t → IsWayIn image (tree_path (height_of (root_of image 0)) t (suc (height_of (root_of image t))) k)
 content_way image wf t k reached below =
     let fits = (wf.sound t reached).fits in
     record { tree = t; depth = suc (height_of (root_of image t)); index = k; reached = reached; low = omega arith; few = few_digits (suc (height_of (root_of image t))) k (omega (arith, fits, below)); is = refl }
@@ -67,7 +67,7 @@ inode_path-now image wf i f reached low =
     there_as (is_there_after image (leaves i 0)) (is_there_now image) (or_more image i 0) [] (inode_path (height_of (root_of image 0)) i f) (inode_path-there image (leaves i 0) wf refl i f reached low)
 
 -- the way to a word of a reached inode
-pub inode_way : (image : Image) → IsWellFormed image → (i f : ℕ) → IsReached image i → f < 8 → IsWay image (inode_path (height_of (root_of image 0)) i f)
+pub inode_way : (image : Image) → IsWellFormed image → (i f : ℕ) → IsReached image i → f < 8 → IsWayIn image (inode_path (height_of (root_of image 0)) i f)
 inode_way image wf i f reached low =
     let inside : i < inode_count image = reached-in_file image wf i reached in
     content_way image wf 0 (8 * i + f) inode_file (omega (arith, inside, low))
@@ -75,17 +75,17 @@ inode_way image wf i f reached low =
 -- ---- where bytes come behind a size
 
 -- the way to the root word of a reached tree
-pub root_way : (image : Image) → IsWellFormed image → (t : ℕ) → IsReached image t → IsWay image (root_path_now image t)
+pub root_way : (image : Image) → IsWellFormed image → (t : ℕ) → IsReached image t → IsWayIn image (root_path_now image t)
 root_way image wf t reached = record { tree = t; depth = 0; index = 0; reached = reached; low = omega arith; few = refl; is = refl }
 
 -- one of two paths, by two tests
-way_by : (image : Image) (a b : Bool) (deep root : WordPath) → (b ≡ true → IsWay image deep) → IsWay image root → IsWay image (if a && b then deep else root)
+way_by : (image : Image) (a b : Bool) (deep root : WordPath) → (b ≡ true → IsWayIn image deep) → IsWayIn image root → IsWayIn image (if a && b then deep else root)
 way_by image true true deep root below above = below refl
 way_by image true false deep root below above = above
 way_by image false b deep root below above = above
 
 -- the way to its end: to the word of the byte at its size, or to the root word
-pub end_way : (image : Image) → IsWellFormed image → (t : ℕ) → IsReached image t → IsWay image (end_path_now image t)
+pub end_way : (image : Image) → IsWellFormed image → (t : ℕ) → IsReached image t → IsWayIn image (end_path_now image t)
 end_way image wf t reached =
     way_by image (nat_lt 0 (size_of image t)) (nat_lt (size_of image t) (span (heights_now image t))) _ _
     (λ below. let less : size_of image t < span (heights_now image t) = ltb-true _ _ below in
@@ -121,23 +121,23 @@ end_below_root image t root size is long some below =
 -- ---- a cover
 
 -- the path of a pointer is the way to it
-pub pointer_way : (image : Image) (path : WordPath) → IsPointerPath image path → IsWay image path
+pub pointer_way : (image : Image) (path : WordPath) → IsPointerPath image path → IsWayIn image path
 pointer_way image path of = record { tree = of.tree; depth = of.depth; index = of.index; reached = of.reached; low = omega (arith, of.low); few = of.few; is = of.is }
 
 -- a front of a way, or all of it, is one
-front_way : (image : Image) → IsWellFormed image → (path : WordPath) (n : ℕ) → IsWay image path → n ≤ length path → IsWay image (take n path)
+front_way : (image : Image) → IsWellFormed image → (path : WordPath) (n : ℕ) → IsWayIn image path → n ≤ length path → IsWayIn image (take n path)
 front_way image wf path n way low = go (cases_lt n (length path))
   where
-    go : (n < length path) ⊎ (length path ≤ n) → IsWay image (take n path)
+    go : (n < length path) ⊎ (length path ≤ n) → IsWayIn image (take n path)
     go (inl less) = pointer_way image (take n path) (front_path image wf path n way less)
     go (inr most) =
         let all : n ≡ length path = omega (arith, low, most) in
-        subst (IsWay image) (sym (ap (λ m. take m path) all ∙ take-length path)) way
+        subst (IsWayIn image) (sym (ap (λ m. take m path) all ∙ take-length path)) way
 
 -- so is the cover of some ways, of which this is one
-pub cover_way : (image : Image) → IsWellFormed image → (paths : List WordPath) (path : WordPath) → Has paths path → IsWay image path → IsWay image (cover_of (is_there_now image) paths)
+pub cover_way : (image : Image) → IsWellFormed image → (paths : List WordPath) (path : WordPath) → Has paths path → IsWayIn image path → IsWayIn image (cover_of (is_there_now image) paths)
 cover_way image wf paths path among way =
-    subst (IsWay image) (sym (far.is ∙ part)) (front_way image wf path far.count way (omega (arith, far.far.low, begins.long)))
+    subst (IsWayIn image) (sym (far.is ∙ part)) (front_way image wf path far.count way (omega (arith, far.far.low, begins.long)))
   where
     begins : Begins (common_all paths) path
     begins = all-begin paths path among
@@ -164,11 +164,11 @@ module _ (image : Image) (wf : IsWellFormed image) (i s j : ℕ) (can : CanUnlin
   pub leaving_targets : targets image (leaves i s) ≡ entry ∷ []
   leaving_targets = ap (λ (p : WordPath). p ∷ []) leaving_cover
 
-  pub leaving_ways : (path : WordPath) → Has (targets image (leaves i s)) path → IsWay image path
+  pub leaving_ways : (path : WordPath) → Has (targets image (leaves i s)) path → IsWayIn image path
   leaving_ways path has = go (subst (λ ps. Has ps path) leaving_targets has)
     where
-      go : Has (entry ∷ []) path → IsWay image path
-      go (inl e) = subst (IsWay image) e (content_way image wf i (32 * s + 0) can.reached (let low = can.entry.in_size in omega (arith, low)))
+      go : Has (entry ∷ []) path → IsWayIn image path
+      go (inl e) = subst (IsWayIn image) e (content_way image wf i (32 * s + 0) can.reached (let low = can.entry.in_size in omega (arith, low)))
       go (inr never) = absurd never
 
 -- ---- where a file gets no bytes more
@@ -190,11 +190,11 @@ module _ (image : Image) (wf : IsWellFormed image) (i size : ℕ) (reached : IsR
   shrinking_targets =
       ap (λ (bs : List Beyond). cover_now image (resizes i size) ∷ flat_map (end_targets image) (bs ++ []) ++ []) none_beyond ∙ ap (λ (p : WordPath). p ∷ []) shrinking_cover
 
-  pub shrinking_ways : (path : WordPath) → Has (targets image (resizes i size)) path → IsWay image path
+  pub shrinking_ways : (path : WordPath) → Has (targets image (resizes i size)) path → IsWayIn image path
   shrinking_ways path has = go (subst (λ ps. Has ps path) shrinking_targets has)
     where
-      go : Has (size_way ∷ []) path → IsWay image path
-      go (inl e) = subst (IsWay image) e (inode_way image wf i 2 reached (omega arith))
+      go : Has (size_way ∷ []) path → IsWayIn image path
+      go (inl e) = subst (IsWayIn image) e (inode_way image wf i 2 reached (omega arith))
       go (inr never) = absurd never
 
   -- where nothing is left to thaw the block of its size is not kept

@@ -15,7 +15,7 @@ use Rattle.bp_layout.specs.Thaw.{targets}
 use Rattle.bp_layout.specs.WordPaths.{WordPath}
 use Rattle.bp_layout.specs.Words.{Image}
 use Rattle.bp_shapes.specs.Sets.{kept_of}
-use Rattle.bp_thaw.specs.Fronts.{IsWay}
+use Rattle.bp_thaw.specs.Fronts.{IsWayIn}
 use Rattle.pm_region.specs.Memory.{Memory, current_words, room_in}
 
 module _ {R : Type 0} (memory : R → Memory) (change : Change) (more : ℕ) (old : Parts R) (needs : need (current_words (memory old.region)) change ≡ more) (room : HasRoomWhereFree (memory old.region) (kept_of old) old.blocks change)
@@ -46,7 +46,7 @@ module _ {R : Type 0} (memory : R → Memory) (change : Change) (more : ℕ) (ol
     pub unthawed_enough : more ≤ length (members old.blocks) → need (current_words (memory old.region)) change ≤ length (members old.blocks)
     unthawed_enough enough = subst (λ n. n ≤ length (members old.blocks)) (sym needs) enough
 
-    pub unthawed_ways : ((path : WordPath) → Has (targets (current_words (memory old.region)) change) path → IsWay (current_words (memory old.region)) path) → more ≤ length (members old.blocks) →
+    pub unthawed_ways : ((path : WordPath) → Has (targets (current_words (memory old.region)) change) path → IsWayIn (current_words (memory old.region)) path) → more ≤ length (members old.blocks) →
         ThawsFor memory (targets (current_words (memory old.region)) change) old old
     unthawed_ways are enough =
         let some = room_unthawed memory change more old needs room mounted of none enough in

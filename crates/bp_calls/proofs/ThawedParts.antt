@@ -25,7 +25,7 @@ use Rattle.bp_layout.specs.Thaw.{fronts_of, is_kept_at, is_there_now, targets, t
 use Rattle.bp_layout.specs.WordPaths.{WordPath, address}
 use Rattle.bp_layout.specs.Words.{Image, block_of, word}
 use Rattle.bp_shapes.specs.Sets.{AreExact, kept_of}
-use Rattle.bp_thaw.specs.Fronts.{IsWay}
+use Rattle.bp_thaw.specs.Fronts.{IsWayIn}
 use Rattle.bp_thaw.specs.Thaws.{Thaws}
 use Rattle.bp_thaw.proofs.Whole.{thaws_nothing}
 use Rattle.pm_region.specs.Memory.{Memory, current_words, room_in}
@@ -82,7 +82,7 @@ module _ {R : Type 0} (memory : R → Memory) (paths : List WordPath) (old : Par
   pub nothing_kept : length (members old.frozen) ≡ 0 → thawed_on (current_words (memory old.region)) (kept_of old) paths ≡ []
   nothing_kept none = nothing_at (current_words (memory old.region)) (kept_of old) (none_in old.frozen (no_members (members old.frozen) none)) (fronts_of [] paths)
 
-  pub thaws_none : ((path : WordPath) → Has paths path → IsWay (current_words (memory old.region)) path) → 2 ≤ room_in (memory old.region) → length (members old.frozen) ≡ 0 → ThawsFor memory paths old old
+  pub thaws_none : ((path : WordPath) → Has paths path → IsWayIn (current_words (memory old.region)) path) → 2 ≤ room_in (memory old.region) → length (members old.frozen) ≡ 0 → ThawsFor memory paths old old
   thaws_none ways room none =
       let nothing : thawed_on (current_words (memory old.region)) (kept_of old) paths ≡ [] = nothing_kept none in
       let zero_thawed : length (thawed_on (current_words (memory old.region)) (kept_of old) paths) ≡ 0 = ap length nothing in

@@ -21,7 +21,7 @@ use Rattle.bp_layout.specs.Thaw.{full_need, targets}
 use Rattle.bp_layout.specs.WordPaths.{WordPath}
 use Rattle.bp_layout.specs.Words.{Image}
 use Rattle.bp_shapes.specs.Sets.{kept_of}
-use Rattle.bp_thaw.specs.Fronts.{IsWay}
+use Rattle.bp_thaw.specs.Fronts.{IsWayIn}
 use Rattle.pm_region.specs.Memory.{Memory, current_words, room_in}
 
 -- ---- members of a set
@@ -99,5 +99,5 @@ module _ {R : Type 0} (memory : R → Memory) (change : Change) (more : ℕ) (ol
       pub room_unthawed : more ≤ length (members old.blocks) → room_for more ≤ room_in (memory old.region)
       room_unthawed enough = let fits = room_to_thaw (omega (arith, nothing, enough)) in omega (arith, fits, nothing)
 
-      pub unthawed : ((path : WordPath) → Has ways path → IsWay image path) → 2 ≤ room_in (memory old.region) → ThawsFor memory ways old old
+      pub unthawed : ((path : WordPath) → Has ways path → IsWayIn image path) → 2 ≤ room_in (memory old.region) → ThawsFor memory ways old old
       unthawed are some = thaws_none memory ways old mounted are some none

@@ -16,7 +16,7 @@ use Rattle.bp_layout.specs.WordPaths.{WordPath, digits, inode_path}
 use Rattle.bp_layout.specs.Words.{Image}
 use Rattle.bp_layout.proofs.MemberLaws.{has-behind}
 use Rattle.bp_cow.proofs.LeafCover.{leaf_path}
-use Rattle.bp_thaw.specs.Fronts.{IsWay}
+use Rattle.bp_thaw.specs.Fronts.{IsWayIn}
 use Rattle.bp_tree.proofs.ExistingPaths.{AllThere, cover_of-one, existing-all}
 use Rattle.bp_calls.proofs.TargetPaths.{content_way, cover_way, end_way, inode_path-now, inode_way, root_way}
 
@@ -70,12 +70,12 @@ module _ (image : Image) (wf : IsWellFormed image) (n : ℕ) (reached : IsReache
   abbrev pub behind_cover : WordPath → List WordPath
   behind_cover cover = cover ∷ root_path_now image (suc n) ∷ end_path_now image (suc n) ∷ []
 
-  behind_ways : (cover : WordPath) → IsWay image cover → (path : WordPath) → Has (behind_cover cover) path → IsWay image path
+  behind_ways : (cover : WordPath) → IsWayIn image cover → (path : WordPath) → Has (behind_cover cover) path → IsWayIn image path
   behind_ways cover way path has = elim has [
-    | inl e ↦ subst (IsWay image) e way
+    | inl e ↦ subst (IsWayIn image) e way
     | inr more ↦ elim more [
-      | inl e ↦ subst (IsWay image) e (root_way image wf (suc n) reached)
-      | inr rest ↦ elim rest [ inl e ↦ subst (IsWay image) e (end_way image wf (suc n) reached) | inr never ↦ absurd never ]
+      | inl e ↦ subst (IsWayIn image) e (root_way image wf (suc n) reached)
+      | inr rest ↦ elim rest [ inl e ↦ subst (IsWayIn image) e (end_way image wf (suc n) reached) | inr never ↦ absurd never ]
     ]
   ]
 
@@ -86,7 +86,7 @@ module _ (image : Image) (wf : IsWellFormed image) (n : ℕ) (reached : IsReache
     pub growing_targets : targets image (resizes (suc n) size) ≡ behind_cover (inode_path (heights_now image 0) (suc n) 2)
     growing_targets = rw (lt-ltb (size_of image (suc n)) size longer) (ap behind_cover growing_cover)
 
-    pub growing_ways : (path : WordPath) → Has (targets image (resizes (suc n) size)) path → IsWay image path
+    pub growing_ways : (path : WordPath) → Has (targets image (resizes (suc n) size)) path → IsWayIn image path
     growing_ways path has =
         behind_ways (inode_path (heights_now image 0) (suc n) 2) (inode_way image wf (suc n) 2 reached (omega arith)) path (subst (λ ps. Has ps path) growing_targets has)
 
@@ -157,10 +157,10 @@ module _ (image : Image) (wf : IsWellFormed image) (n : ℕ) (reached : IsReache
 
     -- ---- the ways
 
-    covering_way : 1 ≤ len → IsWay image (cover_now image (writes (suc n) off len))
+    covering_way : 1 ≤ len → IsWayIn image (cover_now image (writes (suc n) off len))
     covering_way some = go (cases_lt off (size_of image (suc n)))
       where
-        go : (off < size_of image (suc n)) ⊎ (size_of image (suc n) ≤ off) → IsWay image (cover_now image (writes (suc n) off len))
+        go : (off < size_of image (suc n)) ⊎ (size_of image (suc n) ≤ off) → IsWayIn image (cover_now image (writes (suc n) off len))
         go (inl low) =
             cover_way image wf (touched_at (heights_now image) image change) (content_path_at (heights_now image) (suc n) (off / 8))
             (subst (λ s. Has (touched_by s (nat_lt (size_of image (suc n)) (off + len))) (content_path_at (heights_now image) (suc n) (off / 8))) (sym (lt-ltb off (size_of image (suc n)) low)) (inl refl))
@@ -171,13 +171,13 @@ module _ (image : Image) (wf : IsWellFormed image) (n : ℕ) (reached : IsReache
             (has-behind (map (content_path_at (heights_now image) (suc n)) (words (nat_lt off (size_of image (suc n))))) (size_way ∷ []) size_way (inl refl)))
             (inode_way image wf (suc n) 2 reached (omega arith))
 
-    pub write_ways : 1 ≤ len → (path : WordPath) → Has (targets image (writes (suc n) off len)) path → IsWay image path
+    pub write_ways : 1 ≤ len → (path : WordPath) → Has (targets image (writes (suc n) off len)) path → IsWayIn image path
     write_ways some path has = go (cases_lt (size_of image (suc n)) (off + len))
       where
-        alone : Has (cover_now image (writes (suc n) off len) ∷ []) path → IsWay image path
-        alone one = elim one [ inl e ↦ subst (IsWay image) e (covering_way some) | inr never ↦ absurd never ]
+        alone : Has (cover_now image (writes (suc n) off len) ∷ []) path → IsWayIn image path
+        alone one = elim one [ inl e ↦ subst (IsWayIn image) e (covering_way some) | inr never ↦ absurd never ]
 
-        go : (size_of image (suc n) < off + len) ⊎ (off + len ≤ size_of image (suc n)) → IsWay image path
+        go : (size_of image (suc n) < off + len) ⊎ (off + len ≤ size_of image (suc n)) → IsWayIn image path
         go (inl past) = behind_ways (cover_now image (writes (suc n) off len)) (covering_way some) path (subst (λ ps. Has ps path) (past_targets past) has)
         go (inr within) = alone (subst (λ ps. Has ps path) (below_targets within) has)
 
@@ -211,7 +211,7 @@ module _ (image : Image) (wf : IsWellFormed image) where
   growing_at zero size some reached longer = absurd (omega (arith, some))
   growing_at (suc n) size some reached longer = growing_targets image wf n reached size longer
 
-  pub growing_ways_at : (i size : ℕ) → 1 ≤ i → IsReached image i → size_of image i < size → (path : WordPath) → Has (targets image (resizes i size)) path → IsWay image path
+  pub growing_ways_at : (i size : ℕ) → 1 ≤ i → IsReached image i → size_of image i < size → (path : WordPath) → Has (targets image (resizes i size)) path → IsWayIn image path
   growing_ways_at zero size some reached longer = absurd (omega (arith, some))
   growing_ways_at (suc n) size some reached longer = growing_ways image wf n reached size longer
 
@@ -227,6 +227,6 @@ module _ (image : Image) (wf : IsWellFormed image) where
   below_at zero off len some reached within = absurd (omega (arith, some))
   below_at (suc n) off len some reached within = below_targets image wf n reached off len within
 
-  pub write_ways_at : (i off len : ℕ) → 1 ≤ i → IsReached image i → 1 ≤ len → (path : WordPath) → Has (targets image (writes i off len)) path → IsWay image path
+  pub write_ways_at : (i off len : ℕ) → 1 ≤ i → IsReached image i → 1 ≤ len → (path : WordPath) → Has (targets image (writes i off len)) path → IsWayIn image path
   write_ways_at zero off len some reached more = absurd (omega (arith, some))
   write_ways_at (suc n) off len some reached more = write_ways image wf n reached off len more

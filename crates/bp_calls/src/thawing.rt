@@ -8,7 +8,7 @@ ghost use Rattle.bp_free.specs.Set.{members};
 ghost use Rattle.bp_layout.specs.Members.{Has};
 ghost use Rattle.bp_layout.specs.WordPaths.{WordPath};
 ghost use Rattle.bp_shapes.specs.Sets.{kept_of};
-ghost use Rattle.bp_thaw.specs.Fronts.{IsWay};
+ghost use Rattle.bp_thaw.specs.Fronts.{IsWayIn};
 ghost use Rattle.bp_thaw.specs.Thaws.{paths_in};
 ghost use Rattle.pm_region.specs.Memory.{current_words};
 
@@ -47,7 +47,7 @@ pub fn thaw_before<R: Region>(
 ) -> Result<(), NoSpace>
     requires mounted { IsMounted (current_words (R.memory parts.old.region)) parts.old }
     requires ways { (path : WordPath) → Has (paths_in targets.now) path →
-        IsWay (current_words (R.memory parts.old.region)) path }
+        IsWayIn (current_words (R.memory parts.old.region)) path }
     requires few { more < 2 ^ 31 }
     requires room { HasRoomToThaw R.memory (paths_in targets.now) parts.old more }
     ensures thaws { OnOk result (ThawsFor R.memory (paths_in targets.now) parts.old parts.new) }

@@ -11,7 +11,7 @@ use Rattle.bp_layout.specs.Stores.{EqualBut}
 use Rattle.bp_shapes.proofs.PathTrails.{word-placed, low-placed}
 use Rattle.bp_cow.specs.Stage.{IsBuilding}
 use Rattle.bp_free.specs.Set.{TakesNumber}
-use Rattle.bp_cow.specs.Copies.{Patch, TurnsTo, pointing_to}
+use Rattle.bp_cow.specs.Copies.{WordPatch, TurnsTo, pointing_to}
 use Rattle.bp_shapes.proofs.TrailLaws.{word_on-slot, Turns, pointer-turned}
 use Rattle.bp_shapes.proofs.StoreLaws.{store_turns, copy-kept}
 use Rattle.bp_cow.proofs.StageLaws.{stage_start, stage_copy, stage_word}
@@ -68,7 +68,7 @@ module _ {kept : ℕ → Bool} {old words : Image} {place pointer : ℕ} {cover 
         sym (get_or-set_other words place spot pointer 0 other_place)
         ∙ word-placed seen Pointer (slot ∷ p) (in_block slot p live present low)
 
-    module _ {after : Image} {copy count : ℕ} {free_after : ℕ → Bool} {patch : Patch} (pointed : Pointer (slot ∷ p)) (first : anew (slot ∷ p) → ⊥)
+    module _ {after : Image} {copy count : ℕ} {free_after : ℕ → Bool} {patch : WordPatch} (pointed : Pointer (slot ∷ p)) (first : anew (slot ∷ p) → ⊥)
         (counts : (s : ℕ) → s < 512 → Pointer (s ∷ slot ∷ p) ⊎ Counts (s ∷ slot ∷ p) → s < count)
         (plain : (s w : ℕ) → Pointer (s ∷ slot ∷ p) → patch s w ≡ w)
         (lays : (s : ℕ) → s < 512 → patch s (word_on old (s ∷ slot ∷ p)) ≡ laid (s ∷ slot ∷ p))
@@ -208,7 +208,7 @@ module _ {kept : ℕ → Bool} {old words : Image} {place pointer : ℕ} {cover 
 
 -- the cover's pointer, and a copy of its block that holds its words
 module _ {kept : ℕ → Bool} (Counts : Trail → Type 0) (old mid : Image) (cover : Trail) (Pointer : Trail → Type 0) (pointers : ArePointers Pointer) (value : Trail → Option ℕ) (laid : Trail → ℕ)
-    (free free_after : ℕ → Bool) (copy : ℕ) (patch : Patch) (count : ℕ) (counts : (s : ℕ) → s < 512 → Pointer (s ∷ cover) ⊎ Counts (s ∷ cover) → s < count)
+    (free free_after : ℕ → Bool) (copy : ℕ) (patch : WordPatch) (count : ℕ) (counts : (s : ℕ) → s < 512 → Pointer (s ∷ cover) ⊎ Counts (s ∷ cover) → s < count)
     (plain : (s w : ℕ) → Pointer (s ∷ cover) → patch s w ≡ w) (lays : (s : ℕ) → s < 512 → patch s (word_on old (s ∷ cover)) ≡ laid (s ∷ cover))
     (some : 0 < block_count old) (skeleton : IsSkeleton old Pointer) (exact : IsExactSet old Pointer kept free) (no_value : (p : Trail) → value p ≡ None)
     (pointed : Pointer cover) (placed : IsPlaced old Pointer cover) (takes : TakesNumber free free_after copy) (equal : EqualBut copy old mid)

@@ -22,7 +22,7 @@ use Rattle.bp_cow.specs.declared.covering.FoundCover.{FoundCover}
 use Rattle.bp_cow.specs.Adds.{AddsCopyCommit}
 use Rattle.bp_cow.specs.Job.{Job, ways, copies, copies_at, IsAnew, IsTurned}
 use Rattle.bp_cow.specs.Plan.{Plan}
-use Rattle.bp_cow.specs.Turned.{IsTurnedOver}
+use Rattle.bp_cow.specs.Turned.{HasTurned}
 use Rattle.bp_cow.specs.Committed.{IsCommitted, after_commit}
 use Rattle.bp_cow.specs.Touched.{job_of, only_value}
 use Rattle.bp_cow.specs.Cover.{end_path, BeginAlike, CoverHas}
@@ -176,7 +176,7 @@ plan_of bound kept touched first blocks place top free =
 module _ {kept : ℕ → Bool} {bound : ℕ → ℕ} {touched : Touched} {first last : Memory} {blocks after taken : Set} {found : FoundCover} (wf : IsWellFormed (current_words first))
     (can : CanCommit (current_words first) bound kept touched (has blocks)) (at : IsAt (current_words first) touched found) (longest : CoverHas (current_words first) touched found.len)
     (short : found.len ≤ length ((job_of touched).way 0)) (top : ℕ) (free : ℕ → Bool) where
-  pub commits_turned : IsTurnedOver (plan_of bound kept touched first blocks found.place top free) touched found.len found.place blocks taken first last → IsExactSet (current_words last) (IsTreePointer (current_words first) bound) kept (has after) →
+  pub commits_turned : HasTurned (plan_of bound kept touched first blocks found.place top free) touched found.len found.place blocks taken first last → IsExactSet (current_words last) (IsTreePointer (current_words first) bound) kept (has after) →
       CommitsCopies bound kept touched first last blocks after
   commits_turned done exact =
       let same : copies_at (job_of touched) found.len ≡ copies (job_of touched) found.len = copied-some (job_of touched) found.len short in

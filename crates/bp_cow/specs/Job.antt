@@ -2,7 +2,7 @@
 use Rattle.std.specs.Prelude.{◌≡◌, ℕ, zero, suc, ◌+◌, ◌<◌, ◌≤◌, List, [], ◌∷◌, length, Bool, false, ◌&&◌, ◌||◌, ◌==◌, nat_le, nat_lt, Option, None, Some, bytes_eq, if◌then◌else◌}
 use Rattle.bp_layout.specs.Words.{Image}
 use Rattle.bp_shapes.specs.Trail.{Trail, word_on, trail_of}
-use Rattle.bp_cow.specs.Copies.{Patch}
+use Rattle.bp_cow.specs.Copies.{WordPatch}
 
 -- The ways to the touched words: the paths of the pointers to the blocks that hold them, first those to the leaves of
 -- the runs, and then those to the words. Several may lead to one block. Of each leaf what is laid over it, and of each
@@ -11,7 +11,7 @@ pub record Job : Type 0 where
   pub way : ℕ → List ℕ
   pub leaves : ℕ
   pub words : ℕ
-  pub patch : ℕ → Patch
+  pub patch : ℕ → WordPatch
   pub slot : ℕ → ℕ
   pub value : ℕ → ℕ
   pub live : ℕ → ℕ → ℕ
@@ -62,7 +62,7 @@ abbrev pub laid_on : Image → Job → Trail → ℕ
 laid_on old job q = laid_upto old job job.leaves q
 
 -- what is laid over the block at a depth of a way
-abbrev pub patch_at : Job → ℕ → ℕ → Patch
+abbrev pub patch_at : Job → ℕ → ℕ → WordPatch
 patch_at job i depth slot old =
     if nat_lt i job.leaves && (depth == length (job.way i)) then job.patch i slot old else old
 

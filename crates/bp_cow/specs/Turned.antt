@@ -27,7 +27,7 @@ pub record CanTurn (plan : Plan) (touched : Touched) (from place : ℕ) (blocks 
   pub room : 513 * copies (job_of touched) from + (job_of touched).words + 3 ≤ room_in memory
 
 -- all is as the plan says, and `left` are the blocks that are free then, those that were copied not among them
-pub record IsTurnedOver (plan : Plan) (touched : Touched) (from place : ℕ) (blocks left : Set)
+pub record HasTurned (plan : Plan) (touched : Touched) (from place : ℕ) (blocks left : Set)
     (old new : Memory) : Type 0 where
   pub count : length (members blocks) ≡ length (members left) + copies (job_of touched) from
   pub size : length left ≡ length blocks

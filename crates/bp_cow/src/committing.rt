@@ -12,7 +12,7 @@ ghost use Rattle.bp_cow.specs.Commit.{CanCommitIn, CommitsTouched};
 ghost use Rattle.bp_cow.specs.Found.{AreWaysIn};
 ghost use Rattle.bp_cow.specs.Plan.{Plan};
 ghost use Rattle.bp_cow.specs.Touched.{IsTouched, only_value};
-ghost use Rattle.bp_cow.specs.Turned.{CanTurn, IsTurnedOver};
+ghost use Rattle.bp_cow.specs.Turned.{CanTurn, HasTurned};
 ghost use Rattle.bp_cow.specs.Ways.{AreShared};
 ghost use Rattle.bp_shapes.specs.Sets.{kept_of};
 
@@ -40,7 +40,7 @@ fn turn_over<R: Region>(
     requires touched { IsTouched touched.now }
     requires can { CanTurn plan touched.now from place blocks.old (R.memory region.old) }
     requires shared { AreShared touched.now shared.now }
-    ensures done { IsTurnedOver plan touched.now from place blocks.old blocks.new
+    ensures done { HasTurned plan touched.now from place blocks.old blocks.new
         (R.memory region.old) (R.memory region.new) }
     ensures others { (w : ℕ) → w ≢ place → plan.free (w / block_words) ≡ false →
         word (current_words (R.memory region.new)) w ≡ word plan.old w }
@@ -66,7 +66,7 @@ fn commit_copies<R: Region>(
     requires fits { block_count plan.old ≤ length parts.old.blocks }
     requires kept { TellsKept plan.kept plan.old parts.old.frozen }
     requires shared { AreShared touched.now shared.now }
-    ensures done { (taken : Set) × IsTurnedOver plan touched.now from place parts.old.blocks taken
+    ensures done { (taken : Set) × HasTurned plan touched.now from place parts.old.blocks taken
         (R.memory parts.old.region) (R.memory parts.new.region) }
     ensures exact { IsExactSet (current_words (R.memory parts.new.region))
         (IsTreePointer plan.old plan.bound) plan.kept (has parts.new.blocks) }

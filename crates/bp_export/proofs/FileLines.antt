@@ -9,7 +9,7 @@ use Rattle.bp_free.proofs.Members.{range_split}
 use Rattle.bp_limits.specs.Limits.{block_size}
 use Rattle.bp_plain.specs.Calls.{Call}
 use Rattle.bp_plain.specs.Calls.Call.{truncate, write}
-use Rattle.bp_plain.specs.Export.{is_zeros, size_of, stretch, stretches, write_of, writes_of}
+use Rattle.bp_plain.specs.Export.{is_zeros, size_call, stretch, stretches, write_of, writes_of}
 use Rattle.bp_export.specs.Telling.{size_behind, write_end}
 use Rattle.bp_export.proofs.Fronts.{all_back, all_front}
 
@@ -120,7 +120,7 @@ told_next bytes k leaf told size end len live before is = go (is_zeros (stretch 
         (subst (λ n. ToldTo bytes (leaf + 1) (min (4096 * leaf + 4096) n)) len (told_written bytes leaf low at))
 
 -- behind the last leaf that is there
-pub size_told : (text bytes : List ℕ) (k told : ℕ) → ToldTo bytes k told → ((j : ℕ) → k ≤ j → block_size * j < length bytes → is_zeros (stretch bytes j) ≡ true) → size_behind text told (length bytes) ≡ size_of text bytes
+pub size_told : (text bytes : List ℕ) (k told : ℕ) → ToldTo bytes k told → ((j : ℕ) → k ≤ j → block_size * j < length bytes → is_zeros (stretch bytes j) ≡ true) → size_behind text told (length bytes) ≡ size_call text bytes
 size_told text bytes k told before zeros = go (told == length bytes) refl (nat_lt 0 (length bytes)) refl (is_zeros (stretch bytes (stretches bytes - 1))) refl
   where
     behind : 0 < length bytes → is_zeros (stretch bytes (stretches bytes - 1)) ≡ false → told ≡ length bytes

@@ -4,7 +4,7 @@ ghost use Rattle.std.specs.Prelude.{All, IfOk, ◌*◌, ◌<◌, ◌≡◌, leng
 ghost use Rattle.bp_layout.specs.Lookup.Node.{file};
 ghost use Rattle.bp_layout.specs.Tree.{IsSound};
 ghost use Rattle.bp_limits.specs.Limits.{block_size};
-ghost use Rattle.bp_plain.specs.Export.{calls_for, is_zeros, size_of, write_of, writes_of};
+ghost use Rattle.bp_plain.specs.Export.{calls_for, is_zeros, size_call, write_of, writes_of};
 ghost use Rattle.bp_script.specs.Export.{FitsText};
 ghost use Rattle.bp_export.specs.Telling.{TellsAmong, content_of, size_behind, write_end};
 ghost use Rattle.pm_region.specs.Memory.{current_words};
@@ -68,7 +68,7 @@ fn export_leaves<R: Region, K: Sink>(
     requires room { length block.old ≡ block_size }
     requires short { All FitsText (writes_of path.now (content_of (current_words (R.memory region.now)) tree)) }
     ensures told { let bytes = content_of (current_words (R.memory region.now)) tree in
-        IfOk result (λ told. size_behind path.now told tree.size ≡ size_of path.now bytes) }
+        IfOk result (λ told. size_behind path.now told tree.size ≡ size_call path.now bytes) }
     ensures lines { TellsAmong (writes_of path.now (content_of (current_words (R.memory region.now)) tree))
         result replies.old (K.view out.old) replies.new (K.view out.new) }
     ensures room { length block.new ≡ block_size }

@@ -20,7 +20,7 @@ use Rattle.bp_plain.specs.Calls.Call.{create, link, mkdir, write, truncate}
 use Rattle.bp_plain.specs.Calls.Answer.{done}
 use Rattle.bp_plain.specs.Plain.{alone, answer_or, bytes_at, bytes_in, is_root_path, path_named, paths_of, plain, refusal, resized, walk, walk_parent, with_bytes_at, with_content, with_dir, with_file, with_name, with_now, with_written, written}
 use Rattle.bp_plain.specs.PlainTree.{FileTree, Nodes, PathMap, is_one}
-use Rattle.bp_plain.specs.Export.{AllDone, calls_for, is_zeros, path_text, size_of, stretch, stretches, write_of, writes_of}
+use Rattle.bp_plain.specs.Export.{AllDone, calls_for, is_zeros, path_text, size_call, stretch, stretches, write_of, writes_of}
 use Rattle.bp_plain.proofs.Kernels.{any_path, get-with_bytes_at, paths_of-any, same_by_cmp, tie_paths}
 use Rattle.bp_plain.proofs.MadeFiles.{Made, made_whole, made_written, made_zeros}
 use Rattle.bp_plain.proofs.PathOrder.{pair_cmp-IsTotalOrder, path_cmp-IsAntisymmetric, path_cmp-IsTotalOrder}
@@ -232,11 +232,11 @@ module _ (version : Version) (before : PathMap) (name : Name) (rest : Path) (way
         go false at = let none : length content ≤ 0 = ltb-false 0 (length content) at in inl (omega arith)
 
     -- the size, where it is given
-    size_done : (made : List ℕ) → Made content count made → AllDone (holding made) (size_of text content) (holding content)
+    size_done : (made : List ℕ) → Made content count made → AllDone (holding made) (size_call text content) (holding content)
     unfolding count
     size_done made m = go (nat_lt 0 (length content)) refl (is_zeros (stretch content (count - 1))) refl
       where
-        go : (some : Bool) → nat_lt 0 (length content) ≡ some → (zeros : Bool) → is_zeros (stretch content (count - 1)) ≡ zeros → AllDone (holding made) (size_of text content) (holding content)
+        go : (some : Bool) → nat_lt 0 (length content) ≡ some → (zeros : Bool) → is_zeros (stretch content (count - 1)) ≡ zeros → AllDone (holding made) (size_call text content) (holding content)
         go true has true at =
             let grown : resized made (length content) ≡ content =
             ap (λ n. take (length content) (made ++ replicate (n - length made) 0)) (sym (ap length all_taken))
@@ -255,12 +255,12 @@ module _ (version : Version) (before : PathMap) (name : Name) (rest : Path) (way
     nothing_made : Made content 0 []
     nothing_made = record { short = omega arith; padded = refl; whole = λ other. refl }
 
-    bytes_done : AllDone (holding []) (writes_of text content ++ size_of text content) (holding content)
+    bytes_done : AllDone (holding []) (writes_of text content ++ size_call text content) (holding content)
     unfolding count
     bytes_done =
         let all = stretches_done count 0 [] nothing_made count_low in
         let from_none : 0 + count ≡ count = omega arith in
-        AllDone-append (holding []) (holding all.0) (holding content) (writes_of text content) (size_of text content) all.2
+        AllDone-append (holding []) (holding all.0) (holding content) (writes_of text content) (size_call text content) all.2
         (size_done all.0 (subst (λ j. Made content j all.0) from_none all.1))
 
   -- ---- the calls at the path

@@ -37,8 +37,8 @@ abbrev pub writes_of : List ℕ → List ℕ → List Call
 writes_of text content = flat_map (write_of text content) (range_with_len 0 (stretches content))
 
 -- where the last stretch is not written, the size is given behind the writes
-abbrev pub size_of : List ℕ → List ℕ → List Call
-size_of text content =
+abbrev pub size_call : List ℕ → List ℕ → List Call
+size_call text content =
     if nat_lt 0 (length content) && is_zeros (stretch content (stretches content - 1))
     then truncate text (length content) ∷ [] else []
 
@@ -46,7 +46,7 @@ size_of text content =
 
 abbrev pub calls_for : List ℕ → Node → List Call
 calls_for text dir = mkdir text ∷ []
-calls_for text (file content) = create text ∷ writes_of text content ++ size_of text content
+calls_for text (file content) = create text ∷ writes_of text content ++ size_call text content
 
 -- the first path, in their order, of the file at a path; of a directory its own
 abbrev pub first_of : PathMap → Path → Path

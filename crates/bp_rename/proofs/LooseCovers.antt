@@ -15,7 +15,7 @@ use Rattle.bp_layout.proofs.ThawLaws.{loose-on}
 use Rattle.bp_shapes.specs.Forest.{IsTreePointer, tree_trail}
 use Rattle.bp_shapes.specs.Trail.{Trail, block_on, place_on, trail_of}
 use Rattle.bp_shapes.proofs.ForestLaws.{word-tree}
-use Rattle.bp_thaw.specs.Fronts.{IsWay}
+use Rattle.bp_thaw.specs.Fronts.{IsWayIn}
 use Rattle.bp_tree.proofs.ExistingPaths.{AllThere, content_path-there}
 use Rattle.bp_cow.specs.Commit.{HasLooseCover, cover_word}
 use Rattle.bp_cow.specs.Cover.{commit_cover, end_path}
@@ -51,7 +51,7 @@ module _ (image : Image) (wf : IsWellFormed image) (change : Change) (t k : ℕ)
       cover-whole (is_there_now image) (touched_at (heights_now image) image change) (tree_path (height_of (root_of image 0)) t (suc (height_of (root_of image t))) k) among
       (there_now image wf t k reached directory below)
 
-  pub now_way : IsWay image (cover_now image change)
+  pub now_way : IsWayIn image (cover_now image change)
   now_way =
       cover_way image wf (touched_at (heights_now image) image change) (tree_path (height_of (root_of image 0)) t (suc (height_of (root_of image t))) k) among
       (content_way image wf t k reached below)

@@ -12,7 +12,7 @@ use Rattle.bp_layout.specs.WordPaths.{WordPath, inode_path, tree_path}
 use Rattle.std.proofs.lemmas.List.{append-nil}
 use Rattle.bp_layout.specs.Words.{Image, height_of}
 use Rattle.bp_layout.proofs.ThawLaws.{loose-on}
-use Rattle.bp_thaw.specs.Fronts.{IsWay}
+use Rattle.bp_thaw.specs.Fronts.{IsWayIn}
 use Rattle.bp_tree.proofs.LooseWays.{loose_word}
 use Rattle.bp_append.specs.Prepared.{HasLooseEnd}
 use Rattle.bp_append.proofs.EndWays.{loose_end}
@@ -34,17 +34,17 @@ module _ (image : Image) (move : Move) (can : CanRename image move) where
   low_source : 8 * (32 * move.from_slot + 0) < size_of image move.from_dir
   low_source = omega (arith, can.entry.in_size)
 
-  only_cover : (change : Change) → IsWay image (cover_now image change) → (path : WordPath) → Has (cover_now image change ∷ []) path → IsWay image path
-  only_cover change way path (inl e) = subst (IsWay image) e way
+  only_cover : (change : Change) → IsWayIn image (cover_now image change) → (path : WordPath) → Has (cover_now image change ∷ []) path → IsWayIn image path
+  only_cover change way path (inl e) = subst (IsWayIn image) e way
   only_cover change way path (inr never) = absurd never
 
   -- onto an entry, and within a directory: the word of the cover alone
-  pub onto_ways : (r : ℕ) (path : WordPath) → Has (targets image (replaces move.from_dir move.from_slot move.to_dir r)) path → IsWay image path
+  pub onto_ways : (r : ℕ) (path : WordPath) → Has (targets image (replaces move.from_dir move.from_slot move.to_dir r)) path → IsWayIn image path
   onto_ways r =
       only_cover (replaces move.from_dir move.from_slot move.to_dir r)
       (now_way image can.well_formed (replaces move.from_dir move.from_slot move.to_dir r) move.from_dir (32 * move.from_slot + 0) can.source can.entry.directory low_source (inl refl))
 
-  pub within_ways : (len : ℕ) (path : WordPath) → Has (targets image (respells move.from_dir move.from_slot len)) path → IsWay image path
+  pub within_ways : (len : ℕ) (path : WordPath) → Has (targets image (respells move.from_dir move.from_slot len)) path → IsWayIn image path
   within_ways len =
       only_cover (respells move.from_dir move.from_slot len)
       (now_way image can.well_formed (respells move.from_dir move.from_slot len) move.from_dir (32 * move.from_slot + 1) can.source can.entry.directory (omega (arith, can.entry.in_size)) (inl refl))
@@ -64,12 +64,12 @@ module _ (image : Image) (move : Move) (can : CanRename image move) where
     pub into_targets : targets image (moves move.from_dir move.from_slot move.to_dir) ≡ cover_now image (moves move.from_dir move.from_slot move.to_dir) ∷ inumber_path image move.to_dir s ∷ []
     into_targets = ap (λ (o : Option ℕ). cover_now image (moves move.from_dir move.from_slot move.to_dir) ∷ flat_map (end_targets image) (new_entry image move.to_dir o ++ []) ++ slot_target image move.to_dir o) found
 
-    pub into_ways : (path : WordPath) → Has (targets image (moves move.from_dir move.from_slot move.to_dir)) path → IsWay image path
+    pub into_ways : (path : WordPath) → Has (targets image (moves move.from_dir move.from_slot move.to_dir)) path → IsWayIn image path
     into_ways path has = go (subst (λ (ps : List WordPath). Has ps path) into_targets has)
       where
-        go : Has (cover_now image (moves move.from_dir move.from_slot move.to_dir) ∷ inumber_path image move.to_dir s ∷ []) path → IsWay image path
-        go (inl e) = subst (IsWay image) e (now_way image can.well_formed (moves move.from_dir move.from_slot move.to_dir) move.from_dir (32 * move.from_slot + 0) can.source can.entry.directory low_source into_among)
-        go (inr (inl e)) = subst (IsWay image) e (content_way image can.well_formed move.to_dir (32 * s + 0) can.target low_target)
+        go : Has (cover_now image (moves move.from_dir move.from_slot move.to_dir) ∷ inumber_path image move.to_dir s ∷ []) path → IsWayIn image path
+        go (inl e) = subst (IsWayIn image) e (now_way image can.well_formed (moves move.from_dir move.from_slot move.to_dir) move.from_dir (32 * move.from_slot + 0) can.source can.entry.directory low_source into_among)
+        go (inr (inl e)) = subst (IsWayIn image) e (content_way image can.well_formed move.to_dir (32 * s + 0) can.target low_target)
         go (inr (inr never)) = absurd never
 
     -- where nothing is left to thaw the block of the empty entry is not kept
@@ -96,13 +96,13 @@ module _ (image : Image) (move : Move) (can : CanRename image move) where
         cover_now image (moves move.from_dir move.from_slot move.to_dir) ∷ root_path_now image move.to_dir ∷ end_path_now image move.to_dir ∷ []
     behind_targets = ap (λ (o : Option ℕ). cover_now image (moves move.from_dir move.from_slot move.to_dir) ∷ flat_map (end_targets image) (new_entry image move.to_dir o ++ []) ++ slot_target image move.to_dir o) none
 
-    pub behind_ways : (path : WordPath) → Has (targets image (moves move.from_dir move.from_slot move.to_dir)) path → IsWay image path
+    pub behind_ways : (path : WordPath) → Has (targets image (moves move.from_dir move.from_slot move.to_dir)) path → IsWayIn image path
     behind_ways path has = go (subst (λ (ps : List WordPath). Has ps path) behind_targets has)
       where
-        go : Has (cover_now image (moves move.from_dir move.from_slot move.to_dir) ∷ root_path_now image move.to_dir ∷ end_path_now image move.to_dir ∷ []) path → IsWay image path
-        go (inl e) = subst (IsWay image) e (now_way image can.well_formed (moves move.from_dir move.from_slot move.to_dir) move.from_dir (32 * move.from_slot + 0) can.source can.entry.directory low_source behind_among)
-        go (inr (inl e)) = subst (IsWay image) e (root_way image can.well_formed move.to_dir can.target)
-        go (inr (inr (inl e))) = subst (IsWay image) e (end_way image can.well_formed move.to_dir can.target)
+        go : Has (cover_now image (moves move.from_dir move.from_slot move.to_dir) ∷ root_path_now image move.to_dir ∷ end_path_now image move.to_dir ∷ []) path → IsWayIn image path
+        go (inl e) = subst (IsWayIn image) e (now_way image can.well_formed (moves move.from_dir move.from_slot move.to_dir) move.from_dir (32 * move.from_slot + 0) can.source can.entry.directory low_source behind_among)
+        go (inr (inl e)) = subst (IsWayIn image) e (root_way image can.well_formed move.to_dir can.target)
+        go (inr (inr (inl e))) = subst (IsWayIn image) e (end_way image can.well_formed move.to_dir can.target)
         go (inr (inr (inr never))) = absurd never
 
     -- where nothing is left to thaw an entry may be put there
@@ -115,12 +115,12 @@ module _ (image : Image) (move : Move) (can : CanRename image move) where
 
   -- ---- all of them
 
-  across_ways : (empty : Option ℕ) → empty_slot image move.to_dir ≡ empty → (path : WordPath) → Has (targets image (moves move.from_dir move.from_slot move.to_dir)) path → IsWay image path
+  across_ways : (empty : Option ℕ) → empty_slot image move.to_dir ≡ empty → (path : WordPath) → Has (targets image (moves move.from_dir move.from_slot move.to_dir)) path → IsWayIn image path
   across_ways (Some s) found = into_ways s found
   across_ways None none = behind_ways none
 
   abbrev AreWays : Change → Type 0
-  AreWays change = (path : WordPath) → Has (targets image change) path → IsWay image path
+  AreWays change = (path : WordPath) → Has (targets image change) path → IsWayIn image path
 
   pub rename_ways : AreWays (change_of move)
   rename_ways = go move.to_slot refl (cases_eq move.from_dir move.to_dir)

@@ -19,7 +19,7 @@ use Rattle.bp_layout.specs.Lookup.{Path, Node}
 use Rattle.bp_layout.specs.Lookup.Node.{dir, file}
 use Rattle.bp_plain.specs.Calls.{Call}
 use Rattle.bp_plain.specs.Calls.Call.{create, link, mkdir, write, truncate}
-use Rattle.bp_plain.specs.Export.{IsExportable, IsOfBytes, are_bytes, calls_at, calls_for, export_calls, first_of, is_zeros, path_text, size_of, stretch, stretches, write_of, writes_of}
+use Rattle.bp_plain.specs.Export.{IsExportable, IsOfBytes, are_bytes, calls_at, calls_for, export_calls, first_of, is_zeros, path_text, size_call, stretch, stretches, write_of, writes_of}
 use Rattle.bp_plain.specs.PlainTree.{FileTree, is_one}
 use Rattle.bp_plain.proofs.PathWays.{Entry, entry_there}
 use Rattle.bp_script.specs.Export.{AreRead, FitsLine, FitsText, IsOneLine, IsSpelled, IsWord, call_line, path_word}
@@ -186,15 +186,15 @@ module _ (text : List ℕ) (short : IsShort text) where
         go true at = let some : 0 < length content = ltb-true 0 (length content) at in inr (omega arith)
         go false at = let none : length content ≤ 0 = ltb-false 0 (length content) at in inl (omega arith)
 
-    size_said : AllSaid (size_of text content)
+    size_said : AllSaid (size_call text content)
     size_said = go (nat_lt 0 (length content) && is_zeros (stretch content (stretches content - 1)))
       where
         go : (b : Bool) → AllSaid (if b then truncate text (length content) ∷ [] else [])
         go true = (truncate_said (length content) fits, tt)
         go false = tt
 
-    file_said : AllSaid (writes_of text content ++ size_of text content)
-    file_said = all_both (writes_of text content) (size_of text content) (stretches_said (stretches content) 0 count_low) size_said
+    file_said : AllSaid (writes_of text content ++ size_call text content)
+    file_said = all_both (writes_of text content) (size_call text content) (stretches_said (stretches content) 0 count_low) size_said
 
   node_said : (node : Node) → ((content : List ℕ) → node ≡ file content → (length content ≤ max_size) × (are_bytes content ≡ true)) → AllSaid (calls_for text node)
   node_said dir has = (mkdir_said, tt)

@@ -11,7 +11,7 @@ use Rattle.bp_layout.specs.Words.{Image, word, block_of, block_count}
 use Rattle.bp_shapes.specs.Trail.{Trail, word_on, block_on, place_on, ArePointers, IsSkeleton}
 use Rattle.bp_cow.specs.Copies.{pointing_to}
 use Rattle.bp_thaw.specs.Linked.{AreThawing, is_top}
-use Rattle.bp_thaw.specs.Copies.{Copies, Marks, copy_on, copies_of, source_of, is_copied, links_among, AreMarks, HasCopies}
+use Rattle.bp_thaw.specs.Copies.{Copies, Marks, copy_on, placed_copies, source_of, is_copied, links_among, AreMarks, HasCopies}
 use Rattle.bp_thaw.proofs.Marks.{has-copy_on, copy_on-has, word-at_place}
 use Rattle.bp_thaw.proofs.Filled.{nothing_stored, one_more, outside, filled_thawing, link_thawing}
 
@@ -39,12 +39,12 @@ source_any image (c ∷ copies) block is = go (source_of image c == block) refl 
     go true e deeper = (c, inl refl, eqb-true (source_of image c) block e)
     go false e deeper = let rest = deeper (rw e at is) in (rest.0, inr rest.1, rest.2)
 
-pub copies-has : (image : Image) (marks : Marks) (copy : ℕ × ℕ) → Has (copies_of image marks) copy → (m : Trail × ℕ) × Has marks m × (copy ≡ (place_on image m.0, m.1))
+pub copies-has : (image : Image) (marks : Marks) (copy : ℕ × ℕ) → Has (placed_copies image marks) copy → (m : Trail × ℕ) × Has marks m × (copy ≡ (place_on image m.0, m.1))
 copies-has image [] copy has = absurd has
 copies-has image (m ∷ marks) copy (inl e) = (m, inl refl, sym e)
 copies-has image (m ∷ marks) copy (inr later) = let rest = copies-has image marks copy later in (rest.0, inr rest.1, rest.2)
 
-pub has_copies : (image : Image) (marks : Marks) (m : Trail × ℕ) → Has marks m → Has (copies_of image marks) (place_on image m.0, m.1)
+pub has_copies : (image : Image) (marks : Marks) (m : Trail × ℕ) → Has marks m → Has (placed_copies image marks) (place_on image m.0, m.1)
 has_copies image [] m has = absurd has
 has_copies image (n ∷ marks) m (inl e) = inl (ap (λ (x : Trail × ℕ). (place_on image x.0, x.1)) e)
 has_copies image (n ∷ marks) m (inr later) = inr (has_copies image marks m later)
@@ -61,7 +61,7 @@ module _ (old mid : Image) (Pointer : Trail → Type 0) (are : ArePointers Point
   mark-some m here = copy_on-has marks m (λ n there e. all.trails n m there here e) here
 
   -- where the block above has no copy, the pointer stands in no copy
-  is_top-mark : (m : Trail × ℕ) → Has marks m → is_copied mid (copies_of old marks) (place_on old m.0 / 512) ≡ false → is_top (copy_on marks) m.0 ≡ true
+  is_top-mark : (m : Trail × ℕ) → Has marks m → is_copied mid (placed_copies old marks) (place_on old m.0 / 512) ≡ false → is_top (copy_on marks) m.0 ≡ true
   is_top-mark ([], c) here none = rw (mark-some ([], c) here) refl
   is_top-mark (slot ∷ p, c) here none = go (copy_on marks p) refl
     where
@@ -71,13 +71,13 @@ module _ (old mid : Image) (Pointer : Trail → Type 0) (are : ArePointers Point
           let above : Has marks (p, d) = has-copy_on marks p d e in
           let low : slot < 512 = are.slots slot p (all.each (slot ∷ p, c) here).pointer in
           let block : (512 * block_on old p + slot) / 512 ≡ block_on old p = omega (arith, low) in
-          absurd (true≢false (sym (any_source mid (copies_of old marks) (place_on old p, d) (place_on old (slot ∷ p) / 512) (has_copies old marks (p, d) above) (ap block_of (word_mid (p, d) above) ∙ sym block)) ∙ none))
+          absurd (true≢false (sym (any_source mid (placed_copies old marks) (place_on old p, d) (place_on old (slot ∷ p) / 512) (has_copies old marks (p, d) above) (ap block_of (word_mid (p, d) above) ∙ sym block)) ∙ none))
 
-  not_top-mark : (m : Trail × ℕ) → Has marks m → is_copied mid (copies_of old marks) (place_on old m.0 / 512) ≡ true → is_top (copy_on marks) m.0 ≡ true → ⊥
+  not_top-mark : (m : Trail × ℕ) → Has marks m → is_copied mid (placed_copies old marks) (place_on old m.0 / 512) ≡ true → is_top (copy_on marks) m.0 ≡ true → ⊥
   not_top-mark m here is top = go m here top (found.2 ∙ refl)
     where
-      sourced : (copy : ℕ × ℕ) × Has (copies_of old marks) copy × (source_of mid copy ≡ place_on old m.0 / 512)
-      sourced = source_any mid (copies_of old marks) (place_on old m.0 / 512) is
+      sourced : (copy : ℕ × ℕ) × Has (placed_copies old marks) copy × (source_of mid copy ≡ place_on old m.0 / 512)
+      sourced = source_any mid (placed_copies old marks) (place_on old m.0 / 512) is
 
       which : (n : Trail × ℕ) × Has marks n × (sourced.0 ≡ (place_on old n.0, n.1))
       which = copies-has old marks sourced.0 sourced.1
@@ -103,17 +103,17 @@ module _ (old mid : Image) (Pointer : Trail → Type 0) (are : ArePointers Point
 
   module _ (same : (now : Image) (stored : Trail → Bool) → Thawing now stored → Same mid now) where
     pub any_stored : (left : Marks) → ((m : Trail × ℕ) → Has left m → Has marks m) → (now : Image) (stored : Trail → Bool) → Thawing now stored →
-        AnyOf Same mid now (links_among mid (copies_of old marks) (copies_of old left))
+        AnyOf Same mid now (links_among mid (placed_copies old marks) (placed_copies old left))
     any_stored [] inside now stored thawing = same now stored thawing
-    any_stored (m ∷ left) inside now stored thawing = go (is_copied mid (copies_of old marks) (place_on old m.0 / 512)) refl
+    any_stored (m ∷ left) inside now stored thawing = go (is_copied mid (placed_copies old marks) (place_on old m.0 / 512)) refl
         (λ image set_so_far state. any_stored left (λ n later. inside n (inr later)) image set_so_far state)
       where
         here : Has marks m
         here = inside m (inl refl)
 
-        go : (x : Bool) → is_copied mid (copies_of old marks) (place_on old m.0 / 512) ≡ x →
-            ((image : Image) (stored_then : Trail → Bool) → Thawing image stored_then → AnyOf Same mid image (links_among mid (copies_of old marks) (copies_of old left))) →
-            AnyOf Same mid now (links_among mid (copies_of old marks) (copies_of old (m ∷ left)))
+        go : (x : Bool) → is_copied mid (placed_copies old marks) (place_on old m.0 / 512) ≡ x →
+            ((image : Image) (stored_then : Trail → Bool) → Thawing image stored_then → AnyOf Same mid image (links_among mid (placed_copies old marks) (placed_copies old left))) →
+            AnyOf Same mid now (links_among mid (placed_copies old marks) (placed_copies old (m ∷ left)))
         go true is rest = rw is (rest now stored thawing)
         go false is rest =
             let value : pointing_to (word mid (place_on old m.0)) m.1 ≡ pointing_to (word_on old m.0) m.1 = ap (λ w. pointing_to w m.1) (word_mid m here) in
@@ -124,18 +124,18 @@ module _ (old mid : Image) (Pointer : Trail → Type 0) (are : ArePointers Point
 
   -- once they all are
   pub all_stored : (left : Marks) → ((m : Trail × ℕ) → Has left m → Has marks m) → (now : Image) (stored : Trail → Bool) → Thawing now stored → AllBut left stored →
-      (stored_then : Trail → Bool) × Thawing (words_after now (links_of (links_among mid (copies_of old marks) (copies_of old left)))) stored_then × AllBut [] stored_then
+      (stored_then : Trail → Bool) × Thawing (words_after now (links_of (links_among mid (placed_copies old marks) (placed_copies old left)))) stored_then × AllBut [] stored_then
   all_stored [] inside now stored thawing but = (stored, thawing, but)
-  all_stored (m ∷ left) inside now stored thawing but = go (is_copied mid (copies_of old marks) (place_on old m.0 / 512)) refl
+  all_stored (m ∷ left) inside now stored thawing but = go (is_copied mid (placed_copies old marks) (place_on old m.0 / 512)) refl
       (λ image set_so_far state but_so_far. all_stored left (λ n later. inside n (inr later)) image set_so_far state but_so_far)
     where
       here : Has marks m
       here = inside m (inl refl)
 
       Ends : Marks → Image → Type 0
-      Ends rest image = (stored_then : Trail → Bool) × Thawing (words_after image (links_of (links_among mid (copies_of old marks) (copies_of old rest)))) stored_then × AllBut [] stored_then
+      Ends rest image = (stored_then : Trail → Bool) × Thawing (words_after image (links_of (links_among mid (placed_copies old marks) (placed_copies old rest)))) stored_then × AllBut [] stored_then
 
-      skipped : is_copied mid (copies_of old marks) (place_on old m.0 / 512) ≡ true → AllBut left stored
+      skipped : is_copied mid (placed_copies old marks) (place_on old m.0 / 512) ≡ true → AllBut left stored
       skipped is n there top = elim (but n there top) [
         | inl (inl e) ↦ absurd (not_top-mark m here is (ap (λ (x : Trail × ℕ). is_top (copy_on marks) x.0) e ∙ top))
         | inl (inr later) ↦ inl later
@@ -149,7 +149,7 @@ module _ (old mid : Image) (Pointer : Trail → Type 0) (are : ArePointers Point
         | inr done ↦ inr (or_right (bytes_eq m.0 n.0) (stored n.0) done)
       ]
 
-      go : (x : Bool) → is_copied mid (copies_of old marks) (place_on old m.0 / 512) ≡ x →
+      go : (x : Bool) → is_copied mid (placed_copies old marks) (place_on old m.0 / 512) ≡ x →
           ((image : Image) (stored_then : Trail → Bool) → Thawing image stored_then → AllBut left stored_then → Ends left image) → Ends (m ∷ left) now
       go true is rest = rw is (rest now stored thawing (skipped is))
       go false is rest =
@@ -168,7 +168,7 @@ module _ (old mid : Image) (Pointer : Trail → Type 0) (are : ArePointers Point
   }
 
   -- the words after all links
-  pub linked_thawing : Thawing (words_after mid (links_of (links_among mid (copies_of old marks) (copies_of old marks)))) all_are
+  pub linked_thawing : Thawing (words_after mid (links_of (links_among mid (placed_copies old marks) (placed_copies old marks)))) all_are
   linked_thawing =
       let ends = all_stored marks (λ m here. here) mid nothing_stored (filled_thawing old Pointer are skeleton marks all mid has) (λ m here top. inl here) in
       thawing_all _ ends.0 ends.1 ends.2

@@ -18,7 +18,7 @@ use Rattle.bp_changes.proofs.ReachedOn.{reached_on}
 use Rattle.bp_changes.proofs.SameMeaning.{well_formed-same}
 use Rattle.bp_shapes.specs.Trail.{Trail, block_on, place_on, trail_of}
 use Rattle.bp_shapes.specs.Forest.{IsTreePointer}
-use Rattle.bp_thaw.specs.Fronts.{IsPointerPath, IsWay, path_trail}
+use Rattle.bp_thaw.specs.Fronts.{IsPointerPath, IsWayIn, path_trail}
 use Rattle.bp_thaw.specs.Steps.{AreKept, IsKept}
 use Rattle.bp_thaw.proofs.Found.{AreFound, IsFrontAmong, all_apart, any_some, are_found, filter_none, found_is, gone, mapped_range, path_of, some_any, take_front, there_of}
 use Rattle.bp_thaw.proofs.FindSteps.{take-trail, there_above}
@@ -62,7 +62,7 @@ module _ (image : Image) (wf : IsWellFormed image) (kept : ℕ → Bool) where
         record { way = rest.way; count = rest.count; has = inr rest.has; less = rest.less; is = rest.is }
   ]
 
-  module _ (ws : List WordPath) (ways : (w : WordPath) → Has ws w → IsWay image w) where
+  module _ (ws : List WordPath) (ways : (w : WordPath) → Has ws w → IsWayIn image w) where
     all_of : AreFound image wf kept (gone image wf kept [] ws) (thawed_on image kept ws)
     all_of = are_found image wf kept ws ways
 
@@ -100,7 +100,7 @@ module _ (image : Image) (wf : IsWellFormed image) (kept : ℕ → Bool) where
         above slot p has is =
             let f = has-trail (thawed_on image kept ws) (slot ∷ p) has in
             let front = all_of.fronts f.0 f.1 in
-            let way : IsWay image front.way = all_of.ways front.way front.has in
+            let way : IsWayIn image front.way = all_of.ways front.way front.has in
             let up = below front.way front.count slot p (sym (take-trail image wf front.way way front.count (omega (arith, front.less))) ∙ ap path_trail (sym front.is) ∙ f.2) in
             let m : ℕ = up.0 in
             let less : m < length front.way = omega (arith, up.1, front.less) in

@@ -13,7 +13,7 @@ use Rattle.bp_shapes.specs.Trail.{block_on, trail_of}
 use Rattle.bp_shapes.specs.Forest.{IsTreePointer}
 use Rattle.bp_shapes.proofs.FreeSets.{pointer_fronts, wf_forest}
 use Rattle.bp_shapes.proofs.PathTrails.{low-placed}
-use Rattle.bp_thaw.specs.Fronts.{IsPointerPath, IsWay, found_in, found_on, is_found, path_trail}
+use Rattle.bp_thaw.specs.Fronts.{IsPointerPath, IsWayIn, found_in, found_on, is_found, path_trail}
 use Rattle.bp_thaw.proofs.CopySteps.{map-more}
 use Rattle.bp_thaw.proofs.Marks.{block_above, placed}
 use Rattle.bp_thaw.proofs.PointerPaths.{address_is, are, block_at, bones, front_path, front-trail, pointer_there, there_pointer}
@@ -73,10 +73,10 @@ low_path : (h t d k n : ℕ) → get_or (tree_path h t d k) n 0 < 512
 low_path h zero d k n = low_digits d k n
 low_path h (suc i) d k n = low_append (inode_path h (suc i) 1) (digits d k) (low_digits (suc h) (8 * suc i + 1)) (low_digits d k) n
 
-pub low_slot : (image : Image) (w : WordPath) → IsWay image w → (n : ℕ) → get_or w n 0 < 512
+pub low_slot : (image : Image) (w : WordPath) → IsWayIn image w → (n : ℕ) → get_or w n 0 < 512
 low_slot image w way n = subst (λ p. get_or p n 0 < 512) (sym way.is) (low_path (height_of (word image 2)) way.tree way.depth way.index n)
 
-module _ (image : Image) (wf : IsWellFormed image) (w : WordPath) (way : IsWay image w) where
+module _ (image : Image) (wf : IsWellFormed image) (w : WordPath) (way : IsWayIn image w) where
   -- the trail of the first slots
   pub take-trail : (d : ℕ) → d ≤ length w → path_trail (take d w) ≡ trail_of w d
   take-trail d low = ap (trail_of (take d w)) long ∙ same d (omega arith)

@@ -16,7 +16,7 @@ use Rattle.bp_layout.specs.WellFormed.{IsWellFormed}
 use Rattle.bp_layout.specs.WordPaths.{WordPath, address}
 use Rattle.bp_layout.specs.Words.{Image}
 use Rattle.bp_layout.proofs.MemberLaws.{apart-append, filter-has, has-either, has-filter, has-map, has-range}
-use Rattle.bp_thaw.specs.Fronts.{IsPointerPath, IsWay, found_in, found_on, is_found}
+use Rattle.bp_thaw.specs.Fronts.{IsPointerPath, IsWayIn, found_in, found_on, is_found}
 use Rattle.bp_thaw.proofs.CopySteps.{map-more}
 use Rattle.bp_thaw.proofs.PointerPaths.{front_path, paths_apart}
 
@@ -112,7 +112,7 @@ module _ (image : Image) (wf : IsWellFormed image) (kept : ℕ → Bool) where
 
   -- found so far, on these paths
   pub record AreFound (earlier found : List WordPath) : Type 0 where
-    pub ways : (w : WordPath) → Has earlier w → IsWay image w
+    pub ways : (w : WordPath) → Has earlier w → IsWayIn image w
     pub kept_there : (f : WordPath) → Has found f → is_kept_at image kept f ≡ true
     pub fronts : (f : WordPath) → Has found f → IsFrontAmong earlier f
     pub same : (f : WordPath) → IsPointerPath image f → is_kept_at image kept f ≡ true → is_found image found f ≡ list_any (is_front f) earlier
@@ -120,7 +120,7 @@ module _ (image : Image) (wf : IsWellFormed image) (kept : ℕ → Bool) where
   pub there_of : (f : WordPath) → is_kept_at image kept f ≡ true → is_there_now image f ≡ true
   there_of f is = (and_true _ _ is).0
 
-  pub path_of : (earlier : List WordPath) → ((w : WordPath) → Has earlier w → IsWay image w) → (f : WordPath) → IsFrontAmong earlier f → IsPointerPath image f
+  pub path_of : (earlier : List WordPath) → ((w : WordPath) → Has earlier w → IsWayIn image w) → (f : WordPath) → IsFrontAmong earlier f → IsPointerPath image f
   path_of earlier ways f front = subst (IsPointerPath image) (sym front.is) (front_path image wf front.way front.count (ways front.way front.has) front.less)
 
   abbrev new_to : List WordPath → WordPath → Bool
@@ -157,7 +157,7 @@ module _ (image : Image) (wf : IsWellFormed image) (kept : ℕ → Bool) where
       ∙ filter-append (is_kept_at image kept) (filter (new_to earlier) (map (λ n. take n w) (range_with_len 0 d))) (filter (new_to earlier) (take d w ∷ []))
 
   -- no place of a pointer higher up is that of one below it
-  rest_apart : (earlier : List WordPath) (w : WordPath) → IsWay image w → (d : ℕ) → d < length w → is_kept_at image kept (take d w) ≡ true → is_found image (rest_of earlier w d) (take d w) ≡ false
+  rest_apart : (earlier : List WordPath) (w : WordPath) → IsWayIn image w → (d : ℕ) → d < length w → is_kept_at image kept (take d w) ≡ true → is_found image (rest_of earlier w d) (take d w) ≡ false
   rest_apart earlier w way d low is = any_none _ (rest_of earlier w d) (λ g has. ne_eqb (address image g) (address image (take d w)) (apart g (rest_has earlier w d g has)))
     where
       apart : (g : WordPath) → IsRest earlier w d g → address image g ≡ address image (take d w) → ⊥
@@ -169,7 +169,7 @@ module _ (image : Image) (wf : IsWellFormed image) (kept : ℕ → Bool) where
           let lengths : rest.count ≡ d = sym one ∙ ap (λ (p : WordPath). length p) (sym rest.is ∙ same) ∙ two in
           omega (arith, lengths, rest.less)
 
-  module _ (earlier found : List WordPath) (so_far : AreFound earlier found) (w : WordPath) (way : IsWay image w) where
+  module _ (earlier found : List WordPath) (so_far : AreFound earlier found) (w : WordPath) (way : IsWayIn image w) where
     on_is : (d : ℕ) → d ≤ length w → found_on image kept found w d ≡ found ++ rest_of earlier w d
     on_is zero low = sym (append_nil found)
       where
@@ -210,8 +210,8 @@ module _ (image : Image) (wf : IsWellFormed image) (kept : ℕ → Bool) where
     abbrev all_rest : List WordPath
     all_rest = rest_of earlier w (length w)
 
-    ways_now : (v : WordPath) → Has (w ∷ earlier) v → IsWay image v
-    ways_now v (inl e) = subst (IsWay image) e way
+    ways_now : (v : WordPath) → Has (w ∷ earlier) v → IsWayIn image v
+    ways_now v (inl e) = subst (IsWayIn image) e way
     ways_now v (inr later) = so_far.ways v later
 
     kept_now : (f : WordPath) → Has (found ++ rest_of earlier w (length w)) f → is_kept_at image kept f ≡ true
@@ -256,7 +256,7 @@ module _ (image : Image) (wf : IsWellFormed image) (kept : ℕ → Bool) where
   gone earlier [] = earlier
   gone earlier (w ∷ ws) = gone (w ∷ earlier) ws
 
-  pub all_found : (earlier found ws : List WordPath) → AreFound earlier found → ((w : WordPath) → Has ws w → IsWay image w) →
+  pub all_found : (earlier found ws : List WordPath) → AreFound earlier found → ((w : WordPath) → Has ws w → IsWayIn image w) →
       (found_in image kept found ws ≡ found ++ filter (is_kept_at image kept) (fronts_of earlier ws)) × AreFound (gone earlier ws) (found_in image kept found ws)
   all_found earlier found [] so_far ways = (sym (append_nil found), so_far)
     where
@@ -285,8 +285,8 @@ module _ (image : Image) (wf : IsWellFormed image) (kept : ℕ → Bool) where
   found_nothing : AreFound [] []
   found_nothing = record { ways = λ w none. absurd none; kept_there = λ f none. absurd none; fronts = λ f none. absurd none; same = λ f of is. refl }
 
-  pub found_is : (ws : List WordPath) → ((w : WordPath) → Has ws w → IsWay image w) → found_in image kept [] ws ≡ thawed_on image kept ws
+  pub found_is : (ws : List WordPath) → ((w : WordPath) → Has ws w → IsWayIn image w) → found_in image kept [] ws ≡ thawed_on image kept ws
   found_is ws ways = (all_found [] [] ws found_nothing ways).0
 
-  pub are_found : (ws : List WordPath) → ((w : WordPath) → Has ws w → IsWay image w) → AreFound (gone [] ws) (thawed_on image kept ws)
+  pub are_found : (ws : List WordPath) → ((w : WordPath) → Has ws w → IsWayIn image w) → AreFound (gone [] ws) (thawed_on image kept ws)
   are_found ws ways = subst (AreFound (gone [] ws)) (found_is ws ways) (all_found [] [] ws found_nothing ways).1

@@ -4,7 +4,7 @@ use Rattle.bp_layout.specs.Members.{AreApart, Has}
 use Rattle.bp_layout.proofs.MemberLaws.{apart-first}
 use Rattle.bp_layout.specs.Words.{Image}
 use Rattle.bp_shapes.specs.Trail.{Trail, place_on}
-use Rattle.bp_thaw.specs.Copies.{Copies, Marks, blocks_of, copies_of, places_of}
+use Rattle.bp_thaw.specs.Copies.{Copies, Marks, blocks_of, placed_copies, places_of}
 
 abbrev pub mark_all : List Trail → Copies → Marks
 mark_all [] copies = []
@@ -16,7 +16,7 @@ pair_as (b, d) a e = cc
 
 -- no item more or less
 module _ (image : Image) where
-  pub copies_marked : (trails : List Trail) (copies : Copies) → places_of copies ≡ map (place_on image) trails → copies_of image (mark_all trails copies) ≡ copies
+  pub copies_marked : (trails : List Trail) (copies : Copies) → places_of copies ≡ map (place_on image) trails → placed_copies image (mark_all trails copies) ≡ copies
   copies_marked [] [] at = refl
   copies_marked [] (c ∷ copies) at = absurd (cc)
   copies_marked (t ∷ trails) [] at = absurd (cc)
@@ -24,7 +24,7 @@ module _ (image : Image) where
       let head : c.0 ≡ place_on image t = cc in
       let tail : places_of copies ≡ map (place_on image) trails = cc in
       let one : (place_on image t, c.1) ≡ c = pair_as c (place_on image t) head in
-      let rest : copies_of image (mark_all trails copies) ≡ copies = copies_marked trails copies tail in
+      let rest : placed_copies image (mark_all trails copies) ≡ copies = copies_marked trails copies tail in
       cc
 
   pub number-marked : (trails : List Trail) (copies : Copies) → places_of copies ≡ map (place_on image) trails → length (blocks_of copies) ≡ length trails

@@ -10,7 +10,7 @@ use Rattle.bp_shapes.specs.Trail.{Trail, word_on, block_on, place_on, ArePointer
 use Rattle.bp_shapes.specs.Trail.IsPlaced.{at_top, in_block}
 use Rattle.bp_shapes.proofs.TrailLaws.{cases_trail, word_on-top, word_on-slot}
 use Rattle.bp_thaw.specs.Linked.{AreCopies}
-use Rattle.bp_thaw.specs.Copies.{Marks, copy_on, copy_at, copies_of, AreMarks}
+use Rattle.bp_thaw.specs.Copies.{Marks, copy_on, copy_at, placed_copies, AreMarks}
 
 pub some_none : (c : ℕ) → ◌≡◌ {A = Option ℕ} (Some c) None → ⊥
 some_none c e = absurd (cc)
@@ -86,11 +86,11 @@ module _ (old : Image) (Pointer : Trail → Type 0) (are : ArePointers Pointer) 
       cc
 
   -- so a copy is the same by its place and by its trail
-  pub copy_at-placed : (marks : Marks) (q : Trail) → ((m : Trail × ℕ) → Has marks m → IsPlaced old Pointer m.0) → IsPlaced old Pointer q → copy_at (copies_of old marks) (place_on old q) ≡ copy_on marks q
+  pub copy_at-placed : (marks : Marks) (q : Trail) → ((m : Trail × ℕ) → Has marks m → IsPlaced old Pointer m.0) → IsPlaced old Pointer q → copy_at (placed_copies old marks) (place_on old q) ≡ copy_on marks q
   copy_at-placed [] q each there = refl
   copy_at-placed (m ∷ marks) q each there = go (cases_trail m.0 q) (copy_at-placed marks q (λ n has. each n (inr has)) there)
     where
-      go : (m.0 ≡ q) ⊎ (m.0 ≢ q) → copy_at (copies_of old marks) (place_on old q) ≡ copy_on marks q → copy_at (copies_of old (m ∷ marks)) (place_on old q) ≡ copy_on (m ∷ marks) q
+      go : (m.0 ≡ q) ⊎ (m.0 ≢ q) → copy_at (placed_copies old marks) (place_on old q) ≡ copy_on marks q → copy_at (placed_copies old (m ∷ marks)) (place_on old q) ≡ copy_on (m ∷ marks) q
       go (inl e) rest =
           let same : (place_on old m.0 == place_on old q) ≡ true = eq-eqb (place_on old m.0) (place_on old q) (ap (place_on old) e) in
           let also : bytes_eq m.0 q ≡ true = (bytes_eq-Decides m.0 q).1 e in

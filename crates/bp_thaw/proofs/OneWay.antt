@@ -9,7 +9,7 @@ use Rattle.bp_layout.specs.WordPaths.{WordPath, address}
 use Rattle.bp_layout.specs.Words.{Image, block_of, word}
 use Rattle.bp_layout.proofs.MemberLaws.{has-filter, has-map, has-range}
 use Rattle.bp_layout.proofs.ThawLaws.{loose-on}
-use Rattle.bp_thaw.specs.Fronts.{IsWay, found_on}
+use Rattle.bp_thaw.specs.Fronts.{IsWayIn, found_on}
 use Rattle.bp_thaw.proofs.Found.{found_is}
 
 -- the block to which the pointer at a place leads
@@ -17,11 +17,11 @@ pub block_led : (image : Image) (front : WordPath) (place value block : ℕ) →
 block_led image front place value block at loaded of = of ∙ ap block_of (loaded ∙ ap (word image) at)
 
 -- nothing is found on it: so nothing is thawed on it
-pub none_on_way : (image : Image) → IsWellFormed image → (kept : ℕ → Bool) (way : WordPath) → IsWay image way → found_on image kept [] way (length way) ≡ [] → thawed_on image kept (way ∷ []) ≡ []
+pub none_on_way : (image : Image) → IsWellFormed image → (kept : ℕ → Bool) (way : WordPath) → IsWayIn image way → found_on image kept [] way (length way) ≡ [] → thawed_on image kept (way ∷ []) ≡ []
 none_on_way image wf kept way of none = sym (found_is image wf kept (way ∷ []) one) ∙ none
   where
-    one : (other : WordPath) → Has (way ∷ []) other → IsWay image other
-    one other (inl e) = subst (IsWay image) e of
+    one : (other : WordPath) → Has (way ∷ []) other → IsWayIn image other
+    one other (inl e) = subst (IsWayIn image) e of
     one other (inr later) = absurd later
 
 -- a pointer on it leads to a kept block: so something is thawed

@@ -25,7 +25,7 @@ use Rattle.bp_shapes.proofs.ForestLaws.{block-tree, pointers, same_trail, short,
 use Rattle.bp_shapes.proofs.FreeSets.{wf_forest}
 use Rattle.bp_shapes.proofs.PathTrails.{AreNodes, address-on}
 use Rattle.bp_tree.proofs.Digits.{length-digits}
-use Rattle.bp_thaw.specs.Fronts.{HasDigits, IsPointerPath, IsWay, path_trail}
+use Rattle.bp_thaw.specs.Fronts.{HasDigits, IsPointerPath, IsWayIn, path_trail}
 use Rattle.bp_thaw.proofs.Marks.{block_above, placed, places_apart, word-at_place}
 
 -- ---- trails of paths
@@ -159,7 +159,7 @@ module _ (image : Image) (wf : IsWellFormed image) where
           let front = digits_front (inode_path (height_of (word image 2)) (suc i) 1) depth k n few past (omega (arith, less, length-append (inode_path (height_of (word image 2)) (suc i) 1) (digits depth k), length-digits depth k)) in
           record { tree = suc i; depth = front.count; index = front.number; reached = reached; low = omega (arith, front.less, low); few = front.few; is = front.is }
 
-  pub front_path : (path : WordPath) (n : ℕ) → IsWay image path → n < length path → IsPointerPath image (take n path)
+  pub front_path : (path : WordPath) (n : ℕ) → IsWayIn image path → n < length path → IsPointerPath image (take n path)
   front_path path n way less =
       subst (λ p. IsPointerPath image (take n p)) (sym way.is)
       (way_front way.tree way.depth way.index n way.reached way.low way.few (subst (λ p. n < length p) way.is less))

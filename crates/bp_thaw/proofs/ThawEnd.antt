@@ -42,7 +42,7 @@ use Rattle.bp_cow.specs.Copies.{pointing_to}
 use Rattle.bp_thaw.specs.Linked.{AreThawing, is_turned}
 use Rattle.bp_cow.proofs.CommitLaws.{has_led, led_has}
 use Rattle.bp_thaw.proofs.Linked.{thawed_words, words_now}
-use Rattle.bp_thaw.specs.Copies.{AreMarks, Copies, HasCopies, IsMark, Marks, blocks_of, copies_of, copy_on, is_copied, links_among, places_of, source_of, turned_word}
+use Rattle.bp_thaw.specs.Copies.{AreMarks, Copies, HasCopies, IsMark, Marks, blocks_of, placed_copies, copy_on, is_copied, links_among, places_of, source_of, turned_word}
 use Rattle.bp_thaw.specs.Thaws.{Thaws}
 use Rattle.bp_thaw.specs.Steps.{AreKept, FillsCopies, InBlocks, TakesAll}
 use Rattle.bp_thaw.proofs.Marks.{are_copies, block_above, copy_on-has, has-copy_on, placed, places_apart, word-at_place}
@@ -101,7 +101,7 @@ module _ (kept : ℕ → Bool) (first : Memory) (before after : Set) (wf : IsWel
   abbrev marks : Marks
   marks = mark_all trails copies
 
-  marked : copies_of old marks ≡ copies
+  marked : placed_copies old marks ≡ copies
   marked = copies_marked old trails copies at
 
   copy-mark : (m : Trail × ℕ) → Has marks m → Has copies (place_on old m.0, m.1)

@@ -14,7 +14,7 @@ use Rattle.bp_layout.specs.WellFormed.{IsWellFormed}
 use Rattle.bp_layout.specs.WordPaths.{WordPath, digits, inode_path, tree_path}
 use Rattle.bp_layout.specs.Words.{Image, height_of, word}
 use Rattle.bp_tree.proofs.Digits.{length-digits}
-use Rattle.bp_thaw.specs.Fronts.{IsPointerPath, IsWay}
+use Rattle.bp_thaw.specs.Fronts.{IsPointerPath, IsWayIn}
 use Rattle.bp_thaw.proofs.PointerPaths.{front_path, number-append, pointed_is}
 
 pub drop_all : (n : ℕ) (xs : List ℕ) → length xs ≤ n → drop n xs ≡ []
@@ -64,7 +64,7 @@ module _ (image : Image) (root size level index : ℕ) where
   pub present_none : size ≡ 0 → is_present image root size (record { level = level; index = index }) ≡ false
   present_none none = present_far (λ below. omega (arith, below, none))
 
-module _ (image : Image) (wf : IsWellFormed image) (w : WordPath) (way : IsWay image w) (d : ℕ) (low : d < length w) where
+module _ (image : Image) (wf : IsWellFormed image) (w : WordPath) (way : IsWayIn image w) (d : ℕ) (low : d < length w) where
   abbrev top : ℕ
   top = height_of (root_of image 0)
 

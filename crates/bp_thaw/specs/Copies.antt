@@ -55,8 +55,8 @@ abbrev pub copy_on : Marks → Trail → Option ℕ
 copy_on [] p = None
 copy_on (mark ∷ marks) p = if bytes_eq mark.0 p then Some mark.1 else copy_on marks p
 
-abbrev pub copies_of : Image → Marks → Copies
-copies_of image marks = map (λ mark. (place_on image mark.0, mark.1)) marks
+abbrev pub placed_copies : Image → Marks → Copies
+placed_copies image marks = map (λ mark. (place_on image mark.0, mark.1)) marks
 
 -- a pointer that is not null, and a block to which no pointer leads
 pub record IsMark (image : Image) (Pointer : Trail → Type 0) (mark : Trail × ℕ) : Type 0 where
@@ -78,6 +78,6 @@ pub record HasCopies (old now : Image) (marks : Marks) : Type 0 where
   pub whole : length now ≡ length old
   pub copied : (m : Trail × ℕ) (slot : ℕ) → Has marks m → slot < block_words
       → word now (block_words * m.1 + slot)
-      ≡ turned_word old (copies_of old marks) (block_words * block_on old m.0 + slot)
+      ≡ turned_word old (placed_copies old marks) (block_words * block_on old m.0 + slot)
   pub others : (place : ℕ) → ((m : Trail × ℕ) → Has marks m → place / block_words ≢ m.1)
       → word now place ≡ word old place

@@ -25,8 +25,8 @@ pub record IsPathIn (image : Image) (most : ℕ → ℕ) (path : WordPath) : Typ
   pub is : path ≡ tree_path (height_of (word image super_root)) tree depth index
 
 -- the way to a pointer or to a content word
-abbrev pub IsWay : Image → WordPath → Type 0
-IsWay image path = IsPathIn image suc path
+abbrev pub IsWayIn : Image → WordPath → Type 0
+IsWayIn image path = IsPathIn image suc path
 
 -- the path of a pointer
 abbrev pub IsPointerPath : Image → WordPath → Type 0

@@ -10,7 +10,7 @@ use Rattle.bp_layout.specs.WellFormed.{IsWellFormed}
 use Rattle.bp_layout.specs.WordPaths.{WordPath}
 use Rattle.bp_limits.specs.Limits.{block_words}
 use Rattle.bp_layout.specs.Thaw.{thawed_on}
-use Rattle.bp_thaw.specs.Fronts.{IsWay}
+use Rattle.bp_thaw.specs.Fronts.{IsWayIn}
 use Rattle.bp_commit.specs.Performs.{AddsTaking}
 use Rattle.pm_region.specs.Memory.{Memory, current_words, room_in}
 
@@ -21,7 +21,7 @@ paths_in targets = map (λ path. path.items) targets.items
 -- as are copied, and the log has room.
 pub record CanThaw (kept : ℕ → Bool) (paths : List WordPath) (memory : Memory) (blocks : Set) : Type 0 where
   pub well_formed : IsWellFormed (current_words memory)
-  pub ways : (path : WordPath) → Has paths path → IsWay (current_words memory) path
+  pub ways : (path : WordPath) → Has paths path → IsWayIn (current_words memory) path
   pub free : AreFreeBlocks (current_words memory) kept (has blocks)
   pub enough : length (thawed_on (current_words memory) kept paths) ≤ length (members blocks)
   pub room : (block_words + 1) * length (thawed_on (current_words memory) kept paths) + 2 ≤ room_in memory

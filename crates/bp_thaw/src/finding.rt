@@ -8,7 +8,7 @@ ghost use Rattle.bp_layout.specs.WellFormed.{IsWellFormed};
 ghost use Rattle.bp_layout.specs.WordPaths.{WordPath, address};
 ghost use Rattle.bp_layout.specs.Words.{block_count};
 ghost use Rattle.pm_region.specs.Memory.{current_words};
-ghost use Rattle.bp_thaw.specs.Fronts.{FindsOn, IsWay, found_in};
+ghost use Rattle.bp_thaw.specs.Fronts.{FindsOn, IsWayIn, found_in};
 ghost use Rattle.bp_thaw.specs.Thaws.{paths_in};
 
 use crate::ways::is_there;
@@ -50,7 +50,7 @@ fn add_place(places: &mut Places, place: u32)
 fn find_on<R: Region>(region: &R, frozen: &Blocks, way: &Slots, places: &mut Places)
     requires well_formed { IsWellFormed (current_words (R.memory region.now)) }
     requires frozen { block_count (current_words (R.memory region.now)) ≤ length frozen.now }
-    requires way { IsWay (current_words (R.memory region.now)) way.now.items }
+    requires way { IsWayIn (current_words (R.memory region.now)) way.now.items }
     requires room { length places.old.items + 12 ≤ 96 }
     ensures places { FindsOn (current_words (R.memory region.now)) (has frozen.now) way.now.items
         places.old.items places.new.items }
@@ -74,7 +74,7 @@ fn find_on<R: Region>(region: &R, frozen: &Blocks, way: &Slots, places: &mut Pla
 pub(crate) fn find<R: Region>(region: &R, frozen: &Blocks, ways: &ArrayVec<Slots, 8>) -> Places
     requires well_formed { IsWellFormed (current_words (R.memory region.now)) }
     requires frozen { block_count (current_words (R.memory region.now)) ≤ length frozen.now }
-    requires ways { (way : WordPath) → Has (paths_in ways.now) way → IsWay (current_words (R.memory region.now)) way }
+    requires ways { (way : WordPath) → Has (paths_in ways.now) way → IsWayIn (current_words (R.memory region.now)) way }
     ensures { result.items ≡ map (address (current_words (R.memory region.now)))
         (found_in (current_words (R.memory region.now)) (has frozen.now) [] (paths_in ways.now)) }
 {

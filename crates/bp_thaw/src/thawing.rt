@@ -8,7 +8,7 @@ ghost use Rattle.bp_layout.specs.WordPaths.{WordPath};
 ghost use Rattle.bp_layout.specs.Words.{block_count};
 ghost use Rattle.pm_region.specs.Memory.{current_words};
 ghost use Rattle.bp_layout.specs.Thaw.{thawed_on};
-ghost use Rattle.bp_thaw.specs.Fronts.{IsWay};
+ghost use Rattle.bp_thaw.specs.Fronts.{IsWayIn};
 ghost use Rattle.bp_thaw.specs.Thaws.{CanThaw, Thaws, paths_in};
 
 use crate::copying::{fill_all, take_all};
@@ -24,7 +24,7 @@ pub fn thaw_need<R: Region>(parts: &Parts<R>, targets: &ArrayVec<Slots, 8>) -> u
     requires well_formed { IsWellFormed (current_words (R.memory parts.now.region)) }
     requires frozen { block_count (current_words (R.memory parts.now.region)) ≤ length parts.now.frozen }
     requires ways { (path : WordPath) → Has (paths_in targets.now) path →
-        IsWay (current_words (R.memory parts.now.region)) path }
+        IsWayIn (current_words (R.memory parts.now.region)) path }
     ensures need { result ≡ length (thawed_on (current_words (R.memory parts.now.region)) (has parts.now.frozen)
         (paths_in targets.now)) }
     ensures few { result ≤ 96 }

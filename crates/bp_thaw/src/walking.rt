@@ -6,7 +6,7 @@ ghost use Rattle.bp_layout.specs.Thaw.{is_there_now, thawed_on};
 ghost use Rattle.bp_layout.specs.WellFormed.{IsWellFormed};
 ghost use Rattle.bp_layout.specs.Words.{block_count};
 ghost use Rattle.pm_region.specs.Memory.{current_words};
-ghost use Rattle.bp_thaw.specs.Fronts.{IsWay};
+ghost use Rattle.bp_thaw.specs.Fronts.{IsWayIn};
 
 use bp_free::Parts;
 use bp_limits::{BLOCK_WORDS, SUPER_ROOT};
@@ -17,7 +17,7 @@ use pm_region::Region;
 pub fn is_clear<R: Region>(parts: &Parts<R>, way: &Slots) -> bool
     requires well_formed { IsWellFormed (current_words (R.memory parts.now.region)) }
     requires frozen { block_count (current_words (R.memory parts.now.region)) ≤ length parts.now.frozen }
-    requires way { IsWay (current_words (R.memory parts.now.region)) way.now.items }
+    requires way { IsWayIn (current_words (R.memory parts.now.region)) way.now.items }
     requires there { (depth : ℕ) → depth < length way.now.items →
         is_there_now (current_words (R.memory parts.now.region)) (take depth way.now.items) ≡ true }
     ensures { (result ≡ true) ↔

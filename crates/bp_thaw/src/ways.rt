@@ -11,7 +11,7 @@ ghost use Rattle.bp_layout.specs.WellFormed.{IsWellFormed};
 ghost use Rattle.bp_layout.specs.Words.{height_of};
 ghost use Rattle.bp_limits.specs.Limits.{block_words};
 ghost use Rattle.pm_region.specs.Memory.{current_words};
-ghost use Rattle.bp_thaw.specs.Fronts.{IsWay};
+ghost use Rattle.bp_thaw.specs.Fronts.{IsWayIn};
 
 use bp_limits::{INODE_WORDS, SUPER_ROOT, SUPER_SIZE};
 use bp_tree::{Slots, Tree};
@@ -78,7 +78,7 @@ fn tree_of<R: Region>(region: &R, file: Tree, inode: u64) -> Tree
 /// to which it leads.
 pub(crate) fn is_there<R: Region>(region: &R, way: &Slots, depth: usize) -> bool
     requires well_formed { IsWellFormed (current_words (R.memory region.now)) }
-    requires way { IsWay (current_words (R.memory region.now)) way.now.items }
+    requires way { IsWayIn (current_words (R.memory region.now)) way.now.items }
     requires depth { depth < length way.now.items }
     ensures { result ≡ is_there_now (current_words (R.memory region.now)) (take depth way.now.items) }
 {

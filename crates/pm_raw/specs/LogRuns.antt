@@ -5,8 +5,8 @@ use Rattle.pm_raw.specs.Entries.{events_of}
 use Rattle.pm_raw.specs.RunWords.{AreRuns, words_from}
 use Rattle.pm_raw.specs.declared.log.Log.TheInside.{Inside}
 
-abbrev pub log_events : Inside → List Event
-log_events log = events_of (words_from log.firsts.now log.starts.now log.at (length log.values.now)) log.values.now
+abbrev pub events_in_log : Inside → List Event
+events_in_log log = events_of (words_from log.firsts.now log.starts.now log.at (length log.values.now)) log.values.now
 
 -- its runs are those of its events
 pub record IsPart (log : Inside) : Type 0 where

@@ -52,11 +52,11 @@ pub struct Log<'a> {
 impl<'a> Model for Log<'a> {
     ghost use Rattle.std.specs.Prelude.{List};
     ghost use Rattle.pm_epochs.specs.declared.event.Event.{Event};
-    ghost use Rattle.pm_raw.specs.LogRuns.{log_events, IsPart};
+    ghost use Rattle.pm_raw.specs.LogRuns.{events_in_log, IsPart};
 
     ghost Value = { List Event };
 
-    ghost view = { log_events };
+    ghost view = { events_in_log };
 
     ghost invariant = { IsPart };
 }

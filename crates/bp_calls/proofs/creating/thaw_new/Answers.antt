@@ -7,7 +7,7 @@ use Rattle.bp_shapes.specs.Sets.{kept_of}
 use Rattle.bp_calls.specs.Entrant.{entrant_of}
 use Rattle.bp_calls.specs.Space.{LacksBlocks}
 use Rattle.bp_calls.specs.ThawsFor.{HasRoomToThaw, ThawsFor, thaw_count}
-use Rattle.bp_thaw.specs.Fronts.{IsWay}
+use Rattle.bp_thaw.specs.Fronts.{IsWayIn}
 use Rattle.bp_thaw.specs.Thaws.{paths_in}
 use Rattle.pm_region.specs.Memory.{current_words}
 use Rattle.bp_calls.proofs.CommitResults.{by_one, ok_both, ok_one}
@@ -48,7 +48,7 @@ thaw_before-requires-clause-ways g c =
     let image = current_words (g.R.Region.memory c.args.parts.now.region) in
     let parts = c.args.parts.now in
     let told = is_told image c.requires.mounted.well_formed parts.blocks parts.inodes c.requires.mounted.exact.sets c.args.dir c.requires.reached c.requires.directory in
-    λ path has. subst (λ p. IsWay (current_words (g.R.Region.memory p.region)) path) (sym c.entering_new-targets.ensures.same)
+    λ path has. subst (λ p. IsWayIn (current_words (g.R.Region.memory p.region)) path) (sym c.entering_new-targets.ensures.same)
     (enter_ways image c.requires.mounted.well_formed c.args.dir c.requires.reached c.requires.directory (entrant_of told.0)
     (entrant_inside image c.requires.mounted.well_formed parts.blocks parts.inodes c.requires.mounted.exact.sets c.args.dir c.requires.reached c.requires.directory told.0 told.1)
     path (subst (λ (ps : List WordPath). Has ps path) (c.entering_new-targets.ensures.paths told.0 told.1) has))

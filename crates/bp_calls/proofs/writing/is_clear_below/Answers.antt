@@ -9,7 +9,7 @@ use Rattle.bp_layout.specs.Thaw.{cover_now, is_there_now, thawed_on}
 use Rattle.bp_layout.specs.WordPaths.{WordPath}
 use Rattle.bp_layout.specs.Words.{Image}
 use Rattle.bp_shapes.specs.Sets.{kept_of}
-use Rattle.bp_thaw.specs.Fronts.{IsWay}
+use Rattle.bp_thaw.specs.Fronts.{IsWayIn}
 use Rattle.pm_region.specs.Memory.{current_words}
 use Rattle.bp_calls.proofs.writing.is_clear_below.Goals as goal
 
@@ -26,7 +26,7 @@ is_clear-requires-clause-way g c =
     let same : c.truncate.new.self.items ≡ cover = c.truncate.ensures.items ∙ ap₂ take c.requires.cover c.content_path-path.ensures ∙ writes_front image c.args.i run.off (length run.bytes.now) low in
     let file = file_some image c.args.i c.requires.can.file in
     let wf = c.requires.mounted.well_formed in
-    subst (IsWay image) (sym same)
+    subst (IsWayIn image) (sym same)
     (write_ways_at image wf c.args.i run.off (length run.bytes.now) file c.requires.can.reached c.requires.can.some cover
     (subst (λ (ps : List WordPath). Has ps cover) (sym (below_at image wf c.args.i run.off (length run.bytes.now) file c.requires.can.reached c.requires.below)) (inl refl)))
 

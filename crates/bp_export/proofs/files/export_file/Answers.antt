@@ -2,7 +2,7 @@ use Rattle.std.proofs.Common.{All, ◌∷◌, [], ◌++◌, sym, subst, refl}
 use Rattle.std.proofs.lemmas.Result.{err_from_is_err_and}
 use Rattle.bp_layout.specs.Tree.{content}
 use Rattle.bp_plain.specs.Calls.Call.{create}
-use Rattle.bp_plain.specs.Export.{size_of, writes_of}
+use Rattle.bp_plain.specs.Export.{size_call, writes_of}
 use Rattle.bp_script.specs.Export.{FitsText}
 use Rattle.pm_region.specs.Memory.{current_words}
 use Rattle.bp_export.proofs.Fronts.{all_back, all_first, all_front}
@@ -12,26 +12,26 @@ use Rattle.bp_export.proofs.files.export_file.Goals as goal
 pub tell-requires : goal.tell-requires
 tell-requires g c =
     let bytes = content (current_words (g.R.Region.memory c.args.region.now)) c.args.tree.root c.args.tree.size in
-    all_first FitsText (create c.args.path.now) (writes_of c.args.path.now bytes ++ size_of c.args.path.now bytes) _ refl c.requires.short
+    all_first FitsText (create c.args.path.now) (writes_of c.args.path.now bytes ++ size_call c.args.path.now bytes) _ refl c.requires.short
 
 pub returns-in_err-tell-clause-lines : goal.returns-in_err-tell-clause-lines
 returns-in_err-tell-clause-lines g c =
     let bytes = content (current_words (g.R.Region.memory c.args.region.now)) c.args.tree.root c.args.tree.size in
     let p = err_from_is_err_and c.from_residual.result c.from_residual.ensures.1 in
-    rw p.1 (fails_before _ _ (create c.args.path.now ∷ []) (writes_of c.args.path.now bytes ++ size_of c.args.path.now bytes) _ _ _ _ _ c.in_err-tell.ensures)
+    rw p.1 (fails_before _ _ (create c.args.path.now ∷ []) (writes_of c.args.path.now bytes ++ size_call c.args.path.now bytes) _ _ _ _ _ c.in_err-tell.ensures)
 
 pub export_leaves-requires-clause-short : goal.export_leaves-requires-clause-short
 export_leaves-requires-clause-short g c =
     let bytes = content (current_words (g.R.Region.memory c.args.region.now)) c.args.tree.root c.args.tree.size in
-    all_front FitsText (writes_of c.args.path.now bytes) (size_of c.args.path.now bytes)
-    (all_back FitsText (create c.args.path.now ∷ []) (writes_of c.args.path.now bytes ++ size_of c.args.path.now bytes) c.requires.short)
+    all_front FitsText (writes_of c.args.path.now bytes) (size_call c.args.path.now bytes)
+    (all_back FitsText (create c.args.path.now ∷ []) (writes_of c.args.path.now bytes ++ size_call c.args.path.now bytes) c.requires.short)
 
 pub returns-in_err-told-clause-lines : goal.returns-in_err-told-clause-lines
 returns-in_err-told-clause-lines g c =
     let bytes = content (current_words (g.R.Region.memory c.args.region.now)) c.args.tree.root c.args.tree.size in
     let p = err_from_is_err_and c.from_residual-in_err-told.result c.from_residual-in_err-told.ensures.1 in
     rw p.1 (
-    fails_before _ _ (create c.args.path.now ∷ writes_of c.args.path.now bytes) (size_of c.args.path.now bytes) _ _ _ _ _
+    fails_before _ _ (create c.args.path.now ∷ writes_of c.args.path.now bytes) (size_call c.args.path.now bytes) _ _ _ _ _
     (tells_then _ _ (create c.args.path.now ∷ []) (writes_of c.args.path.now bytes) _ _ _ _ _ _ c.in_ok-tell.ensures c.in_err-told.ensures.lines)
     )
 
@@ -39,12 +39,12 @@ pub export_size-requires : goal.export_size-requires
 export_size-requires g c =
     let bytes = content (current_words (g.R.Region.memory c.args.region.now)) c.args.tree.root c.args.tree.size in
     subst (All FitsText) (sym c.in_ok-told.ensures.told)
-    (all_back FitsText (writes_of c.args.path.now bytes) (size_of c.args.path.now bytes)
-    (all_back FitsText (create c.args.path.now ∷ []) (writes_of c.args.path.now bytes ++ size_of c.args.path.now bytes) c.requires.short))
+    (all_back FitsText (writes_of c.args.path.now bytes) (size_call c.args.path.now bytes)
+    (all_back FitsText (create c.args.path.now ∷ []) (writes_of c.args.path.now bytes ++ size_call c.args.path.now bytes) c.requires.short))
 
 pub returns-clause-lines : goal.returns-clause-lines
 returns-clause-lines g c =
     let bytes = content (current_words (g.R.Region.memory c.args.region.now)) c.args.tree.root c.args.tree.size in
-    tells_then _ c.export_size.result (create c.args.path.now ∷ writes_of c.args.path.now bytes) (size_of c.args.path.now bytes) _ _ _ _ _ _
+    tells_then _ c.export_size.result (create c.args.path.now ∷ writes_of c.args.path.now bytes) (size_call c.args.path.now bytes) _ _ _ _ _ _
     (tells_then _ _ (create c.args.path.now ∷ []) (writes_of c.args.path.now bytes) _ _ _ _ _ _ c.in_ok-tell.ensures c.in_ok-told.ensures.lines)
     (tells_same _ _ _ _ _ _ _ c.in_ok-told.ensures.told c.export_size.ensures)

@@ -3,12 +3,13 @@ use Rattle.std.proofs.Common.{◌≡◌, ◌⊎◌, ℕ, zero, suc, ◌+◌, ◌
 use Rattle.std.specs.Option.{unwrap_or}
 use Rattle.std.specs.Result.{result_ok}
 use Rattle.std.proofs.lemmas.Bool.{cases_eq, cases_lt, eq-eqb, eqb-true, le-leb, lt-leb, ne_eqb}
-use Rattle.std.proofs.lemmas.List.{append_assoc, append-nil, drop_all, take_all, take-append-drop, length-drop, length-take}
+use Rattle.std.proofs.lemmas.List.{append-nil, drop_all, take_all, take-append-drop, length-drop, length-take}
 use Rattle.std.proofs.lemmas.Simd.{mask_l-mod, pick_l_whole, take_more_put_chunk}
-use Rattle.std.proofs.Math.Seq.{drop-drop}
+use Rattle.std.proofs.Math.Seq.{take-add}
 use Rattle.hex.specs.Hex.{decode_of, decode_pairs, digit_or_error, hex_digit_value, ◌>>=◌}
 use Rattle.hex.specs.declared.error.FromHexError.{FromHexError}
 use Rattle.hex.proofs.HexLemmas.{decode_of-even}
+use borrow.Rule.Slice.PartMut.{post_of, put_mid}
 use lib.Lanes.{Each1, zip2, sel_l, mask_l, pick_l, put_chunk, top}
 use Rattle.bp_script.proofs.DigitPairs.{below_none, value_or_none}
 use Rattle.bp_script.proofs.EachByte.{all_below, from_all_below}
@@ -60,15 +61,11 @@ one_both (Some h) (Some l) None q = refl
 one_both (Some h) (Some l) (Some p) None = refl
 one_both (Some h) (Some l) (Some p) (Some q) = refl
 
-both_nil : (q : Option (List ℕ)) → q ≡ both (Some []) q
+pub both_nil : (q : Option (List ℕ)) → q ≡ both (Some []) q
 both_nil None = refl
 both_nil (Some q) = refl
 
-both_more : (f r : List ℕ) (q : Option (List ℕ)) → both (Some f) (both (Some r) q) ≡ both (Some (f ++ r)) q
-both_more f r None = refl
-both_more f r (Some q) = ap Some (sym (append_assoc f r q))
-
-bytes_joined : (n : ℕ) (xs ys : List ℕ) → length xs ≡ 2 * n → bytes (xs ++ ys) ≡ both (bytes xs) (bytes ys)
+pub bytes_joined : (n : ℕ) (xs ys : List ℕ) → length xs ≡ 2 * n → bytes (xs ++ ys) ≡ both (bytes xs) (bytes ys)
 unfolding bytes
 bytes_joined n [] ys long = both_nil (bytes ys)
 bytes_joined n (a ∷ []) ys long = absurd (omega (arith, long))
@@ -100,6 +97,16 @@ front_refused n s f even fits is_f front =
     let first : bytes (take (2 * n) s) ≡ None = ap bytes (sym is_f) ∙ sym (decoded_is f (omega (arith, ap length is_f, length-take (2 * n) s))) ∙ front in
     decoded_is s even ∙ bytes_parted n s fits ∙ rw first refl
 
+-- the same where the rest goes into what is left of a memory of just their length
+pub rest_decoded : (n : ℕ) (s out v : List ℕ) (y : Bool) → length s ≡ 2 * length out → 2 * n ≤ length s
+    → result_ok (decode_of (take (2 * n) s)) ≡ Some (take n out)
+    → result_ok (decode_of (take (length s - 2 * n) (drop (2 * n) s))) ≡ (if y then Some v else None)
+    → result_ok (decode_of s) ≡ (if y then Some (put_mid n (length out - n) out v) else None)
+rest_decoded n s out v y pairs within front back =
+    let whole = take_all (length s - 2 * n) (drop (2 * n) s) (omega (arith, length-drop (2 * n) s)) in
+    let none : post_of n (length out - n) out ≡ [] = drop_all (length out - n) (drop n out) (omega (arith, length-drop n out)) in
+    rw (none, append-nil v) (front_decoded n s _ _ (take n out) v y (omega (arith, pairs)) within refl refl front (rw whole at back))
+
 -- ---- the loop over runs
 
 pub run_told : (s : List ℕ) (at : ℕ) (r : Option (List ℕ)) → at + 32 ≤ length s
@@ -110,33 +117,33 @@ run_told s at r fits told =
 
 pub run_added : (s out r : List ℕ) (i : ℕ) → length r ≡ 16 → 16 * i + 16 ≤ length out → 32 * i + 32 ≤ length s
     → bytes (take 32 (drop (32 * i) s)) ≡ Some r
-    → bytes s ≡ both (Some (take (16 * i) out)) (bytes (drop (32 * i) s))
-    → bytes s ≡ both (Some (take (16 * (i + 1)) (put_chunk (16 * i) out r))) (bytes (drop (32 * (i + 1)) s))
+    → bytes (take (32 * i) s) ≡ Some (take (16 * i) out)
+    → bytes (take (32 * (i + 1)) s) ≡ Some (take (16 * (i + 1)) (put_chunk (16 * i) out r))
 run_added s out r i long room fits is so_far =
-    let left : 32 ≤ length (drop (32 * i) s) = omega (arith, length-drop (32 * i) s) in
-    let step : bytes (drop (32 * i) s) ≡ both (Some r) (bytes (drop 32 (drop (32 * i) s))) = bytes_parted 16 (drop (32 * i) s) left ∙ ap (λ (b : Option (List ℕ)). both b (bytes (drop 32 (drop (32 * i) s)))) is in
-    let on : drop 32 (drop (32 * i) s) ≡ drop (32 * (i + 1)) s = drop-drop 32 (32 * i) s ∙ ap (λ (k : ℕ). drop k s) (omega arith) in
+    let more : 32 * (i + 1) ≡ 32 * i + 32 = omega arith in
     let front = take_more_put_chunk (16 * i) out r (16 * (i + 1)) (omega (arith, long)) (omega arith) in
-    so_far ∙ ap (both (Some (take (16 * i) out))) step ∙ both_more (take (16 * i) out) r (bytes (drop 32 (drop (32 * i) s)))
-    ∙ rw (on, front) refl
+    ap (λ n. bytes (take n s)) more ∙ ap bytes (take-add (32 * i) 32 s)
+    ∙ bytes_joined (16 * i) (take (32 * i) s) (take 32 (drop (32 * i) s)) (omega (arith, fits, length-take (32 * i) s))
+    ∙ rw (so_far, is, front) refl
 
-pub run_refused : (s out : List ℕ) (i : ℕ) → 32 * i + 32 ≤ length s
-    → bytes (take 32 (drop (32 * i) s)) ≡ None
-    → bytes s ≡ both (Some (take (16 * i) out)) (bytes (drop (32 * i) s))
-    → bytes s ≡ None
-run_refused s out i fits is so_far =
-    let left : 32 ≤ length (drop (32 * i) s) = omega (arith, length-drop (32 * i) s) in
-    let step : bytes (drop (32 * i) s) ≡ None = bytes_parted 16 (drop (32 * i) s) left ∙ ap (λ (b : Option (List ℕ)). both b (bytes (drop 32 (drop (32 * i) s)))) is in
-    so_far ∙ ap (both (Some (take (16 * i) out))) step
+-- n bytes after i runs
+pub front_told : (s out : List ℕ) (i n : ℕ) → n ≡ 16 * i → 32 * i ≤ length s → bytes (take (32 * i) s) ≡ Some (take (16 * i) out)
+    → result_ok (decode_of (take (2 * n) s)) ≡ Some (take n out)
+front_told s out i n is fits so_far =
+    let digits : 2 * n ≡ 32 * i = omega (arith, is) in
+    rw (digits, is) (decoded_is (take (32 * i) s) (omega (arith, fits, length-take (32 * i) s)) ∙ so_far)
 
-pub runs_done : (s out : List ℕ) (i : ℕ) → length out ≤ 16 * i → length s ≤ 32 * i
-    → bytes s ≡ both (Some (take (16 * i) out)) (bytes (drop (32 * i) s))
-    → bytes s ≡ Some out
-unfolding bytes
-runs_done s out i all none so_far =
-    let d = drop_all (32 * i) s none in
-    let t = take_all (16 * i) out all in
-    so_far ∙ rw (d, t, append-nil) refl
+-- behind a front that has bytes
+pub run_refused : (n : ℕ) (s u : List ℕ) → length s % 2 ≡ 0 → 2 * n + 32 ≤ length s → result_ok (decode_of (take (2 * n) s)) ≡ Some u
+    → result_ok (decode_of (take 32 (drop (2 * n) s))) ≡ None
+    → result_ok (decode_of s) ≡ None
+run_refused n s u even fits front is =
+    let rest = drop (2 * n) s in
+    let long : 32 ≤ length rest = omega (arith, fits, length-drop (2 * n) s) in
+    let first : bytes (take (2 * n) s) ≡ Some u = sym (decoded_is (take (2 * n) s) (omega (arith, fits, length-take (2 * n) s))) ∙ front in
+    let run : bytes (take 32 rest) ≡ None = sym (decoded_is (take 32 rest) (omega (arith, long, length-take 32 rest))) ∙ is in
+    let second : bytes rest ≡ None = bytes_parted 16 rest long ∙ ap (λ (b : Option (List ℕ)). both b (bytes (drop 32 rest))) run in
+    decoded_is s even ∙ bytes_parted n s (omega (arith, fits)) ∙ rw (first, second) refl
 
 -- ---- the values of a run, lane by lane
 
@@ -204,7 +211,7 @@ one_foreign (Some h) None rest which = refl
 one_foreign (Some h) (Some l) rest (inl e) = absurd (grind (arith, e))
 one_foreign (Some h) (Some l) rest (inr e) = absurd (grind (arith, e))
 
-one_none : (h l : Option ℕ) → one h l None ≡ None
+pub one_none : (h l : Option ℕ) → one h l None ≡ None
 unfolding one
 one_none None l = refl
 one_none (Some h) None = refl

@@ -5,6 +5,7 @@ pub mod DigitPairs
 pub mod DigitRuns
 pub mod EachByte
 pub mod EncodedRuns
+pub mod FirstWord
 pub mod Joining
 pub mod Masks
 pub mod NameText

@@ -1,5 +1,5 @@
 -- What a line that was read asks for.
-use Rattle.std.specs.Prelude.{ℕ, ◌≤◌, ◌+◌, ◌||◌, if◌then◌else◌, List, [], ◌∷◌, length, map, min, Option, None, Some, option_map, Result, Ok, Err}
+use Rattle.std.specs.Prelude.{ℕ, ◌≤◌, ◌+◌, ◌||◌, if◌then◌else◌, List, [], ◌∷◌, get_or, length, map, min, Option, None, Some, option_map, Result, Ok, Err}
 use Rattle.std.specs.Borrow.{Bor, Fml, MutBor}
 use Rattle.std.specs.List.{All}
 use Rattle.std.specs.Option.{option_map_or}
@@ -82,6 +82,10 @@ words_at words = words.path.now ∷ words.off.now ∷ words_of words.rest.now
 abbrev pub words_len : PieceWords → ℕ
 words_len words = length words.path.now + length words.off.now + length words.rest.now
 
+-- the first of a text
+abbrev pub first_word : List ℕ → List ℕ
+first_word text = get_or (words_of text) 0 []
+
 -- those of a text, or none where there is no text, and how many bytes that has
 abbrev pub words_behind : Option (Bor (List ℕ)) → List (List ℕ)
 words_behind text = option_map_or (λ t. words_of t.now) text []
@@ -92,6 +96,10 @@ len_behind text = option_map_or (λ t. length t.now) text 0
 -- the batch of pieces whose paths and bytes are parts of a text
 abbrev pub batch_in : List ℕ → List GivenPiece → Call
 batch_in text pieces = batch (map (piece_in text) pieces)
+
+-- the bytes of a word that is not empty
+abbrev pub word_bytes : List ℕ → Option (List ℕ)
+word_bytes word = if is_empty_word word then None else bytes_spelled word
 
 -- a piece decoded from its three words, of which none is empty
 abbrev pub piece_decoded : List ℕ → List ℕ → List ℕ → Option Piece

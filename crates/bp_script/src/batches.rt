@@ -2,15 +2,14 @@
 
 ghost use Rattle.bp_plain.specs.Seen.{LiesIn, piece_in, spanned};
 ghost use Rattle.bp_script.specs.Commands.Command.{bad_syntax, file_call};
-ghost use Rattle.bp_script.specs.Commands.{asked_by, decoded, path_bytes};
-ghost use Rattle.bp_script.specs.Lines.{batch_in, len_behind, most_room, piece_decoded, words_at, words_behind, words_len};
-ghost use Rattle.hex.specs.Hex.{decode_of};
+ghost use Rattle.bp_script.specs.Commands.{asked_by, decoded, path_bytes, words_of};
+ghost use Rattle.bp_script.specs.Lines.{batch_in, first_word, len_behind, most_room, piece_decoded, word_bytes, words_at, words_behind, words_len};
 ghost use Rattle.std.specs.List.{All};
 ghost use Rattle.std.specs.Option.{option_map_or};
 ghost use Rattle.std.specs.Prelude.{if◌then◌else◌, ◌∷◌, ◌+◌, ◌≡◌, ◌≤◌, IfOk, OnErr, OnOk, [], codes, length, option_map, take, vec_capacity};
 ghost use Rattle.std.specs.Result.{is_ok, result_ok};
 
-use crate::decoding::{decode_into, digits_of, lengthen, put_path, split_once};
+use crate::decoding::{decode_word, lengthen, put_path, split_once};
 use crate::lines::Syntax;
 use crate::numbers::number;
 use arrayvec::ArrayVec;
@@ -53,8 +52,7 @@ pub(crate) fn decode_pieces(
         if pieces.is_full() {
             return Err(Syntax);
         }
-        let (bytes, more) = split_once(words.rest, b' ');
-        let piece = add_piece(words.path, words.off, bytes, text, end)?;
+        let (piece, more) = add_piece(words, text, end)?;
         end = end_of(piece.bytes);
         pieces.push(piece);
         left = next_words(more)?;
@@ -81,38 +79,40 @@ fn next_words(text: Option<&[u8]>) -> Result<Option<PieceWords<'_>>, Syntax>
     Ok(Some(PieceWords { path, off, rest }))
 }
 
-/// Decodes the words of a piece: its path and its bytes go into a text, from a place on, in room that is there.
+/// Decodes the words of a piece: its path and its bytes go into a text, from a place on, in room that is there. Tells the piece,
+/// and the text behind its words.
 ///
 /// # Errors
 ///
 /// `Syntax` exactly where a word is empty, the offset is no number or the bytes are none.
-fn add_piece(
-    path: &[u8],
-    off: &[u8],
-    bytes: &[u8],
+fn add_piece<'a>(
+    words: PieceWords<'a>,
     text: &mut Vec<u8>,
     at: usize,
-) -> Result<Piece, Syntax>
+) -> Result<(Piece, Option<&'a [u8]>), Syntax>
     requires within { at ≤ length text.old.items }
-    requires room { at + length path.now + length bytes.now ≤ vec_capacity text.old }
-    requires low { at + length path.now + length bytes.now ≤ most_room }
-    ensures piece { option_map (piece_in text.new.items) (result_ok result) ≡ piece_decoded path.now off.now bytes.now }
-    ensures lies { IfOk result (LiesIn text.new.items) }
-    ensures later { IfOk result (λ piece. at ≤ piece.bytes.at) }
-    ensures order { IfOk result (λ piece. piece.path.at + piece.path.len ≤ piece.bytes.at) }
+    requires room { at + length words.path.now + length words.rest.now ≤ vec_capacity text.old }
+    requires low { at + length words.path.now + length words.rest.now ≤ most_room }
+    ensures piece { option_map (λ added. piece_in text.new.items added.0) (result_ok result) ≡
+        piece_decoded words.entry.path.now words.entry.off.now (first_word words.entry.rest.now) }
+    ensures behind { IfOk result (λ added. words_of words.entry.rest.now ≡ first_word words.entry.rest.now ∷ words_behind added.1) }
+    ensures lies { IfOk result (λ added. LiesIn text.new.items added.0) }
+    ensures later { IfOk result (λ added. at ≤ added.0.bytes.at) }
+    ensures order { IfOk result (λ added. added.0.path.at + added.0.path.len ≤ added.0.bytes.at) }
     ensures front { OnOk result (take at text.new.items ≡ take at text.old.items) }
-    ensures len { IfOk result (λ piece. piece.bytes.at + piece.bytes.len ≤ at + length path.now + length bytes.now) }
+    ensures len { IfOk result (λ added. added.0.bytes.at + added.0.bytes.len + len_behind added.1 ≤ at + words_len words.entry) }
+    ensures less { IfOk result (λ added. option_map_or (λ rest. length rest.now + 1) added.1 0 ≤ length words.entry.rest.now) }
     ensures room { vec_capacity text.old ≤ vec_capacity text.new }
 {
-    if path.is_empty() || bytes.is_empty() {
+    if words.path.is_empty() {
         return Err(Syntax);
     }
-    let Some(off) = number(off) else {
+    let Some(off) = number(words.off) else {
         return Err(Syntax);
     };
-    let path = add_path_part(path, text, at);
-    let bytes = add_bytes_part(digits_of(bytes), text, end_of(path))?;
-    Ok(Piece { path, off, bytes })
+    let path = add_path_part(words.path, text, at);
+    let (bytes, behind) = add_bytes_part(words.rest, text, end_of(path))?;
+    Ok((Piece { path, off, bytes }, behind))
 }
 
 /// Where a part of a text ends.
@@ -142,27 +142,34 @@ fn add_path_part(word: &[u8], text: &mut Vec<u8>, at: usize) -> Span
     }
 }
 
-/// Writes the bytes of hexadecimal digits into a text from a place on, and tells which part of it they are.
+/// Writes the bytes of the word that a rest begins with into a text from a place on, and tells which part of it they are, and
+/// what stands behind the word.
 ///
 /// # Errors
 ///
-/// `Syntax` exactly where the digits are none of bytes.
-fn add_bytes_part(digits: &[u8], text: &mut Vec<u8>, at: usize) -> Result<Span, Syntax>
+/// `Syntax` exactly where the word is empty or is none of bytes.
+fn add_bytes_part<'a>(
+    rest: &'a [u8],
+    text: &mut Vec<u8>,
+    at: usize,
+) -> Result<(Span, Option<&'a [u8]>), Syntax>
     requires within { at ≤ length text.old.items }
-    requires room { at + length digits.now ≤ vec_capacity text.old }
-    requires low { at + length digits.now ≤ most_room }
-    ensures part { option_map (spanned text.new.items) (result_ok result) ≡ result_ok (decode_of digits.now) }
-    ensures place { IfOk result (λ part. part.at ≡ at) }
-    ensures lies { IfOk result (λ part. part.at + part.len ≤ length text.new.items) }
+    requires room { at + length rest.now ≤ vec_capacity text.old }
+    requires low { at + length rest.now ≤ most_room }
+    ensures part { option_map (λ added. spanned text.new.items added.0) (result_ok result) ≡ word_bytes (first_word rest.now) }
+    ensures behind { IfOk result (λ added. words_of rest.now ≡ first_word rest.now ∷ words_behind added.1) }
+    ensures place { IfOk result (λ added. added.0.at ≡ at) }
+    ensures lies { IfOk result (λ added. added.0.at + added.0.len ≤ length text.new.items) }
     ensures front { take at text.new.items ≡ take at text.old.items }
-    ensures len { IfOk result (λ part. part.len ≤ length digits.now) }
+    ensures len { IfOk result (λ added. added.0.len + option_map_or (λ more. length more.now + 1) added.1 0 ≤ length rest.now) }
     ensures room { vec_capacity text.old ≤ vec_capacity text.new }
 {
-    let len = digits.len() / 2;
-    lengthen(at + len, text);
-    decode_into(digits, &mut text[at..at + len])?;
-    Ok(Span {
+    // Long enough for the bytes of all words that are left: mostly only the first piece of a line fills what lacks.
+    lengthen(at + rest.len() / 2, text);
+    let (len, behind) = decode_word(rest, &mut text[at..])?;
+    let part = Span {
         at: at as u32,
         len: len as u32,
-    })
+    };
+    Ok((part, behind))
 }

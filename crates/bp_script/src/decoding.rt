@@ -1,13 +1,14 @@
 //! The words of a line, and the bytes and the paths that they stand for.
 
-ghost use Rattle.bp_script.specs.Commands.{bytes_spelled, part_bytes, path_bytes, unslashed};
+ghost use Rattle.bp_script.specs.Commands.{bytes_spelled, part_bytes, path_bytes, unslashed, words_of};
+ghost use Rattle.bp_script.specs.Lines.{first_word, word_bytes, words_behind};
 ghost use Rattle.std.specs.List.{slice_split};
 ghost use Rattle.std.specs.Option.{option_map_or};
 ghost use Rattle.hex.specs.Hex.{decode_of};
 ghost use Rattle.std.specs.Result.{is_ok, result_ok};
-ghost use Rattle.std.specs.Prelude.{◌/◌, if◌then◌else◌, None, Some, length, take, vec_capacity, vec_len, [], ◌∷◌, ◌+◌, ◌++◌, ◌==◌, ◌<◌, ◌≡◌, ◌≤◌};
+ghost use Rattle.std.specs.Prelude.{◌/◌, if◌then◌else◌, IfOk, None, Some, length, option_map, take, vec_capacity, vec_len, [], ◌∷◌, ◌+◌, ◌++◌, ◌==◌, ◌<◌, ◌≡◌, ◌≤◌};
 
-use crate::digits::decode_digits;
+use crate::digits::{decode_digits, decode_front};
 use crate::lines::Syntax;
 use bp_text::first_of;
 use percent_encoding::percent_decode;
@@ -59,6 +60,41 @@ pub(crate) fn decode_into(digits: &[u8], into: &mut [u8]) -> Result<(), Syntax>
     } else {
         Err(Syntax)
     }
+}
+
+/// Decodes the word of bytes that a text begins with, and tells how many bytes they are, and the text behind the word. Its
+/// digits are gone through once: the end of the word is searched only behind the runs that are all digits.
+///
+/// # Errors
+///
+/// `Syntax` exactly where the word is empty or is none of bytes.
+pub(crate) fn decode_word<'a>(
+    text: &'a [u8],
+    into: &mut [u8],
+) -> Result<(usize, Option<&'a [u8]>), Syntax>
+    requires { length text.now / 2 ≤ length into.old }
+    ensures bytes { option_map (λ word. take word.0 into.new) (result_ok result) ≡ word_bytes (first_word text.now) }
+    ensures behind { IfOk result (λ word. words_of text.now ≡ first_word text.now ∷ words_behind word.1) }
+    ensures within { IfOk result (λ word. word.0 ≤ length into.new) }
+    ensures len { IfOk result (λ word. word.0 + option_map_or (λ rest. length rest.now + 1) word.1 0 ≤ length text.now) }
+{
+    let front = decode_front(text, into);
+    let (left, behind) = split_once(&text[2 * front..], b' ');
+    if front == 0 && left.is_empty() {
+        return Err(Syntax);
+    }
+    let left = left_digits(left, front == 0);
+    let len = front + left.len() / 2;
+    decode_into(left, &mut into[front..len])?;
+    Ok((len, behind))
+}
+
+/// The digits of what is left of a word. Where this is the whole word, `-` stands for none.
+fn left_digits(left: &[u8], is_whole: bool) -> &[u8]
+    ensures bytes { result_ok (decode_of result.now) ≡ (if is_whole then bytes_spelled left.now else result_ok (decode_of left.now)) }
+    ensures len { length result.now ≤ length left.now }
+{
+    if is_whole { digits_of(left) } else { left }
 }
 
 /// Decodes a word as a path, in room that is there, where it has an escape. False says that the word is its own path, and

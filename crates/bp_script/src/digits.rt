@@ -2,7 +2,7 @@
 
 ghost use Rattle.hex.specs.Hex.{decode_of, encode_lower, hex_digit_value, lower_digits};
 ghost use Rattle.std.specs.Option.{unwrap_or};
-ghost use Rattle.std.specs.Prelude.{if◌then◌else◌, None, Some, length, map, max, slice_index, take, ◌*◌, ◌%◌, ◌++◌, ◌<◌, ◌≡◌, ◌≤◌};
+ghost use Rattle.std.specs.Prelude.{if◌then◌else◌, None, Some, drop, length, map, max, slice_index, take, ◌*◌, ◌%◌, ◌+◌, ◌++◌, ◌/◌, ◌<◌, ◌≡◌, ◌≤◌};
 ghost use Rattle.std.specs.Result.{result_ok};
 ghost use Rattle.std.specs.Simd.Lanes.{Each1};
 
@@ -61,26 +61,30 @@ pub(crate) fn decode_digits(digits: &[u8], into: &mut [u8]) -> bool
     requires { length digits.now ≡ 2 * length into.old }
     ensures { result_ok (decode_of digits.now) ≡ (if result then Some into.new else None) }
 {
-    let whole = into.len() / LANES * LANES;
-    let (long, short) = digits.split_at(2 * whole);
-    let (front, back) = into.split_at_mut(whole);
-    decode_runs(long, front) && decode_few(short, back)
+    let front = decode_front(digits, into);
+    if front + LANES <= into.len() {
+        // The run that comes next has a byte that is no digit.
+        return false;
+    }
+    decode_few(&digits[2 * front..], &mut into[front..])
 }
 
-/// The same for whole runs of digits.
-fn decode_runs(digits: &[u8], into: &mut [u8]) -> bool
-    requires pairs { length digits.now ≡ 2 * length into.old }
-    requires whole { length into.old % LANES ≡ 0 }
-    ensures { result_ok (decode_of digits.now) ≡ (if result then Some into.new else None) }
+/// Decodes the digits that a text begins with, run by run, up to the first run that has another byte, and tells how many bytes
+/// they are.
+pub(crate) fn decode_front(text: &[u8], into: &mut [u8]) -> usize
+    requires { length text.now / 2 ≤ length into.old }
+    ensures front { result_ok (decode_of (take (2 * result) text.now)) ≡ Some (take result into.new) }
+    ensures within { 2 * result ≤ length text.now }
+    ensures last { 2 * (result + LANES) ≤ length text.now → result_ok (decode_of (take (2 * LANES) (drop (2 * result) text.now))) ≡ None }
 {
-    for i in 0..into.len() / LANES {
-        let (bytes, is_right) = decode_run(&digits[2 * LANES * i..]);
+    for i in 0..text.len() / (2 * LANES) {
+        let (bytes, is_right) = decode_run(&text[2 * LANES * i..]);
         if !is_right {
-            return false;
+            return LANES * i;
         }
         bytes.copy_to_slice(&mut into[LANES * i..]);
     }
-    true
+    text.len() / (2 * LANES) * LANES
 }
 
 /// The bytes of the run of digits that a text begins with, and whether all of them are digits.

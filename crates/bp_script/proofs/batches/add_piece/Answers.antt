@@ -1,5 +1,6 @@
 use Rattle.std.proofs.Common.{◌≡◌, ◌∙◌, Some, sym, ap, arith, List, ℕ}
-use Rattle.bp_script.specs.Commands.{bytes_spelled, path_bytes}
+use Rattle.bp_script.specs.Commands.{path_bytes}
+use Rattle.bp_script.specs.Lines.{first_word}
 use Rattle.bp_plain.specs.Seen.{spanned}
 use Rattle.bp_script.proofs.BatchWords.{front_kept, part_kept, piece_is}
 use Rattle.bp_script.proofs.batches.add_piece.Goals as goal
@@ -7,11 +8,11 @@ use Rattle.bp_script.proofs.batches.add_piece.Goals as goal
 pub returns-clause-piece : goal.returns-clause-piece
 returns-clause-piece c =
     let longer = c.add_bytes_part.new.text.items in
-    let path : spanned longer c.add_path_part-path.result ≡ path_bytes c.args.path.now =
+    let path : spanned longer c.add_path_part-path.result ≡ path_bytes c.args.words.path.now =
     part_kept c.end_of.result c.add_path_part-path.new.text.items longer c.add_path_part-path.result c.in_ok-bytes.ensures.front (omega (arith, c.end_of.ensures)) ∙ c.add_path_part-path.ensures.part in
-    let bytes : bytes_spelled c.args.bytes.now ≡ Some (spanned longer c.in_ok-bytes.bytes) = sym (c.in_ok-bytes.ensures.part ∙ c.digits_of.ensures.bytes) in
     ap (λ (text : List ℕ). Some (record { path = text; off = c.in-Some.off; bytes = spanned longer c.in_ok-bytes.bytes })) path
-    ∙ sym (piece_is c.args.path.now c.args.off.now c.args.bytes.now c.in-Some.off (spanned longer c.in_ok-bytes.bytes) (sym c.is_empty.ensures ∙ c.if-is_empty.false) (sym c.is_empty-else-is_empty.ensures ∙ c.if-is_empty-2.false) (sym c.number.ensures ∙ c.in-Some.is) bytes)
+    ∙ sym (piece_is c.args.words.path.now c.args.words.off.now (first_word c.args.words.rest.now) c.in-Some.off (spanned longer c.in_ok-bytes.bytes) (sym c.is_empty.ensures ∙ c.if-is_empty.false)
+    (sym c.number.ensures ∙ c.in-Some.is) (sym c.in_ok-bytes.ensures.part))
 
 pub returns-clause-front : goal.returns-clause-front
 returns-clause-front c =

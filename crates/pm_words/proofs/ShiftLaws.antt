@@ -1,15 +1,10 @@
 -- The bytes of a word that is shifted, cut or joined with another one.
-use Rattle.std.proofs.Common.{◌≡◌, ℕ, zero, suc, ◌+◌, ◌-◌, ◌*◌, ◌/◌, ◌%◌, ◌^◌, ◌<◌, ◌≤◌, min, refl, sym, ◌∙◌, ap, ap₂, arith, mod-lt, pow-add, pow-suc}
+use Rattle.std.proofs.Common.{◌≡◌, ℕ, ◌+◌, ◌-◌, ◌*◌, ◌/◌, ◌%◌, ◌^◌, ◌<◌, ◌≤◌, min, sym, ◌∙◌, ap, ap₂, arith, mod-lt, pow-add}
 use Rattle.std.specs.Int.Bits.{bit_or, or_zero_l, or_zero_r}
 use Rattle.std.proofs.Math.Nat.{mul_assoc, zero-div}
 use Rattle.std.proofs.lemmas.Nat.{mod-pow-add, mod_low, or_mod, or_shr, pow_pos, shl-shr, shr_below, shr-shr, shr_high}
-use Rattle.bp_layout.specs.Words.{byte_of}
-
-as_bits : (count : ℕ) → 256 ^ count ≡ 2 ^ (8 * count)
-as_bits zero = refl
-as_bits (suc count) =
-    let more : 8 * suc count ≡ 8 * count + 8 = omega arith in
-    pow-suc 256 count ∙ ap (λ n. n * 256) (as_bits count) ∙ sym (pow-add 2 (8 * count) 8) ∙ sym (ap (λ n. 2 ^ n) more)
+use Rattle.pm_words.specs.Bytes.{byte_of}
+use Rattle.pm_words.proofs.LowBytes.{as_bits}
 
 shifted : (w c : ℕ) → byte_of w c ≡ w / 2 ^ (8 * c) % 2 ^ 8
 shifted w c = ap (λ n. w / n % 256) (as_bits c)
@@ -26,7 +21,7 @@ lowest w bits = ap (λ n. n % 2 ^ 8) (mod-pow-add w bits 8) ∙ mod_low (w / 2 ^
 cut : (w high low : ℕ) → w % 2 ^ (high + low) / 2 ^ low ≡ w / 2 ^ low % 2 ^ high
 cut w high low = ap (λ n. n / 2 ^ low) (mod-pow-add w high low) ∙ shr_high (w / 2 ^ low % 2 ^ high) low (w % 2 ^ low) (mod-lt w (pow_pos low))
 
-low-byte : (w count c : ℕ) → c < count → byte_of (w % 256 ^ count) c ≡ byte_of w c
+pub low-byte : (w count c : ℕ) → c < count → byte_of (w % 256 ^ count) c ≡ byte_of w c
 low-byte w count c low =
     let split : 8 * count ≡ 8 * (count - c - 1) + 8 + 8 * c = omega (arith, low) in
     shifted (w % 256 ^ count) c
@@ -45,6 +40,11 @@ past-byte w count c few past =
     shifted w c
     ∙ ap (λ n. w / 2 ^ n % 2 ^ 8) more
     ∙ ap (λ n. n % 2 ^ 8) (sym (shr-shr w (8 * count) (8 * (c - count))) ∙ ap (λ n. n / 2 ^ (8 * (c - count))) all ∙ zero-div (2 ^ (8 * (c - count))))
+
+pub past-low : (w count c : ℕ) → count ≤ c → byte_of (w % 256 ^ count) c ≡ 0
+past-low w count c past =
+    let small : w % 256 ^ count < 256 ^ count = rw (as_bits count) (mod-lt w (pow_pos (8 * count))) in
+    past-byte (w % 256 ^ count) count c small past
 
 -- ---- shifts
 
@@ -87,8 +87,7 @@ joined-low old new count c few low =
 pub joined-high : (old new count c : ℕ) → c < 8 → count ≤ c → byte_of (bit_or (old % 256 ^ min 8 count) (new / 2 ^ (8 * count) * 2 ^ (8 * count) % 18446744073709551616)) c ≡ byte_of new c
 joined-high old new count c few late =
     let sum : count + (c - count) ≡ c = omega (arith, late) in
-    let small : old % 256 ^ min 8 count < 256 ^ min 8 count = rw (as_bits (min 8 count)) (mod-lt old (pow_pos (8 * min 8 count))) in
     or-byte (old % 256 ^ min 8 count) (new / 2 ^ (8 * count) * 2 ^ (8 * count) % 18446744073709551616) c
-    ∙ ap₂ bit_or (past-byte (old % 256 ^ min 8 count) (min 8 count) c small (omega (arith, late)))
+    ∙ ap₂ bit_or (past-low old (min 8 count) c (omega (arith, late)))
     (left-byte (new / 2 ^ (8 * count)) count c few late ∙ right-byte new count (c - count) ∙ ap (λ n. byte_of new n) sum)
     ∙ or_zero_l (byte_of new c)

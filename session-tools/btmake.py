@@ -1,5 +1,5 @@
 import random,subprocess,os,shutil
-P="/tmp/peer/target/release/bpfs"; B="/tmp/ours.new"
+P="/tmp/peer/target/release/bpfs"; B="/tmp/ours.next"
 R=random.Random(5)
 img="/tmp/bt/base.img"
 if os.path.exists(img): os.remove(img)

@@ -1,10 +1,10 @@
 //! What a crash leaves, and how many calls it keeps.
 
-ghost use Rattle.std.specs.Prelude.{◌≡◌, ◌+◌, ◌-◌, ◌<◌, ◌≤◌, ◌↔◌, not, ◌&&◌, if◌then◌else◌, [], ◌∷◌, ◌++◌, IsOk, IfOk};
+ghost use Rattle.std.specs.Prelude.{◌≡◌, ◌+◌, ◌-◌, ◌<◌, ◌≤◌, ◌↔◌, if◌then◌else◌, [], ◌∷◌, ◌++◌, IsOk, IfOk};
 ghost use Rattle.std.specs.Prelude.{MatchOption, List};
 ghost use Rattle.pm_epochs.specs.Log.{word_after, barriers, marks, epoch_stores};
-ghost use Rattle.pm_epochs.specs.Keeping.{calls_by, kept_by};
-ghost use Rattle.pm_epochs.specs.Replay.{IsRight, LeavesWord, is_store, stores_of, marks_of, kept_calls as kept_calls_of};
+ghost use Rattle.pm_epochs.specs.Keeping.{calls_by, calls_from, kept_by};
+ghost use Rattle.pm_epochs.specs.Replay.{IsRight, LeavesWord, stores_of, marks_of, kept_calls as kept_calls_of};
 
 use super::choice::{BadChoice, Choice};
 use super::event::Event;
@@ -33,8 +33,8 @@ impl Keeper<'_> {
     pub fn keeps(&mut self, event: Event) -> bool
         ensures stores { (rest : List Event) → kept_by self.old (event ∷ rest) ≡
             (if result then event ∷ [] else []) ++ kept_by self.new rest }
-        ensures marks { (rest : List Event) → calls_by self.old (event ∷ rest) ≡
-            (if is_store event && not result then 0 else marks (event ∷ []) + calls_by self.new rest) }
+        ensures marks { (rest : List Event) →
+            calls_by self.old (event ∷ rest) ≡ calls_from event result (calls_by self.new rest) }
         ensures epoch { self.new.epoch ≡ self.old.epoch - barriers (event ∷ []) }
     {
         match event {

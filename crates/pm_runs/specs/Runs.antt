@@ -2,6 +2,7 @@
 use Rattle.std.specs.Prelude.{◌≡◌, ◌≤◌, ◌<◌, ◌+◌, ℕ, List, [], ◌∷◌, ◌++◌, Some, drop, length, slice_get, take}
 use Rattle.pm_epochs.specs.declared.event.Event.{Event}
 use Rattle.pm_epochs.specs.declared.event.Event.TheVariants.{Barrier, Mark, Store}
+use Rattle.pm_epochs.specs.Log.{words_after}
 use Rattle.pm_region.specs.Memory.{stores_from, with_values}
 use Rattle.pm_runs.specs.declared.pieces.Run.{Run}
 use Rattle.pm_runs.specs.declared.pieces.Run.TheVariants as run
@@ -45,6 +46,10 @@ pub record TellsRun (events : List Event) (first : ℕ) (old : List ℕ) (run : 
 abbrev pub runs_events : List (Run × List ℕ) → List Event
 runs_events [] = []
 runs_events (told ∷ runs) = run_events told.0 told.1 ++ runs_events runs
+
+-- the words after their stores, in order
+abbrev pub words_after_runs : List ℕ → List (Run × List ℕ) → List ℕ
+words_after_runs words runs = words_after words (runs_events runs)
 
 -- the words with the values of a run copied to their place
 abbrev pub copied_run : List ℕ → Run → List ℕ → List ℕ

@@ -1,14 +1,23 @@
 -- What the memory holds after steps of the processor and the engine.
-use Rattle.std.specs.Prelude.{◌≡◌, ℕ, Bool, Some, true, List, slice_get}
+use Rattle.std.specs.Prelude.{◌≡◌, ℕ, Bool, Option, MatchOption, Some, true, List, slice_get}
 use Rattle.pm_epochs.specs.declared.event.Event.{Event}
 use Rattle.pm_epochs.specs.Crash.{CrashRight, Likeness}
 use Rattle.pm_epochs.specs.Replay.{IsRight, PowerCut, after_calls, kept_calls, replay}
 use Rattle.pm_region.specs.Memory.{Memory}
-use Rattle.pm_steps.specs.Machine.{ComesFirst, MachineState, MachineStep, StepsTo, cut_of, machine_over}
+use Rattle.pm_steps.specs.Machine.{AllToBack, ComesFirst, IsFirstMissing, IsFirstTo, MachineState, MachineStep, StepsTo, cut_of, in_log_order, machine_over}
 
 -- each store that has to be written back before this one is back
 abbrev pub AreBackBefore : List Event → List Bool → ℕ → Type 0
 AreBackBefore events back which = (earlier : ℕ) → ComesFirst events earlier which → slice_get back earlier ≡ Some true
+
+-- the first of these that is not back is found, or none, where all are
+abbrev pub FindsMissing : Option ℕ → List Event → List Bool → ℕ → Type 0
+FindsMissing found events back which = MatchOption found (AreBackBefore events back which) (IsFirstMissing events back which)
+
+-- the same of the stores to a word in a range
+abbrev pub FindsFirstTo : Option ℕ → List Event → List Bool → ℕ → ℕ → ℕ → Type 0
+FindsFirstTo found events back word from to =
+    MatchOption found (AllToBack events back word from to) (IsFirstTo events back word from to)
 
 -- the words of the memory while these stores are back: the replay of the cut at which the machine stands
 abbrev pub words_by : List ℕ → List Event → List Bool → List ℕ
@@ -24,6 +33,11 @@ words_in memory back = words_by memory.base memory.events back
 abbrev pub RunsTo : List ℕ → List Event → List MachineStep → MachineState → Type 0
 RunsTo base events steps state = StepsTo events (machine_over base) steps state
 
+-- of each state to which any such steps lead this holds
+abbrev pub AfterEachRun : List ℕ → List Event → (MachineState → Type 0) → Type 0
+AfterEachRun base events Holds =
+    (steps : List MachineStep) (state : MachineState) → RunsTo base events steps state → Holds state
+
 -- the cut at which the machine stands is right
 abbrev pub StandsRight : List Event → MachineState → Type 0
 StandsRight events state = IsRight events (cut_of events state.back)
@@ -35,6 +49,10 @@ HoldsReplay base events state = state.words ≡ words_by base events state.back
 -- the machine with these stores back, and that memory
 abbrev pub machine_at : List ℕ → List Event → List Bool → MachineState
 machine_at base events back = record { back = back; words = words_by base events back }
+
+-- to which it leads that the processor executes its events, and these stores then go back in the order of the log
+abbrev pub RunsInLogOrder : List ℕ → List Event → List Bool → Type 0
+RunsInLogOrder base events back = RunsTo base events (in_log_order back) (machine_at base events back)
 
 -- some steps that are allowed lead to what this cut leaves
 abbrev pub HasRunTo : List ℕ → List Event → PowerCut → Type 0

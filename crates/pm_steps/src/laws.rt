@@ -3,18 +3,16 @@
 ghost use Rattle.std.specs.Prelude.{ℕ, Bool, List};
 ghost use Rattle.pm_epochs.specs.declared.event.Event.{Event};
 ghost use Rattle.pm_epochs.specs.Replay.{PowerCut, IsRight};
-ghost use Rattle.pm_steps.specs.Machine.{MachineState, MachineStep, IsInOrder, in_log_order};
-ghost use Rattle.pm_steps.specs.Runs.{HasRunTo, HoldsCalls, HoldsReplay, RunsTo, StandsRight, machine_at};
+ghost use Rattle.pm_steps.specs.Machine.{MachineState, MachineStep, IsInOrder};
+ghost use Rattle.pm_steps.specs.Runs.{AfterEachRun, HasRunTo, HoldsCalls, HoldsReplay, RunsInLogOrder, StandsRight};
 
 use pm_epochs::laws::Likeness;
 
 /// After any steps that are allowed, whatever their order, the memory is the replay of the cut at which the machine stands,
 /// and that cut is right.
 pub fn memory_is_a_replay()
-    ensures right { (base : List ℕ) (events : List Event) (steps : List MachineStep) (state : MachineState) →
-        RunsTo base events steps state → StandsRight events state }
-    ensures replay { (base : List ℕ) (events : List Event) (steps : List MachineStep) (state : MachineState) →
-        RunsTo base events steps state → HoldsReplay base events state }
+    ensures right { (base : List ℕ) (events : List Event) → AfterEachRun base events (StandsRight events) }
+    ensures replay { (base : List ℕ) (events : List Event) → AfterEachRun base events (HoldsReplay base events) }
 {}
 
 /// What any right cut leaves is reached by some steps that are allowed.
@@ -26,7 +24,7 @@ pub fn each_replay_is_reached()
 /// stores go back in the order of the log. The memory is then the replay of the cut at which the machine stands.
 pub fn stores_in_order_are_reached()
     ensures { (base : List ℕ) (events : List Event) (back : List Bool) → IsInOrder events back →
-        RunsTo base events (in_log_order back) (machine_at base events back) }
+        RunsInLogOrder base events back }
 {}
 
 /// Over a log that a crash at any moment leaves right: whatever the order in which the processor and the engine take their

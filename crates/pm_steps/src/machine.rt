@@ -1,10 +1,10 @@
 //! The processor and the engine that writes back, over a region's log.
 
-ghost use Rattle.std.specs.Prelude.{◌≡◌, ◌<◌, ◌≤◌, ◌↔◌, [], ◌∷◌, ◌++◌, IsOk, OnOk, IfErr, OnErr, MatchOption, length, slice_get, slice_index, slice_set, Some, true, false};
+ghost use Rattle.std.specs.Prelude.{◌≡◌, ◌<◌, ◌≤◌, ◌↔◌, [], ◌∷◌, ◌++◌, IsOk, OnOk, IfErr, OnErr, length, slice_get, slice_index, slice_set, Some, true, false};
 ghost use Rattle.pm_epochs.specs.Log.{marks};
 ghost use Rattle.pm_epochs.specs.Replay.{IsRight, epoch_of, kept_calls};
-ghost use Rattle.pm_steps.specs.Machine.{IsInOrder, MayGoBack, IsFirstMissing, IsBackBelow, IsWaiting, AllToBack, IsFirstTo, is_some_store, cut_of, open_epoch, epoch_flags, waiting_marks};
-ghost use Rattle.pm_steps.specs.Runs.{AreBackBefore, words_in};
+ghost use Rattle.pm_steps.specs.Machine.{IsInOrder, MayGoBack, IsFirstMissing, IsBackBelow, IsWaiting, is_some_store, cut_of, open_epoch, epoch_flags, waiting_marks};
+ghost use Rattle.pm_steps.specs.Runs.{FindsFirstTo, FindsMissing, words_in};
 
 use super::backs::Backs;
 use pm_epochs::{Choice, Event, Kept};
@@ -210,9 +210,7 @@ fn first_waiting_to<R: Region>(
 ) -> Option<usize>
     requires done { length backs.now.back ≤ length (R.memory region.now).events }
     requires taken { (from ≤ to) × (to ≤ length backs.now.back) }
-    ensures { MatchOption result
-        (AllToBack (R.memory region.now).events backs.now.back word from to)
-        (IsFirstTo (R.memory region.now).events backs.now.back word from to) }
+    ensures { FindsFirstTo result (R.memory region.now).events backs.now.back word from to }
 {
     for i in from..to {
         match region.event(i) {
@@ -235,8 +233,7 @@ fn first_missing<R: Region>(region: &R, backs: &Backs, low: usize, which: usize)
     requires below { IsBackBelow (R.memory region.now).events backs.now.back low }
     requires low { IsWaiting (R.memory region.now).events backs.now.back low }
     requires which { IsWaiting (R.memory region.now).events backs.now.back which }
-    ensures { MatchOption result (AreBackBefore (R.memory region.now).events backs.now.back which)
-        (IsFirstMissing (R.memory region.now).events backs.now.back which) }
+    ensures { FindsMissing result (R.memory region.now).events backs.now.back which }
 {
     let word = match region.event(which) {
         Event::Store { word, .. } => word,

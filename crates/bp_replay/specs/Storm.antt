@@ -71,6 +71,10 @@ IsOdd number = number % 2 ≡ 1
 abbrev pub IsStoreAt : List Event → ℕ → Type 0
 IsStoreAt events which = is_some_store (slice_get events which) ≡ true
 
+-- of each store of a log this holds, by its index
+abbrev pub OfEachStore : List Event → (ℕ → Type 0) → Type 0
+OfEachStore events Holds = (i : ℕ) → IsStoreAt events i → Holds i
+
 -- each store that must go before this one went
 abbrev pub MayGo : List Event → List Bool → ℕ → Type 0
 MayGo events back which = (earlier : ℕ) → ComesFirst events earlier which → slice_get back earlier ≡ Some true

@@ -5,7 +5,7 @@ ghost use Rattle.pm_epochs.specs.declared.event.Event.{Event};
 ghost use Rattle.pm_epochs.specs.Log.{words_after, marks};
 ghost use Rattle.pm_epochs.specs.Replay.{IsRight, replay, kept_calls, epoch_of};
 ghost use Rattle.bp_replay.specs.Generator.{next_state, drawn};
-ghost use Rattle.bp_replay.specs.Storm.{GoesByItsDraw, IsNotWrittenBack, IsStoreAt, IsWrittenBack, RunsToStorm, storm_cut};
+ghost use Rattle.bp_replay.specs.Storm.{GoesByItsDraw, IsNotWrittenBack, IsWrittenBack, OfEachStore, RunsToStorm, storm_cut};
 ghost use Rattle.bp_replay.specs.Wanted.{all, nothing, cut_for};
 
 /// A crash that is to keep all keeps each call, and leaves the words as the processor sees them.
@@ -40,10 +40,10 @@ pub fn a_storm_is_a_run()
 /// Of its own each whose draw is odd and that may go: all stores that must go before it went. The draws are those for the
 /// epoch's stores, one after the other.
 pub fn a_storm_writes_back_what_may_go()
-    ensures earlier { (state epoch : ℕ) (events : List Event) (which : ℕ) → IsStoreAt events which →
-        epoch_of events which < epoch → IsWrittenBack state epoch events which }
-    ensures later { (state epoch : ℕ) (events : List Event) (which : ℕ) → IsStoreAt events which →
-        epoch < epoch_of events which → IsNotWrittenBack state epoch events which }
-    ensures own { (state epoch : ℕ) (events : List Event) (which : ℕ) → IsStoreAt events which →
-        epoch_of events which ≡ epoch → GoesByItsDraw state epoch events which }
+    ensures earlier { (state epoch : ℕ) (events : List Event) →
+        OfEachStore events (λ i. epoch_of events i < epoch → IsWrittenBack state epoch events i) }
+    ensures later { (state epoch : ℕ) (events : List Event) →
+        OfEachStore events (λ i. epoch < epoch_of events i → IsNotWrittenBack state epoch events i) }
+    ensures own { (state epoch : ℕ) (events : List Event) →
+        OfEachStore events (λ i. epoch_of events i ≡ epoch → GoesByItsDraw state epoch events i) }
 {}

@@ -58,6 +58,11 @@ pub record CanCommit (old : Image) (bound : ℕ → ℕ) (kept : ℕ → Bool) (
       → k ≤ (run_end run - 1) / 8 →
       touched_trail touched i ≢ end_trail (run_path run k)
 
+-- whichever sizes count, and whichever blocks are kept and free: where the words can be committed, this holds
+abbrev pub WhereCanCommit : Image → Touched → Type 0 → Type 0
+WhereCanCommit image touched Holds =
+    (bound : ℕ → ℕ) (kept free : ℕ → Bool) → CanCommit image bound kept touched free → Holds
+
 -- ---- under the sizes that the image has
 
 -- the trees that are given are the image's
@@ -90,6 +95,12 @@ abbrev pub IsInodeTree : Image → ℕ → TreeSize → Type 0
 IsInodeTree image n tree =
     tree.root.items ≡ inode_path (height_of (root_of image 0)) n 1 → tree.height ≡ height_of (root_of image n) →
     tree.size ≡ size_of image n → IsTreeIn image (size_of image) tree
+
+-- .. and so is one that has those of the inode file
+abbrev pub IsInodeFileTree : Image → TreeSize → Type 0
+IsInodeFileTree image tree =
+    tree.root.items ≡ [] → tree.height ≡ height_of (root_of image 0) → tree.size ≡ size_of image 0 →
+    IsTreeIn image (size_of image) tree
 
 -- a tree is still right of another image, where that has it as high, and no more of it counts
 abbrev pub StaysTree : Image → Image → (ℕ → ℕ) → ℕ → TreeSize → Type 0

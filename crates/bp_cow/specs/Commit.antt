@@ -4,6 +4,7 @@ use Rattle.pm_region.specs.Memory.{Memory, current_words, room_in}
 use Rattle.pm_region.specs.Safe.{AddsCommit}
 use Rattle.bp_limits.specs.Limits.{block_words}
 use Rattle.bp_free.specs.Set.{Set, has, members}
+use Rattle.bp_free.specs.declared.parts.Parts.{Parts}
 use Rattle.bp_layout.specs.Free.{AreUnheld}
 use Rattle.bp_layout.specs.Members.{Each}
 use Rattle.bp_layout.specs.Reached.{IsReached}
@@ -11,7 +12,8 @@ use Rattle.bp_layout.specs.Same.{Same}
 use Rattle.bp_layout.specs.WellFormed.{IsWellFormed}
 use Rattle.bp_layout.specs.WordPaths.{address}
 use Rattle.bp_layout.specs.Words.{Image, block_count}
-use Rattle.bp_shapes.specs.Forest.{IsTreePointer}
+use Rattle.bp_shapes.specs.Forest.{IsForest, IsTreePointer}
+use Rattle.bp_shapes.specs.Sets.{kept_of}
 use Rattle.bp_commit.specs.Performs.{TakesBlocks}
 use Rattle.bp_cow.specs.CanCommit.{CanCommit}
 use Rattle.bp_cow.specs.Committed.{IsCommitted, after_commit}
@@ -59,6 +61,10 @@ IsCommittedBy bound touched cover old new =
     IsCommitted old new (IsTreePointer old bound) (IsTreeWord old bound) (IsTurned (job_of touched) cover)
     (after_commit old (job_of touched))
 
+-- where it made them of a forest, this holds
+abbrev pub OnCommit : (ℕ → ℕ) → Touched → ℕ → Image → Image → Type 0 → Type 0
+OnCommit bound touched cover old new Holds = IsForest old bound → IsCommittedBy bound touched cover old new → Holds
+
 -- By one store at the word of the cover, alone in its epoch after a quiet preparation, each touched word has its
 -- value. Before it there are stores to the blocks that are taken for the copies, to each of them, and nowhere else.
 -- No store goes to a block that is kept. In the end just the blocks that no reached tree has and that are not kept are
@@ -80,3 +86,8 @@ pub record CommitsTouched (bound : ℕ → ℕ) (kept : ℕ → Bool) (touched :
   pub words : IsCommittedBy bound touched (length (commit_cover (current_words old) touched)) (current_words old)
       (current_words new)
   pub exact : AreUnheld (current_words new) (IsReached (current_words old)) bound kept (has blocks_after)
+
+-- the same of the parts of a file system, whose memory this function tells
+abbrev pub CommitsParts : {R : Type 0} → (R → Memory) → (ℕ → ℕ) → Touched → Parts R → Parts R → Type 0
+CommitsParts memory bound touched old new =
+    CommitsTouched bound (kept_of old) touched (memory old.region) (memory new.region) old.blocks new.blocks

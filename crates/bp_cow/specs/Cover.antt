@@ -37,6 +37,10 @@ pub record BeginAlike (touched : Touched) (count : ℕ) : Type 0 where
   pub long : (i : ℕ) → i < ends touched → count ≤ length (end_path touched i)
   pub same : (i : ℕ) → i < ends touched → trail_of (end_path touched i) count ≡ trail_of (end_path touched 0) count
 
+-- so many slots of a path are those with which they begin
+abbrev pub BeginsAsEnds : Touched → ℕ → WordPath → Type 0
+BeginsAsEnds touched count path = trail_of path count ≡ trail_of (end_path touched 0) count
+
 -- the pointers on the way to the cover lead to blocks of the image
 abbrev pub LeadsInside : Image → Touched → Type 0
 LeadsInside image touched =

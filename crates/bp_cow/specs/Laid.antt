@@ -18,9 +18,18 @@ word_in_block image block slot = word image (block_words * block + slot)
 abbrev pub AreWordsOf : List ℕ → Image → ℕ → Type 0
 AreWordsOf words image block = (slot : ℕ) → slot < block_words → slice_index words slot ≡ slot_word image block slot
 
+-- the first words of a block, so many, have these values, by their slots
+abbrev pub HasFirstWords : Image → ℕ → ℕ → (ℕ → ℕ) → Type 0
+HasFirstWords image block count value = (slot : ℕ) → slot < count → slot_word image block slot ≡ value slot
+
 -- the run has each byte of the leaf whose first word has this number
 abbrev pub CoversLeaf : Run → ℕ → Type 0
 CoversLeaf run first = (run.off ≤ 8 * first) × (8 * first + block_size ≤ run_end run)
+
+-- the words of a leaf whose first word has this number in the tree with this root path have the bytes of these runs laid over
+abbrev pub LaysLeaf : List Run → WordPath → ℕ → List ℕ → List ℕ → Type 0
+LaysLeaf runs root first old new = (slot : ℕ) → slot < block_words →
+    slice_index new slot ≡ laid_word runs root (first + slot) (slice_index old slot)
 
 -- The first words of a block, so many, are now those of another one, with the bytes of these runs laid over. They are the
 -- words of the tree with this root path from a number on.

@@ -8,7 +8,7 @@ ghost use Rattle.bp_shapes.specs.Forest.{IsExactSet, IsTreePointer};
 ghost use Rattle.pm_epochs.specs.Crash.{commit};
 ghost use Rattle.pm_region.specs.Memory.{current_words, room_in, Adds};
 ghost use Rattle.bp_cow.specs.CanCommit.{TellsKept};
-ghost use Rattle.bp_cow.specs.Commit.{CanCommitIn, CommitsTouched};
+ghost use Rattle.bp_cow.specs.Commit.{CanCommitIn, CommitsParts};
 ghost use Rattle.bp_cow.specs.Found.{AreWaysIn};
 ghost use Rattle.bp_cow.specs.Plan.{Plan};
 ghost use Rattle.bp_cow.specs.Touched.{IsTouched, only_value};
@@ -118,8 +118,7 @@ pub fn commit_at<R: Region>(parts: &mut Parts<R>, touched: &Touched<'_>, found: 
     requires can { CanCommitIn bound (kept_of parts.old) (R.memory parts.old.region) touched.now parts.old.blocks }
     requires found { AreWaysIn (current_words (R.memory parts.old.region)) touched.now found.now }
     requires kept { TellsKept (kept_of parts.old) (current_words (R.memory parts.old.region)) parts.old.frozen }
-    ensures commits { CommitsTouched bound (kept_of parts.old) touched.now
-        (R.memory parts.old.region) (R.memory parts.new.region) parts.old.blocks parts.new.blocks }
+    ensures commits { CommitsParts R.memory bound touched.now parts.old parts.new }
     ensures size { length parts.new.blocks ≡ length parts.old.blocks }
     ensures inodes { parts.new.inodes ≡ parts.old.inodes }
     ensures counts { parts.new.counts ≡ parts.old.counts }

@@ -92,8 +92,8 @@ fn name_of<'a>(values: &ArgMatches<'a>) -> &'a str
 /// The number that an option is given, which `clap` lets through in its range alone.
 fn number_of(values: &ArgMatches<'_>, option: &str) -> u64
     requires { (least : ℕ) × (most : ℕ) × HasNumber option.now least most (rows_of (found_of values.now)) }
-    ensures { (least most : ℕ) → HasNumber option.now least most (rows_of (found_of values.now)) →
-        GivesNumber option.now least most (rows_of (found_of values.now)) result }
+    ensures { let rows = rows_of (found_of values.now) in
+        (least most : ℕ) → HasNumber option.now least most rows → GivesNumber option.now least most rows result }
 {
     match values.get_one::<u64>(option) {
         Some(number) => number,

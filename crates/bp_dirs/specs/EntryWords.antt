@@ -12,6 +12,10 @@ pub record HasWords (image : Image) (root slot : ℕ) (words : List ℕ) : Type 
   pub long : length words ≡ entry_words
   pub each : (field : ℕ) → field < entry_words → slice_index words field ≡ word_in image root slot field
 
+-- each word of the entry in a slot is 0
+abbrev pub IsZeroEntry : Image → ℕ → ℕ → Type 0
+IsZeroEntry image root slot = (field : ℕ) → field < entry_words → word_in image root slot field ≡ 0
+
 -- all words of so many entries in a row, the first of them in this slot
 pub record IsRow (image : Image) (root first count : ℕ) (words : List ℕ) : Type 0 where
   pub long : length words ≡ entry_words * count

@@ -2,12 +2,12 @@
 
 ghost use Rattle.std.specs.Prelude.{◌≡◌, ◌≢◌, ℕ, ◌+◌, ◌-◌, ◌*◌, ◌/◌, ◌%◌, ◌<◌, ◌≤◌, min, length, Option, IfSome, IfNone};
 ghost use Rattle.bp_layout.specs.Tree.{IsSound};
-ghost use Rattle.bp_layout.specs.Directory.{inumber_in, word_in};
+ghost use Rattle.bp_layout.specs.Directory.{inumber_in};
 ghost use Rattle.pm_region.specs.Memory.{current_words};
-ghost use Rattle.bp_dirs.specs.EntryWords.{HasWords, IsLeaf, IsRow, last_part, part_word};
+ghost use Rattle.bp_dirs.specs.EntryWords.{HasWords, IsLeaf, IsRow, IsZeroEntry, last_part, part_word};
 ghost use Rattle.bp_dirs.specs.Leaves.{empty_in_leaf, named_in_leaf, names_in_leaf};
 ghost use Rattle.bp_dirs.specs.Spots.{found_slot};
-ghost use Rattle.bp_limits.specs.Limits.{block_entries, entry_size, entry_words, max_name};
+ghost use Rattle.bp_limits.specs.Limits.{block_entries, entry_size, max_name};
 
 use crate::entry_view::EntryView;
 use crate::entry_words::is_named;
@@ -80,8 +80,8 @@ impl Leaf {
         requires live { index < self.now.count }
         ensures some { IfSome result (λ entry. HasWords (current_words (R.memory region.now))
             self.now.tree.root (self.now.first + index) entry.words.now) }
-        ensures none { IfNone result ((field : ℕ) → field < entry_words →
-            word_in (current_words (R.memory region.now)) self.now.tree.root (self.now.first + index) field ≡ 0) }
+        ensures none { IfNone result (IsZeroEntry (current_words (R.memory region.now))
+            self.now.tree.root (self.now.first + index)) }
     {
         if self.block == 0 {
             return None;

@@ -2,25 +2,24 @@
 use Rattle.std.specs.Prelude.{ℕ, List, Result}
 use Rattle.bp_io.specs.Streams.{SinkView}
 use Rattle.bp_layout.specs.Lookup.{Node, Path}
-use Rattle.bp_layout.specs.Lookup.Node.{file}
 use Rattle.bp_layout.specs.Words.{Image}
 use Rattle.bp_plain.specs.Calls.{Call}
-use Rattle.bp_plain.specs.Export.{calls_for}
 use Rattle.bp_plain.specs.PlainTree.{PathMap}
 use Rattle.bp_replies.specs.Gathering.{waiting}
 use Rattle.bp_tree.specs.declared.tree.Tree.{Tree}
-use Rattle.bp_export.specs.Telling.{content_of}
+use Rattle.bp_export.specs.Telling.{calls_to_make}
 use Rattle.bp_export.specs.Walking.{Place, Tours, WalkStandsAt, itself}
 use Rattle.bp_export.specs.declared.fault.Fault.{Fault}
 use Rattle.bp_export.specs.declared.work.Work.{Work}
+use Rattle.pm_region.specs.Memory.{Memory}
 
 -- the lines that no sink has taken yet
 abbrev pub held_lines : Work → List ℕ
 held_lines work = waiting work.replies
 
 -- the calls that make the file with this tree at the path at hand
-abbrev pub file_calls : Image → Tree → Work → List Call
-file_calls image tree work = calls_for work.path.items (file (content_of image tree))
+abbrev pub file_calls : Memory → Tree → Work → List Call
+file_calls memory tree work = calls_to_make work.path.items memory tree
 
 -- The walk stands at the place: its path finds inode i, and what is next there is told behind what was told.
 abbrev pub StandsHeld : Image → List ℕ → (PathMap → Path → List (Path × Node)) → ℕ → Work → Place → Type 0

@@ -1,5 +1,6 @@
 -- Entries of a directory in a row, as the words in which they stand.
 use Rattle.std.specs.Prelude.{◌≡◌, ◌≢◌, ℕ, ◌+◌, ◌-◌, ◌*◌, ◌/◌, ◌^◌, ◌<◌, ◌≤◌, min, List, length, slice_index, slice_range}
+use Rattle.bp_dirs.specs.EntryWords.{IsRow}
 use Rattle.bp_limits.specs.Limits.{block_entries, entry_size, entry_words, max_name}
 use Rattle.bp_layout.specs.Directory.{inumber_in}
 use Rattle.bp_layout.specs.Reached.{IsReached}
@@ -8,6 +9,10 @@ use Rattle.bp_layout.specs.Words.{Image}
 -- how many entries of a leaf lie below the size
 abbrev pub row_length : ℕ → ℕ → ℕ
 row_length size leaf = min block_entries (size / entry_size - block_entries * leaf)
+
+-- the words of these entries
+abbrev pub IsLeafRow : Image → ℕ → ℕ → ℕ → List ℕ → Type 0
+IsLeafRow image root size leaf words = IsRow image root (block_entries * leaf) (row_length size leaf) words
 
 -- each entry of a leaf is empty
 abbrev pub IsEmptyLeaf : Image → ℕ → ℕ → Type 0

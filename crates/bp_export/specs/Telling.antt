@@ -3,17 +3,18 @@ use Rattle.std.specs.Prelude.{ℕ, ◌+◌, ◌*◌, min, List, [], ◌∷◌, �
 use Rattle.bp_io.specs.Causes.{HasCause}
 use Rattle.bp_io.specs.Streams.{SinkView}
 use Rattle.bp_io.specs.declared.faults.Failed.{Failed}
+use Rattle.bp_layout.specs.Lookup.Node.{file}
 use Rattle.bp_layout.specs.Tree.{content}
-use Rattle.bp_layout.specs.Words.{Image}
 use Rattle.bp_limits.specs.Limits.{block_size}
 use Rattle.bp_plain.specs.Calls.{Call}
 use Rattle.bp_plain.specs.Calls.Call.{truncate}
-use Rattle.bp_plain.specs.Export.{is_zeros, stretch}
+use Rattle.bp_plain.specs.Export.{calls_for, is_zeros, stretch}
 use Rattle.bp_replies.specs.Gathering.{PassesOn, waiting}
 use Rattle.bp_replies.specs.Taking.{TakesPart}
 use Rattle.bp_replies.specs.declared.replies.Replies.{Replies}
 use Rattle.bp_script.specs.Export.{call_lines}
 use Rattle.bp_tree.specs.declared.tree.Tree.{Tree}
+use Rattle.pm_region.specs.Memory.{Memory, current_words}
 
 -- The lines of these calls were added to what waits for a sink. Or the sink failed, which took a proper front of what waited and
 -- of them.
@@ -29,9 +30,13 @@ TellsAmong calls result replies sink replies_now sink_now =
 
 -- ---- a file
 
--- the bytes of the file with this tree
-abbrev pub content_of : Image → Tree → List ℕ
-content_of image tree = content image tree.root tree.size
+-- the bytes of the file with this tree, as the words of a region are now
+abbrev pub content_in : Memory → Tree → List ℕ
+content_in memory tree = content (current_words memory) tree.root tree.size
+
+-- the calls that make it at the path with this text
+abbrev pub calls_to_make : List ℕ → Memory → Tree → List Call
+calls_to_make text memory tree = calls_for text (file (content_in memory tree))
 
 -- where the write of a stretch ends in a file of this size; none, where its bytes are zeros
 abbrev pub write_end : List ℕ → ℕ → ℕ → Option ℕ

@@ -1,12 +1,11 @@
 //! The lines of a file.
 
 ghost use Rattle.std.specs.Prelude.{All, IfOk, ◌*◌, ◌<◌, ◌≡◌, length};
-ghost use Rattle.bp_layout.specs.Lookup.Node.{file};
 ghost use Rattle.bp_layout.specs.Tree.{IsSound};
 ghost use Rattle.bp_limits.specs.Limits.{block_size};
-ghost use Rattle.bp_plain.specs.Export.{calls_for, is_zeros, size_call, write_of, writes_of};
+ghost use Rattle.bp_plain.specs.Export.{is_zeros, size_call, write_of, writes_of};
 ghost use Rattle.bp_script.specs.Export.{FitsText};
-ghost use Rattle.bp_export.specs.Telling.{TellsAmong, content_of, size_behind, write_end};
+ghost use Rattle.bp_export.specs.Telling.{TellsAmong, calls_to_make, content_in, size_behind, write_end};
 ghost use Rattle.pm_region.specs.Memory.{current_words};
 
 use crate::telling::tell;
@@ -37,10 +36,10 @@ fn export_stretch<R: Region, K: Sink>(
     requires sound { IsSound (current_words (R.memory region.now)) tree.root tree.size }
     requires live { block_size * leaf < tree.size }
     requires room { length block.old ≡ block_size }
-    requires short { All FitsText (write_of path.now (content_of (current_words (R.memory region.now)) tree) leaf) }
-    ensures told { let bytes = content_of (current_words (R.memory region.now)) tree in
+    requires short { All FitsText (write_of path.now (content_in (R.memory region.now) tree) leaf) }
+    ensures told { let bytes = content_in (R.memory region.now) tree in
         IfOk result (λ end. end ≡ write_end bytes leaf tree.size) }
-    ensures lines { TellsAmong (write_of path.now (content_of (current_words (R.memory region.now)) tree) leaf)
+    ensures lines { TellsAmong (write_of path.now (content_in (R.memory region.now) tree) leaf)
         result replies.old (K.view out.old) replies.new (K.view out.new) }
     ensures room { length block.new ≡ block_size }
 {
@@ -66,10 +65,10 @@ fn export_leaves<R: Region, K: Sink>(
 ) -> Result<u64, Failed>
     requires sound { IsSound (current_words (R.memory region.now)) tree.root tree.size }
     requires room { length block.old ≡ block_size }
-    requires short { All FitsText (writes_of path.now (content_of (current_words (R.memory region.now)) tree)) }
-    ensures told { let bytes = content_of (current_words (R.memory region.now)) tree in
+    requires short { All FitsText (writes_of path.now (content_in (R.memory region.now) tree)) }
+    ensures told { let bytes = content_in (R.memory region.now) tree in
         IfOk result (λ told. size_behind path.now told tree.size ≡ size_call path.now bytes) }
-    ensures lines { TellsAmong (writes_of path.now (content_of (current_words (R.memory region.now)) tree))
+    ensures lines { TellsAmong (writes_of path.now (content_in (R.memory region.now) tree))
         result replies.old (K.view out.old) replies.new (K.view out.new) }
     ensures room { length block.new ≡ block_size }
 {
@@ -116,8 +115,8 @@ pub(crate) fn export_file<R: Region, K: Sink>(
 ) -> Result<(), Failed>
     requires sound { IsSound (current_words (R.memory region.now)) tree.root tree.size }
     requires room { length block.old ≡ block_size }
-    requires short { All FitsText (calls_for path.now (file (content_of (current_words (R.memory region.now)) tree))) }
-    ensures lines { TellsAmong (calls_for path.now (file (content_of (current_words (R.memory region.now)) tree)))
+    requires short { All FitsText (calls_to_make path.now (R.memory region.now) tree) }
+    ensures lines { TellsAmong (calls_to_make path.now (R.memory region.now) tree)
         result replies.old (K.view out.old) replies.new (K.view out.new) }
     ensures room { length block.new ≡ block_size }
 {

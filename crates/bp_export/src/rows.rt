@@ -1,8 +1,7 @@
 //! The entries of a directory, leaf by leaf.
 
 ghost use Rattle.std.specs.Prelude.{ℕ, ◌*◌, ◌/◌, ◌<◌, ◌≤◌, IfNone, IfSome};
-ghost use Rattle.bp_dirs.specs.EntryWords.{IsRow};
-ghost use Rattle.bp_export.specs.Rows.{IsEmptyLeaf, row_length};
+ghost use Rattle.bp_export.specs.Rows.{IsEmptyLeaf, IsLeafRow};
 ghost use Rattle.bp_layout.specs.Tree.{IsSound};
 ghost use Rattle.bp_limits.specs.Limits.{block_entries, entry_size};
 ghost use Rattle.pm_region.specs.Memory.{current_words};
@@ -27,8 +26,8 @@ pub(crate) fn leaf_count(tree: Tree) -> u64
 pub(crate) fn entry_row<R: Region>(region: &R, tree: Tree, leaf: u64) -> Option<&[u64]>
     requires sound { IsSound (current_words (R.memory region.now)) tree.root tree.size }
     requires live { block_entries * leaf < tree.size / entry_size }
-    ensures some { let image = current_words (R.memory region.now) in
-        IfSome result (λ words. IsRow image tree.root (block_entries * leaf) (row_length tree.size leaf) words.now) }
+    ensures some { IfSome result
+        (λ words. IsLeafRow (current_words (R.memory region.now)) tree.root tree.size leaf words.now) }
     ensures none { IfNone result (IsEmptyLeaf (current_words (R.memory region.now)) tree.root leaf) }
 {
     match leaf_words(region, tree, leaf) {

@@ -53,8 +53,8 @@ fn export_new<R: Region, K: Sink>(
     out: &mut K,
 ) -> Result<(), Fault>
     requires sound { IsSound (current_words (R.memory region.now)) tree.root tree.size }
-    requires short { All FitsText (file_calls (current_words (R.memory region.now)) tree work.old) }
-    ensures goes { Goes (file_calls (current_words (R.memory region.now)) tree work.old) result
+    requires short { All FitsText (file_calls (R.memory region.now) tree work.old) }
+    ensures goes { Goes (file_calls (R.memory region.now) tree work.old) result
         (held_lines work.old) (held_lines work.new) (K.view out.old) (K.view out.new) }
     ensures path { work.new.path.items ≡ work.old.path.items }
     ensures firsts { work.new.firsts ≡ work.old.firsts }

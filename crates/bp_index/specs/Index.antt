@@ -36,6 +36,10 @@ pub record EntersSlot (old new : Index) (name : Name) (slot : ℕ) : Type 0 wher
   pub slots : Updates nat_eq old.slots new.slots (hash_of name) (Some slot)
   pub empties : SetsSlot old.empties new.empties slot false
 
+-- .. the name of the entry that stands there
+abbrev pub EntersEntry : Image → ℕ → ℕ → Index → Index → Type 0
+EntersEntry image root slot old new = EntersSlot old new (name_in image root slot) slot
+
 -- a name can come to a slot: its hash leads nowhere yet, and there is room for it
 pub record CanEnter (index : Index) (name : Name) (slot : ℕ) : Type 0 where
   pub room : slot < length index.empties

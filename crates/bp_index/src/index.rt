@@ -4,8 +4,8 @@ ghost use Rattle.std.specs.Prelude.{◌≡◌, ℕ, ◌/◌, ◌<◌, ◌≤◌,
 ghost use Rattle.std.specs.Bool.{OnTrue};
 ghost use Rattle.bp_dirs.specs.EntryWords.{HasWords};
 ghost use Rattle.bp_dirs.specs.Spots.{FreeIs, found_slot, named_slot};
-ghost use Rattle.bp_index.specs.Index.{CanEnter, EntersSlot, IsEmptyIndex, IsIndexOf, IsIndexed, KeepsIndexed, LeavesSlot};
-ghost use Rattle.bp_layout.specs.Directory.{empty_slot_in, inumber_in, name_in, slot_named_in};
+ghost use Rattle.bp_index.specs.Index.{CanEnter, EntersEntry, EntersSlot, IsEmptyIndex, IsIndexOf, IsIndexed, KeepsIndexed, LeavesSlot};
+ghost use Rattle.bp_layout.specs.Directory.{empty_slot_in, inumber_in, slot_named_in};
 ghost use Rattle.bp_layout.specs.Tree.{IsSound};
 ghost use Rattle.bp_layout.specs.Words.{Image};
 ghost use Rattle.bp_limits.specs.Limits.{entry_size, max_name};
@@ -55,8 +55,8 @@ impl Index {
     /// whose hash another name has; or where there is no memory.
     fn take_in(&mut self, entry: &EntryView<'_>, slot: u32) -> bool
         requires { slot < length self.old.empties }
-        ensures { (image : Image) (root : ℕ) → HasWords image root slot entry.now.words.now → result ≡ true
-            → EntersSlot self.old self.new (name_in image root slot) slot }
+        ensures { (image : Image) (root : ℕ) → HasWords image root slot entry.now.words.now → result ≡ true →
+            EntersEntry image root slot self.old self.new }
     {
         if entry.name_len() > MAX_NAME as u64 {
             return false;

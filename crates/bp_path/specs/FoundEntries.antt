@@ -14,6 +14,10 @@ abbrev pub fault_of : WalkFault → Walked
 fault_of NotFound = missing
 fault_of NotDir = in_file
 
+-- a walk from this inode on fails so at a name, whatever names stand behind it
+abbrev pub FailsAt : Image → ℕ → Name → WalkFault → Type 0
+FailsAt image dir name fault = (rest : Path) → walk_from image dir (name ∷ rest) ≡ fault_of fault
+
 -- where a walk ended, and where a walk to a parent did
 abbrev pub walked_of : Result FoundEntry WalkFault → Walked
 walked_of (Ok entry) = found entry.inumber

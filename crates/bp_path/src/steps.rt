@@ -1,6 +1,6 @@
 //! Where a path leads, name by name from the root directory on.
 
-ghost use Rattle.std.specs.Prelude.{◌≡◌, ◌≢◌, ◌∷◌, ◌≤◌, [], true, List, ℕ, length, Some, IfOk, IfErr};
+ghost use Rattle.std.specs.Prelude.{◌≡◌, ◌≢◌, ◌≤◌, [], true, length, Some, IfOk, IfErr};
 ghost use Rattle.std.specs.List.{list_all};
 ghost use Rattle.bp_layout.specs.Inode.{IsDirectory};
 ghost use Rattle.bp_layout.specs.Directory.{inumber_at, slot_named};
@@ -13,7 +13,7 @@ ghost use Rattle.bp_layout.specs.WellFormed.{IsWellFormed};
 ghost use Rattle.pm_region.specs.Memory.{current_words};
 ghost use Rattle.bp_path.specs.Names.{path_parts};
 ghost use Rattle.bp_path.specs.Walk.{walk_from};
-ghost use Rattle.bp_path.specs.FoundEntries.{FindsParent, IsEntryOf, WalksToParent, fault_of, walked_of};
+ghost use Rattle.bp_path.specs.FoundEntries.{FailsAt, FindsParent, IsEntryOf, WalksToParent, walked_of};
 
 use crate::names::{split_first, split_last};
 use crate::path::Path;
@@ -66,8 +66,7 @@ fn step<R: Region, F: Finder>(
         IfOk result (λ entry. slot_named words dir name.now ≡ Some entry.slot) }
     ensures inumber { let words = current_words (R.memory region.now) in
         IfOk result (λ entry. inumber_at words dir entry.slot ≡ entry.inumber) }
-    ensures fault { let words = current_words (R.memory region.now) in
-        IfErr result (λ fault. (rest : List (List ℕ)) → walk_from words dir (name.now ∷ rest) ≡ fault_of fault) }
+    ensures fault { IfErr result (FailsAt (current_words (R.memory region.now)) dir name.now) }
     ensures right { F.right finder.new (current_words (R.memory region.now)) }
     ensures references { F.same_references finder.old finder.new }
 {

@@ -221,6 +221,10 @@ path_named text = unwrap_or (parse text) []
 abbrev pub with_written : PathMap → Path → ℕ → List ℕ → PathMap
 with_written map path off new = with_content map path (written (bytes_at map.nodes path) off new)
 
+-- its bytes up to a size, with zeros behind them where it had fewer
+abbrev pub with_size : PathMap → Path → ℕ → PathMap
+with_size map path size = with_content map path (resized (bytes_at map.nodes path) size)
+
 abbrev pub with_piece : PathMap → Piece → PathMap
 with_piece map piece =
     if nat_lt 0 (length piece.bytes) then with_written map (path_named piece.path) piece.off piece.bytes else map

@@ -344,8 +344,7 @@ impl FileMap {
         path: &[Name],
         size: u64,
     ) -> Result<(), AllocError>
-        ensures resized { OnOk result (self.new ≡ plain.with_content self.old (names_of path.now)
-            (plain.resized (plain.bytes_at self.old.nodes (names_of path.now)) size)) }
+        ensures resized { OnOk result (self.new ≡ plain.with_size self.old (names_of path.now) size) }
         ensures kept { OnErr result (self.new ≡ self.old) }
     {
         let content = resized(alloc, self.bytes(path), size as usize)?;

@@ -254,6 +254,10 @@ abbrev pub decoded : Command → Command
 decoded (file_call call) = file_call (decoded_call call)
 decoded command = command
 
+-- what a batch of these words asks for
+abbrev pub asked_batch : List (List ℕ) → Command
+asked_batch words = decoded (asked_by (codes "batch" ∷ words))
+
 -- what a line of the table asks for
 abbrev pub in_grammar : List ℕ → Command
 in_grammar line = decoded (written_command line)

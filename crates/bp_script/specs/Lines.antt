@@ -107,6 +107,10 @@ piece_decoded path off bytes =
     if is_empty_word path || is_empty_word bytes then None
     else option_map decoded_piece (piece_spelled path (number_spelled off) (bytes_spelled bytes))
 
+-- the first of these words
+abbrev pub first_piece : PieceWords → Option Piece
+first_piece words = piece_decoded words.path.now words.off.now (first_word words.rest.now)
+
 -- what a verb and a path ask for
 abbrev pub path_row : PathVerb → List ℕ → Command
 path_row verb.Create path = file_call (create path)

@@ -2,11 +2,11 @@
 
 ghost use Rattle.bp_plain.specs.Seen.{LiesIn, piece_in, spanned};
 ghost use Rattle.bp_script.specs.Commands.Command.{bad_syntax, file_call};
-ghost use Rattle.bp_script.specs.Commands.{asked_by, decoded, path_bytes, words_of};
-ghost use Rattle.bp_script.specs.Lines.{batch_in, first_word, len_behind, most_room, piece_decoded, word_bytes, words_at, words_behind, words_len};
+ghost use Rattle.bp_script.specs.Commands.{asked_batch, path_bytes, words_of};
+ghost use Rattle.bp_script.specs.Lines.{batch_in, first_piece, first_word, len_behind, most_room, word_bytes, words_at, words_behind, words_len};
 ghost use Rattle.std.specs.List.{All};
 ghost use Rattle.std.specs.Option.{option_map_or};
-ghost use Rattle.std.specs.Prelude.{if◌then◌else◌, ◌∷◌, ◌+◌, ◌≡◌, ◌≤◌, IfOk, OnErr, OnOk, [], codes, length, option_map, take, vec_capacity};
+ghost use Rattle.std.specs.Prelude.{if◌then◌else◌, ◌∷◌, ◌+◌, ◌≡◌, ◌≤◌, IfOk, OnErr, OnOk, [], length, option_map, take, vec_capacity};
 ghost use Rattle.std.specs.Result.{is_ok, result_ok};
 
 use crate::decoding::{decode_word, lengthen, put_path, split_once};
@@ -41,7 +41,7 @@ pub(crate) fn decode_pieces(
     requires room { length first.path.now + length first.off.now + length first.rest.now ≤ vec_capacity text.old }
     requires low { length first.path.now + length first.off.now + length first.rest.now ≤ most_room }
     ensures meaning { (if is_ok result then file_call (batch_in text.new.items pieces.new.items) else bad_syntax) ≡
-        decoded (asked_by (codes "batch" ∷ words_at first.entry)) }
+        asked_batch (words_at first.entry) }
     ensures whole { OnOk result (All (LiesIn text.new.items) pieces.new.items) }
     ensures room { vec_capacity text.old ≤ vec_capacity text.new }
 {
@@ -94,7 +94,7 @@ fn add_piece<'a>(
     requires room { at + length words.path.now + length words.rest.now ≤ vec_capacity text.old }
     requires low { at + length words.path.now + length words.rest.now ≤ most_room }
     ensures piece { option_map (λ added. piece_in text.new.items added.0) (result_ok result) ≡
-        piece_decoded words.entry.path.now words.entry.off.now (first_word words.entry.rest.now) }
+        first_piece words.entry }
     ensures behind { IfOk result (λ added. words_of words.entry.rest.now ≡ first_word words.entry.rest.now ∷ words_behind added.1) }
     ensures lies { IfOk result (λ added. LiesIn text.new.items added.0) }
     ensures later { IfOk result (λ added. at ≤ added.0.bytes.at) }

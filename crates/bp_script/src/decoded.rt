@@ -3,12 +3,12 @@
 ghost use Rattle.bp_plain.specs.Calls.Call.{batch, link, rename};
 ghost use Rattle.bp_replay.specs.Wanted.Wanted.{at};
 ghost use Rattle.bp_script.specs.Commands.Command.{bad_syntax, crash, file_call};
-ghost use Rattle.bp_script.specs.Commands.{IsServedCommand, asked_by, bytes_spelled, decoded, in_grammar, long_command, mask_in, masked_crash, pair_command, path_bytes, word_command, words_of, write_command};
+ghost use Rattle.bp_script.specs.Commands.{IsServedCommand, asked_batch, asked_by, bytes_spelled, decoded, in_grammar, long_command, mask_in, masked_crash, pair_command, path_bytes, word_command, words_of, write_command};
 ghost use Rattle.bp_script.specs.Lines.{CanBeAsked, HasItsParts, HoldsParts, KeepsRoom, decoded_room, first_held, line_asks, most_room, path_row, pieces_held, second_held};
 ghost use Rattle.std.specs.Borrow.{sem};
 ghost use Rattle.hex.specs.Hex.{decode_of};
 ghost use Rattle.std.specs.Result.{is_ok, result_ok};
-ghost use Rattle.std.specs.Prelude.{◌*◌, if◌then◌else◌, None, Ok, Some, IfOk, OnOk, codes, length, min, option_map, ◌∷◌, ◌+◌, ◌<◌, ◌≡◌, ◌≤◌};
+ghost use Rattle.std.specs.Prelude.{◌*◌, if◌then◌else◌, None, Ok, Some, IfOk, OnOk, length, min, option_map, ◌∷◌, ◌+◌, ◌<◌, ◌≡◌, ◌≤◌};
 
 use crate::batches::{PieceWords, decode_pieces};
 use crate::decoding::{decode_bytes, decode_escaped, decoded_or, digits_of, split_once};
@@ -219,7 +219,7 @@ impl Decoded {
         requires { length path.now + length off.now + length rest.now ≤ decoded_room self.old }
         ensures* keeps_room { sem 𝓛 (KeepsRoom self.entry) }
         ensures meaning { line_asks result ≡
-            decoded (asked_by (codes "batch" ∷ path.now ∷ off.now ∷ words_of rest.now)) }
+            asked_batch (path.now ∷ off.now ∷ words_of rest.now) }
         ensures whole { HasItsParts result }
     {
         self.pieces_of(path, off, rest)?;
@@ -230,7 +230,7 @@ impl Decoded {
     fn pieces_of(&mut self, path: &[u8], off: &[u8], rest: &[u8]) -> Result<(), Syntax>
         requires { length path.now + length off.now + length rest.now ≤ decoded_room self.old }
         ensures meaning { (if is_ok result then file_call (batch (pieces_held self.new)) else bad_syntax) ≡
-            decoded (asked_by (codes "batch" ∷ path.now ∷ off.now ∷ words_of rest.now)) }
+            asked_batch (path.now ∷ off.now ∷ words_of rest.now) }
         ensures whole { OnOk result (HoldsParts self.new) }
         ensures room { decoded_room self.old ≤ decoded_room self.new }
     {

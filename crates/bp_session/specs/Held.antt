@@ -4,7 +4,9 @@ use Rattle.std.specs.Prelude.{ℕ, List, [], ◌∷◌, Bool, Result, take}
 use Rattle.bp_io.specs.Files.{View}
 use Rattle.bp_io.specs.Streams.{SinkView, SourceView}
 use Rattle.bp_script.specs.Commands.{command_of}
+use Rattle.bp_replies.specs.Gathering.{PassesOn, waiting}
 use Rattle.bp_replies.specs.Room.{gathered_size}
+use Rattle.bp_replies.specs.declared.replies.Replies.{Replies}
 use Rattle.bp_session.specs.Acting.{reply_of}
 use Rattle.bp_session.specs.Changed.{stale_in}
 use Rattle.bp_session.specs.Gathering.{Clears, LineGathers}
@@ -19,71 +21,95 @@ use Rattle.bp_session.specs.declared.work.LineBuffers.{LineBuffers}
 use Rattle.bp_session.specs.declared.work.Work.{Work}
 use Rattle.pm_region.specs.Memory.{Memory}
 
--- the moment at which these blocks are stale, and the region, the files and the sink are so
-abbrev pub instant : List Bool → Memory → View → SinkView → Moment
-instant stale memory files sink = with_stale stale (moment memory files sink)
+-- the moment at which these blocks are stale, and the region, the files and the sink are so, by their views
+abbrev pub instant : {F K : Type 0} → (F → View) → (K → SinkView) → List Bool → Memory → F → K → Moment
+instant files_of sink_of stale memory files sink = with_stale stale (moment memory (files_of files) (sink_of sink))
+
+-- ---- replies that wait
+
+-- a text was added to them, and the sink took a front of both
+abbrev pub PassesText : List ℕ → Replies → SinkView → Replies → SinkView → Type 0
+PassesText text replies sink replies_now sink_now =
+    PassesOn text (waiting replies) (waiting replies_now) sink.taken sink_now.taken
 
 -- ---- the line of the buffers
 
 -- It was done, and came to this outcome.
-abbrev pub DoesHeld : LineBuffers → List Bool → Memory → View → SinkView
-    → LineBuffers → List Bool → Memory → View → SinkView → Outcome → Type 0
-DoesHeld before stale memory files sink after stale_now memory_now files_now sink_now outcome =
-    DoesLine (instant stale memory files sink) (command_of (line_in before)) (reply_of outcome (answer_in after))
-    (instant stale_now memory_now files_now sink_now)
+abbrev pub DoesHeld : {F K : Type 0} → (F → View) → (K → SinkView) → LineBuffers → List Bool → Memory → F → K
+    → LineBuffers → List Bool → Memory → F → K → Outcome → Type 0
+DoesHeld files_of sink_of before stale memory files sink after stale_now memory_now files_now sink_now outcome =
+    DoesLine (instant files_of sink_of stale memory files sink) (command_of (line_in before))
+    (reply_of outcome (answer_in after)) (instant files_of sink_of stale_now memory_now files_now sink_now)
 
 -- It was broken off by this cause, over the replies that wait.
-abbrev pub StopsBy : LineBuffers → List Bool → Memory → View → SinkView
-    → LineBuffers → List Bool → Memory → View → SinkView → Broken → Type 0
-StopsBy before stale memory files sink after stale_now memory_now files_now sink_now broken =
+abbrev pub StopsBy : {F K : Type 0} → (F → View) → (K → SinkView) → LineBuffers → List Bool → Memory → F → K
+    → LineBuffers → List Bool → Memory → F → K → Broken → Type 0
+StopsBy files_of sink_of before stale memory files sink after stale_now memory_now files_now sink_now broken =
     LineGathers (broken_status broken) (command_of (line_in before)) (waiting_in before) (waiting_in after)
-    (instant stale memory files sink) (instant stale_now memory_now files_now sink_now)
+    (instant files_of sink_of stale memory files sink) (instant files_of sink_of stale_now memory_now files_now sink_now)
 
 -- Behind it the replies that waited still wait, or a sink took them.
-abbrev pub ClearsHeld : LineBuffers → View → SinkView → LineBuffers → View → SinkView → Type 0
-ClearsHeld before files sink after files_now sink_now =
-    Clears (command_of (line_in before)) (waiting_in before) (waiting_in after) sink.taken sink_now.taken files files_now
+abbrev pub ClearsHeld : {F K : Type 0} → (F → View) → (K → SinkView) → LineBuffers → F → K → LineBuffers → F → K → Type 0
+ClearsHeld files_of sink_of before files sink after files_now sink_now =
+    Clears (command_of (line_in before)) (waiting_in before) (waiting_in after)
+    (sink_of sink).taken (sink_of sink_now).taken (files_of files) (files_of files_now)
 
 -- ---- the line of a run
 
 -- what it does over the replies that wait
-abbrev pub GathersHeld : {T : Type 0} → Result T Broken → Work → List Bool → Memory → View → SinkView
-    → Work → List Bool → Memory → View → SinkView → Type 0
-GathersHeld result work stale memory files sink work_now stale_now memory_now files_now sink_now =
+abbrev pub GathersHeld : {T F K : Type 0} → Result T Broken → (F → View) → (K → SinkView)
+    → Work → List Bool → Memory → F → K → Work → List Bool → Memory → F → K → Type 0
+GathersHeld result files_of sink_of work stale memory files sink work_now stale_now memory_now files_now sink_now =
     LineGathers (status_of result) (command_of (held_line work)) (held_replies work) (held_replies work_now)
-    (instant stale memory files sink) (instant stale_now memory_now files_now sink_now)
+    (instant files_of sink_of stale memory files sink) (instant files_of sink_of stale_now memory_now files_now sink_now)
 
 -- what it does where its reply is handed over at once
-abbrev pub ServesHeld : {T : Type 0} → Result T Broken → Work → Moment → Moment → Type 0
-ServesHeld result work old new = LineOutcome (status_of result) (command_of (held_line work) ∷ []) old new
+abbrev pub ServesAlone : {T F K : Type 0} → Result T Broken → (F → View) → (K → SinkView) → Work
+    → List Bool → Memory → F → K → List Bool → Memory → F → K → Type 0
+ServesAlone result files_of sink_of work stale memory files sink stale_now memory_now files_now sink_now =
+    LineOutcome (status_of result) (command_of (held_line work) ∷ [])
+    (instant files_of sink_of stale memory files sink) (instant files_of sink_of stale_now memory_now files_now sink_now)
 
--- .. where it ends the input, and is served unless it is empty
-abbrev pub EndsHeld : {T : Type 0} → Result T Broken → Work → Moment → Moment → Type 0
-EndsHeld result work old new = LineOutcome (status_of result) (commands_from (held_line work) []) old new
+-- .. where any block may be stale
+abbrev pub ServesHeld : {T F K : Type 0} → Result T Broken → (F → View) → (K → SinkView) → Work
+    → Memory → F → K → Memory → F → K → Type 0
+ServesHeld result files_of sink_of work memory files sink memory_now files_now sink_now =
+    LineOutcome (status_of result) (command_of (held_line work) ∷ [])
+    (moment memory (files_of files) (sink_of sink)) (moment memory_now (files_of files_now) (sink_of sink_now))
+
+-- what it does where it ends the input: it is served unless it is empty
+abbrev pub EndsHeld : {T F K : Type 0} → Result T Broken → (F → View) → (K → SinkView) → Work
+    → List Bool → Memory → F → K → List Bool → Memory → F → K → Type 0
+EndsHeld result files_of sink_of work stale memory files sink stale_now memory_now files_now sink_now =
+    LineOutcome (status_of result) (commands_from (held_line work) [])
+    (instant files_of sink_of stale memory files sink) (instant files_of sink_of stale_now memory_now files_now sink_now)
 
 -- ---- an input
 
 -- what the first bytes do, so many, of the piece that was read, where replies of at most so many bytes may wait
-abbrev pub TakesPiece : {T : Type 0} → Result T Broken → ℕ → ℕ → Work → List Bool → Memory → View → SinkView
-    → Work → List Bool → Memory → View → SinkView → Type 0
-TakesPiece result most count work stale memory files sink work_now stale_now memory_now files_now sink_now =
+abbrev pub TakesPiece : {T F K : Type 0} → Result T Broken → ℕ → ℕ → (F → View) → (K → SinkView)
+    → Work → List Bool → Memory → F → K → Work → List Bool → Memory → F → K → Type 0
+TakesPiece result most count files_of sink_of work stale memory files sink work_now stale_now memory_now files_now sink_now =
     PieceOutcome (status_of result) most (held_line work) (take count (read_piece work)) (held_line work_now)
-    (instant stale memory files sink) (instant stale_now memory_now files_now sink_now)
+    (instant files_of sink_of stale memory files sink) (instant files_of sink_of stale_now memory_now files_now sink_now)
 
--- what a source does, of which this function is the view, where replies of at most so many bytes may wait
-abbrev pub ServesBy : {T S : Type 0} → Result T Broken → ℕ → (S → SourceView) → S → List Bool → Memory → View → SinkView
-    → S → List Bool → Memory → View → SinkView → Type 0
-ServesBy result most view source stale memory files sink source_now stale_now memory_now files_now sink_now =
-    ServeOutcome (status_of result) most (view source) (view source_now)
-    (instant stale memory files sink) (instant stale_now memory_now files_now sink_now)
+-- what a source does, where replies of at most so many bytes may wait
+abbrev pub ServesBy : {T S F K : Type 0} → Result T Broken → ℕ → (S → SourceView) → (F → View) → (K → SinkView)
+    → S → List Bool → Memory → F → K → S → List Bool → Memory → F → K → Type 0
+ServesBy result most source_of files_of sink_of source stale memory files sink source_now stale_now memory_now files_now sink_now =
+    ServeOutcome (status_of result) most (source_of source) (source_of source_now)
+    (instant files_of sink_of stale memory files sink) (instant files_of sink_of stale_now memory_now files_now sink_now)
 
 -- .. where they are gathered, and the marks are those of a run
-abbrev pub ServesGathered : {T S : Type 0} → Result T Broken → (S → SourceView) → S → Stale → Memory → View → SinkView
-    → S → Stale → Memory → View → SinkView → Type 0
-ServesGathered result view source stale memory files sink source_now stale_now memory_now files_now sink_now =
-    ServesBy result gathered_size view source (stale_in stale) memory files sink
-    source_now (stale_in stale_now) memory_now files_now sink_now
+abbrev pub ServesGathered : {T S F K : Type 0} → Result T Broken → (S → SourceView) → (F → View) → (K → SinkView)
+    → S → Stale → Memory → F → K → S → Stale → Memory → F → K → Type 0
+ServesGathered result source_of files_of sink_of source stale memory files sink source_now stale_now memory_now files_now sink_now =
+    ServesBy result gathered_size source_of files_of sink_of
+    source (stale_in stale) memory files sink source_now (stale_in stale_now) memory_now files_now sink_now
 
--- what a source does, of which this function is the view, where each reply is handed over at once, and any block may be stale
-abbrev pub ServesAtOnce : {T S : Type 0} → Result T Broken → (S → SourceView) → S → S → Moment → Moment → Type 0
-ServesAtOnce result view before after old new = ServeOutcome (status_of result) 0 (view before) (view after) old new
+-- .. where each reply is handed over at once, and any block may be stale
+abbrev pub ServesAtOnce : {T S F K : Type 0} → Result T Broken → (S → SourceView) → (F → View) → (K → SinkView)
+    → S → Memory → F → K → S → Memory → F → K → Type 0
+ServesAtOnce result source_of files_of sink_of source memory files sink source_now memory_now files_now sink_now =
+    ServeOutcome (status_of result) 0 (source_of source) (source_of source_now)
+    (moment memory (files_of files) (sink_of sink)) (moment memory_now (files_of files_now) (sink_of sink_now))

@@ -1,5 +1,5 @@
 -- The lines of an input, and what they ask for.
-use Rattle.std.specs.Prelude.{ℕ, List, [], ◌∷◌, ◌++◌, map, flat_map, if◌then◌else◌}
+use Rattle.std.specs.Prelude.{◌≡◌, ℕ, List, [], ◌∷◌, ◌++◌, map, flat_map, if◌then◌else◌}
 use Rattle.std.proofs.Common.{nat_eq}
 use Rattle.bp_script.specs.Commands.{Command, command_of}
 use Rattle.bp_script.specs.Texts.{LineReply, reply_text}
@@ -17,6 +17,10 @@ lines_from held (b ∷ bytes) = if nat_eq b 10 then held ∷ lines_from [] bytes
 -- what is asked for by the rest of a line and then this input
 unfoldable pub commands_from : List ℕ → List ℕ → List Command
 commands_from held input = map command_of (lines_from held input)
+
+-- these bytes end no line: where the first was read of one before them, the second was behind them
+abbrev pub EndsNoLine : List ℕ → List ℕ → List ℕ → Type 0
+EndsNoLine held bytes held_now = (rest : List ℕ) → commands_from held (bytes ++ rest) ≡ commands_from held_now rest
 
 -- the texts of replies, one after the other
 unfoldable pub text_of : List LineReply → List ℕ

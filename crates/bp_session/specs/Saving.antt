@@ -5,7 +5,7 @@ use Rattle.bp_layout.specs.Bytes.{image_bytes}
 use Rattle.bp_layout.specs.Words.{Image}
 use Rattle.bp_limits.specs.Limits.{block_words}
 use Rattle.bp_session.specs.Changed.{AreUnmarked, HoldsChanged}
-use Rattle.bp_session.specs.Files.{HasBlocksOf, Holds, HoldsAs, HoldsBytes}
+use Rattle.bp_session.specs.Files.{HasBlocksOf, Holds, HoldsAs, HoldsBytes, HoldsPartly}
 use Rattle.pm_epochs.specs.Log.{stores}
 use Rattle.pm_region.specs.Memory.{Memory, current_words}
 
@@ -23,6 +23,10 @@ SavesPartly words old new =
 abbrev pub SavesWords : List Bool → Memory → View → View → Type 0
 SavesWords stale memory old new =
     (name : List ℕ) (was : Image) → HoldsAs stale old memory.base name was → Holds new name (current_words memory)
+
+-- whatever words it held: each of its blocks is that of these or of the words as they are
+abbrev pub SavesWordsPartly : Image → View → View → Type 0
+SavesWordsPartly words old new = (name : List ℕ) (was : Image) → Holds old name was → HoldsPartly new name was words
 
 -- where the marks tell of each block, none is stale and the log has no store, no file changes
 abbrev pub KeepsUnmarked : List Bool → Memory → View → View → Type 0

@@ -36,9 +36,9 @@ KeepsCalls tree old commands replies new =
     old.memory.events ≡ [] → Stands old.memory.base tree → Session old commands replies new →
     (plain : PlainState) × PlainSession (fresh tree) commands replies plain × LeavesTrees new.memory plain
 
--- a session over the first commands leads to a state from which one over the rest goes on
+-- where a session does commands behind others, one over the first leads to a state from which one over the rest goes on
 abbrev pub SplitsAt : State → List Command → List Command → List LineReply → State → Type 0
-SplitsAt old first rest replies new =
+SplitsAt old first rest replies new = Session old (first ++ rest) replies new →
     (middle : State) × (front : List LineReply) × (behind : List LineReply) × (replies ≡ front ++ behind)
     × Session old first front middle × Session middle rest behind new
 

@@ -202,16 +202,17 @@ pub(crate) fn act_and_save<R: Region, K: Sink, F: Files>(
     files: &mut F,
 ) -> Result<Outcome, Broken>
     requires { CanServe volume.old (F.view files.old) }
-    ensures does { IfOk result (DoesHeld
-        buffers.old stale.old volume.old (F.view files.old) (K.view out.old)
-        buffers.new stale.new volume.new (F.view files.new) (K.view out.new)) }
+    ensures does { IfOk result (DoesHeld F.view K.view
+        buffers.old stale.old volume.old files.old out.old
+        buffers.new stale.new volume.new files.new out.new) }
     ensures stale { IfOk result (λ outcome. LeavesStale outcome volume.old stale.old stale.new) }
     ensures kept { KeepsUnmarked stale.old volume.old (F.view files.old) (F.view files.new) }
-    ensures clears { OnOk result (ClearsHeld buffers.old (F.view files.old) (K.view out.old)
-        buffers.new (F.view files.new) (K.view out.new)) }
-    ensures stops { IfErr result (StopsBy
-        buffers.old stale.old volume.old (F.view files.old) (K.view out.old)
-        buffers.new stale.new volume.new (F.view files.new) (K.view out.new)) }
+    ensures clears { OnOk result (ClearsHeld F.view K.view
+        buffers.old files.old out.old
+        buffers.new files.new out.new) }
+    ensures stops { IfErr result (StopsBy F.view K.view
+        buffers.old stale.old volume.old files.old out.old
+        buffers.new stale.new volume.new files.new out.new) }
     ensures heard { IfErr result (λ broken. waiting_in buffers.old ≡ [] → broken ≡ cause.Files) }
     ensures synced { OnOk result (command_of (line_in buffers.old) ≡ sync → (F.view files.new).is_flushed ≡ true) }
     ensures flushed { OnOk result ((F.view files.old).is_flushed ≡ true → (F.view files.new).is_flushed ≡ true) }

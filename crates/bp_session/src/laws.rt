@@ -1,6 +1,6 @@
 //! What a session is, in words of a plain file tree.
 
-ghost use Rattle.std.specs.Prelude.{◌≡◌, List, [], ◌++◌, map};
+ghost use Rattle.std.specs.Prelude.{◌≡◌, List, [], map};
 ghost use Rattle.bp_layout.specs.Bytes.{image_bytes};
 ghost use Rattle.bp_layout.specs.Words.{Image};
 ghost use Rattle.bp_session.specs.Files.{AreWordsOf64Bits};
@@ -11,7 +11,7 @@ ghost use Rattle.bp_script.specs.Commands.Command.{file_call};
 ghost use Rattle.bp_script.specs.Export.{export_text};
 ghost use Rattle.bp_script.specs.Texts.{LineReply};
 ghost use Rattle.bp_session.specs.Lines.{commands_from};
-ghost use Rattle.bp_session.specs.Session.{State, Session};
+ghost use Rattle.bp_session.specs.Session.{State};
 ghost use Rattle.bp_session.specs.PlainSession.{PlainState};
 ghost use Rattle.bp_session.specs.SessionLaws.{ExportMakesTree, IsOfTree, KeepsCalls, SplitsAt, StaysPlain};
 
@@ -37,7 +37,7 @@ pub fn crashes_keep_calls()
 /// A session has a state behind each of its lines, so that all that holds at its end holds there.
 pub fn sessions_split()
     ensures { (old new : State) (first rest : List Command) (replies : List LineReply) →
-        Session old (first ++ rest) replies new → SplitsAt old first rest replies new }
+        SplitsAt old first rest replies new }
 {}
 
 /// Bytes are those of one image at most.

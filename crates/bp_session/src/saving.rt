@@ -1,13 +1,12 @@
 //! A file takes the words of a region.
 
 ghost use Rattle.std.specs.Prelude.{[], ◌≡◌, ◌≢◌, ◌↔◌, ◌≤◌, ◌+◌, ◌*◌, ◌/◌, ◌<◌, ◌^◌, List, ℕ, OnOk, OnErr, false, length, min, true};
-ghost use Rattle.bp_layout.specs.Words.{Image};
 ghost use Rattle.bp_io.specs.Causes.{HasCause};
 ghost use Rattle.bp_io.specs.Files.{KeepsFiles, KeepsOthers, StaysAttached};
 ghost use Rattle.bp_limits.specs.Limits.{block_words, max_blocks};
 ghost use Rattle.bp_session.specs.Changed.{AreMarked, AreUnmarked, MarksChanges, MarksDrain, is_marked, stale_in};
-ghost use Rattle.bp_session.specs.Files.{CanSave, Holds, HoldsPartly, StaysTold};
-ghost use Rattle.bp_session.specs.Saving.{KeepsUnmarked, SavesMarked, SavesPartly, SavesWords};
+ghost use Rattle.bp_session.specs.Files.{CanSave, StaysTold};
+ghost use Rattle.bp_session.specs.Saving.{KeepsUnmarked, SavesMarked, SavesPartly, SavesWords, SavesWordsPartly};
 ghost use Rattle.pm_epochs.specs.Log.{stores};
 ghost use Rattle.pm_region.specs.Memory.{current_words, drained};
 
@@ -231,8 +230,7 @@ pub(crate) fn sync_marked<R: Region, F: Files>(
     requires { CanSave volume.old.base (F.view files.old) }
     ensures drained { volume.new ≡ drained volume.old }
     ensures saved { OnOk result (SavesWords stale.old volume.old (F.view files.old) (F.view files.new)) }
-    ensures partly { OnErr result ((name : List ℕ) (was : Image) → Holds (F.view files.old) name was →
-        HoldsPartly (F.view files.new) name was (current_words volume.old)) }
+    ensures partly { OnErr result (SavesWordsPartly (current_words volume.old) (F.view files.old) (F.view files.new)) }
     ensures kept { KeepsUnmarked stale.old volume.old (F.view files.old) (F.view files.new) }
     ensures cleared { OnOk result (AreUnmarked stale.new) }
     ensures lost { OnErr result (AreMarked stale.new) }
@@ -268,8 +266,7 @@ pub fn sync_and_save<R: Region, F: Files>(
     requires { CanSave volume.old.base (F.view files.old) }
     ensures drained { volume.new ≡ drained volume.old }
     ensures saved { OnOk result (SavesWords (stale_in stale.old) volume.old (F.view files.old) (F.view files.new)) }
-    ensures partly { OnErr result ((name : List ℕ) (was : Image) → Holds (F.view files.old) name was →
-        HoldsPartly (F.view files.new) name was (current_words volume.old)) }
+    ensures partly { OnErr result (SavesWordsPartly (current_words volume.old) (F.view files.old) (F.view files.new)) }
     ensures kept { KeepsUnmarked (stale_in stale.old) volume.old (F.view files.old) (F.view files.new) }
     ensures cleared { OnOk result (AreUnmarked (stale_in stale.new)) }
     ensures lost { OnErr result (AreMarked (stale_in stale.new)) }

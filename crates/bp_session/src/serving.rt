@@ -1,17 +1,17 @@
 //! Lines of a source in any pieces, each with its reply to a sink.
 
 ghost use Rattle.memchr.specs.Find.{IsFirst, Nowhere, Passes, is_byte};
-ghost use Rattle.std.specs.Prelude.{◌≡◌, ◌≤◌, ◌++◌, List, ℕ, [], OnOk, length, slice_range, true, vec_len};
+ghost use Rattle.std.specs.Prelude.{◌≡◌, ◌≤◌, [], OnOk, length, slice_range, true, vec_len};
 ghost use Rattle.std.specs.Io.{ReadsAtMost};
 ghost use Rattle.std.specs.Io.KnownBytes.{ReadConsumes};
 ghost use Rattle.bp_io.specs.Causes.{HasCause};
 ghost use Rattle.bp_script.specs.Commands.Command.{sync};
 ghost use Rattle.bp_script.specs.Commands.{command_of};
 ghost use Rattle.bp_session.specs.Files.{CanSave};
-ghost use Rattle.bp_session.specs.Lines.{commands_from};
-ghost use Rattle.bp_session.specs.Held.{EndsHeld, GathersHeld, ServesAtOnce, ServesBy, ServesGathered, ServesHeld, TakesPiece, instant};
+ghost use Rattle.bp_session.specs.Lines.{EndsNoLine};
+ghost use Rattle.bp_session.specs.Held.{EndsHeld, GathersHeld, ServesAlone, ServesAtOnce, ServesBy, ServesGathered, ServesHeld, TakesPiece};
 ghost use Rattle.bp_session.specs.Pieces.{piece_size};
-ghost use Rattle.bp_session.specs.Serving.{CanServe, ServesAgain, moment};
+ghost use Rattle.bp_session.specs.Serving.{CanServe, ServesAgain};
 ghost use Rattle.bp_session.specs.Statuses.{status_of};
 ghost use Rattle.bp_session.specs.Work.{held_line, held_replies, read_piece};
 
@@ -39,9 +39,9 @@ fn answer_line<R: Region, K: Sink, F: Files>(
     files: &mut F,
 ) -> Result<(), Broken>
     requires { CanServe volume.old (F.view files.old) }
-    ensures outcome { GathersHeld result
-        work.old stale.old volume.old (F.view files.old) (K.view out.old)
-        work.new stale.new volume.new (F.view files.new) (K.view out.new) }
+    ensures outcome { GathersHeld result F.view K.view
+        work.old stale.old volume.old files.old out.old
+        work.new stale.new volume.new files.new out.new }
     ensures few { OnOk result (length (held_replies work.new) ≤ most) }
     ensures synced { held_replies work.old ≡ [] → ¬ (status_of result ≡ 5) → command_of (held_line work.old) ≡ sync →
         (F.view files.new).is_flushed ≡ true }
@@ -67,9 +67,9 @@ fn answer_alone<R: Region, K: Sink, F: Files>(
     files: &mut F,
 ) -> Result<(), Broken>
     requires { CanServe volume.old (F.view files.old) }
-    ensures outcome { ServesHeld result work.old
-        (instant stale.old volume.old (F.view files.old) (K.view out.old))
-        (instant stale.new volume.new (F.view files.new) (K.view out.new)) }
+    ensures outcome { ServesAlone result F.view K.view work.old
+        stale.old volume.old files.old out.old
+        stale.new volume.new files.new out.new }
     ensures synced { ¬ (status_of result ≡ 5) → command_of (held_line work.old) ≡ sync → (F.view files.new).is_flushed ≡ true }
     ensures again { ServesAgain volume.old volume.new (F.view files.new) }
     ensures line { held_line work.new ≡ held_line work.old }
@@ -90,9 +90,9 @@ pub fn serve_line<R: Region, K: Sink, F: Files>(
     files: &mut F,
 ) -> Result<(), Broken>
     requires { CanServe volume.old (F.view files.old) }
-    ensures outcome { ServesHeld result work.old
-        (moment volume.old (F.view files.old) (K.view out.old))
-        (moment volume.new (F.view files.new) (K.view out.new)) }
+    ensures outcome { ServesHeld result F.view K.view work.old
+        volume.old files.old out.old
+        volume.new files.new out.new }
     ensures synced { ¬ (status_of result ≡ 5) → command_of (held_line work.old) ≡ sync → (F.view files.new).is_flushed ≡ true }
     ensures again { ServesAgain volume.old volume.new (F.view files.new) }
     ensures line { held_line work.new ≡ held_line work.old }
@@ -113,9 +113,9 @@ fn end_line<R: Region, K: Sink, F: Files>(
     files: &mut F,
 ) -> Result<(), Broken>
     requires { CanServe volume.old (F.view files.old) }
-    ensures outcome { GathersHeld result
-        work.old stale.old volume.old (F.view files.old) (K.view out.old)
-        work.new stale.new volume.new (F.view files.new) (K.view out.new) }
+    ensures outcome { GathersHeld result F.view K.view
+        work.old stale.old volume.old files.old out.old
+        work.new stale.new volume.new files.new out.new }
     ensures few { OnOk result (length (held_replies work.new) ≤ most) }
     ensures ready { CanSave volume.new.base (F.view files.new) }
     ensures line { held_line work.new ≡ [] }
@@ -131,9 +131,7 @@ fn take_run(work: &mut Work, from: usize, to: usize)
     requires order { from ≤ to }
     requires inside { to ≤ piece_size }
     requires quiet { Nowhere (Passes (is_byte 10) (read_piece work.old)) from to }
-    ensures same { (rest : List ℕ) →
-        commands_from (held_line work.old) (slice_range (read_piece work.old) from to ++ rest)
-        ≡ commands_from (held_line work.new) rest }
+    ensures same { EndsNoLine (held_line work.old) (slice_range (read_piece work.old) from to) (held_line work.new) }
     ensures piece { read_piece work.new ≡ read_piece work.old }
     ensures replies { held_replies work.new ≡ held_replies work.old }
 {
@@ -166,9 +164,9 @@ fn take_piece<R: Region, K: Sink, F: Files>(
 ) -> Result<(), Broken>
     requires serves { CanServe volume.old (F.view files.old) }
     requires inside { count ≤ piece_size }
-    ensures outcome { TakesPiece result most count
-        work.old stale.old volume.old (F.view files.old) (K.view out.old)
-        work.new stale.new volume.new (F.view files.new) (K.view out.new) }
+    ensures outcome { TakesPiece result most count F.view K.view
+        work.old stale.old volume.old files.old out.old
+        work.new stale.new volume.new files.new out.new }
     ensures again { ServesAgain volume.old volume.new (F.view files.new) }
 {
     let mut at: usize = 0;
@@ -195,9 +193,9 @@ fn finish<R: Region, K: Sink, F: Files>(
     files: &mut F,
 ) -> Result<(), Broken>
     requires { CanServe volume.old (F.view files.old) }
-    ensures { EndsHeld result work.old
-        (instant stale.old volume.old (F.view files.old) (K.view out.old))
-        (instant stale.new volume.new (F.view files.new) (K.view out.new)) }
+    ensures { EndsHeld result F.view K.view work.old
+        stale.old volume.old files.old out.old
+        stale.new volume.new files.new out.new }
 {
     if work.buffers.line.is_empty() {
         return Ok(());
@@ -227,9 +225,9 @@ fn serve_by<R: Region, S: Source, K: Sink, F: Files>(
     files: &mut F,
 ) -> Result<(), Broken>
     requires { CanServe volume.old (F.view files.old) }
-    ensures outcome { ServesBy result most S.view
-        src.old stale.old volume.old (F.view files.old) (K.view out.old)
-        src.new stale.new volume.new (F.view files.new) (K.view out.new) }
+    ensures outcome { ServesBy result most S.view F.view K.view
+        src.old stale.old volume.old files.old out.old
+        src.new stale.new volume.new files.new out.new }
     ensures again { ServesAgain volume.old volume.new (F.view files.new) }
 {
     work.buffers.line.clear();
@@ -263,9 +261,9 @@ pub fn serve<R: Region, S: Source, K: Sink, F: Files>(
     files: &mut F,
 ) -> Result<(), Broken>
     requires { CanServe volume.old (F.view files.old) }
-    ensures outcome { ServesAtOnce result S.view src.old src.new
-        (moment volume.old (F.view files.old) (K.view out.old))
-        (moment volume.new (F.view files.new) (K.view out.new)) }
+    ensures outcome { ServesAtOnce result S.view F.view K.view
+        src.old volume.old files.old out.old
+        src.new volume.new files.new out.new }
     ensures again { ServesAgain volume.old volume.new (F.view files.new) }
 {
     serve_by(alloc, volume, work, 0, &mut [], src, out, files)
@@ -288,9 +286,9 @@ pub fn serve_gathered<R: Region, S: Source, K: Sink, F: Files>(
     files: &mut F,
 ) -> Result<(), Broken>
     requires { CanServe volume.old (F.view files.old) }
-    ensures outcome { ServesGathered result S.view
-        src.old stale.old volume.old (F.view files.old) (K.view out.old)
-        src.new stale.new volume.new (F.view files.new) (K.view out.new) }
+    ensures outcome { ServesGathered result S.view F.view K.view
+        src.old stale.old volume.old files.old out.old
+        src.new stale.new volume.new files.new out.new }
     ensures again { ServesAgain volume.old volume.new (F.view files.new) }
 {
     let count = stale.count.min(stale.marks.len());

@@ -7,8 +7,9 @@ ghost use Rattle.bp_plain.specs.Calls.Answer.{names};
 ghost use Rattle.bp_script.specs.Sayings.{FitsReply, said_text};
 ghost use Rattle.bp_script.specs.Texts.{answer_text};
 ghost use Rattle.bp_session.specs.Acting.{outcome_text};
+ghost use Rattle.bp_session.specs.Held.{PassesText};
 ghost use Rattle.bp_session.specs.declared.outcome.Outcome.TheVariants.{Answered};
-ghost use Rattle.bp_replies.specs.Gathering.{PassesOn, waiting};
+ghost use Rattle.bp_replies.specs.Gathering.{waiting};
 ghost use Rattle.bp_replies.specs.Taking.{TakesPart};
 
 use crate::outcome::Outcome;
@@ -20,8 +21,8 @@ use bp_script::Said;
 
 /// Tells a line for each name, and the line that ends a listing.
 fn tell_names<K: Sink>(listing: &Listing, replies: &mut Replies, out: &mut K) -> Result<(), Failed>
-    ensures all { OnOk result (PassesOn (answer_text (names listing.now)) (waiting replies.old) (waiting replies.new)
-        (K.view out.old).taken (K.view out.new).taken) }
+    ensures all { OnOk result (PassesText (answer_text (names listing.now))
+        replies.old (K.view out.old) replies.new (K.view out.new)) }
     ensures some { OnErr result (TakesPart (waiting replies.old ++ answer_text (names listing.now))
         (K.view out.old).taken (K.view out.new).taken) }
     ensures cause { HasCause (K.view out.old).faults (K.view out.new).faults result }
@@ -35,8 +36,8 @@ fn tell_names<K: Sink>(listing: &Listing, replies: &mut Replies, out: &mut K) ->
 
 /// Tells the answer of a call.
 fn tell_answer<K: Sink>(reply: &Reply, replies: &mut Replies, out: &mut K) -> Result<(), Failed>
-    ensures all { OnOk result (PassesOn (answer_text reply.now.answer) (waiting replies.old) (waiting replies.new)
-        (K.view out.old).taken (K.view out.new).taken) }
+    ensures all { OnOk result (PassesText (answer_text reply.now.answer)
+        replies.old (K.view out.old) replies.new (K.view out.new)) }
     ensures some { OnErr result (TakesPart (waiting replies.old ++ answer_text reply.now.answer)
         (K.view out.old).taken (K.view out.new).taken) }
     ensures cause { HasCause (K.view out.old).faults (K.view out.new).faults result }
@@ -82,8 +83,8 @@ fn tell<K: Sink>(
     replies: &mut Replies,
     out: &mut K,
 ) -> Result<(), Failed>
-    ensures all { OnOk result (PassesOn (outcome_text outcome reply.now.answer)
-        (waiting replies.old) (waiting replies.new) (K.view out.old).taken (K.view out.new).taken) }
+    ensures all { OnOk result (PassesText (outcome_text outcome reply.now.answer)
+        replies.old (K.view out.old) replies.new (K.view out.new)) }
     ensures some { OnErr result (TakesPart (waiting replies.old ++ outcome_text outcome reply.now.answer)
         (K.view out.old).taken (K.view out.new).taken) }
     ensures cause { HasCause (K.view out.old).faults (K.view out.new).faults result }
@@ -103,8 +104,8 @@ pub(crate) fn tell_by<K: Sink>(
     most: usize,
     out: &mut K,
 ) -> Result<(), Failed>
-    ensures all { OnOk result (PassesOn (outcome_text outcome reply.now.answer)
-        (waiting replies.old) (waiting replies.new) (K.view out.old).taken (K.view out.new).taken) }
+    ensures all { OnOk result (PassesText (outcome_text outcome reply.now.answer)
+        replies.old (K.view out.old) replies.new (K.view out.new)) }
     ensures some { OnErr result (TakesPart (waiting replies.old ++ outcome_text outcome reply.now.answer)
         (K.view out.old).taken (K.view out.new).taken) }
     ensures few { OnOk result (length (waiting replies.new) ≤ most) }

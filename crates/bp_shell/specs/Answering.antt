@@ -1,5 +1,6 @@
 -- What programs answer, told of the source, the sink and the files that they are given, before and behind.
-use Rattle.std.specs.Prelude.{◌≡◌, ◌⊎◌, ℕ, List}
+use Rattle.std.specs.Prelude.{◌≡◌, ◌⊎◌, ℕ, List, map}
+use Rattle.std.specs.Borrow.{Bor}
 use Rattle.bp_command.specs.Programs.{Asks, Program}
 use Rattle.bp_io.specs.Files.{View}
 use Rattle.bp_io.specs.Streams.{SinkView, SourceView}
@@ -7,6 +8,10 @@ use Rattle.bp_layout.specs.Words.{Image}
 use Rattle.bp_session.specs.Outside.{Outside, outside}
 use Rattle.bp_shell.specs.Running.{IsMountedFrom, ProgramOutcome, RunOutcome, RunsProgram, file_name}
 use Rattle.pm_region.specs.Memory.{Memory}
+
+-- the texts of words that are lent
+abbrev pub texts_of : List (Bor (List ℕ)) → List (List ℕ)
+texts_of words = map (λ (word : Bor (List ℕ)). word.now) words
 
 -- ---- a source that is read
 

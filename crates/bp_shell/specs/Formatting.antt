@@ -23,6 +23,10 @@ HasPartly (Some was) wanted None = ⊥
 HasPartly (Some was) wanted (Some None) = was ≡ None
 HasPartly (Some was) wanted (Some (Some found)) = IsPartlyReplaced (bytes_there was) wanted found
 
+-- .. so that of a name
+abbrev pub LeavesPartly : List ℕ → List ℕ → View → View → Type 0
+LeavesPartly name wanted old new = HasPartly (old.contents name) wanted (new.contents name)
+
 -- ---- the other files
 
 -- what is told of a name stays, but that one without a file may be given an empty one

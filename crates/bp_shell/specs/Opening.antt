@@ -76,6 +76,10 @@ start image = record { memory = record { base = image; events = []; capacity = l
 abbrev pub IsStart : Image → Memory → Type 0
 IsStart image memory = memory ≡ (start image).memory
 
+-- from whichever file the memory was mounted, this holds of what is known of it
+abbrev pub FromAnyFile : Memory → (Known → Type 0) → Type 0
+FromAnyFile memory Fact = (known : Known) (image : Image) → HoldsFileSystem known image → IsStart image memory → Fact known
+
 -- The file of this name was mounted: it held an image, a file system, with which the memory begins, and holds it now.
 abbrev pub Mounts : View → List ℕ → View → Memory → Type 0
 Mounts old name new memory =

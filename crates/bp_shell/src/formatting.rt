@@ -6,7 +6,7 @@ ghost use Rattle.bp_layout.specs.Bytes.{image_bytes};
 ghost use Rattle.bp_limits.specs.Limits.{block_size, block_words};
 ghost use Rattle.bp_session.specs.Files.{HasBytes};
 ghost use Rattle.bp_shell.specs.Answering.{EndsUnread};
-ghost use Rattle.bp_shell.specs.Formatting.{HasPartly, OnlyMakes, new_image};
+ghost use Rattle.bp_shell.specs.Formatting.{LeavesPartly, OnlyMakes, new_image};
 ghost use Rattle.bp_shell.specs.Running.{FormatOutcome};
 ghost use Rattle.bp_shell.specs.Statuses.{code_of};
 ghost use Rattle.pm_region.specs.Memory.{current_words};
@@ -71,8 +71,8 @@ fn write_image<F: Files>(front: &[u8], name: &str, blocks: u32, files: &mut F) -
     ensures written { OnOk result (HasBytes ((F.view files.new).contents name.now)
         (resized_file (block_size * blocks) front.now)) }
     ensures flushed { OnOk result ((F.view files.new).is_flushed ≡ true) }
-    ensures partly { OnErr result (HasPartly ((F.view files.old).contents name.now)
-        (resized_file (block_size * blocks) front.now) ((F.view files.new).contents name.now)) }
+    ensures partly { OnErr result (LeavesPartly name.now (resized_file (block_size * blocks) front.now)
+        (F.view files.old) (F.view files.new)) }
     ensures makes { OnlyMakes name.now (F.view files.old) (F.view files.new) }
     ensures cause { HasCause (F.view files.old).faults (F.view files.new).faults result }
 {

@@ -1,10 +1,9 @@
 //! The program `play`.
 
 ghost use Rattle.bp_io.specs.Files.{Known};
-ghost use Rattle.bp_layout.specs.Words.{Image};
 ghost use Rattle.bp_limits.specs.Limits.{log_events, max_turns};
 ghost use Rattle.bp_shell.specs.Answering.{EndsUnread};
-ghost use Rattle.bp_shell.specs.Opening.{HoldsFileSystem, IsStart, OnlyReads};
+ghost use Rattle.bp_shell.specs.Opening.{FromAnyFile, OnlyReads};
 ghost use Rattle.bp_shell.specs.Playing.{EndsPlay, PlayOutcome, PlaysFile, play_text, spaced, summary_text, tree_text};
 ghost use Rattle.bp_shell.specs.Statuses.{code_of};
 ghost use Rattle.bp_shell.specs.Stops.{HasStopCause, IsReason};
@@ -107,9 +106,8 @@ fn tell_play<R: Region>(
 ) -> Result<String, Stop>
     requires few { count ≤ max_turns }
     requires roomy { volume.old.capacity ≤ log_events }
-    // Of whichever file it was mounted.
-    ensures plays { (known : Known) (image : Image) → HoldsFileSystem known image → IsStart image volume.old →
-        IfOk result (λ text. PlaysFile known seed count text.bytes.items) }
+    ensures plays { FromAnyFile volume.old
+        (λ known. IfOk result (λ text. PlaysFile known seed count text.bytes.items)) }
     ensures reason { (known : Known) → IfErr result (IsReason known) }
     ensures cause { (faults : ℕ) → HasStopCause faults faults result }
 {

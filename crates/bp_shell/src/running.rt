@@ -7,10 +7,10 @@ ghost use Rattle.bp_script.specs.Sayings.{notice_text};
 ghost use Rattle.bp_script.specs.declared.notices.Notice.TheVariants.{Usage};
 ghost use Rattle.bp_session.specs.Outside.{Prints};
 ghost use Rattle.bp_session.specs.Serving.{CanServe};
-ghost use Rattle.bp_shell.specs.Answering.{AnswersAsAsked, EndsAs, ProgramEnds, RunsMounted, RunsOrLacksMemory};
+ghost use Rattle.bp_shell.specs.Answering.{AnswersAsAsked, EndsAs, ProgramEnds, RunsMounted, RunsOrLacksMemory, texts_of};
 ghost use Rattle.bp_shell.specs.Running.{LeavesFiles, OnlyWrites, RunOutcome};
 ghost use Rattle.bp_shell.specs.Statuses.{code_of};
-ghost use Rattle.std.specs.Prelude.{◌≡◌, ◌⊎◌, map};
+ghost use Rattle.std.specs.Prelude.{◌≡◌, ◌⊎◌};
 
 use crate::checking::check_file;
 use crate::exporting::export_file;
@@ -144,23 +144,23 @@ pub fn run<S: Source, K: Sink, F: Files>(
     out: &mut K,
     files: &mut F,
 ) -> u8
-    ensures usage { result ≡ 2 → ¬ IsTaken (map (λ word. word.now) words.now) }
-    ensures not_taken { ¬ IsTaken (map (λ word. word.now) words.now) → (result ≡ 2) ⊎ (result ≡ 8) }
+    ensures usage { result ≡ 2 → ¬ IsTaken (texts_of words.now) }
+    ensures not_taken { ¬ IsTaken (texts_of words.now) → (result ≡ 2) ⊎ (result ≡ 8) }
     ensures told { result ≡ 2 → Prints (notice_text Usage) (K.view out.old).taken (K.view out.new).taken
         (K.view out.old).faults (K.view out.new).faults }
     ensures unread { (result ≡ 1) ⊎ (result ≡ 2) ⊎ (result ≡ 7) ⊎ (result ≡ 8) ⊎ (result ≡ 9) → src.new ≡ src.old }
     ensures untouched { result ≡ 2 → files.new ≡ files.old }
 
     // Words that ask for a program in the plain way.
-    ensures plain { AnswersAsAsked (map (λ word. word.now) words.now) result S.view K.view F.view
+    ensures plain { AnswersAsAsked (texts_of words.now) result S.view K.view F.view
         src.old out.old files.old src.new out.new files.new }
 
     // All other words that are taken. Want of memory may come before they are read.
-    ensures others { ¬ (result ≡ 2) → RunsOrLacksMemory (map (λ word. word.now) words.now) result S.view K.view F.view
+    ensures others { ¬ (result ≡ 2) → RunsOrLacksMemory (texts_of words.now) result S.view K.view F.view
         src.old out.old files.old src.new out.new files.new }
 
     // What whichever words leave of the files, FILE and others.
-    ensures files { (program : Asked) → Requests (map (λ word. word.now) words.now) program →
+    ensures files { (program : Asked) → Requests (texts_of words.now) program →
         LeavesFiles program (F.view files.old) (F.view files.new) }
 {
     plain_words_are_taken();

@@ -21,3 +21,8 @@ pub record IsGathered (image : Image) (root end slot : ℕ) (entries : List Spel
 -- the slot behind a leaf that begins with this one, in a directory of this size
 abbrev pub leaf_end : ℕ → ℕ → ℕ
 leaf_end size first = min (first + block_entries) (size / entry_size)
+
+-- so many were written down, those up to the end of such a leaf
+abbrev pub IsLeafGathered : Image → ℕ → ℕ → ℕ → List Spelled → ℕ → Type 0
+IsLeafGathered image root size first entries count =
+    IsGathered image root (size / entry_size) (leaf_end size first) entries count

@@ -1,5 +1,5 @@
 -- The places of a directory's entries, and the names that stand there.
-use Rattle.std.specs.Prelude.{◌≡◌, ◌≢◌, ◌⊎◌, ℕ, zero, suc, ◌+◌, ◌-◌, ◌*◌, ◌/◌, ◌%◌, ◌^◌, ◌<◌, min, List, length, map, filter, not, ◌==◌, slice_index}
+use Rattle.std.specs.Prelude.{◌≡◌, ◌≢◌, ◌⊎◌, ℕ, zero, suc, ◌+◌, ◌-◌, ◌*◌, ◌/◌, ◌%◌, ◌^◌, ◌<◌, min, List, length, map, filter, not, ◌==◌, slice_index, Option, MatchOption}
 use Rattle.std.specs.List.{range_with_len}
 use Rattle.std.specs.declared.cmp.Ordering.{Ordering}
 use Rattle.std.specs.Ordering.{nat_cmp}
@@ -75,3 +75,7 @@ pub record IsDouble (image : Image) (places : List ℕ) (place : ℕ) : Type 0 w
   pub low : second < length places
   pub there : slice_index places second ≡ place
   pub same : name_key image (slice_index places first) ≡ name_key image (slice_index places second)
+
+-- such a place is found, or none, where no two have one name
+abbrev pub FindsDouble : Option ℕ → Image → List ℕ → Type 0
+FindsDouble found image places = MatchOption found (HaveOwnNames image places) (IsDouble image places)

@@ -1,10 +1,10 @@
 //! Whether two entries of a directory have one name.
 
-ghost use Rattle.std.specs.Prelude.{◌≡◌, ◌+◌, All, IsPermutation, MatchOption};
+ghost use Rattle.std.specs.Prelude.{◌≡◌, ◌+◌, All, IsPermutation};
 ghost use Rattle.std.specs.List.Sorted.{IsSortedBy};
 ghost use Rattle.bp_layout.specs.Words.{word};
 ghost use Rattle.bp_spelling.specs.Hashes.{IsSpelled, places_of, spelled_cmp, spelled_lt};
-ghost use Rattle.bp_spelling.specs.Places.{rest_cmp, name_cmp, HaveOwnNames, IsDouble};
+ghost use Rattle.bp_spelling.specs.Places.{rest_cmp, name_cmp, FindsDouble};
 ghost use Rattle.pm_region.specs.Memory.{current_words};
 
 use crate::entry::Spelled;
@@ -65,8 +65,7 @@ fn sort_by_name<R: Region>(region: &R, entries: &mut [Spelled])
 pub(crate) fn find_double<R: Region>(region: &R, entries: &mut [Spelled]) -> Option<u32>
     requires { All (IsSpelled (current_words (R.memory region.now))) entries.old }
     ensures same { IsPermutation entries.old entries.new }
-    ensures double { let words = current_words (R.memory region.now) in
-        MatchOption result (HaveOwnNames words (places_of entries.new)) (IsDouble words (places_of entries.new)) }
+    ensures double { FindsDouble result (current_words (R.memory region.now)) (places_of entries.new) }
 {
     sort_by_name(region, entries);
     for i in 1..entries.len() {

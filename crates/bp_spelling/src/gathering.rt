@@ -4,7 +4,7 @@ ghost use Rattle.std.specs.Prelude.{◌≡◌, ◌/◌, ◌%◌, ◌<◌, ◌≤
 ghost use Rattle.bp_layout.specs.Directory.{slots};
 ghost use Rattle.bp_layout.specs.Tree.{IsSound, IsFull};
 ghost use Rattle.bp_limits.specs.Limits.{block_entries, entry_size};
-ghost use Rattle.bp_spelling.specs.Gathered.{IsGathered, leaf_end};
+ghost use Rattle.bp_spelling.specs.Gathered.{IsGathered, IsLeafGathered, leaf_end};
 ghost use Rattle.bp_spelling.specs.Hashes.{IsSpelled, places_of};
 ghost use Rattle.bp_spelling.specs.Names.{AreNumbers};
 ghost use Rattle.bp_spelling.specs.Places.{used_places, HaveForms, IsMisspelled};
@@ -39,8 +39,8 @@ fn gather_leaf<R: Region>(
     requires numbers { AreNumbers (current_words (R.memory region.now)) tree.root first numbers.old }
     requires before { let words = current_words (R.memory region.now) in
         IsGathered words tree.root (tree.size / entry_size) first entries.old before }
-    ensures gathered { IfOk result (λ count. IsGathered (current_words (R.memory region.now))
-        tree.root (tree.size / entry_size) (leaf_end tree.size first) entries.new count) }
+    ensures gathered { IfOk result
+        (IsLeafGathered (current_words (R.memory region.now)) tree.root tree.size first entries.new) }
     ensures numbers { let words = current_words (R.memory region.now) in
         OnOk result (AreNumbers words tree.root (leaf_end tree.size first) numbers.new) }
     ensures err { IfErr result (IsMisspelled (current_words (R.memory region.now)) tree.root tree.size) }
@@ -85,8 +85,8 @@ pub(crate) fn gather<R: Region>(
     requires full { IsFull (current_words (R.memory region.now)) tree.root tree.size }
     requires room { tree.size / entry_size ≤ length entries.old }
     requires number_room { tree.size / entry_size ≤ length numbers.old }
-    ensures places { let words = current_words (R.memory region.now) in
-        IfOk result (λ count. places_of (take count entries.new) ≡ used_places words tree.root (slots tree.size)) }
+    ensures places { IfOk result (λ count. places_of (take count entries.new) ≡
+        used_places (current_words (R.memory region.now)) tree.root (slots tree.size)) }
     ensures hashes { let words = current_words (R.memory region.now) in
         IfOk result (λ count. All (IsSpelled words) (take count entries.new)) }
     ensures present { IfOk result (λ count. All IsPresent (take count entries.new)) }

@@ -16,7 +16,7 @@ use Rattle.bp_layout.specs.Words.{word, block_of}
 use Rattle.bp_layout.proofs.MemberLaws.{apart-append, apart-first, each-append, each-as, has-behind, has-either, has-front}
 use Rattle.bp_commit.specs.Performs.{InBlock}
 use Rattle.bp_cow.specs.Copies.{CanFillBlock, FillsBlock, pointing_to}
-use Rattle.bp_thaw.specs.Copies.{Copies, blocks_of, copy_at, places_of, source_of, turned_to, turned_word}
+use Rattle.bp_thaw.specs.Copies.{AreTurned, Copies, blocks_of, copy_at, places_of, source_of, turned_to, turned_word}
 use Rattle.bp_thaw.specs.Steps.{CanFillCopies, InBlocks, TakesAll}
 
 clash : (b : Bool) → b ≡ true → b ≡ false → ⊥
@@ -113,10 +113,6 @@ apart-taken f (x ∷ xs) (suc n) apart = (first xs n apart.0, apart-taken f xs n
     first [] (suc m) all = tt
     first (y ∷ ys) zero all = tt
     first (y ∷ ys) (suc m) all = (all.0, first ys m all.1)
-
--- the first words of a block with the first of the pointers turned
-abbrev pub AreTurned : Copies → ℕ → List ℕ → List ℕ → Type 0
-AreTurned copies block old words = (slot : ℕ) → slot < 512 → get_or words slot 0 ≡ turned_to (copy_at copies (512 * block + slot)) (get_or old slot 0)
 
 module _ (copies : Copies) (c : ℕ × ℕ) (apart : AreApart (places_of (copies ++ c ∷ []))) (block : ℕ) (old words : List ℕ) (so_far : AreTurned copies block old words) where
   beside_slot : (slot : ℕ) → 512 * block + slot ≢ c.0 → turned_to (copy_at copies (512 * block + slot)) (get_or old slot 0) ≡ turned_to (copy_at (copies ++ c ∷ []) (512 * block + slot)) (get_or old slot 0)

@@ -1,5 +1,5 @@
 -- Copies of blocks, of which each pointer to one may lead to its copy.
-use Rattle.std.specs.Prelude.{◌≡◌, ◌≢◌, ℕ, ◌+◌, ◌*◌, ◌/◌, ◌<◌, ◌==◌, List, [], ◌∷◌, length, map, Bool, Option, None, Some, bytes_eq, if◌then◌else◌}
+use Rattle.std.specs.Prelude.{◌≡◌, ◌≢◌, ℕ, ◌+◌, ◌*◌, ◌/◌, ◌<◌, ◌==◌, List, [], ◌∷◌, length, map, Bool, Option, None, Some, bytes_eq, if◌then◌else◌, slice_index}
 use Rattle.std.specs.List.{list_any}
 use Rattle.bp_limits.specs.Limits.{block_words}
 use Rattle.bp_layout.specs.Words.{Image, word, block_count, block_of}
@@ -29,6 +29,11 @@ turned_to (Some block) pointer = pointing_to pointer block
 -- the word at a place, turned to a copy where it is a pointer to a block that is copied
 abbrev pub turned_word : Image → Copies → ℕ → ℕ
 turned_word image copies place = turned_to (copy_at copies place) (word image place)
+
+-- the words of a block, with its pointers turned so
+abbrev pub AreTurned : Copies → ℕ → List ℕ → List ℕ → Type 0
+AreTurned copies block old words = (slot : ℕ) → slot < block_words →
+    slice_index words slot ≡ turned_to (copy_at copies (block_words * block + slot)) (slice_index old slot)
 
 -- the block to which the pointer of a copy leads
 abbrev pub source_of : Image → ℕ × ℕ → ℕ

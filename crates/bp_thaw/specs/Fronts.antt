@@ -52,6 +52,10 @@ abbrev pub found_in : Image → (ℕ → Bool) → List WordPath → List WordPa
 found_in image kept found [] = found
 found_in image kept found (path ∷ paths) = found_in image kept (found_on image kept found path (length path)) paths
 
+-- the places of the pointers to the kept blocks on these ways
+abbrev pub places_found : Image → (ℕ → Bool) → List WordPath → List ℕ
+places_found image kept paths = map (address image) (found_in image kept [] paths)
+
 -- where the places were those of some paths, they are now with those that are found on a way besides
 abbrev pub FindsOn : Image → (ℕ → Bool) → WordPath → List ℕ → List ℕ → Type 0
 FindsOn image kept way before after = (found : List WordPath) → before ≡ map (address image) found →

@@ -1,13 +1,12 @@
 //! Copies of blocks that lead to one another.
 
-ghost use Rattle.std.specs.Prelude.{◌≡◌, ℕ, ◌+◌, ◌*◌, ◌/◌, ◌<◌, ◌≤◌, length, slice_index};
+ghost use Rattle.std.specs.Prelude.{◌≡◌, ◌+◌, ◌*◌, ◌/◌, ◌<◌, ◌≤◌, length};
 ghost use Rattle.bp_free.specs.Set.{members};
-ghost use Rattle.bp_limits.specs.Limits.{block_words};
 ghost use Rattle.bp_layout.specs.Members.{AreApart};
 ghost use Rattle.bp_layout.specs.Words.{word, block_count, block_of};
 ghost use Rattle.pm_region.specs.Memory.{current_words};
 ghost use Rattle.bp_cow.specs.Copies.{CanFillBlock, FillsBlock, pointing_to};
-ghost use Rattle.bp_thaw.specs.Copies.{blocks_of, copy_at, places_of, turned_to};
+ghost use Rattle.bp_thaw.specs.Copies.{AreTurned, blocks_of, places_of};
 ghost use Rattle.bp_thaw.specs.Steps.{CanFillCopies, FillsCopies, IsTurnedCopy, TakesAll};
 
 use crate::finding::Places;
@@ -42,8 +41,7 @@ pub(crate) fn take_all(blocks: &mut Blocks, places: &Places) -> Copies
 /// Turns the pointers among the words of a block to the copies.
 fn turn_words(copies: &Copies, block: u32, words: &mut [u64; 512])
     requires { AreApart (places_of copies.now.items) }
-    ensures { (slot : ℕ) → slot < block_words → slice_index words.new slot ≡
-        turned_to (copy_at copies.now.items (block_words * block + slot)) (slice_index words.old slot) }
+    ensures { AreTurned copies.now.items block words.old words.new }
 {
     for i in 0..copies.len() {
         let (place, copy) = copies[i];

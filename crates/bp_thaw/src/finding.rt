@@ -1,14 +1,14 @@
 //! The kept blocks on the ways to some words.
 
-ghost use Rattle.std.specs.Prelude.{◌≡◌, ◌+◌, ◌<◌, ◌≤◌, ◌==◌, [], ◌∷◌, ◌++◌, true, false, length, map};
+ghost use Rattle.std.specs.Prelude.{◌≡◌, ◌+◌, ◌<◌, ◌≤◌, ◌==◌, [], ◌∷◌, ◌++◌, true, false, length};
 ghost use Rattle.std.specs.List.{list_any};
 ghost use Rattle.bp_free.specs.Set.{has};
 ghost use Rattle.bp_layout.specs.Members.{Has};
 ghost use Rattle.bp_layout.specs.WellFormed.{IsWellFormed};
-ghost use Rattle.bp_layout.specs.WordPaths.{WordPath, address};
+ghost use Rattle.bp_layout.specs.WordPaths.{WordPath};
 ghost use Rattle.bp_layout.specs.Words.{block_count};
 ghost use Rattle.pm_region.specs.Memory.{current_words};
-ghost use Rattle.bp_thaw.specs.Fronts.{FindsOn, IsWayIn, found_in};
+ghost use Rattle.bp_thaw.specs.Fronts.{FindsOn, IsWayIn, places_found};
 ghost use Rattle.bp_thaw.specs.Thaws.{paths_in};
 
 use crate::ways::is_there;
@@ -75,8 +75,7 @@ pub(crate) fn find<R: Region>(region: &R, frozen: &Blocks, ways: &ArrayVec<Slots
     requires well_formed { IsWellFormed (current_words (R.memory region.now)) }
     requires frozen { block_count (current_words (R.memory region.now)) ≤ length frozen.now }
     requires ways { (way : WordPath) → Has (paths_in ways.now) way → IsWayIn (current_words (R.memory region.now)) way }
-    ensures { result.items ≡ map (address (current_words (R.memory region.now)))
-        (found_in (current_words (R.memory region.now)) (has frozen.now) [] (paths_in ways.now)) }
+    ensures { result.items ≡ places_found (current_words (R.memory region.now)) (has frozen.now) (paths_in ways.now) }
 {
     let mut places = Places::new();
     for i in 0..ways.len() {

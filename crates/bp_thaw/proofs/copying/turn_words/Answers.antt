@@ -3,8 +3,8 @@ use Rattle.std.proofs.lemmas.List.{length-set}
 use Rattle.std.proofs.Math.Seq.{take-length}
 use Rattle.bp_layout.specs.Members.{AreApart}
 use Rattle.bp_cow.specs.Copies.{pointing_to}
-use Rattle.bp_thaw.specs.Copies.{Copies, places_of}
-use Rattle.bp_thaw.proofs.CopySteps.{AreTurned, apart-more_taken, one_more_taken, turn_here, turn_other}
+use Rattle.bp_thaw.specs.Copies.{AreTurned, Copies, places_of}
+use Rattle.bp_thaw.proofs.CopySteps.{apart-more_taken, one_more_taken, turn_here, turn_other}
 use Rattle.bp_thaw.proofs.copying.turn_words.Goals as goal
 use Rattle.bp_thaw.proofs.copying.turn_words.Goals.{then-place-block, else-place-block}
 

@@ -1,5 +1,5 @@
 use Rattle.std.proofs.Common.{take}
-use Rattle.bp_thaw.proofs.CopySteps.{AreTurned}
+use Rattle.bp_thaw.specs.Copies.{AreTurned}
 use Rattle.bp_thaw.proofs.copying.turn_words.Given as goal
 
 abbrev pub invariant-loop-i : goal.invariant-loop-i

@@ -1,5 +1,5 @@
 -- The live leaves of a tree that are there: not null, and below no null.
-use Rattle.std.specs.Prelude.{◌≡◌, ◌≢◌, ℕ, ◌+◌, ◌*◌, ◌<◌, ◌≤◌, List, slice_index}
+use Rattle.std.specs.Prelude.{◌≡◌, ◌≢◌, ℕ, ◌+◌, ◌*◌, ◌/◌, ◌%◌, ◌<◌, ◌≤◌, List, slice_index}
 use Rattle.bp_limits.specs.Limits.{block_size, block_words}
 use Rattle.bp_layout.specs.Words.{Image, height_of}
 use Rattle.bp_layout.specs.Tree.{content_word, node}
@@ -20,3 +20,8 @@ pub record IsNextLeaf (image : Image) (root size from leaf : ℕ) : Type 0 where
 abbrev pub AreLeafWords : Image → ℕ → ℕ → List ℕ → Type 0
 AreLeafWords image root leaf words =
     (i : ℕ) → i < block_words → slice_index words i ≡ content_word image root (block_words * leaf + i)
+
+-- the word of the region at which a content word stands
+abbrev pub content_place : Image → ℕ → ℕ → ℕ
+content_place image root index =
+    block_words * node image root (height_of root) (index / block_words) + index % block_words

@@ -4,6 +4,7 @@ ghost use Rattle.std.specs.Prelude.{◌≡◌, ◌≢◌, ◌+◌, ◌-◌, ◌*
 ghost use Rattle.bp_layout.specs.Words.{block_count, block_of, height_of, slot_word};
 ghost use Rattle.bp_layout.specs.Tree.{node, content_word, covered, IsSound};
 ghost use Rattle.bp_limits.specs.Limits.{block_size, block_words};
+ghost use Rattle.bp_tree.specs.Leaves.{content_place};
 ghost use Rattle.pm_region.specs.Memory.{current_words};
 
 use crate::descent::descend;
@@ -103,8 +104,7 @@ pub fn content_place<R: Region>(region: &R, tree: Tree, index: u64) -> u32
     requires live { 8 * index < tree.size }
     requires present { let words = current_words (R.memory region.now) in
         node words tree.root (height_of tree.root) (index / block_words) ≢ 0 }
-    ensures place { let words = current_words (R.memory region.now) in
-        result ≡ block_words * node words tree.root (height_of tree.root) (index / block_words) + index % block_words }
+    ensures place { result ≡ content_place (current_words (R.memory region.now)) tree.root index }
     ensures in_range { result < length (current_words (R.memory region.now)) }
 {
     let _words = region.words();

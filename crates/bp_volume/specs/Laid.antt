@@ -2,6 +2,7 @@
 use Rattle.std.specs.Prelude.{◌≡◌, ℕ, ◌+◌, ◌-◌, ◌^◌, min, List, [], ◌∷◌, ◌++◌, map, flat_map}
 use Rattle.pm_epochs.specs.declared.event.Event.{Event}
 use Rattle.pm_epochs.specs.declared.event.Event.TheVariants.{Store, Barrier}
+use Rattle.pm_epochs.specs.Replay.{IsReplay}
 use Rattle.pm_region.specs.Memory.{Memory}
 use Rattle.bp_layout.specs.Format.{format_epochs, formatted}
 use Rattle.bp_plain.specs.PlainTree.{empty_tree}
@@ -23,6 +24,10 @@ pub data IsLeftByFormat (version : Version) (old image : Image) : Type 0 where
   untouched : image ≡ old → IsLeftByFormat version old image
   unmarked : word image super_magic ≡ 0 → IsLeftByFormat version old image
   empty : Stands image (empty_tree version) → IsLeftByFormat version old image
+
+-- whatever a crash leaves of the memory, this holds of it
+abbrev pub OfEachReplay : Memory → (Image → Type 0) → Type 0
+OfEachReplay memory Holds = (image : Image) → IsReplay memory.base memory.events image → Holds image
 
 -- a memory that was formatted and drained, which has its last drain's words alone
 abbrev pub formatted_memory : Version → Memory → Memory

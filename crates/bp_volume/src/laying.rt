@@ -2,10 +2,9 @@
 
 ghost use Rattle.std.specs.Prelude.{[], ◌*◌, ◌≡◌, ◌≤◌, length};
 ghost use Rattle.bp_layout.specs.Formatted.{IsSized};
-ghost use Rattle.bp_layout.specs.Words.{Image, block_count};
+ghost use Rattle.bp_layout.specs.Words.{block_count};
 ghost use Rattle.bp_limits.specs.Limits.{block_words};
-ghost use Rattle.bp_volume.specs.Laid.{IsLeftByFormat, format_events};
-ghost use Rattle.pm_epochs.specs.Replay.{IsReplay};
+ghost use Rattle.bp_volume.specs.Laid.{IsLeftByFormat, OfEachReplay, format_events};
 ghost use Rattle.pm_region.specs.Memory.{Adds, room_in};
 
 use bp_limits::{
@@ -48,8 +47,7 @@ pub fn lay_out<R: Region>(region: &mut R, version: Version)
     requires room { 16 ≤ room_in (R.memory region.old) }
     ensures stores { Adds (R.memory region.old) (R.memory region.new)
         (format_events version (block_count (R.memory region.old).base)) }
-    ensures left { (image : Image) → IsReplay (R.memory region.new).base (R.memory region.new).events image
-        → IsLeftByFormat version (R.memory region.old).base image }
+    ensures left { OfEachReplay (R.memory region.new) (IsLeftByFormat version (R.memory region.old).base) }
 {
     let blocks = region.words() / BLOCK_WORDS;
     lay_front(region, version, blocks);

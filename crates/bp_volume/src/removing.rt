@@ -2,9 +2,9 @@
 
 ghost use Rattle.std.specs.Prelude.{◌≡◌, IfErr, IfOk, OnOk, Some};
 ghost use Rattle.bp_cache.specs.Cache.{IsCacheOf};
-ghost use Rattle.bp_dirs.specs.Names.{name_count};
+ghost use Rattle.bp_calls.specs.Removed.{HasNoName};
 ghost use Rattle.bp_layout.specs.Directory.{slot_named};
-ghost use Rattle.bp_layout.specs.Inode.{IsDirectory, IsFile, root_of, size_of};
+ghost use Rattle.bp_layout.specs.Inode.{IsDirectory, IsFile};
 ghost use Rattle.bp_layout.specs.WellFormed.{IsWellFormed};
 ghost use Rattle.bp_plain.specs.Calls.Call.{rmdir, unlink};
 ghost use Rattle.bp_plain.specs.Seen.{refusal_of};
@@ -57,8 +57,7 @@ fn without_names<R: Region>(region: &R, text: &[u8], entry: &NamedEntry<'_>) -> 
     requires well_formed { IsWellFormed (current_words (R.memory region.now)) }
     requires at { FindsEntry (current_words (R.memory region.now)) text.now entry.now.dir entry.now.slot entry.now.inumber }
     ensures directory { OnOk result (IsDirectory (current_words (R.memory region.now)) entry.now.inumber) }
-    ensures empty { let words = current_words (R.memory region.now) in
-        OnOk result (name_count words (root_of words entry.now.inumber) (size_of words entry.now.inumber) ≡ 0) }
+    ensures empty { OnOk result (HasNoName (current_words (R.memory region.now)) entry.now.inumber) }
     ensures refused { IfErr result
         (λ e. Refuses (current_words (R.memory region.now)) (rmdir text.now) (refusal_of e)) }
 {
@@ -89,8 +88,7 @@ fn empty_entry<'a, R: Region>(
     ensures named { IfOk result
         (λ entry. slot_named (current_words (R.memory region.now)) entry.dir entry.name.now ≡ Some entry.slot) }
     ensures directory { IfOk result (λ entry. IsDirectory (current_words (R.memory region.now)) entry.inumber) }
-    ensures empty { let words = current_words (R.memory region.now) in
-        IfOk result (λ entry. name_count words (root_of words entry.inumber) (size_of words entry.inumber) ≡ 0) }
+    ensures empty { IfOk result (λ entry. HasNoName (current_words (R.memory region.now)) entry.inumber) }
     ensures refused { IfErr result
         (λ e. Refuses (current_words (R.memory region.now)) (rmdir text.now) (refusal_of e)) }
     ensures right { IsCacheOf (current_words (R.memory region.now)) cache.new }

@@ -158,8 +158,8 @@ fn take_below<R: Region>(
     requires taken { has blocks.old top.block ≡ false }
     ensures ok { OnOk result (WalksBelow (current_words (R.memory region.now))
         0 tree.root tree.size holes top.depth top.index block_words blocks.old blocks.new) }
-    ensures err { let words = current_words (R.memory region.now) in
-        IfErr result (λ f. FailsBelow words 0 tree.root tree.size holes top.block blocks.old f.check f.place) }
+    ensures err { IfErr result (λ f. FailsBelow (current_words (R.memory region.now))
+        0 tree.root tree.size holes top.block blocks.old f.check f.place) }
     ensures room { length blocks.new ≡ length blocks.old }
 {
     let first = BLOCK_WORDS * top.block;

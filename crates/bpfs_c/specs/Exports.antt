@@ -2,9 +2,10 @@
 -- now, between what the handle holds before and behind.
 use Rattle.std.specs.Prelude.{◌≡◌, ℕ, Bool, List, Option}
 use Rattle.bp_plain.specs.Calls.{Call}
-use Rattle.bpfs_c.specs.Codes.{IsEndedAs, IsRead}
+use Rattle.bpfs_c.specs.Codes.{IsEndedAs, IsRead, TellsFound}
 use Rattle.bpfs_c.specs.Listings.{TellsName, entry_at}
 use Rattle.bpfs_c.specs.Serves.{Exported, Looked}
+use Rattle.bpfs_c.specs.declared.asking.Found.{Found}
 use Rattle.bpfs_c.specs.declared.codes.Lack.{Lack}
 use Rattle.bpfs_c.specs.declared.mounted.Mounted.{Mounted}
 
@@ -18,6 +19,11 @@ abbrev pub ExportsRead : Option Mounted → Call → List ℕ → ℕ → ℕ �
 ExportsRead held call into count code new_into new_count new_held =
     Exported held call (λ answer. IsRead answer into count code new_into new_count)
     ((new_into ≡ into) × (new_count ≡ count)) code new_held
+
+-- a look at what stands at a path: its size and whether it is a directory are told
+abbrev pub ExportsFound : Option Mounted → Call → Found → ℕ → Found → Option Mounted → Type 0
+ExportsFound held call found code new_found new_held =
+    Exported held call (λ answer. TellsFound answer found code new_found) (new_found ≡ found) code new_held
 
 -- a look at the name at an index of the listing that is kept: it, its length and whether it is a directory are told
 abbrev pub LooksAtName : Option Mounted → ℕ → List ℕ → ℕ → Bool → ℕ → List ℕ → ℕ → Bool → Option Mounted → Type 0

@@ -4,7 +4,7 @@ ghost use Rattle.std.specs.Prelude.{◌≡◌, length};
 ghost use Rattle.bp_plain.specs.Calls.Call.{links, read, stat};
 ghost use Rattle.bp_volume.specs.Seen.{links_answer, stat_answer_of};
 ghost use Rattle.bpfs_c.specs.Codes.{TellsCount, TellsFound, TellsLinks};
-ghost use Rattle.bpfs_c.specs.Exports.{ExportsRead};
+ghost use Rattle.bpfs_c.specs.Exports.{ExportsFound, ExportsRead};
 ghost use Rattle.bpfs_c.specs.Serves.{Exported};
 
 use crate::codes::{CLOSED, LOG_FULL, OK, number_of};
@@ -91,8 +91,7 @@ pub extern "C" fn bpfs_stat(
     path: &[u8],
     found: &mut Found,
 ) -> u32
-    ensures { Exported handle.old.held (stat path.now) (λ answer. TellsFound answer found.old result found.new)
-        (found.new ≡ found.old) result handle.new.held }
+    ensures { ExportsFound handle.old.held (stat path.now) found.old result found.new handle.new.held }
 {
     let Some(mut mounted) = handle.take(alloc) else {
         return CLOSED;

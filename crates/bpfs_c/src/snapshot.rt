@@ -3,8 +3,8 @@
 ghost use Rattle.std.specs.Prelude.{◌≡◌, length};
 ghost use Rattle.bp_plain.specs.Calls.Call.{snap, snap_list, snap_read, snap_stat, unsnap};
 ghost use Rattle.bp_volume.specs.Seen.{unit_answer};
-ghost use Rattle.bpfs_c.specs.Codes.{IsEndedBy, IsListed, TellsFound};
-ghost use Rattle.bpfs_c.specs.Exports.{ExportsRead};
+ghost use Rattle.bpfs_c.specs.Codes.{IsEndedBy, IsListed};
+ghost use Rattle.bpfs_c.specs.Exports.{ExportsFound, ExportsRead};
 ghost use Rattle.bpfs_c.specs.Serves.{Exported};
 
 use crate::asking::{Found, tell_count, tell_found};
@@ -92,8 +92,7 @@ pub extern "C" fn bpfs_snap_stat(
     path: &[u8],
     found: &mut Found,
 ) -> u32
-    ensures { Exported handle.old.held (snap_stat path.now) (λ answer. TellsFound answer found.old result found.new)
-        (found.new ≡ found.old) result handle.new.held }
+    ensures { ExportsFound handle.old.held (snap_stat path.now) found.old result found.new handle.new.held }
 {
     let Some(mut mounted) = handle.take(alloc) else {
         return CLOSED;

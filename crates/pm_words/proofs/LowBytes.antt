@@ -13,7 +13,7 @@ power (suc (suc (suc (suc (suc (suc zero)))))) low = refl
 power (suc (suc (suc (suc (suc (suc (suc zero))))))) low = refl
 power (suc (suc (suc (suc (suc (suc (suc (suc count)))))))) low = absurd (omega (arith, low))
 
-as_bits : (count : ℕ) → 256 ^ count ≡ 2 ^ (8 * count)
+pub as_bits : (count : ℕ) → 256 ^ count ≡ 2 ^ (8 * count)
 as_bits zero = refl
 as_bits (suc count) =
     let more : 8 * suc count ≡ 8 * count + 8 = omega arith in

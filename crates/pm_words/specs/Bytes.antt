@@ -10,3 +10,7 @@ word_bytes word = word % 256 ∷ word / 256 % 256 ∷ word / 256 ^ 2 % 256 ∷ w
 abbrev pub word_of : List ℕ → ℕ
 word_of [] = 0
 word_of (byte ∷ bytes) = byte + 256 * word_of bytes
+
+-- a byte of a word, the lowest first
+abbrev pub byte_of : ℕ → ℕ → ℕ
+byte_of value index = value / 256 ^ index % 256

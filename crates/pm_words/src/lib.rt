@@ -9,6 +9,9 @@ ghost use Rattle.std.specs.Prelude.{◌%◌, ◌*◌, ◌/◌, ◌^◌, ◌≡�
 use bp_limits::{BLOCK_SIZE, BLOCK_WORDS};
 
 pub mod laws;
+mod overlay;
+
+pub use overlay::{Overlay, word_at};
 
 /// The greatest level whose span fits into a word: 2^57 bytes.
 pub const MAX_LEVEL: u32 = 5;

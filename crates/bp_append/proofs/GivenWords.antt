@@ -1,15 +1,20 @@
 -- Words that given bytes begin or end in.
-use Rattle.std.proofs.Common.{◌≡◌, ℕ, ◌+◌, ◌-◌, ◌*◌, ◌/◌, ◌%◌, ◌^◌, ◌<◌, ◌≤◌, List, length, get_or, replicate, sym, ◌∙◌, ap, arith, inl, inr}
+use Rattle.std.proofs.Common.{◌≡◌, ℕ, ◌+◌, ◌-◌, ◌%◌, ◌^◌, ◌<◌, ◌≤◌, List, drop, length, get_or, min, replicate, sym, ◌∙◌, ap, arith, inl, inr}
 use Rattle.std.proofs.Math.Nat.{zero-div}
 use Rattle.std.proofs.lemmas.Bool.{cases_lt}
-use Rattle.std.proofs.lemmas.List.{get_or_past, get_or-replicate}
+use Rattle.std.proofs.lemmas.List.{get_or-drop, get_or_past, get_or-replicate, length-drop}
+use Rattle.pm_words.specs.Overlay.{byte_over}
+use Rattle.pm_words.proofs.OverlayLaws.{over_before, over_past, over_there}
+use Rattle.pm_words.proofs.ShiftLaws.{low-byte, past-low}
 use Rattle.bp_layout.specs.Words.{byte_of}
-use Rattle.bp_append.specs.Given.{given, run_words}
-use Rattle.bp_append.proofs.LaidLaws.{given-before, given-there}
-use Rattle.bp_append.proofs.ShiftLaws.{left-byte, past-byte, right-byte, zero-byte}
+use Rattle.bp_append.specs.Given.{given, laid, run_words}
+use Rattle.bp_append.proofs.LaidLaws.{given-before, given-there, laid-given, laid-kept}
+
+bare : (c : ℕ) → byte_of 0 c ≡ 0
+bare c = ap (λ n. n % 256) (zero-div (256 ^ c))
 
 bare-word : (k c : ℕ) → k < run_words → byte_of (get_or (replicate run_words 0) k 0) c ≡ 0
-bare-word k c low = ap (λ w. byte_of w c) (get_or-replicate run_words k 0 0 low) ∙ ap (λ n. n % 256) (zero-div (256 ^ c))
+bare-word k c low = ap (λ w. byte_of w c) (get_or-replicate run_words k 0 0 low) ∙ bare c
 
 -- words of 0 before the given bytes, and behind them
 pub early-word : (k c offset from : ℕ) (bytes : List ℕ) → k < run_words → offset < from → byte_of (get_or (replicate run_words 0) k 0) c ≡ given from bytes offset
@@ -18,25 +23,59 @@ early-word k c offset from bytes low before = bare-word k c low ∙ sym (given-b
 pub late-word : (k c offset from : ℕ) (bytes : List ℕ) → k < run_words → from ≤ offset → length bytes ≤ offset - from → byte_of (get_or (replicate run_words 0) k 0) c ≡ given from bytes offset
 late-word k c offset from bytes low behind past = bare-word k c low ∙ sym (given-there from bytes offset behind ∙ get_or_past bytes (offset - from) 0 past)
 
--- the last eight bytes, shifted down to a place among them
-pub last-there : (word at c : ℕ) (bytes : List ℕ) → word < 18446744073709551616 → 8 ≤ length bytes → at < length bytes → length bytes < at + 8 →
-    ((i : ℕ) → i < 8 → byte_of word i ≡ get_or bytes (length bytes - 8 + i) 0) → byte_of (word / 2 ^ (8 * (at + 8 - length bytes))) c ≡ get_or bytes (at + c) 0
-last-there word at c bytes small enough inside ends is = right-byte word (at + 8 - length bytes) c ∙ elim (cases_lt (at + 8 - length bytes + c) 8) [
-  | inl few ↦
-      let index : length bytes - 8 + (at + 8 - length bytes + c) ≡ at + c = omega (arith, enough, ends) in
-      is (at + 8 - length bytes + c) few ∙ ap (λ n. get_or bytes n 0) index
-  | inr past ↦ past-byte word 8 (at + 8 - length bytes + c) small past ∙ sym (get_or_past bytes (at + c) 0 (omega (arith, past, enough, ends)))
+-- the given bytes laid over nothing
+pub given_over : (from : ℕ) (bytes : List ℕ) (offset c : ℕ) → byte_over from bytes offset (byte_of 0 c) ≡ given from bytes offset
+given_over from bytes offset c = elim (cases_lt offset from) [
+  | inl before ↦ over_before from bytes offset (byte_of 0 c) before ∙ bare c ∙ sym (given-before from bytes offset before)
+  | inr behind ↦ elim (cases_lt offset (from + length bytes)) [
+    | inl inside ↦ over_there from bytes offset (byte_of 0 c) behind inside ∙ sym (given-there from bytes offset behind)
+    | inr past ↦
+        over_past from bytes offset (byte_of 0 c) past
+        ∙ bare c
+        ∙ sym (given-there from bytes offset behind ∙ get_or_past bytes (offset - from) 0 (omega (arith, past)))
+  ]
 ]
 
--- the first eight bytes, shifted up to the offset from which they are given
-pub first-there : (word start from c : ℕ) (bytes : List ℕ) → start < from → ((i : ℕ) → i < 8 → byte_of word i ≡ get_or bytes (0 + i) 0) → c < 8 →
-    byte_of (word * 2 ^ (8 * (from - start)) % 18446744073709551616) c ≡ given from bytes (start + c)
-first-there word start from c bytes before is few = elim (cases_lt c (from - start)) [
-  | inl early ↦ zero-byte word (from - start) c few early ∙ sym (given-before from bytes (start + c) (omega (arith, early)))
-  | inr late ↦
-      let index : 0 + (c - (from - start)) ≡ start + c - from = omega (arith, late, before) in
-      left-byte word (from - start) c few late
-      ∙ is (c - (from - start)) (omega (arith, few))
-      ∙ ap (λ n. get_or bytes n 0) index
-      ∙ sym (given-there from bytes (start + c) (omega (arith, late, before)))
+-- those from an offset in a word on, laid over the bytes of it that stay
+pub laid_over : (low from start old kept before c : ℕ) (bytes : List ℕ) → kept ≡ old % 256 ^ min 8 (low - start) → before ≡ min (low - from) (length bytes) → start ≤ low → low < start + 8 → c < 8 →
+    byte_over (from + before) (drop before bytes) (start + c) (byte_of kept c) ≡ laid low from bytes (byte_of old c) (start + c)
+laid_over low from start old kept before c bytes is count begun inside few = elim (cases_lt c (low - start)) [
+  | inl early ↦
+      unseen early
+      ∙ ap (λ w. byte_of w c) is
+      ∙ low-byte old (min 8 (low - start)) c (omega (arith, early, few))
+      ∙ sym (laid-kept low from bytes (byte_of old c) (start + c) (omega (arith, early)))
+  | inr late ↦ seen late ∙ sym (laid-given low from bytes (byte_of old c) (start + c) (omega (arith, late, begun)))
 ]
+  where
+    long : length (drop before bytes) ≡ length bytes - before
+    long = length-drop before bytes
+
+    unseen : c < low - start → byte_over (from + before) (drop before bytes) (start + c) (byte_of kept c) ≡ byte_of kept c
+    unseen early = elim (cases_lt (start + c) (from + before)) [
+      | inl less ↦ over_before (from + before) (drop before bytes) (start + c) (byte_of kept c) less
+      | inr more ↦ over_past (from + before) (drop before bytes) (start + c) (byte_of kept c) (omega (arith, more, early, count, long))
+    ]
+
+    none : low - start ≤ c → byte_of kept c ≡ 0
+    none late = ap (λ w. byte_of w c) is ∙ past-low old (min 8 (low - start)) c (omega (arith, late))
+
+    seen : low - start ≤ c → byte_over (from + before) (drop before bytes) (start + c) (byte_of kept c) ≡ given from bytes (start + c)
+    seen late = elim (cases_lt (start + c) (from + before)) [
+      | inl less ↦
+          over_before (from + before) (drop before bytes) (start + c) (byte_of kept c) less
+          ∙ none late
+          ∙ sym (given-before from bytes (start + c) (omega (arith, less, late, count, begun)))
+      | inr more ↦ elim (cases_lt (start + c) (from + before + length (drop before bytes))) [
+        | inl here ↦
+            let place : before + (start + c - (from + before)) ≡ start + c - from = omega (arith, more) in
+            over_there (from + before) (drop before bytes) (start + c) (byte_of kept c) more here
+            ∙ get_or-drop before bytes (start + c - (from + before)) 0
+            ∙ ap (λ n. get_or bytes n 0) place
+            ∙ sym (given-there from bytes (start + c) (omega (arith, more)))
+        | inr past ↦
+            over_past (from + before) (drop before bytes) (start + c) (byte_of kept c) past
+            ∙ none late
+            ∙ sym (given-there from bytes (start + c) (omega (arith, more)) ∙ get_or_past bytes (start + c - from) 0 (omega (arith, past, long, count)))
+      ]
+    ]

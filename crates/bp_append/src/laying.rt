@@ -6,9 +6,10 @@ ghost use Rattle.bp_limits.specs.Limits.{block_size, block_words};
 ghost use Rattle.pm_region.specs.Memory.{current_words, room_in};
 ghost use Rattle.bp_append.specs.Given.{given, run_words, IsLaid, Lays, LaysRun};
 
-use crate::bytes::{given_in, given_word, word_with};
+use crate::bytes::{given_in, word_with};
 use bp_limits::BLOCK_WORDS;
 use pm_region::Region;
+use pm_words::word_at;
 
 /// How many words are stored at once: a cache line of them. The length is known wherever they are copied, so a copy is a few
 /// moves, and a short write fills no array that it doesn't need.
@@ -38,7 +39,7 @@ fn given_run(bytes: &[u8], at: usize) -> [u64; RUN]
 {
     let mut words = [0; RUN];
     for k in 0..RUN {
-        words[k] = given_word(bytes, at + 8 * k);
+        words[k] = word_at(bytes, at + 8 * k);
     }
     words
 }

@@ -1,7 +1,6 @@
 use Rattle.std.proofs.Common.{◌≡◌, ℕ, ◌+◌, ◌-◌, ◌*◌, ◌<◌, get_or, ◌∙◌, ap, arith}
 use Rattle.std.proofs.lemmas.List.{length-set}
-use Rattle.bp_tree.proofs.LoadedWords.{loaded_word}
-use Rattle.bp_cow.proofs.RunLaws.{run_word-inside}
+use Rattle.bp_cow.proofs.RunLaws.{run_word-there}
 use Rattle.bp_cow.proofs.SlotLaws.{lays_none, lays_one_more, lays_empty}
 use Rattle.bp_cow.proofs.lay.set_slots.Goals as goal
 
@@ -21,15 +20,13 @@ loop-slot-preserved c =
     let at = c.loop-slot.slot in
     let begun = c.requires.begun (omega arith) in
     let behind = c.requires.not_ended (omega arith) in
-    let place : ℕ = 8 * (first + from) - run.off + 8 * (at - from) in
     let there : 8 * (first + from) - run.off + 8 * (at - from) ≡ 8 * (first + at) - run.off = omega (arith, begun, before.begun) in
-    -- the bytes that are copied are the run's
-    let copied = λ (i : ℕ) (few : i < 8). loaded_word bytes c.copy_from_slice.new.self place 8 c.copy_from_slice.ensures.after i few ∙ ap (λ p. get_or bytes (p + i) 0) there in
+    let same = λ (i : ℕ) (few : i < 8). c.word_at.ensures i few ∙ ap (λ p. get_or bytes (p + i) 0) there in
     let value =
-    run_word-inside run (first + at) (get_or c.args.words.now at 0) c.copy_from_slice.new.self (omega (arith, begun, before.begun)) (omega (arith, behind, c.loop-slot-test.true)) (omega arith) copied in
+    run_word-there run (first + at) (get_or c.args.words.now at 0) c.word_at.result (omega (arith, c.word_at.type_inv)) (omega (arith, begun, before.begun)) (omega (arith, behind, c.loop-slot-test.true)) same in
     record {
-      size = length-set c.loop-slot.words at c.read_word.result ∙ before.size;
+      size = length-set c.loop-slot.words at c.word_at.result ∙ before.size;
       begun = omega (arith, before.begun);
-      laid = lays_one_more run first from at c.read_word.result c.args.words.now c.loop-slot.words (omega (arith, before.size, c.loop-slot-test.true, c.requires.to)) before.begun
-          (c.read_word.ensures ∙ value) before.laid;
+      laid = lays_one_more run first from at c.word_at.result c.args.words.now c.loop-slot.words (omega (arith, before.size, c.loop-slot-test.true, c.requires.to)) before.begun
+          value before.laid;
     }

@@ -1,7 +1,7 @@
 -- What undoing a log leaves, and what writing a block of words does to the words and to the arrays of a log.
 use Rattle.std.proofs.Common.{◌≡◌, ℕ, zero, suc, ◌+◌, ◌≤◌, true, false, eqb, List, [], ◌∷◌, ◌++◌, length, take, drop, get_or, set, refl, sym, ◌∙◌, ap, arith}
 use Rattle.std.specs.Prelude.{if◌then◌else◌}
-use Rattle.std.proofs.lemmas.List.{append_assoc, drop-set-lt, drop_more, length-append, length-set, length-take-le, set-get_or, set-set, take_at, take_more_set}
+use Rattle.std.proofs.lemmas.List.{append_assoc, drop-set-lt, drop_more, length-set, set-get_or, set-set, take_more_set}
 use Rattle.pm_epochs.specs.declared.event.Event.{Event}
 use Rattle.pm_epochs.specs.declared.event.Event.TheVariants.{Store, Barrier, Mark}
 use Rattle.pm_epochs.specs.Log.{words_after}
@@ -106,13 +106,6 @@ with_values-stores words (value ∷ values) first fits =
     ∙ ap (λ front. front ++ (values ++ behind words)) (sym (take_more_set words first value (omega arith)))
     ∙ ap (λ ws. take (first + 1) next ++ (values ++ ws)) (sym (drop-set-lt ((first + 1) + length values) words first value (omega arith)))
     ∙ with_values-stores next values (first + 1) (omega (arith, length-set words first value))
-
--- what stands before the end of a block that was written
-pub take-with_values : (words values : List ℕ) (first : ℕ) → first + length values ≤ length words → take (first + length values) (with_values words first values) ≡ take first words ++ values
-take-with_values words values first fits =
-    let front = take first words in
-    ap (take (first + length values)) (sym (append_assoc front values (drop (first + length values) words)))
-    ∙ take_at (front ++ values) (drop (first + length values) words) (first + length values) (length-append front values ∙ ap (λ n. n + length values) (length-take-le first words (omega arith)))
 
 -- ## Memories
 

@@ -102,6 +102,18 @@ module _ (firsts starts others begins : List ℕ) (same_firsts : others ≡ firs
   pub words-same : (at n : ℕ) → words_from others begins at n ≡ words_from firsts starts at n
   words-same at n = ap (λ fs. words_from fs begins at n) same_firsts ∙ ap (λ ss. words_from firsts ss at n) same_starts
 
+-- no runs
+pub runs-none : AreRuns [] [] 0 0
+runs-none = record {
+  same = refl;
+  some = λ more. absurd (omega (arith, more));
+  begun = omega arith;
+  first = λ more. absurd (omega (arith, more));
+  taken = λ i inside. absurd (omega (arith, inside));
+  rises = λ i j less inside. absurd (omega (arith, inside));
+  fits = λ i low high. absurd (omega (arith, high));
+}
+
 -- ## Parts of runs
 
 module _ (firsts starts : List ℕ) (at end : ℕ) (runs : AreRuns firsts starts at end) where

@@ -11,7 +11,6 @@ pub mod RunWords
 pub mod RunsRoom
 pub mod LogRuns
 pub mod Pieces
-pub mod Grows
 pub mod EntriesRoom
 pub mod Places
 pub mod Undo

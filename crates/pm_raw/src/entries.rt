@@ -1,20 +1,18 @@
 //! What a region writes down of each event since the last drain.
-ghost use Rattle.std.specs.Prelude.{◌≡◌, ◌+◌, ◌-◌, ◌^◌, ◌<◌, ◌≤◌, [], ◌∷◌, ◌++◌, IfOk, Some, length, take, slice_get, slice_index_or, vec_capacity};
+ghost use Rattle.std.specs.Prelude.{◌≡◌, ◌+◌, ◌-◌, ◌^◌, ◌<◌, ◌≤◌, [], ◌∷◌, ◌++◌, IfOk, Some, length, slice_get, slice_index_or, vec_capacity, vec_len};
 ghost use Rattle.std.specs.List.{range_with_len};
-ghost use Rattle.pm_region.specs.Memory.{AreInRow, with_values};
+ghost use Rattle.pm_region.specs.Memory.{AreInRow};
 ghost use Rattle.pm_raw.specs.Entries.{event_of, events_of};
 
 use super::log::{BARRIER, Log, NO_WORD};
-use super::pairs::fill;
 use super::runs::{Runs, WordRow};
 use pm_epochs::Event;
 use pm_region::Row;
 use std::alloc::{AllocError, Global};
 use std::marker::Model;
 
-/// The events of a log: the words of all, by runs, and the value of each and the value that it replaced. The values stand at
-/// the fronts of two vectors that take their memory once. Places are filled as the log grows, so a short log touches little
-/// of that memory, and stay filled when it begins anew.
+/// The events of a log: the words of all, by runs, and the value of each and the value that it replaced, in two vectors that
+/// take their memory once.
 #[derive(Drop)]
 pub struct Entries {
     words: Runs,
@@ -27,20 +25,24 @@ impl Model for Entries {
 
     ghost Value = { Entered };
 
-    ghost use Rattle.pm_raw.specs.EntriesRoom.{entered_of, HasPlaces};
+    ghost use Rattle.pm_raw.specs.EntriesRoom.{entered_of, HasValues};
 
     ghost view = { entered_of };
 
-    ghost invariant = { HasPlaces };
+    ghost invariant = { HasValues };
 }
 
-/// Puts these values in place of those of a vector from `at` on.
-fn put_values(values: &mut Vec<u64>, at: usize, new: &[u64])
-    requires { at + length new.now ≤ length values.old.items }
-    ensures items { values.new.items ≡ with_values values.old.items at new.now }
-    ensures capacity { vec_capacity values.new ≡ vec_capacity values.old }
+/// Adds values, in room that is there.
+#[inline(always)]
+fn add(values: &mut Vec<u64>, more: &[u64])
+    requires { vec_len values.old + length more.now ≤ vec_capacity values.old }
+    ensures items { values.new.items ≡ values.old.items ++ more.now }
+    ensures room { vec_capacity values.old ≤ vec_capacity values.new }
 {
-    values[at..at + new.len()].copy_from_slice(new);
+    match values.extend_from_slice(more) {
+        Ok(()) => {}
+        Err(_) => unreachable!(),
+    }
 }
 
 /// The event with this word and this value.
@@ -93,7 +95,7 @@ impl Entries {
         requires { length self.now.values ≡ length self.now.words }
         ensures { result ≡ events_of self.now.words self.now.values }
     {
-        self.words.log(&self.values[..self.words.len()])
+        self.words.log(&self.values)
     }
 
     /// One of them, by its number from 0.
@@ -130,7 +132,7 @@ impl Entries {
     pub fn replaced(&self) -> &[u64]
         ensures { result.now ≡ self.now.replaced }
     {
-        &self.replaced[..self.words.len()]
+        &self.replaced
     }
 
     /// Begins anew, with none. The room stays.
@@ -138,6 +140,8 @@ impl Entries {
         ensures { self.new ≡ record { words = []; values = []; replaced = []; room = self.old.room } }
     {
         self.words.clear();
+        self.values.clear();
+        self.replaced.clear();
     }
 
     /// One more, behind the others.
@@ -149,11 +153,8 @@ impl Entries {
         ensures replaced { self.new.replaced ≡ self.old.replaced ++ replaced ∷ [] }
         ensures room { self.new.room ≡ self.old.room }
     {
-        let count = self.words.len();
-        let room = self.words.room();
-        fill(&mut self.values, &mut self.replaced, count + 1, room);
-        self.values[count] = value;
-        self.replaced[count] = replaced;
+        self.values.push_reserved(value);
+        self.replaced.push_reserved(replaced);
         self.words.push(word, 1);
     }
 
@@ -167,16 +168,8 @@ impl Entries {
         ensures replaced { self.new.replaced ≡ self.old.replaced ++ replaced.now }
         ensures room { self.new.room ≡ self.old.room }
     {
-        let count = self.words.len();
-        let room = self.words.room();
-        fill(
-            &mut self.values,
-            &mut self.replaced,
-            count + values.len(),
-            room,
-        );
-        put_values(&mut self.values, count, values);
-        put_values(&mut self.replaced, count, replaced);
+        add(&mut self.values, values);
+        add(&mut self.replaced, replaced);
         self.words.extend(first, values.len());
     }
 }

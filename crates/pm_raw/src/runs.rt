@@ -1,11 +1,10 @@
 //! The words of a log's events, held by runs of words in a row.
-ghost use Rattle.std.specs.Prelude.{◌≡◌, ℕ, ◌+◌, ◌^◌, ◌<◌, ◌≤◌, [], ◌∷◌, ◌++◌, IfOk, length, slice_index, take, vec_capacity};
+ghost use Rattle.std.specs.Prelude.{◌≡◌, ℕ, ◌+◌, ◌^◌, ◌<◌, ◌≤◌, [], ◌++◌, IfOk, length, slice_index};
 ghost use Rattle.std.specs.List.{range_with_len};
 ghost use Rattle.pm_raw.specs.Entries.{events_of};
 ghost use Rattle.pm_raw.specs.RunWords.{Rises};
 
 use super::log::Log;
-use super::pairs::fill;
 use std::alloc::{AllocError, Global};
 use std::cell::Cell;
 use std::marker::Model;
@@ -14,13 +13,11 @@ use std::marker::Model;
 const NOWHERE: usize = 1 << 32;
 
 /// The word of each event of a log, `NO_WORD` where it is no store. Words in a row are one run, of which the first word is held
-/// and the number of the first event. They stand at the fronts of two vectors that take their memory once. Places are filled
-/// as the log grows, so a short log touches little of that memory, and stay filled when it begins anew.
+/// and the number of the first event, in two vectors that take their memory once. There is room for a run for each event.
 #[derive(Drop)]
 pub struct Runs {
     firsts: Vec<u32>,
     starts: Vec<usize>,
-    runs: usize,
     next: usize,
     count: usize,
     room: usize,
@@ -92,31 +89,6 @@ fn run_near(starts: &[usize], event: usize, near: usize) -> usize
     run_of(starts, event)
 }
 
-/// Puts a run behind so many, by its first word and the number of its first event.
-#[inline(always)]
-fn begin(
-    firsts: &mut Vec<u32>,
-    starts: &mut Vec<usize>,
-    runs: usize,
-    first: u32,
-    start: usize,
-    room: usize,
-)
-    requires room { (runs < room) × (runs ≤ length firsts.old.items) }
-    requires firsts { (length firsts.old.items ≤ room) × (room ≤ vec_capacity firsts.old) }
-    requires starts { (length starts.old.items ≡ length firsts.old.items) × (room ≤ vec_capacity starts.old) }
-    ensures filled { (runs < length firsts.new.items) × (length firsts.new.items ≤ room) }
-    ensures firsts { take (runs + 1) firsts.new.items ≡ take runs firsts.old.items ++ first ∷ [] }
-    ensures starts { take (runs + 1) starts.new.items ≡ take runs starts.old.items ++ start ∷ [] }
-    ensures starts_places { length starts.new.items ≡ length firsts.new.items }
-    ensures firsts_room { room ≤ vec_capacity firsts.new }
-    ensures starts_room { room ≤ vec_capacity starts.new }
-{
-    fill(firsts, starts, runs + 1, room);
-    firsts[runs] = first;
-    starts[runs] = start;
-}
-
 impl Runs {
     /// None yet, with room for the words of so many events. Fails only for want of memory; no other call takes any.
     pub fn new(alloc: Global, room: usize) -> Result<Runs, AllocError>
@@ -127,7 +99,6 @@ impl Runs {
         Ok(Runs {
             firsts,
             starts,
-            runs: 0,
             next: NOWHERE,
             count: 0,
             room,
@@ -154,7 +125,7 @@ impl Runs {
         requires { length values.now ≡ length self.now.words }
         ensures { result ≡ events_of self.now.words values.now }
     {
-        Log::new(&self.firsts[..self.runs], &self.starts[..self.runs], values)
+        Log::new(&self.firsts, &self.starts, values)
     }
 
     /// The word of an event, by its number from 0.
@@ -163,7 +134,7 @@ impl Runs {
         requires { i < length self.now.words }
         ensures { result ≡ slice_index self.now.words i }
     {
-        let (firsts, starts) = (&self.firsts[..self.runs], &self.starts[..self.runs]);
+        let (firsts, starts) = (self.firsts.as_slice(), self.starts.as_slice());
         let run = run_near(starts, i, self.asked.get());
         self.asked.set(run);
         firsts[run] + (i - starts[run]) as u32
@@ -178,7 +149,7 @@ impl Runs {
         ensures inside { i + result.len ≤ length self.now.words }
         ensures row { (j : ℕ) → j < result.len → slice_index self.now.words (i + j) ≡ slice_index self.now.words i + j }
     {
-        let (firsts, starts) = (&self.firsts[..self.runs], &self.starts[..self.runs]);
+        let (firsts, starts) = (self.firsts.as_slice(), self.starts.as_slice());
         let run = run_near(starts, i, self.asked.get());
         self.asked.set(run);
         let next = run + 1;
@@ -197,7 +168,8 @@ impl Runs {
     pub fn clear(&mut self)
         ensures { self.new ≡ record { words = []; room = self.old.room } }
     {
-        self.runs = 0;
+        self.firsts.clear();
+        self.starts.clear();
         self.next = NOWHERE;
         self.count = 0;
     }
@@ -213,16 +185,8 @@ impl Runs {
     {
         let count = self.count;
         if first as usize != self.next {
-            let run = self.runs;
-            begin(
-                &mut self.firsts,
-                &mut self.starts,
-                run,
-                first,
-                count,
-                self.room,
-            );
-            self.runs = run + 1;
+            self.firsts.push_reserved(first);
+            self.starts.push_reserved(count);
         }
         self.next = first as usize + wanted;
         self.count = count + wanted;

@@ -1,5 +1,5 @@
-use Rattle.std.proofs.Common.{◌≡◌, ◌+◌, ◌<◌, ◌∙◌, ap, arith, get_or, length, subst, sym, take}
-use Rattle.std.proofs.lemmas.List.{get_or-take, get_or_read, length-take-le}
+use Rattle.std.proofs.Common.{◌≡◌, ◌+◌, ◌<◌, ◌∙◌, ap, arith, get_or, length, subst, sym}
+use Rattle.std.proofs.lemmas.List.{get_or_read}
 use Rattle.pm_region.specs.Memory.{AreInRow}
 use Rattle.pm_raw.specs.Entries.{Entered, event_of, events_of}
 use Rattle.pm_raw.proofs.EntryLaws.{get_or-events_of, length_events, row_events, slice_get_read}
@@ -10,25 +10,23 @@ returns-clause-get c =
     let entries = c.self.inside in
     let words = entries.words.words in
     let values = entries.values.items in
+    let counted = c.self.invariant.values_counted in
     let i = c.args.i in
     let low : i < length words = omega (arith, c.requires.inside, ap (λ (e : Entered). length e.words) c.self.view_is) in
-    let read : c.index.result.now ≡ get_or values i 0 = get_or_read values i c.index.result.now (omega (arith, low, c.self.invariant.filled)) c.index.ensures 0 in
+    let read : c.index.result.now ≡ get_or values i 0 = get_or_read values i c.index.result.now (omega (arith, low, counted)) c.index.ensures 0 in
     let held = c.args.self.now in
     slice_get_read (events_of held.words held.values) i c.read_event.result (omega (arith, length_events held.words held.values c.requires.each, c.requires.inside))
     (c.read_event.ensures
     ∙ ap (λ w. event_of w c.index.result.now) c.row-first.ensures.first
     ∙ ap (event_of (get_or words i 0)) read
-    ∙ ap (event_of (get_or words i 0)) (sym (get_or-take (length words) values i 0 low))
-    ∙ sym (get_or-events_of words (take (length words) values) i c.read_event.result (length-take-le (length words) values c.self.invariant.filled) low)
+    ∙ sym (get_or-events_of words values i c.read_event.result counted low)
     ∙ ap (λ (e : Entered). get_or (events_of e.words e.values) i c.read_event.result) c.self.view_is)
 
 pub returns-clause-row : goal.returns-clause-row
 returns-clause-row c =
     let entries = c.self.inside in
-    let words = entries.words.words in
-    let values = entries.values.items in
     subst (λ (e : Entered). AreInRow (events_of e.words e.values) c.args.i c.min.result) c.self.view_is
-    (row_events words (take (length words) values) c.args.i c.min.result c.row-first.result.first (length-take-le (length words) values c.self.invariant.filled)
+    (row_events entries.words.words entries.values.items c.args.i c.min.result c.row-first.result.first c.self.invariant.values_counted
     (omega (arith, c.min.ensures, c.row-first.ensures.inside))
     (λ j low. c.row-first.ensures.row j (omega (arith, c.min.ensures, low)) ∙ ap (λ w. w + j) (sym c.row-first.ensures.first))
     (λ more. omega (arith, c.min.ensures, c.max.ensures, more)))

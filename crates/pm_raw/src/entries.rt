@@ -87,7 +87,7 @@ impl Entries {
     pub fn room(&self) -> usize
         ensures { result ≡ self.now.room - length self.now.words }
     {
-        self.words.room() - self.words.len()
+        self.words.room()
     }
 
     /// The events.

@@ -1,5 +1,5 @@
 //! The words of a log's events, held by runs of words in a row.
-ghost use Rattle.std.specs.Prelude.{◌≡◌, ℕ, ◌+◌, ◌^◌, ◌<◌, ◌≤◌, [], ◌++◌, IfOk, length, slice_index};
+ghost use Rattle.std.specs.Prelude.{◌≡◌, ℕ, ◌+◌, ◌-◌, ◌^◌, ◌<◌, ◌≤◌, [], ◌++◌, IfOk, length, slice_index};
 ghost use Rattle.std.specs.List.{range_with_len};
 ghost use Rattle.pm_raw.specs.Entries.{events_of};
 ghost use Rattle.pm_raw.specs.RunWords.{Rises};
@@ -113,11 +113,11 @@ impl Runs {
         self.count
     }
 
-    /// Of how many events there is room for words.
+    /// Of how many more events there is room for words.
     pub fn room(&self) -> usize
-        ensures { result ≡ self.now.room }
+        ensures { result ≡ self.now.room - length self.now.words }
     {
-        self.room
+        self.room - self.count
     }
 
     /// The events with these words and values.

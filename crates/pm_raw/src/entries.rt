@@ -159,6 +159,8 @@ impl Entries {
     }
 
     /// A run of stores, behind the others, to the words from `first` on.
+    // By itself, so that the callers that compare words before they store them stay small enough to be inlined.
+    #[inline(never)]
     pub fn push_run(&mut self, first: u32, values: &[u64], replaced: &[u64])
         requires each { length replaced.now ≡ length values.now }
         requires room { length self.old.words + length values.now ≤ self.old.room }

@@ -23,12 +23,13 @@ static void put_in_line(bpfs_pmem *pmem, uint64_t *to, const uint64_t *values, s
     for (size_t i = 0; i < count; i++) __atomic_store_n(to + i, values[i], __ATOMIC_RELAXED);
 }
 
-/* A whole cache line: past the caches where that can be, which takes half of the time, word for word. */
+/* A whole cache line: past the caches where that can be, which takes half of the time. Two words are moved at once, each of which
+   is in memory whole or not at all, as if it were moved alone. */
 static void put_line(bpfs_pmem *pmem, uint64_t *to, const uint64_t *values) {
 #if defined(__SSE2__) && defined(__x86_64__) && !defined(BPFS_NO_STREAM)
     if (to == pmem->line) flush_line(pmem); /* an earlier store to it stays the earlier one */
     pmem->streamed = true;
-    for (size_t i = 0; i < LINE_WORDS; i++) _mm_stream_si64((long long *)to + i, (long long)values[i]);
+    for (size_t i = 0; i < LINE_WORDS; i += 2) _mm_stream_si128((__m128i *)(to + i), _mm_loadu_si128((const __m128i *)(values + i)));
 #else
     put_in_line(pmem, to, values, LINE_WORDS);
 #endif

@@ -1,6 +1,6 @@
 import json,subprocess,os,shutil,sys
 from concurrent.futures import ThreadPoolExecutor
-want="small-writes reads create-wide write-1MiB sparse-2to56 export-sparse check-empty-256 check-dir-long check-inodes check-wide check-empty snapshot frozen-small-writes batch-16 batch-2 renames".split()
+want=sys.argv[1].split()
 cases={}
 for d in ("/dev/shm/bpfs-bench","/dev/shm/bpfs-bench-64","/dev/shm/bpfs-bench-20"):
     for c in json.load(open(d+"/cases.json")): cases.setdefault(c["name"],c)

@@ -1,4 +1,0 @@
-pub mod Held
-pub mod Cache
-pub mod Changes
-pub mod Recalled

@@ -1,4 +1,0 @@
-pub mod EntryWords
-pub mod Names
-pub mod Spots
-pub mod Written

@@ -1,4 +1,0 @@
-pub mod Members
-pub mod Words
-pub mod Summary
-pub mod Complement

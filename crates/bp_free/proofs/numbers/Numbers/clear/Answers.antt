@@ -1,7 +1,0 @@
-use Rattle.bp_free.proofs.Summary.{counted_empty}
-use Rattle.bp_free.proofs.numbers.Numbers.clear.Goals as goal
-
-pub invariant_of-self : goal.invariant_of-self
-invariant_of-self g c =
-    rw (c.clear.ensures, c.clear-2.ensures)
-    (counted_empty _ _ c.self.invariant.fits c.self.invariant.summary.room)

@@ -1,4 +1,0 @@
-pub mod Looks
-pub mod Counts
-pub mod Set
-pub mod Words

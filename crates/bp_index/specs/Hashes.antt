@@ -1,8 +1,0 @@
--- Hashes of names.
-use Rattle.std.specs.Prelude.{ℕ}
-use Rattle.std.specs.Hash.FoldHasher.{initial, write, finish}
-use Rattle.bp_layout.specs.Directory.{Name}
-
--- what the library's hasher tells of the bytes
-unfoldable pub hash_of : Name → ℕ
-hash_of name = finish (write initial name)

@@ -1,6 +1,0 @@
--- What sources, sinks and files do.
-pub mod Causes
-pub mod Streams
-pub mod Files
-pub mod Plans
-pub mod Memory

@@ -1,8 +1,0 @@
--- The bytes of an image.
-use Rattle.std.specs.Prelude.{ℕ, List, flat_map}
-use Rattle.pm_words.specs.Bytes.{word_bytes}
-use Rattle.bp_layout.specs.Words.{Image}
-
--- the bytes of an image
-unfoldable pub image_bytes : Image → List ℕ
-image_bytes image = flat_map word_bytes image

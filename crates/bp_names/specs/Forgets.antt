@@ -1,9 +1,0 @@
--- What is known after a name is forgotten.
-use Rattle.std.specs.Prelude.{◌≡◌, ℕ, None, Some}
-use Rattle.std.specs.FinMap.{get}
-use Rattle.bp_layout.specs.Hints.{NameIn, Known}
-
--- the name is not known any more, and nothing new is
-pub record Forgets (before after : Known) (name : NameIn) : Type 0 where
-  pub gone : get after name ≡ None
-  pub others : (other : NameIn) (slot : ℕ) → get after other ≡ Some slot → get before other ≡ Some slot

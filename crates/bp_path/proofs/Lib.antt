@@ -1,5 +1,0 @@
-pub mod BelowLaws
-pub mod PartsLaws
-pub mod PlainBytes
-pub mod WalkLaws
-pub mod Walking

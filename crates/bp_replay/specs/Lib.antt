@@ -1,4 +1,0 @@
-pub mod Wanted
-pub mod Generator
-pub mod Storm
-pub mod Cache

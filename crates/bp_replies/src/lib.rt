@@ -1,7 +1,0 @@
-//! Texts on their way to a sink: gathered, and handed over piece by piece.
-#![tactic(auto)]
-
-mod replies;
-pub mod sending;
-
-pub use replies::{GATHERED, Replies};

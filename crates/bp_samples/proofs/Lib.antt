@@ -1,4 +1,0 @@
-pub mod LaidLaws
-pub mod EmptyImage
-pub mod TwoLeaves
-pub mod CoresLaws

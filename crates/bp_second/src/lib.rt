@@ -1,6 +1,0 @@
-//! A region with one of its two trees in the first one's place, so that each reader of the first tree reads the second.
-#![tactic(auto)]
-
-pub mod shown;
-
-pub use shown::{SecondTree, Shown};

@@ -1,5 +1,0 @@
-pub mod Hashes
-pub mod Names
-pub mod Places
-pub mod Tables
-pub mod Gathered

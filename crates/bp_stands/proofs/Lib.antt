@@ -1,9 +1,0 @@
-pub mod AddStands
-pub mod UnlinkStands
-pub mod LinkStands
-pub mod FileStands
-pub mod WrittenBytes
-pub mod OverwriteStands
-pub mod MoveStands
-pub mod UpgradeStands
-pub mod SnapStands

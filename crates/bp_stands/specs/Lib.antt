@@ -1,2 +1,0 @@
--- The pieces of a batch in an image.
-pub mod Pieces

@@ -1,9 +1,0 @@
-use Rattle.std.proofs.Common.{◌∙◌, length, ap}
-use Rattle.bp_volume.specs.Seen.{read_answer}
-use Rattle.bp_volume.proofs.ReplyLaws.{refill-whole}
-use Rattle.bp_volume.proofs.volume.Volume.apply_read.Goals as goal
-
-pub returns : goal.returns
-returns g c =
-    rw (c.tell_read.ensures ∙ ap (read_answer c.read_front-told.result) (refill-whole c.args.reply.now.buffer c.read_front-told.new.buffer (c.read_front-told.auto.buffer ∙ ap length c.buffer.ensures.bytes)))
-    c.read_front-told.ensures.called

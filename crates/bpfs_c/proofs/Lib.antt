@@ -1,5 +1,0 @@
-pub mod Handles
-mod Keeping
-mod Telling
-mod PatchLaws
-mod WordLaws

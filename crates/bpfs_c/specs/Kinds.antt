@@ -1,8 +1,0 @@
--- Kinds as C sees them.
-use Rattle.std.specs.Prelude.{Bool, true, false}
-use Rattle.bp_layout.specs.declared.fields.Kind.{Kind}
-use Rattle.bp_layout.specs.declared.fields.Kind.TheVariants.{Dir, File}
-
-abbrev pub is_dir_kind : Kind → Bool
-is_dir_kind File = false
-is_dir_kind Dir = true

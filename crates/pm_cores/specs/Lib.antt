@@ -1,6 +1,0 @@
-pub mod Log
-pub mod Caches
-pub mod Inside
-pub mod Order
-pub mod Choice
-pub mod Played

@@ -1,4 +1,0 @@
-pub mod Log
-pub mod Replay
-pub mod Crash
-pub mod May

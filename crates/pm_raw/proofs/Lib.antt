@@ -1,9 +1,0 @@
-mod Blocks
-mod EntryLaws
-mod WordLaws
-mod PieceLaws
-mod LogLaws
-mod UndoLaws
-mod EpochLaws
-mod PlaceLaws
-pub mod SpelledLaws

@@ -1,2 +1,0 @@
-mod CopyLaws
-pub mod PieceLaws

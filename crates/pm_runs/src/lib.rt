@@ -1,7 +1,0 @@
-//! Logs as runs: stores to words in a row, which what carries a log to its memory copies at once.
-#![tactic(auto)]
-
-pub mod laws;
-mod pieces;
-
-pub use pieces::{Run, run_at};

@@ -23,8 +23,8 @@ static void put_in_line(bpfs_pmem *pmem, uint64_t *to, const uint64_t *values, s
     for (size_t i = 0; i < count; i++) __atomic_store_n(to + i, values[i], __ATOMIC_RELAXED);
 }
 
-/* A whole cache line: past the caches where that can be, which takes half of the time. Two words are moved at once, each of which
-   is in memory whole or not at all, as if it were moved alone. */
+/* A whole cache line: past the caches where that can be, which takes half of the time. Two words are moved at once. That each of
+   them is in memory whole or not at all, as if it were moved alone, is trusted. */
 static void put_line(bpfs_pmem *pmem, uint64_t *to, const uint64_t *values) {
 #if defined(__SSE2__) && defined(__x86_64__) && !defined(BPFS_NO_STREAM)
     if (to == pmem->line) flush_line(pmem); /* an earlier store to it stays the earlier one */

@@ -2,7 +2,8 @@
 # Shows what a sync leaves of FILE besides its bytes: the symbolic link that leads to it, its owner, its group, its permissions and its
 # hard links; where it is written in place; what becomes of what a killed run left, and of other things under its names; that the file
 # that was replaced waits for the next sync, unless something else is done with it; what a run leaves that is killed at a step of a sync
-# (by strace, where it is there); and that a sync fails where another file has the name of FILE meanwhile.
+# (by strace, where it is there); and that a sync fails, and writes nothing, where another file has the name of FILE meanwhile, or
+# none.
 #
 #   examples/second-file.sh PROGRAM      PROGRAM: crates/bpfs/out/bpfs, as `rt run` leaves it there
 set -u
@@ -231,5 +232,14 @@ cp FILE copy
 did 'create /lost' sync
 ended 5
 cmp FILE copy || failed=1
+none_left
+began
+did 'create /lost'
+mv FILE moved
+cp moved copy
+ended 5
+expect 'its reason' 'bpfs: FILE: no file has its name now' "$(cat errors)"
+[ -e FILE ] && { echo 'FAILED: FILE is there again'; failed=1; }
+cmp moved copy || failed=1
 none_left
 exit $failed

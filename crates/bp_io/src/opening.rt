@@ -51,6 +51,27 @@ pub(crate) fn leads_to<R: rt::Files<File = File>>(
     Ok(found.dev() == own.dev() && found.ino() == own.ino())
 }
 
+/// Looks whether a name still leads to this file.
+///
+/// # Errors
+///
+/// Where it leads to another file or to none; else an error of the system.
+pub(crate) fn check_name<R: rt::Files<File = File>>(
+    runtime: &R,
+    name: &str,
+    file: &File,
+) -> io::Result<()> {
+    if leads_to(runtime, name, file)? {
+        return Ok(());
+    }
+    let message = if fs::exists(runtime, name)? {
+        "another file has its name now"
+    } else {
+        "no file has its name now"
+    };
+    Err(io::Error::new(ErrorKind::Other, message))
+}
+
 /// Opens a regular file. One that may only be read is looked at before it is opened, since opening a
 /// pipe so would wait for a writer.
 fn open_once<R: rt::Files<File = File>>(

@@ -3,7 +3,7 @@ ghost use Rattle.std.specs.Prelude.{◌<◌, ◌+◌, ◌^◌, length};
 
 use crate::Access;
 use crate::held::{Held, HeldBlocks, TOLD_APART};
-use crate::opening::{in_use, leads_to, lock};
+use crate::opening::{check_name, in_use, lock};
 use crate::window::Window;
 use std::alloc::Global;
 use std::fs::{File, Metadata, OpenOptions, TryLockError};
@@ -457,10 +457,7 @@ impl SecondFile {
         first: &File,
     ) -> io::Result<()> {
         self.file.sync_all()?;
-        if !leads_to(runtime, names.file.as_str(), first)? {
-            let message = "another file has its name now";
-            return Err(io::Error::new(ErrorKind::Other, message));
-        }
+        check_name(runtime, names.file.as_str(), first)?;
         names.exchange(runtime)
     }
 

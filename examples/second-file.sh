@@ -3,7 +3,7 @@
 # hard links; where it is written in place; what becomes of what a killed run left, and of other things under its names; that the file
 # that was replaced waits for the next sync, unless something else is done with it; what a run leaves that is killed at a step of a sync
 # (by strace, where it is there); and that a sync fails, and writes nothing, where another file has the name of FILE meanwhile, or
-# none.
+# none, or where another program changed the length of FILE.
 #
 #   examples/second-file.sh PROGRAM      PROGRAM: crates/bpfs/out/bpfs, as `rt run` leaves it there
 set -u
@@ -242,4 +242,34 @@ expect 'its reason' 'bpfs: FILE: no file has its name now' "$(cat errors)"
 [ -e FILE ] && { echo 'FAILED: FILE is there again'; failed=1; }
 cmp moved copy || failed=1
 none_left
+
+# resized SIZE LINE..: a run that did these lines has to end with status 5 at the next sync, and to leave FILE alone, where FILE was
+# given another size meanwhile.
+resized() {
+  size=$1
+  shift
+  began
+  did "$@"
+  truncate -s "$size" FILE
+  cp FILE copy
+  echo sync >&3
+  ended 5
+  expect "replies before a sync of FILE with $size bytes" $# "$(grep -c '^[a-z]' replies)"
+  expect 'its reason' 'bpfs: FILE: another program changed its length' "$(cat errors)"
+  cmp FILE copy || { echo "FAILED: FILE with $size bytes was written"; failed=1; }
+  none_left
+}
+
+for size in 0 4096 65535 65537 131072; do
+  cp moved FILE
+  resized $size 'stat /'
+  cp moved FILE
+  resized $size 'create /lost'
+  cp moved FILE
+  resized $size 'create /found' sync 'create /lost'
+  cp moved FILE
+  ln FILE HARD
+  resized $size 'create /lost'
+  rm HARD
+done
 exit $failed

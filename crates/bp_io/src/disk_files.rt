@@ -52,6 +52,10 @@ use std::{io, rt};
 /// a second file, while the file has all of its own room, and is not to grow. Then each block is the
 /// old or the new one when the process is killed between two flushes.
 ///
+/// **A file whose length another program changed is not written.** The first write behind a flush and the flush
+/// itself look at it, and each is a fault where it is not the one that the file had as it was attached, or was
+/// given since. Between the last look and the moment at which the second file takes the name none is seen.
+///
 /// **A replace takes little time**: a second file has zeros by its length alone, and nothing is copied to
 /// it. Most file systems give such zeros no room on the disk until they are written. In place `front` is
 /// written, and zeros where the file had bytes behind it.
@@ -122,7 +126,7 @@ impl<R: rt::Files<File = File> + Drop> DiskFiles<R> {
         } else {
             None
         };
-        self.saver.restart(names);
+        self.saver.restart(names, length);
         self.file = Some(file);
         self.blocks = length / BLOCK_SIZE;
         self.may_write = access.may_change();

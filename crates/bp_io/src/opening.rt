@@ -72,6 +72,19 @@ pub(crate) fn check_name<R: rt::Files<File = File>>(
     Err(io::Error::new(ErrorKind::Other, message))
 }
 
+/// Looks whether a file still has its length. The lock binds no program that does not ask for it.
+///
+/// # Errors
+///
+/// Where it has another one; else an error of the system.
+pub(crate) fn check_length(file: &File, length: u64) -> io::Result<()> {
+    if file.metadata()?.len() == length {
+        return Ok(());
+    }
+    let message = "another program changed its length";
+    Err(io::Error::new(ErrorKind::Other, message))
+}
+
 /// Opens a regular file. One that may only be read is looked at before it is opened, since opening a
 /// pipe so would wait for a writer.
 fn open_once<R: rt::Files<File = File>>(

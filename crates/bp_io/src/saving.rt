@@ -3,7 +3,7 @@ ghost use Rattle.std.specs.Prelude.{◌≡◌, ◌<◌, ◌+◌, ◌^◌, is_som
 
 use crate::Access;
 use crate::held::HeldBlocks;
-use crate::opening::lock;
+use crate::opening::{check_length, lock};
 use crate::second_file::{Names, SecondFile, Waiting, fill_in_place, has_room, lacks_room};
 use crate::window::Window;
 use bp_limits::BLOCK_SIZE;
@@ -30,6 +30,8 @@ enum Way {
 #[derive(Drop)]
 pub(crate) struct Saver {
     names: Option<Names>,
+    /// The length of the attached file, as long as no other program changes it.
+    length: u64,
     way: Way,
     /// The file that was attached before the last flush. It waits under the second name to be the next second
     /// file, which then has its room on the disk already, and most of its bytes.
@@ -78,6 +80,7 @@ impl Saver {
     pub(crate) fn new(alloc: Global) -> Result<Self, AllocError> {
         Ok(Saver {
             names: None,
+            length: 0,
             way: Way::Clean,
             waiting: None,
             held: HeldBlocks::new(alloc)?,
@@ -85,9 +88,10 @@ impl Saver {
         })
     }
 
-    /// Nothing is written to a file of these names. Without names it is written in place.
-    pub(crate) fn restart(&mut self, names: Option<Names>) {
+    /// Nothing is written to a file of these names and this length. Without names it is written in place.
+    pub(crate) fn restart(&mut self, names: Option<Names>, length: u64) {
         self.names = names;
+        self.length = length;
         self.way = Way::Clean;
         self.waiting = None;
     }
@@ -140,7 +144,7 @@ impl Saver {
     }
 
     /// Chooses a way where something is written for the first time since the last flush. The file will
-    /// need room for so many bytes at least.
+    /// need room for so many bytes at least, and still has to have its length.
     fn begin<R: rt::Files<File = File>>(
         &mut self,
         runtime: &R,
@@ -149,6 +153,7 @@ impl Saver {
     ) -> io::Result<()> {
         match self.way {
             Way::Clean => {
+                check_length(file, self.length)?;
                 let waiting = self.take_waiting(runtime);
                 self.way = way_to(runtime, &self.names, file, least, waiting, &mut self.held)?;
                 Ok(())
@@ -167,6 +172,7 @@ impl Saver {
         match (mem::replace(&mut self.way, Way::InPlace), &self.names) {
             (Way::Beside(second), Some(names)) => {
                 names.remove_second(runtime);
+                self.length = second.length();
                 second.write_to(&self.held, file)
             }
             _ => Ok(()),
@@ -273,7 +279,10 @@ impl Saver {
         self.write_out(runtime, file)?;
         match &mut self.way {
             Way::Beside(second) => second.set_len(&mut self.held, length),
-            Way::Clean | Way::InPlace | Way::Lost => file.set_len(length),
+            Way::Clean | Way::InPlace | Way::Lost => {
+                self.length = length;
+                file.set_len(length)
+            }
         }
     }
 
@@ -289,12 +298,16 @@ impl Saver {
         self.window.restart(0);
         let done = match &mut self.way {
             Way::Beside(second) => second.replace(&mut self.held, front, length),
-            Way::Clean | Way::InPlace | Way::Lost => fill_in_place(file, front, length),
+            Way::Clean | Way::InPlace | Way::Lost => {
+                self.length = length;
+                fill_in_place(file, front, length)
+            }
         };
         match (done, &self.way, &self.names) {
             (Err(e), Way::Beside(_), Some(names)) if lacks_room(&e) && has_room(file, length)? => {
                 names.remove_second(runtime);
                 self.way = Way::InPlace;
+                self.length = length;
                 fill_in_place(file, front, length)
             }
             (done, _, _) => done,
@@ -310,10 +323,18 @@ impl Saver {
         let (Way::Beside(second), Some(names)) = (&self.way, &self.names) else {
             return Ok(());
         };
-        match second.take_place(runtime, names, file) {
+        match second.take_place(runtime, names, file, self.length) {
             Ok(()) => second.settle(runtime, names),
             Err(e) if keeps_its_file(&e) => self.go_in_place(runtime, file),
             Err(e) => Err(e),
+        }
+    }
+
+    /// Looks whether what was written can still come to the attached file.
+    fn check(&self, file: &File) -> io::Result<()> {
+        match self.way {
+            Way::Clean | Way::Beside(_) | Way::InPlace => check_length(file, self.length),
+            Way::Lost => Err(lost()),
         }
     }
 
@@ -322,10 +343,12 @@ impl Saver {
         runtime: &R,
         file: &mut File,
     ) -> io::Result<()> {
+        self.check(file)?;
         self.write_all(runtime, file)?;
         self.take_place(runtime, file)?;
         match mem::replace(&mut self.way, Way::Clean) {
             Way::Beside(second) => {
+                self.length = second.length();
                 let first = mem::replace(file, second.into_file());
                 self.let_wait(runtime, first);
                 Ok(())

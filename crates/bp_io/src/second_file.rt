@@ -3,7 +3,7 @@ ghost use Rattle.std.specs.Prelude.{◌<◌, ◌+◌, ◌^◌, length};
 
 use crate::Access;
 use crate::held::{Held, HeldBlocks, TOLD_APART};
-use crate::opening::{check_name, in_use, lock};
+use crate::opening::{check_length, check_name, in_use, lock};
 use crate::window::Window;
 use std::alloc::Global;
 use std::fs::{File, Metadata, OpenOptions, TryLockError};
@@ -444,8 +444,8 @@ impl SecondFile {
         self.copy_zeros(held, first, had.min(self.length))
     }
 
-    /// Flushes it, and gives it the name of the first file, which then has the second name, where it can have
-    /// it. It has to be complete.
+    /// Flushes it, and gives it the name of the first file, which still has to have that name and this length.
+    /// The first file then has the second name, where it can have it. The second has to be complete.
     ///
     /// # Errors
     ///
@@ -455,9 +455,11 @@ impl SecondFile {
         runtime: &R,
         names: &Names,
         first: &File,
+        first_length: u64,
     ) -> io::Result<()> {
         self.file.sync_all()?;
         check_name(runtime, names.file.as_str(), first)?;
+        check_length(first, first_length)?;
         names.exchange(runtime)
     }
 
@@ -475,6 +477,11 @@ impl SecondFile {
             }
             done => done,
         }
+    }
+
+    /// The length that it is to have.
+    pub(crate) fn length(&self) -> u64 {
+        self.length
     }
 
     /// The file itself.

@@ -1,5 +1,6 @@
 #!/bin/sh
-# Starts the program with each standard stream closed, and compares FILE byte for byte with what it has to be.
+# Starts the program with each standard stream closed, and with a standard output that takes nothing, and compares FILE byte for byte
+# with what it has to be, and standard error where standard output tells nothing.
 #
 #   examples/closed-streams.sh PROGRAM      PROGRAM: crates/bpfs/out/bpfs, as `rt run` leaves it there
 set -u
@@ -32,6 +33,11 @@ expect() {
   fi
 }
 
+# said NAME REASON: compares standard error with the one line that it has to have.
+said() {
+  if [ "$(cat err)" = "bpfs: $2" ]; then echo "ok: $1: $(cat err)"; else echo "FAILED: $1 says: $(cat err)"; failed=1; fi
+}
+
 cp old FILE; "$program" check FILE <&- > out 2> err; expect 'check <&-' old '0' $?
 cp old FILE; "$program" check FILE >&- 2> err; expect 'check >&-' old '4' $?
 cp old FILE; "$program" check FILE > out 2>&-; expect 'check 2>&-' old '0' $?
@@ -46,4 +52,26 @@ cp old FILE; "$program" run FILE <&- > out 2> err; expect 'run <&-' old '3' $?
 cp old FILE; "$program" run FILE < script >&- 2> err; expect 'run >&-' old '4' $?
 cp old FILE; "$program" run FILE < script > out 2>&-; expect 'run 2>&-' scripted '0' $?
 cp old FILE; "$program" run FILE <&- >&- 2>&-; expect 'run <&- >&- 2>&-' old '3' $?
+
+# The one line of a status that standard output does not take has a reason in its place.
+head -c 32768 /dev/zero > zeros
+for word in check run export; do
+  "$program" $word missing < script >&- 2> err; expect "$word missing >&-" old '1' $?; said "$word missing >&-" 'missing: no such file'
+  "$program" $word zeros < script > /dev/full 2> err; expect "$word zeros >/dev/full" old '7' $?
+  said "$word zeros >/dev/full" 'zeros: not a file system'
+  "$program" $word missing < script > out 2> err; expect "$word missing" old '1' $?
+  [ -s err ] && { echo "FAILED: $word missing says: $(cat err)"; failed=1; }
+done
+# Two rows of directories, of which one is moved below the other: no call can spell the path of the last.
+name=$(printf '%0240d' 0)
+"$program" format deep --blocks 64 > line || exit 1
+for first in /first ''; do
+  way=
+  for depth in 1 2 3 4 5 6 7 8 9 10; do way=$way/$name; echo "mkdir $way"; done
+  if [ -n "$first" ]; then echo "rename /$name $first"; else echo "rename /first $way/first"; fi
+done > rows
+"$program" run deep < rows > replies || exit 1
+"$program" export deep > out; expect 'export deep' old '9' $?
+"$program" export deep > /dev/full 2> err; expect 'export deep >/dev/full' old '9' $?
+said 'export deep >/dev/full' 'deep: a path is too long to be exported'
 exit $failed

@@ -9,13 +9,14 @@ ghost use Rattle.std.specs.Prelude.{◌≡◌, IfOk, map, string_bytes};
 mod reasons;
 mod streams;
 
-use crate::reasons::{Reason, tell_reason, tell_usage};
+use crate::reasons::{Reason, tell_reason, tell_untold, tell_usage};
 use crate::streams::take_streams;
 use bp_command::{Program, read_words};
 use bp_io::{DiskFiles, StdSink, StdSource};
 use bp_shell::run;
 use std::alloc::{AllocError, Global};
 use std::env::{self, Env};
+use std::io;
 use std::io::ErrorKind;
 use std::process::ExitCode;
 
@@ -68,6 +69,34 @@ fn program_words<R: Env + AllocGlobal>(rt: &R) -> Result<Vec<String>, AllocError
     }
 }
 
+/// The last error of the system at each device.
+#[derive(Drop)]
+struct LastErrors {
+    input: Option<io::Error>,
+    output: Option<io::Error>,
+    files: Option<io::Error>,
+}
+
+/// Tells why the program ended with a status, where standard output does not tell it.
+fn tell_end<E: Eprint>(rt: &E, alloc: Global, status: u8, texts: &[&str], last: LastErrors) {
+    let LastErrors {
+        input,
+        output,
+        files,
+    } = last;
+    match status {
+        2 if texts.is_empty() => tell_reason(rt, Reason::NoText),
+        2 => tell_usage(rt, alloc, texts),
+        3 => tell_reason(rt, Reason::Input(input)),
+        4 => tell_reason(rt, Reason::Output(output)),
+        5 => tell_reason(rt, Reason::File(file_name(alloc, texts), files)),
+        6 => tell_reason(rt, Reason::LongInput),
+        8 => tell_reason(rt, Reason::Memory),
+        _ if output.is_some() => tell_untold(rt, status, file_name(alloc, texts)),
+        _ => {}
+    }
+}
+
 /// Tells that memory is out, and gives the status of that.
 fn out_of_memory<E: Eprint>(rt: &E) -> ExitCode {
     tell_reason(rt, Reason::Memory);
@@ -95,18 +124,11 @@ fn main(rt: HostRuntime) -> ExitCode {
     let mut source = StdSource::new(rt.stdin());
     let mut sink = StdSink::new(rt.stdout());
     let status = run(alloc, &texts, &mut source, &mut sink, &mut files);
-    match status {
-        2 if words.is_empty() => tell_reason(&rt, Reason::NoText),
-        2 => tell_usage(&rt, alloc, &texts),
-        3 => tell_reason(&rt, Reason::Input(source.last_error())),
-        4 => tell_reason(&rt, Reason::Output(sink.last_error())),
-        5 => tell_reason(
-            &rt,
-            Reason::File(file_name(alloc, &texts), files.last_error()),
-        ),
-        6 => tell_reason(&rt, Reason::LongInput),
-        8 => tell_reason(&rt, Reason::Memory),
-        _ => {}
-    }
+    let last = LastErrors {
+        input: source.last_error(),
+        output: sink.last_error(),
+        files: files.last_error(),
+    };
+    tell_end(&rt, alloc, status, &texts, last);
     ExitCode::from(status)
 }

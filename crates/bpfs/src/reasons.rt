@@ -14,6 +14,12 @@ pub(crate) enum Reason<'a> {
     Output(Option<io::Error>),
     /// The file of this name.
     File(&'a str, Option<io::Error>),
+    /// There is no file of this name.
+    Missing(&'a str),
+    /// The file of this name is no file system.
+    Refused(&'a str),
+    /// The file of this name has a path that no call can spell.
+    Deep(&'a str),
     /// Standard input has more bytes than a script may have.
     LongInput,
     /// There is too little memory.
@@ -38,11 +44,24 @@ pub(crate) fn tell_reason<E: Eprint>(rt: &E, reason: Reason<'_>) {
         Reason::Input(error) => tell_fault(rt, "standard input", error),
         Reason::Output(error) => tell_fault(rt, "standard output", error),
         Reason::File(name, error) => tell_fault(rt, name, error),
+        Reason::Missing(name) => eprintln!(rt; "bpfs: {name}: no such file"),
+        Reason::Refused(name) => eprintln!(rt; "bpfs: {name}: not a file system"),
+        Reason::Deep(name) => eprintln!(rt; "bpfs: {name}: a path is too long to be exported"),
         Reason::LongInput => eprintln!(rt; "bpfs: standard input: more than {MAX_INPUT} bytes"),
         Reason::Memory => eprintln!(rt; "bpfs: not enough memory"),
         Reason::NoText => eprintln!(rt; "bpfs: a word is no UTF-8 text"),
         Reason::Words(mistake) => eprintln!(rt; "bpfs: {mistake}"),
     };
+}
+
+/// Tells what a status stands for whose one line standard output did not take.
+pub(crate) fn tell_untold<E: Eprint>(rt: &E, status: u8, name: &str) {
+    match status {
+        1 => tell_reason(rt, Reason::Missing(name)),
+        7 => tell_reason(rt, Reason::Refused(name)),
+        9 => tell_reason(rt, Reason::Deep(name)),
+        _ => {}
+    }
 }
 
 /// Tells why the words are no command: the help that they ask for, or what is wrong with them. It tells nothing where there

@@ -1,6 +1,6 @@
 #!/bin/sh
-# Starts the program with each standard stream closed, and with a standard output that takes nothing, and compares FILE byte for byte
-# with what it has to be, and standard error where standard output tells nothing.
+# Starts the program with each standard stream closed, with a standard output that takes nothing, and with one that goes to FILE, and
+# compares FILE byte for byte with what it has to be, and standard error where standard output tells nothing.
 #
 #   examples/closed-streams.sh PROGRAM      PROGRAM: crates/bpfs/out/bpfs, as `rt run` leaves it there
 set -u
@@ -74,4 +74,16 @@ done > rows
 "$program" export deep > out; expect 'export deep' old '9' $?
 "$program" export deep > /dev/full 2> err; expect 'export deep >/dev/full' old '9' $?
 said 'export deep >/dev/full' 'deep: a path is too long to be exported'
+
+# Standard output goes to FILE, under whichever name.
+ln -s FILE LINK
+own='standard output goes to this file'
+cp old FILE; "$program" run FILE < script 1<> FILE 2> err; expect 'run 1<>FILE' old '5' $?; said 'run 1<>FILE' "FILE: $own"
+cp old FILE; "$program" run FILE < script >> LINK 2> err; expect 'run >>LINK' old '5' $?; said 'run >>LINK' "FILE: $own"
+cp old FILE; "$program" run LINK < script 1<> FILE 2> err; expect 'run LINK 1<>FILE' old '5' $?; said 'run LINK 1<>FILE' "LINK: $own"
+cp old FILE; "$program" check FILE 1<> FILE 2> err; expect 'check 1<>FILE' old '5' $?; said 'check 1<>FILE' "FILE: $own"
+cp old FILE; "$program" export FILE 1<> FILE 2> err; expect 'export 1<>FILE' old '5' $?; said 'export 1<>FILE' "FILE: $own"
+cp old FILE; "$program" play FILE --seed 1 --count 9 1<> FILE 2> err; expect 'play 1<>FILE' old '5' $?; said 'play 1<>FILE' "FILE: $own"
+cp old FILE; "$program" format FILE --blocks 8 1<> FILE 2> err; expect 'format 1<>FILE' old '5' $?; said 'format 1<>FILE' "FILE: $own"
+cp old FILE; "$program" run FILE < FILE > replies 2> err; expect 'run <FILE' old '0' $?
 exit $failed

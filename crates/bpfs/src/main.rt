@@ -10,15 +10,16 @@ mod reasons;
 mod streams;
 
 use crate::reasons::{Reason, tell_reason, tell_untold, tell_usage};
-use crate::streams::take_streams;
+use crate::streams::{leads_to, output_file, take_streams};
 use bp_command::{Program, read_words};
 use bp_io::{DiskFiles, StdSink, StdSource};
 use bp_shell::run;
 use std::alloc::{AllocError, Global};
 use std::env::{self, Env};
-use std::io;
+use std::fs::File;
 use std::io::ErrorKind;
 use std::process::ExitCode;
+use std::{io, rt};
 
 /// The status of a fault of the files, and the one for want of memory.
 const FILES_FAILED: u8 = 5;
@@ -36,8 +37,8 @@ fn texts(alloc: Global, words: &[String]) -> Result<Vec<&str>, AllocError>
     Ok(texts)
 }
 
-/// The name of the file that the words speak of.
-fn file_name<'a>(alloc: Global, words: &'a [&'a str]) -> &'a str {
+/// The name of the file that the words speak of, where they are a command.
+fn file_name<'a>(alloc: Global, words: &'a [&'a str]) -> Option<&'a str> {
     match read_words(alloc, words) {
         Ok(
             Program::Format {
@@ -45,19 +46,24 @@ fn file_name<'a>(alloc: Global, words: &'a [&'a str]) -> &'a str {
                 blocks: _,
                 version: _,
             },
-        ) => name,
-        Ok(Program::Run { name }) => name,
-        Ok(Program::Check { name }) => name,
+        ) => Some(name),
+        Ok(Program::Run { name }) => Some(name),
+        Ok(Program::Check { name }) => Some(name),
         Ok(
             Program::Play {
                 name,
                 seed: _,
                 count: _,
             },
-        ) => name,
-        Ok(Program::Export { name }) => name,
-        Err(_) => "FILE",
+        ) => Some(name),
+        Ok(Program::Export { name }) => Some(name),
+        Err(_) => None,
     }
+}
+
+/// What stands for the file of the program in a reason.
+fn known_name<'a>(alloc: Global, words: &'a [&'a str]) -> &'a str {
+    file_name(alloc, words).unwrap_or("FILE")
 }
 
 /// The words of the call, the name under which the program was called first. None where one of them is no text.
@@ -66,6 +72,24 @@ fn program_words<R: Env + AllocGlobal>(rt: &R) -> Result<Vec<String>, AllocError
         Ok(args) => args.collect(rt.alloc()),
         Err(error) if error.kind() == ErrorKind::OutOfMemory => Err(AllocError),
         Err(_) => Ok(Vec::new(rt.alloc())),
+    }
+}
+
+/// Whether standard output goes to the file of the program, which is then told: replies would be written over the image.
+fn refuses_output<R: rt::Files<File = File> + Eprint>(
+    runtime: &R,
+    alloc: Global,
+    texts: &[&str],
+) -> bool {
+    let Some(output) = output_file(runtime) else {
+        return false;
+    };
+    match file_name(alloc, texts) {
+        Some(name) if leads_to(runtime, name, &output) => {
+            tell_reason(runtime, Reason::OwnOutput(name));
+            true
+        }
+        _ => false,
     }
 }
 
@@ -89,10 +113,10 @@ fn tell_end<E: Eprint>(rt: &E, alloc: Global, status: u8, texts: &[&str], last: 
         2 => tell_usage(rt, alloc, texts),
         3 => tell_reason(rt, Reason::Input(input)),
         4 => tell_reason(rt, Reason::Output(output)),
-        5 => tell_reason(rt, Reason::File(file_name(alloc, texts), files)),
+        5 => tell_reason(rt, Reason::File(known_name(alloc, texts), files)),
         6 => tell_reason(rt, Reason::LongInput),
         8 => tell_reason(rt, Reason::Memory),
-        _ if output.is_some() => tell_untold(rt, status, file_name(alloc, texts)),
+        _ if output.is_some() => tell_untold(rt, status, known_name(alloc, texts)),
         _ => {}
     }
 }
@@ -118,6 +142,9 @@ fn main(rt: HostRuntime) -> ExitCode {
     let Ok(texts) = texts(alloc, &words) else {
         return out_of_memory(&rt);
     };
+    if refuses_output(&rt, alloc, &texts) {
+        return ExitCode::from(FILES_FAILED);
+    }
     let Ok(mut files) = DiskFiles::new(alloc, &rt) else {
         return out_of_memory(&rt);
     };

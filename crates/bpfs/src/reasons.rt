@@ -14,6 +14,8 @@ pub(crate) enum Reason<'a> {
     Output(Option<io::Error>),
     /// The file of this name.
     File(&'a str, Option<io::Error>),
+    /// The file of this name, to which standard output goes.
+    OwnOutput(&'a str),
     /// There is no file of this name.
     Missing(&'a str),
     /// The file of this name is no file system.
@@ -44,6 +46,7 @@ pub(crate) fn tell_reason<E: Eprint>(rt: &E, reason: Reason<'_>) {
         Reason::Input(error) => tell_fault(rt, "standard input", error),
         Reason::Output(error) => tell_fault(rt, "standard output", error),
         Reason::File(name, error) => tell_fault(rt, name, error),
+        Reason::OwnOutput(name) => eprintln!(rt; "bpfs: {name}: standard output goes to this file"),
         Reason::Missing(name) => eprintln!(rt; "bpfs: {name}: no such file"),
         Reason::Refused(name) => eprintln!(rt; "bpfs: {name}: not a file system"),
         Reason::Deep(name) => eprintln!(rt; "bpfs: {name}: a path is too long to be exported"),

@@ -1,8 +1,12 @@
 //! The standard streams of a program that was started without one of them.
 
-use std::fs::{File, OpenOptions};
+use std::fs::{File, Metadata, OpenOptions};
 use std::os::fd::AsRawFd;
-use std::{io, rt};
+use std::os::unix::fs::MetadataExt;
+use std::{fs, io, rt};
+
+/// The name under which the system tells what standard output is.
+const OUTPUT: &str = "/proc/self/fd/1";
 
 /// Files that stand for closed streams, as long as they are held.
 #[derive(Drop)]
@@ -38,6 +42,27 @@ pub(crate) fn take_streams<R: rt::Files<File = File>>(runtime: &R) -> io::Result
 fn are_open<R: rt::Files<File = File>>(runtime: &R) -> bool {
     match OpenOptions::new().read(true).open(runtime, "/") {
         Ok(root) => root.as_raw_fd() > 2,
+        Err(_) => false,
+    }
+}
+
+/// The regular file to which standard output is known to go. Nothing is known where the system does not tell what standard
+/// output is.
+pub(crate) fn output_file<R: rt::Files<File = File>>(runtime: &R) -> Option<Metadata> {
+    match fs::metadata(runtime, OUTPUT) {
+        Ok(output) if output.is_file() => Some(output),
+        _ => None,
+    }
+}
+
+/// Whether a name leads to this file.
+pub(crate) fn leads_to<R: rt::Files<File = File>>(
+    runtime: &R,
+    name: &str,
+    file: &Metadata,
+) -> bool {
+    match fs::metadata(runtime, name) {
+        Ok(found) => found.dev() == file.dev() && found.ino() == file.ino(),
         Err(_) => false,
     }
 }

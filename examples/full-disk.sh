@@ -1,6 +1,7 @@
 #!/bin/sh
 # Shows what a sync does on a disk that is full, or gets full in the middle of it: where FILE has all of its own room it is written in
 # place, as far as nothing interrupts that; else the sync fails (status 5) and FILE is byte for byte what it was. No second file is left.
+# And what a sync does beyond the limit on the size of a file, whose signal is ignored or ends the process.
 # It mounts a small file system in memory, where it may (as root); else it shows the limit on the size of a file alone.
 #
 #   examples/full-disk.sh PROGRAM      PROGRAM: crates/bpfs/out/bpfs, as `rt run` leaves it there
@@ -43,6 +44,13 @@ cp old disk/FILE
   "$program" run disk/FILE < script > out 2> err
 )
 expect 'a sync beyond the limit on the size of a file' 5 $? old
+(
+  ulimit -f 4096
+  "$program" run disk/FILE < script > out 2> err
+)
+status=$?
+rm -f disk/FILE.bpfs-sync
+expect 'the same, where its signal ends the process' 153 $status old
 
 mount -t tmpfs -o size=9m none disk 2> /dev/null || { echo 'no file system was mounted: the rest is not shown'; exit $failed; }
 mounted=yes

@@ -53,8 +53,8 @@ struct Cuts<'a> {
     work: Work,
     choice: Choice,
     events: Vec<Event>,
-    /// A bit for each number of calls that some cut kept.
-    kept: u64,
+    /// Whether some cut kept so many calls, for each number of them.
+    kept: Vec<bool>,
 }
 
 /// Cuts the power of a run of a row's script over an image: at each moment beside a barrier or a mark and at every 64th, with each epoch,
@@ -114,6 +114,14 @@ fn barriers_of(events: &[Event]) -> usize {
         .count()
 }
 
+/// How many calls have their end among events.
+fn calls_of(events: &[Event]) -> usize {
+    events
+        .iter()
+        .filter(|event| matches!(event, Event::Mark))
+        .count()
+}
+
 /// Serves a script over an image. The volume is what it leaves; none is the answer where the image can't be opened.
 fn serve_over<K: Sink>(
     alloc: Global,
@@ -159,7 +167,7 @@ impl<'a> Cuts<'a> {
             work,
             choice,
             events: Vec::new(alloc),
-            kept: 0,
+            kept: Vec::new(alloc),
         })
     }
 
@@ -178,7 +186,7 @@ impl<'a> Cuts<'a> {
     /// Tries all cuts of a run of the script.
     fn cut_all(&mut self, report: &mut String) -> Result<(), AllocError> {
         if !self.read_log()? {
-            return report.push_str("  the script can't be run\n");
+            return report.push_str("  the script can't be run, or has a line that is no call\n");
         }
         if self.cut_at_all(report)? {
             self.finish(report)?;
@@ -186,7 +194,8 @@ impl<'a> Cuts<'a> {
         Ok(())
     }
 
-    /// Reads the log of a run of the script.
+    /// Reads the log of a run of the script. False is the answer where it can't be run, or has not a call for each line: the calls that
+    /// a cut keeps would not be its first lines then.
     fn read_log(&mut self) -> Result<bool, AllocError> {
         match self.run()? {
             Some(volume) => self.take_events(volume.region()),
@@ -194,12 +203,14 @@ impl<'a> Cuts<'a> {
         }
     }
 
-    /// Takes the events of a region's log.
+    /// Takes the events of a region's log. The answer is whether they are of a call for each line.
     fn take_events<R: Region>(&mut self, region: &R) -> Result<bool, AllocError> {
         for i in 0..region.event_count() {
             self.events.push(region.event(i))?;
         }
-        Ok(true)
+        let calls = calls_of(&self.events);
+        self.kept = vec![in self.alloc; false; calls.saturating_add(1)]?;
+        Ok(calls == self.script.lines().count())
     }
 
     /// Tries the cuts at each moment that is tried. False is the answer where one is wrong.
@@ -270,7 +281,9 @@ impl<'a> Cuts<'a> {
         if !self.is_as_plain(left, calls)? {
             return self.differ("another tree", report);
         }
-        self.kept |= 1 << (calls % 64);
+        if calls < self.kept.len() {
+            self.kept[calls] = true;
+        }
         Ok(true)
     }
 
@@ -335,8 +348,8 @@ impl<'a> Cuts<'a> {
     /// Writes which numbers of calls were kept.
     fn finish(&self, report: &mut String) -> Result<(), AllocError> {
         report.push_str("  each cut as the plain tree after the calls that it keeps:")?;
-        for count in 0..64u32 {
-            if self.kept >> count & 1 == 1 {
+        for count in 0..self.kept.len() {
+            if self.kept[count] {
                 write!(report, " {count}")?;
             }
         }

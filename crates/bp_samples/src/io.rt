@@ -281,6 +281,30 @@ fn disk_files_miss_a_lost_block(rt: HostRuntime) {
     assert_eq!(rt; files.read_blocks(1, &mut read), Err(Failed));
 }
 
+#[test]
+fn disk_files_keep_off_a_file_cut_short(rt: HostRuntime) {
+    fs::write(&rt, "cut.img", [5u8; 8192].as_slice()).expect(&rt, "it is written");
+    let mut files = DiskFiles::new(rt.alloc(), &rt).expect(&rt, "there is memory");
+    assert_eq!(rt; files.attach("cut.img", Access::Write), Ok(Some(8192)));
+    fs::write(&rt, "cut.img", [6u8; 5000].as_slice()).expect(&rt, "it is written");
+    assert_eq!(rt; fill_block(&mut files, 0, 7), Err(Failed));
+    let bytes = fs::read(&rt, "cut.img").expect(&rt, "it is there");
+    assert_eq!(rt; bytes.len(), 5000);
+    has_bytes(&rt, &bytes, &[(0, 6), (4095, 6), (4999, 6)]);
+    fs::remove_file(&rt, "cut.img").expect(&rt, "it is removed");
+}
+
+#[test]
+fn disk_files_flush_no_file_made_longer(rt: HostRuntime) {
+    fs::write(&rt, "longer.img", [5u8; 8192].as_slice()).expect(&rt, "it is written");
+    let mut files = DiskFiles::new(rt.alloc(), &rt).expect(&rt, "there is memory");
+    assert_eq!(rt; files.attach("longer.img", Access::Write), Ok(Some(8192)));
+    assert_eq!(rt; files.flush(), Ok(()));
+    fs::write(&rt, "longer.img", [6u8; 8193].as_slice()).expect(&rt, "it is written");
+    assert_eq!(rt; files.flush(), Err(Failed));
+    fs::remove_file(&rt, "longer.img").expect(&rt, "it is removed");
+}
+
 /// A signal interrupts the first calls; then it gives and takes one byte at a time.
 #[derive(Drop)]
 struct Interrupted {

@@ -1,42 +1,31 @@
 -- Bytes that are written as hexadecimal digits many at a time.
-use Rattle.std.proofs.Common.{◌≡◌, ℕ, zero, suc, ◌+◌, ◌-◌, ◌*◌, ◌/◌, ◌%◌, ◌<◌, ◌≤◌, ltb, cond, List, [], ◌∷◌, ◌++◌, ◌==◌, map, length, take, drop, replicate, slice_index, Bool, true, refl, sym, ap, ◌∙◌, arith, Fits, w8}
+use Rattle.std.proofs.Common.{◌≡◌, ℕ, zero, suc, ◌+◌, ◌-◌, ◌*◌, ◌/◌, ◌%◌, ◌<◌, ◌≤◌, cond, get_or, List, [], ◌∷◌, ◌++◌, map, length, take, drop, replicate, slice_index, Bool, false, refl, sym, ap, ◌∙◌, arith, Fits, w8}
 use Rattle.std.specs.List.{range_with_len}
-use Rattle.std.proofs.lemmas.Bool.{eqb-true}
+use Rattle.std.proofs.lemmas.Bool.{lt-leb}
 use Rattle.std.proofs.lemmas.List.{append_assoc, append-nil, drop_all, take_all, take-append-drop, length-drop}
-use Rattle.std.proofs.lemmas.Simd.{pick_l_whole, length-put_chunk, take_more_put_chunk}
+use Rattle.std.proofs.lemmas.Simd.{pick_l_whole, length-put_chunk, take_more_put_chunk, swz_l, SwzOk, SwzOk-from_below}
 use Rattle.std.proofs.Math.Seq.{drop-drop}
 use Rattle.hex.specs.Hex.{encode_lower, encode_with, lower_digits}
-use lib.Lanes.{Each1, zip2, sel_l, pick_l, put_chunk, top}
-use Rattle.bp_script.proofs.EachByte.{all_below, from_all_below}
+use lib.Lanes.{Each1, zip2, pick_l, put_chunk}
+use mir.Val.{zeroes}
 
-abbrev below : ℕ → ℕ → ℕ
-below a b = cond (ltb a b) 255 0
+-- a table of sixteen, read at places of its own
+pub low_places : (vs : List ℕ) → length vs ≡ 16 → Each1 (λ v. v < 16) vs → SwzOk w8 16 16 0 vs
+low_places vs long low = SwzOk-from_below w8 16 1 16 0 vs refl (omega (arith, long)) low
 
-abbrev plus : ℕ → ℕ → ℕ
-plus a b = (a + b) % 256
+looked_up : (i : ℕ) (vs : List ℕ) → i + length vs ≤ 16 → Each1 (λ v. v < 16) vs
+    → swz_l w8 16 lower_digits i vs ≡ map (λ v. slice_index lower_digits v) vs
+looked_up i [] fits low = refl
+looked_up i (v ∷ vs) fits low =
+    let whole : zeroes 16 w8 v ≡ false = lt-leb 128 v (omega (arith, low.0)) in
+    let first : 16 * (i / 16) + v ≡ v = omega (arith, fits) in
+    ap (λ (t : Bool). cond t 0 (get_or lower_digits (16 * (i / 16) + v) 0) ∷ swz_l w8 16 lower_digits (suc i) vs) whole
+    ∙ ap (λ (k : ℕ). get_or lower_digits k 0 ∷ swz_l w8 16 lower_digits (suc i) vs) first
+    ∙ ap (λ (ds : List ℕ). slice_index lower_digits v ∷ ds) (looked_up (suc i) vs (omega (arith, fits)) low.1)
 
-lane_digit : ℕ → ℕ
-lane_digit v = cond (top 7 (below v 10)) (plus v 48) (plus v 87)
-
-lane_agrees : ℕ → Bool
-lane_agrees v = lane_digit v == slice_index lower_digits v
-
-lanes_agree : all_below lane_agrees 16 ≡ true
-unfolding all_below lane_agrees lane_digit
-lanes_agree = refl
-
-lane_is : (v : ℕ) → v < 16 → lane_digit v ≡ slice_index lower_digits v
-unfolding lane_agrees
-lane_is v low = eqb-true (lane_digit v) (slice_index lower_digits v) (from_all_below lane_agrees 16 v lanes_agree low)
-
-pub digits_are : (n : ℕ) (vs : List ℕ) → length vs ≡ n → Each1 (λ v. v < 16) vs
-    → sel_l (map (top 7) (zip2 below vs (replicate n 10))) (zip2 plus vs (replicate n 48)) (zip2 plus vs (replicate n 87))
-    ≡ map (λ v. slice_index lower_digits v) vs
-unfolding lane_digit
-digits_are zero [] same low = refl
-digits_are (suc n) [] same low = absurd (omega (arith, same))
-digits_are zero (v ∷ vs) same low = absurd (omega (arith, same))
-digits_are (suc n) (v ∷ vs) same low = λ i. lane_is v low.0 i ∷ digits_are n vs (omega (arith, same)) low.1 i
+pub digits_are : (vs : List ℕ) → length vs ≡ 16 → Each1 (λ v. v < 16) vs
+    → swz_l w8 16 lower_digits 0 vs ≡ map (λ v. slice_index lower_digits v) vs
+digits_are vs long low = looked_up 0 vs (omega (arith, long)) low
 
 pub highs_low : (n : ℕ) (w : List ℕ) → Each1 (Fits w8) w → Each1 (λ v. v < 16) (zip2 (λ a b. a / b) w (replicate n 16))
 highs_low zero [] fits = tt

@@ -20,6 +20,9 @@ const NO_DIGIT: u8 = 16;
 /// The bit that tells a letter of lower case from the same one of upper case.
 const LOWER_CASE: u8 = 32;
 
+/// The digits in the order of their values.
+const LOWER_DIGITS: [u8; 16] = *b"0123456789abcdef";
+
 /// The value of each digit of either case, and `NO_DIGIT` at each other byte: eight bytes in a row.
 const DIGIT_VALUES: [[u8; 8]; 32] = [
     [16, 16, 16, 16, 16, 16, 16, 16],
@@ -218,9 +221,8 @@ fn digits_of(values: u8x16) -> u8x16
     requires { Each1 (λ value. value < 16) values }
     ensures { result ≡ map (λ value. slice_index lower_digits value) values }
 {
-    let numbers = values + u8x16::splat(b'0');
-    let letters = values + u8x16::splat(b'a' - 10);
-    values.simd_lt(u8x16::splat(10)).select(numbers, letters)
+    // A look-up takes fewer instructions than a comparison and a choice.
+    u8x16::from_array(LOWER_DIGITS).swizzle_dyn(values)
 }
 
 /// The same for few bytes.

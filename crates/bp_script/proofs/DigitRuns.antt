@@ -153,10 +153,20 @@ above a b = (a + (256 - b)) % 256
 abbrev below : ℕ → ℕ → ℕ
 below a b = cond (ltb a b) 255 0
 
+abbrev plus : ℕ → ℕ → ℕ
+plus a b = (a + b) % 256
+
+abbrev less_down : ℕ → ℕ → ℕ
+less_down a b = above (cond (top 7 (below a b)) b a) b
+
+abbrev most : ℕ → ℕ → ℕ
+most a b = cond (top 7 (below a b)) b a
+
+abbrev least : ℕ → ℕ → ℕ
+least a b = cond (top 7 (below a b)) a b
+
 lane_value : ℕ → ℕ
-lane_value d =
-    cond (top 7 (below (above d 48) 10)) (above d 48)
-    (cond (top 7 (below (above (bit_or d 32) 97) 6)) ((above (bit_or d 32) 97 + 10) % 256) 16)
+lane_value d = least (above (most (less_down (plus d 198) 6) (plus (bit_or (above d 1) 32) 154)) 240) 16
 
 lane_agrees : ℕ → Bool
 lane_agrees d = lane_value d == value_or_none d
@@ -169,11 +179,20 @@ lane_is : (d : ℕ) → d < 256 → lane_value d ≡ value_or_none d
 unfolding lane_agrees
 lane_is d byte = eqb-true (lane_value d) (value_or_none d) (from_all_below lane_agrees 256 d lanes_agree byte)
 
+-- numbers above 240, and letters
+abbrev numbers : ℕ → List ℕ → List ℕ
+numbers n ds =
+    let raised = zip2 plus ds (replicate n 198) in
+    zip2 above (sel_l (map (top 7) (zip2 below raised (replicate n 6))) (replicate n 6) raised) (replicate n 6)
+
+abbrev letters : ℕ → List ℕ → List ℕ
+letters n ds = zip2 plus (zip2 bit_or (zip2 above ds (replicate n 1)) (replicate n 32)) (replicate n 154)
+
+abbrev values : ℕ → List ℕ → List ℕ
+values n ds = zip2 above (sel_l (map (top 7) (zip2 below (numbers n ds) (letters n ds))) (letters n ds) (numbers n ds)) (replicate n 240)
+
 pub lanes_are : (n : ℕ) (ds : List ℕ) → length ds ≡ n → Each1 (Fits w8) ds
-    → sel_l (map (top 7) (zip2 below (zip2 above ds (replicate n 48)) (replicate n 10))) (zip2 above ds (replicate n 48))
-    (sel_l (map (top 7) (zip2 below (zip2 above (zip2 bit_or ds (replicate n 32)) (replicate n 97)) (replicate n 6)))
-    (zip2 (λ a b. (a + b) % 256) (zip2 above (zip2 bit_or ds (replicate n 32)) (replicate n 97)) (replicate n 10)) (replicate n 16))
-    ≡ map value_or_none ds
+    → sel_l (map (top 7) (zip2 below (values n ds) (replicate n 16))) (values n ds) (replicate n 16) ≡ map value_or_none ds
 unfolding lane_value
 lanes_are zero [] same fits = refl
 lanes_are (suc n) [] same fits = absurd (omega (arith, same))

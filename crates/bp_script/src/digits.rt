@@ -23,6 +23,12 @@ const LOWER_CASE: u8 = 32;
 /// The digits in the order of their values.
 const LOWER_DIGITS: [u8; 16] = *b"0123456789abcdef";
 
+/// What is added to the value of each digit while digits and other bytes are told apart: the greatest byte is then the value 15.
+const RAISED: u8 = 240;
+
+/// How many of the digits are letters.
+const LETTERS: u8 = 6;
+
 /// The value of each digit of either case, and `NO_DIGIT` at each other byte: eight bytes in a row.
 const DIGIT_VALUES: [[u8; 8]; 32] = [
     [16, 16, 16, 16, 16, 16, 16, 16],
@@ -110,12 +116,13 @@ fn decode_run(digits: &[u8]) -> (u8x16, bool)
 fn values_of<const N: usize>(digits: Simd<u8, N>) -> Simd<u8, N>
     ensures { result ≡ map (λ digit. unwrap_or (hex_digit_value digit) NO_DIGIT) digits.entry }
 {
-    let number = digits - Simd::splat(b'0');
-    let letter = (digits | Simd::splat(LOWER_CASE)) - Simd::splat(b'a');
-    let of_letter = letter
-        .simd_lt(Simd::splat(6))
-        .select(letter + Simd::splat(10), Simd::splat(NO_DIGIT));
-    number.simd_lt(Simd::splat(10)).select(number, of_letter)
+    // Each part makes `RAISED` and the value of a digit of its own, and something less of any other byte. So the greater part tells, with
+    // no comparison and no choice, which take more instructions. Numbers become the ten greatest bytes, and then less by six.
+    let number = (digits + Simd::splat(u8::MAX - b'9')).saturating_sub(Simd::splat(LETTERS));
+    // Less by one, letters begin a block of 32 bytes, which no byte before them is in.
+    let letter = ((digits - Simd::splat(1)) | Simd::splat(LOWER_CASE))
+        + Simd::splat(u8::MAX - (b'f' - 1));
+    (number.simd_max(letter) - Simd::splat(RAISED)).simd_min(Simd::splat(NO_DIGIT))
 }
 
 /// The same as `decode_digits` for few digits.

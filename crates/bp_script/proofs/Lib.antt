@@ -14,6 +14,7 @@ pub mod PlainPath
 pub mod Rows
 pub mod ServedLines
 pub mod Splitting
+pub mod TwoRuns
 pub mod WrittenPieces
 pub mod CallLines
 pub mod WholeLines

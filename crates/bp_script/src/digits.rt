@@ -86,14 +86,31 @@ pub(crate) fn decode_front(text: &[u8], into: &mut [u8]) -> usize
     ensures within { 2 * result ≤ length text.now }
     ensures last { 2 * (result + LANES) ≤ length text.now → result_ok (decode_of (take (2 * LANES) (drop (2 * result) text.now))) ≡ None }
 {
-    for i in 0..text.len() / (2 * LANES) {
-        let (bytes, is_right) = decode_run(&text[2 * LANES * i..]);
-        if !is_right {
-            return LANES * i;
+    let pairs = text.len() / (4 * LANES);
+    for i in 0..pairs {
+        // Two runs a turn, since each turn loads the constants anew.
+        let run = 2 * i;
+        let (first, is_first) = decode_run(&text[2 * LANES * run..]);
+        let (second, is_second) = decode_run(&text[2 * LANES * (run + 1)..]);
+        if !is_first {
+            return LANES * run;
         }
-        bytes.copy_to_slice(&mut into[LANES * i..]);
+        first.copy_to_slice(&mut into[LANES * run..]);
+        if !is_second {
+            return LANES * (run + 1);
+        }
+        second.copy_to_slice(&mut into[LANES * (run + 1)..]);
     }
-    text.len() / (2 * LANES) * LANES
+    let run = 2 * pairs;
+    if text.len() < 2 * LANES * (run + 1) {
+        return LANES * run;
+    }
+    let (bytes, is_right) = decode_run(&text[2 * LANES * run..]);
+    if !is_right {
+        return LANES * run;
+    }
+    bytes.copy_to_slice(&mut into[LANES * run..]);
+    LANES * (run + 1)
 }
 
 /// The bytes of the run of digits that a text begins with, and whether all of them are digits.

@@ -7,15 +7,16 @@ use Rattle.std.proofs.lemmas.List.Folds.{list_any-append}
 use Rattle.pm_epochs.specs.declared.event.Event.{Event}
 use Rattle.pm_epochs.specs.declared.event.Event.TheVariants.{Store, Barrier, Mark}
 use Rattle.pm_epochs.specs.Log.{epoch_stores}
-use Rattle.pm_epochs.specs.Replay.{IsRight, replay, epoch_of, place_in_epoch}
+use Rattle.pm_epochs.specs.Replay.{IsRight, epoch_of, place_in_epoch}
 use Rattle.pm_steps.specs.WordSet.{is_noted}
-use Rattle.pm_steps.specs.Machine.{is_some_store, IsInOrder, machine_over, StepsTo, in_log_order}
+use Rattle.pm_steps.specs.Machine.{is_some_store, IsInOrder}
+use Rattle.pm_steps.specs.Runs.{AreBackBefore}
 use Rattle.pm_steps.proofs.Order.{store_is}
 use Rattle.pm_steps.proofs.Cuts.{right_open}
 use Rattle.pm_steps.proofs.FirstLaws.{none, nothing_there, same_word, ComesFirst-behind}
 use Rattle.pm_steps.proofs.Reaching.{reached_in_log_order}
 use Rattle.bp_replay.specs.Generator.{next_state, drawn}
-use Rattle.bp_replay.specs.Storm.{goes_back, waiting_behind, storm_flags, storm_moment, storm_epoch, flags_of_storm, storm_cut, draw_at, IsOdd, IsStoreAt, MayGo}
+use Rattle.bp_replay.specs.Storm.{goes_back, waiting_behind, storm_flags, storm_moment, storm_epoch, flags_of_storm, storm_cut, draw_at, IsOdd, IsStoreAt, RunsToStorm}
 use Rattle.bp_replay.proofs.Storms.{in_order_storm, none_later, storm_first}
 
 in_order_flags : (events : List Event) (seed : ℕ) → IsInOrder events (flags_of_storm events seed)
@@ -24,7 +25,7 @@ in_order_flags events seed = in_order_storm (next_state (next_state seed)) (stor
 pub right_storm : (events : List Event) (seed : ℕ) → IsRight events (storm_cut events seed)
 right_storm events seed = right_open events (flags_of_storm events seed) (in_order_flags events seed)
 
-pub storm_runs : (base : List ℕ) (events : List Event) (seed : ℕ) → StepsTo events (machine_over base) (in_log_order (flags_of_storm events seed)) (record { back = flags_of_storm events seed; words = replay base events (storm_cut events seed) })
+pub storm_runs : (base : List ℕ) (events : List Event) (seed : ℕ) → RunsToStorm base events seed
 storm_runs base events seed = reached_in_log_order base events (flags_of_storm events seed) (in_order_flags events seed)
 
 -- ## Other epochs
@@ -110,7 +111,7 @@ noted_other false waiting place word differ free =
 
 -- a store whose draw is odd, and that may go, is back
 may_back : (state : ℕ) (waiting : List ℕ) (events : List Event) (which word value : ℕ) → slice_get events which ≡ Some (Store word value) → epoch_of events which ≡ 0 → IsOdd (draw_at state (epoch_stores 0 (take which events))) → is_noted waiting word ≡ false
-    → MayGo events (storm_flags state 0 waiting events) which → slice_get (storm_flags state 0 waiting events) which ≡ Some true
+    → AreBackBefore events (storm_flags state 0 waiting events) which → slice_get (storm_flags state 0 waiting events) which ≡ Some true
 may_back state waiting [] which word value store own odd free may = cc
 may_back state waiting (Store place other ∷ events) zero word value store own odd free may =
     let free_here : is_noted waiting place ≡ false = subst (λ w. is_noted waiting w ≡ false) (sym (same_word place other word value store)) free in
@@ -138,7 +139,7 @@ may_back state waiting (Mark ∷ events) (suc which) word value store own odd fr
     may_back state waiting events which word value store own odd free (λ earlier comes. may (suc earlier) (ComesFirst-behind Mark events earlier which comes))
 
 may_own : (state epoch : ℕ) (events : List Event) (which word value : ℕ) → slice_get events which ≡ Some (Store word value) → epoch_of events which ≡ epoch → IsOdd (draw_at state (epoch_stores epoch (take which events)))
-    → MayGo events (storm_flags state epoch [] events) which → slice_get (storm_flags state epoch [] events) which ≡ Some true
+    → AreBackBefore events (storm_flags state epoch [] events) which → slice_get (storm_flags state epoch [] events) which ≡ Some true
 may_own state zero events which word value store own odd may = may_back state [] events which word value store own odd refl may
 may_own state (suc epoch) [] which word value store own odd may = cc
 may_own state (suc epoch) (Store place other ∷ events) zero word value store own odd may = absurd (omega arith)
@@ -151,7 +152,7 @@ may_own state (suc epoch) (Mark ∷ events) zero word value store own odd may = 
 may_own state (suc epoch) (Mark ∷ events) (suc which) word value store own odd may =
     may_own state (suc epoch) events which word value store own odd (λ earlier comes. may (suc earlier) (ComesFirst-behind Mark events earlier which comes))
 
-pub own_epoch : (state epoch : ℕ) (events : List Event) (which : ℕ) → IsStoreAt events which → epoch_of events which ≡ epoch → (slice_get (storm_flags state epoch [] events) which ≡ Some true) ↔ (IsOdd (draw_at state (place_in_epoch events which)) × MayGo events (storm_flags state epoch [] events) which)
+pub own_epoch : (state epoch : ℕ) (events : List Event) (which : ℕ) → IsStoreAt events which → epoch_of events which ≡ epoch → (slice_get (storm_flags state epoch [] events) which ≡ Some true) ↔ (IsOdd (draw_at state (place_in_epoch events which)) × AreBackBefore events (storm_flags state epoch [] events) which)
 own_epoch state epoch events which store own =
     let is = store_is (slice_get events which) store in
     let place : epoch_stores (epoch_of events which) (take which events) ≡ epoch_stores epoch (take which events) = ap (λ e. epoch_stores e (take which events)) own in (

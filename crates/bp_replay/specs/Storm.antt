@@ -4,9 +4,10 @@ use Rattle.std.proofs.Common.{zero, suc}
 use Rattle.pm_epochs.specs.declared.event.Event.{Event}
 use Rattle.pm_epochs.specs.declared.event.Event.TheVariants.{Store, Barrier, Mark}
 use Rattle.pm_epochs.specs.Log.{barriers}
-use Rattle.pm_epochs.specs.Replay.{PowerCut, place_in_epoch, replay}
+use Rattle.pm_epochs.specs.Replay.{PowerCut, place_in_epoch}
 use Rattle.pm_steps.specs.WordSet.{is_noted}
-use Rattle.pm_steps.specs.Machine.{ComesFirst, StepsTo, cut_of, in_log_order, is_some_store, machine_over}
+use Rattle.pm_steps.specs.Machine.{cut_of, is_some_store}
+use Rattle.pm_steps.specs.Runs.{AreBackBefore, RunsInLogOrder}
 use Rattle.bp_replay.specs.Generator.{next_state, drawn}
 
 -- whether a store to the word goes back: its draw is odd, and no earlier store to the word waits
@@ -54,8 +55,7 @@ drawn_cut events state moment epoch = cut_of events (storm_flags state epoch [] 
 
 -- The write-back machine comes over these words to what a storm leaves, where the stores go back in the order of the log.
 abbrev pub RunsToStorm : List ℕ → List Event → ℕ → Type 0
-RunsToStorm base events seed = StepsTo events (machine_over base) (in_log_order (flags_of_storm events seed))
-    (record { back = flags_of_storm events seed; words = replay base events (storm_cut events seed) })
+RunsToStorm base events seed = RunsInLogOrder base events (flags_of_storm events seed)
 
 -- ## The rule by which stores are written back
 
@@ -75,10 +75,6 @@ IsStoreAt events which = is_some_store (slice_get events which) ≡ true
 abbrev pub OfEachStore : List Event → (ℕ → Type 0) → Type 0
 OfEachStore events Holds = (i : ℕ) → IsStoreAt events i → Holds i
 
--- each store that must go before this one went
-abbrev pub MayGo : List Event → List Bool → ℕ → Type 0
-MayGo events back which = (earlier : ℕ) → ComesFirst events earlier which → slice_get back earlier ≡ Some true
-
 -- where the stores of this epoch are drawn for from this state on: the store at this index is written back
 abbrev pub IsWrittenBack : ℕ → ℕ → List Event → ℕ → Type 0
 IsWrittenBack state epoch events which = slice_get (storm_flags state epoch [] events) which ≡ Some true
@@ -91,4 +87,5 @@ IsNotWrittenBack state epoch events which = slice_get (storm_flags state epoch [
 abbrev pub GoesByItsDraw : ℕ → ℕ → List Event → ℕ → Type 0
 GoesByItsDraw state epoch events which =
     IsWrittenBack state epoch events which
-    ↔ (IsOdd (draw_at state (place_in_epoch events which)) × MayGo events (storm_flags state epoch [] events) which)
+    ↔ (IsOdd (draw_at state (place_in_epoch events which))
+    × AreBackBefore events (storm_flags state epoch [] events) which)

@@ -9,12 +9,13 @@ use Rattle.bp_plain.specs.PlainTree.{FileTree}
 use Rattle.bp_volume.specs.Step.{IsNeverShort, PathFinds}
 use Rattle.pm_epochs.specs.Replay.{after_calls, kept_calls}
 use Rattle.pm_region.specs.Memory.{Memory}
-use Rattle.pm_steps.specs.Machine.{MachineState, MachineStep, StepsTo, cut_of, machine_over}
+use Rattle.pm_steps.specs.Machine.{MachineState, MachineStep, cut_of}
+use Rattle.pm_steps.specs.Runs.{RunsTo}
 
 -- where these steps lead to this state, its words show what the first calls of the log had made, as many as are kept whole
 abbrev pub ShowsFirstCalls : Memory → List MachineStep → MachineState → Type 0
 ShowsFirstCalls memory steps state =
-    StepsTo memory.events (machine_over memory.base) steps state →
+    RunsTo memory.base memory.events steps state →
     SameFiles state.words (after_calls memory.base memory.events
     (kept_calls memory.events (cut_of memory.events state.back)))
 

@@ -44,9 +44,10 @@ use Rattle.bp_scan.proofs.BothScans.{frozen_others}
 use Rattle.bp_shapes.specs.Sets.{IsExact, kept_of}
 use Rattle.bp_stands.proofs.SnapStands.{idle-harmless, snap_stands, snapped_same, snapshot_is, unsnap_stands, unsnapped_same}
 use Rattle.bp_volume.specs.Carried.{ChangesTree}
-use Rattle.bp_volume.specs.Snapped.{Snaps, Unsnaps, snap_events, unsnap_events}
+use Rattle.bp_volume.specs.Snapped.{Snaps, Unsnaps}
 use Rattle.bp_volume.specs.Snapped.Snaps.{made as has_made, refused as has_refused}
 use Rattle.bp_volume.specs.Snapped.Unsnaps.{gone, refused as refuses}
+use Rattle.bp_volume.specs.SuperEvents.{snap_events, unsnap_events}
 use Rattle.bp_volume.specs.Step.{Fits, IsChange}
 use Rattle.bp_volume.specs.Told.{Tells}
 use Rattle.bp_volume.proofs.BesideExact.{beside_exact}

@@ -25,8 +25,9 @@ use Rattle.bp_plain.specs.PlainTree.{FileTree}
 use Rattle.bp_plain.specs.Stands.{Stands}
 use Rattle.bp_shapes.specs.Sets.{IsExact, kept_of}
 use Rattle.bp_volume.specs.Carried.{ChangesTree}
-use Rattle.bp_volume.specs.FileCall.{FileCall, has_changed, super_events}
+use Rattle.bp_volume.specs.FileCall.{FileCall, has_changed}
 use Rattle.bp_volume.specs.FileCall.IsCheap.{tells}
+use Rattle.bp_volume.specs.SuperEvents.{super_events}
 use Rattle.bp_volume.specs.Step.{Fits, StepFor}
 use Rattle.bp_volume.specs.Step.StepFor.{changed}
 use Rattle.bp_volume.specs.Told.{Tells}

@@ -28,7 +28,8 @@ use Rattle.bp_stands.proofs.UpgradeStands.{upgrade_stands}
 use Rattle.bp_volume.specs.Carried.{ChangesTree}
 use Rattle.bp_volume.specs.Step.{Fits, IsChange}
 use Rattle.bp_volume.specs.Told.{Tells}
-use Rattle.bp_volume.specs.Upgraded.{Upgrades, upgrade_events}
+use Rattle.bp_volume.specs.SuperEvents.{upgrade_events}
+use Rattle.bp_volume.specs.Upgraded.{Upgrades}
 use Rattle.bp_volume.specs.Upgraded.Upgrades.{first, second}
 use Rattle.bp_volume.specs.Volume.{IsVolume}
 use Rattle.bp_volume.proofs.BesideExact.{beside_exact}

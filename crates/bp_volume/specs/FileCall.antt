@@ -1,24 +1,23 @@
 -- What a call on a file does to a region, and what it answers.
-use Rattle.std.specs.Prelude.{◌≡◌, ℕ, Option, None, Some, List, [], ◌∷◌, ◌++◌, Bool, true, false, ◌&&◌, not}
+use Rattle.std.specs.Prelude.{◌≡◌, ℕ, Some, List, [], ◌∷◌, ◌++◌, Bool, true, false, ◌&&◌, not}
 use Rattle.pm_epochs.specs.declared.event.Event.{Event}
-use Rattle.pm_epochs.specs.declared.event.Event.TheVariants.{Barrier, Mark, Store}
+use Rattle.pm_epochs.specs.declared.event.Event.TheVariants.{Mark}
 use Rattle.pm_epochs.specs.Log.{marks}
 use Rattle.pm_region.specs.Memory.{Memory, current_words, with_room, Adds}
 use Rattle.pm_region.specs.Safe.{IsSafe}
 use Rattle.bp_layout.specs.Trees.{AreFrozen}
 use Rattle.bp_layout.specs.Whole.{SameFiles}
-use Rattle.bp_limits.specs.Limits.{call_room, magic, super_magic, super_root, super_second_root, super_second_size, super_size}
+use Rattle.bp_limits.specs.Limits.{call_room}
 use Rattle.bp_plain.specs.PlainTree.{FileTree}
 use Rattle.bp_plain.specs.Stands.{Stands}
 use Rattle.bp_plain.specs.Calls.{Call, Answer}
 use Rattle.bp_plain.specs.Calls.Answer.{refused}
-use Rattle.bp_plain.specs.Calls.Call.{snap, unsnap, upgrade}
 use Rattle.bp_plain.specs.Plain.{is_changing}
 use Rattle.bp_layout.specs.Need.{Change}
-use Rattle.bp_layout.specs.Words.{Image, word}
+use Rattle.bp_layout.specs.Words.{Image}
 use Rattle.bp_commit.specs.Performs.{IsShort}
 use Rattle.bp_volume.specs.Step.{Step, IsChange}
-use Rattle.bp_limits.specs.declared.version.Version.TheVariants.{Two}
+use Rattle.bp_volume.specs.SuperEvents.{super_events}
 
 abbrev pub is_refused : Answer → Bool
 is_refused (refused why) = true
@@ -27,15 +26,6 @@ is_refused _ = false
 -- the call changed the tree
 abbrev pub has_changed : FileTree → Call → Answer → Bool
 has_changed tree call answer = is_changing tree call && not (is_refused answer)
-
--- the events of the calls that change words of the superblock alone; the last store is at the word that tells
-abbrev pub super_events : Image → Call → Option (List Event)
-super_events image upgrade =
-    Some (Store super_second_root 0 ∷ Store super_second_size 0 ∷ Barrier ∷ Store super_magic (magic Two) ∷ Barrier ∷ [])
-super_events image snap = Some (Store super_second_root (word image super_root) ∷ Barrier
-    ∷ Store super_second_size (word image super_size) ∷ Barrier ∷ [])
-super_events image unsnap = Some (Barrier ∷ Store super_second_size 0 ∷ Barrier ∷ [])
-super_events image call = None
 
 -- the call made one change, at no more than it costs, or it has these events
 pub data IsCheap (image : Image) (call : Call) (new : Image) (events : List Event) : Type 0 where

@@ -1,4 +1,5 @@
 pub mod Step
+pub mod SuperEvents
 pub mod FileCall
 pub mod Volume
 pub mod Ready

@@ -1,14 +1,9 @@
 -- What an upgrade does to a region before its mark.
-use Rattle.std.specs.Prelude.{◌≡◌, List, flat_map}
-use Rattle.pm_epochs.specs.declared.event.Event.{Event}
+use Rattle.std.specs.Prelude.{◌≡◌}
 use Rattle.pm_region.specs.Memory.{Adds, Memory, current_words}
-use Rattle.bp_layout.specs.Format.{upgrade_epochs}
 use Rattle.bp_layout.specs.Formatted.{version_of}
 use Rattle.bp_limits.specs.declared.version.Version.TheVariants.{One, Two}
-use Rattle.bp_volume.specs.Laid.{stores_epoch}
-
-abbrev pub upgrade_events : List Event
-upgrade_events = flat_map stores_epoch upgrade_epochs
+use Rattle.bp_volume.specs.SuperEvents.{upgrade_events}
 
 -- in version 1 the stores of an upgrade, and in version 2 nothing
 pub data Upgrades (old new : Memory) : Type 0 where

@@ -15,7 +15,8 @@ ghost use Rattle.bp_plain.specs.Seen.{refusal_of};
 ghost use Rattle.bp_shapes.specs.Sets.{IsExact, kept_of};
 ghost use Rattle.bp_volume.specs.Ready.{IsReady};
 ghost use Rattle.bp_volume.specs.Seen.{list_answer_of, read_answer_of, stat_answer_of, unit_answer};
-ghost use Rattle.bp_volume.specs.Snapped.{Snaps, Unsnaps, snap_events, unsnap_events};
+ghost use Rattle.bp_volume.specs.Snapped.{Snaps, Unsnaps};
+ghost use Rattle.bp_volume.specs.SuperEvents.{snap_events, unsnap_events};
 ghost use Rattle.bp_volume.specs.Told.{Tells};
 ghost use Rattle.pm_region.specs.Memory.{Adds, current_words, room_in};
 

@@ -1,0 +1,31 @@
+-- The events of the calls that change words of the superblock alone.
+use Rattle.std.specs.Prelude.{Option, None, Some, List, [], ◌∷◌, flat_map}
+use Rattle.pm_epochs.specs.declared.event.Event.{Event}
+use Rattle.pm_epochs.specs.declared.event.Event.TheVariants.{Barrier, Store}
+use Rattle.bp_layout.specs.Format.{upgrade_epochs}
+use Rattle.bp_layout.specs.Words.{Image, word}
+use Rattle.bp_limits.specs.Limits.{super_root, super_second_root, super_second_size, super_size}
+use Rattle.bp_plain.specs.Calls.{Call}
+use Rattle.bp_plain.specs.Calls.Call.{snap, unsnap, upgrade}
+use Rattle.bp_volume.specs.Laid.{stores_epoch}
+
+-- in version 1 the words that version 2 keeps, and then its mark
+abbrev pub upgrade_events : List Event
+upgrade_events = flat_map stores_epoch upgrade_epochs
+
+-- The root word of the first tree is stored as that of the second, and once it is written back, its size: up to then there is
+-- no second tree.
+abbrev pub snap_events : Image → List Event
+snap_events image = Store super_second_root (word image super_root) ∷ Barrier
+    ∷ Store super_second_size (word image super_size) ∷ Barrier ∷ []
+
+-- the size alone tells that there is a second tree
+abbrev pub unsnap_events : List Event
+unsnap_events = Barrier ∷ Store super_second_size 0 ∷ Barrier ∷ []
+
+-- each such call's; the last store is at the word that tells
+abbrev pub super_events : Image → Call → Option (List Event)
+super_events image upgrade = Some upgrade_events
+super_events image snap = Some (snap_events image)
+super_events image unsnap = Some unsnap_events
+super_events image call = None

@@ -69,7 +69,8 @@ pub record Place : Type 0 where
 
 -- A walk over the tree of the image stands there: the path finds inode i and has this text, and what is next of it is told
 -- behind what was told.
-pub record WalkStandsAt (image : Image) (counts : List ℕ) (next : PathMap → Path → List (Path × Node)) (i : ℕ) (text : List ℕ) (firsts : Firsts) (place : Place) : Type 0 where
+pub record WalkStandsAt (image : Image) (counts : List ℕ) (next : PathMap → Path → List (Path × Node)) (i : ℕ)
+    (text : List ℕ) (firsts : Firsts) (place : Place) : Type 0 where
   pub can : CanTell image place.tree
   pub found : lookup image place.path ≡ Some i
   pub spelled : text ≡ path_text place.path
@@ -77,6 +78,7 @@ pub record WalkStandsAt (image : Image) (counts : List ℕ) (next : PathMap → 
   pub remembers : RemembersFirsts image counts firsts place.told
 
 -- What is next there was told, so far as it goes, and where it all was, the first paths among it are remembered too.
-pub record Tours {T : Type 0} (image : Image) (counts : List ℕ) (next : PathMap → Path → List (Path × Node)) (place : Place) (result : Result T Fault) (firsts : Firsts) (before after : List ℕ) (old new : SinkView) : Type 0 where
+pub record Tours {T : Type 0} (image : Image) (counts : List ℕ) (next : PathMap → Path → List (Path × Node))
+    (place : Place) (result : Result T Fault) (firsts : Firsts) (before after : List ℕ) (old new : SinkView) : Type 0 where
   pub goes : Goes (flat_map (calls_at place.tree) (next place.tree place.path)) result before after old new
   pub remembers : OnOk result (RemembersFirsts image counts firsts (place.told ++ next place.tree place.path))

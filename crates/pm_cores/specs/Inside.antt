@@ -105,7 +105,8 @@ pub record AreTold (words : ℕ) (lasts : List ℕ) (log : List Entry) (befores 
   pub store : (word last : ℕ) → slice_index lasts word ≡ suc last → (core : ℕ) × IsStore log last core word
   pub last : (word now : ℕ) → last_value now log word ≡ told_by log (slice_index lasts word) now
   pub within : (place core word : ℕ) → IsStore log place core word → slice_index befores place ≤ place
-  pub before : (place core word now : ℕ) → IsStore log place core word → last_value now (take place log) word ≡ told_by log (slice_index befores place) now
+  pub before : (place core word now : ℕ) → IsStore log place core word →
+      last_value now (take place log) word ≡ told_by log (slice_index befores place) now
 
 -- none of a core's stores before its low waits
 abbrev pub IsLow : List ℕ → List Entry → ℕ → ℕ → Type 0

@@ -28,17 +28,21 @@ pub record ComesAfter (log : List Entry) (earlier later : ℕ) : Type 0 where
 abbrev pub HasGoneBack : Caches → ℕ → Type 0
 HasGoneBack caches place = slice_get caches.back place ≡ Some true
 
--- What holds of all caches. A word is dirty exactly where the last store to it is not back; a dirty word has a store that is not
--- back, and is under the core and the epoch of each such store; a line's dirty words have one owner. Where a store is back, so is each store of its core's
--- earlier epochs, and each that it follows.
+-- What holds of all caches. A word is dirty exactly where the last store to it is not back; a dirty word has a store
+-- that is not back, and is under the core and the epoch of each such store; a line's dirty words have one owner. Where a
+-- store is back, so is each store of its core's earlier epochs, and each that it follows.
 pub record IsCoherent (caches : Caches) : Type 0 where
   pub owners : length caches.owners ≡ caches.words
   pub flags : length caches.back ≡ length caches.log
-  pub last : (place core word : ℕ) → IsLastStore caches.log place core word → slice_get caches.back place ≡ Some (is_none (owner_at caches word))
-  pub dirty : (word : ℕ) (owner : Owner) → IsDirtyUnder caches word owner → (place : ℕ) × IsStore caches.log place owner.core word × (epoch_at caches.log owner.core place ≡ owner.epoch) × (slice_get caches.back place ≡ Some false)
+  pub last : (place core word : ℕ) → IsLastStore caches.log place core word →
+      slice_get caches.back place ≡ Some (is_none (owner_at caches word))
+  pub dirty : (word : ℕ) (owner : Owner) → IsDirtyUnder caches word owner →
+      (place : ℕ) × IsStore caches.log place owner.core word
+      × (epoch_at caches.log owner.core place ≡ owner.epoch) × (slice_get caches.back place ≡ Some false)
   pub waiting : (place core word : ℕ) → IsStore caches.log place core word → slice_get caches.back place ≡ Some false →
       IsDirtyUnder caches word (record { core = core; epoch = epoch_at caches.log core place })
-  pub line : (one two : ℕ) (owner its : Owner) → IsDirtyUnder caches one owner → IsDirtyUnder caches two its → line_at one ≡ line_at two → owner ≡ its
+  pub line : (one two : ℕ) (owner its : Owner) → IsDirtyUnder caches one owner → IsDirtyUnder caches two its →
+      line_at one ≡ line_at two → owner ≡ its
   pub epochs : (place core word other its_word : ℕ) → IsStore caches.log place core word → IsStore caches.log other core its_word →
       epoch_at caches.log core place < epoch_at caches.log core other → HasGoneBack caches other → HasGoneBack caches place
   pub follows : (earlier later : ℕ) → ComesAfter caches.log earlier later → HasGoneBack caches later → HasGoneBack caches earlier

@@ -1,15 +1,14 @@
 -- Bytes are written into a file.
-use Rattle.std.specs.Prelude.{◌≡◌, ℕ, ◌+◌, ◌-◌, ◌<◌, ◌&&◌, nat_le, nat_lt, max, if◌then◌else◌, List, length, slice_index}
+use Rattle.std.specs.Prelude.{◌≡◌, ℕ, ◌+◌, ◌<◌, nat_lt, max, if◌then◌else◌, List, length}
 use Rattle.bp_layout.specs.Inode.{root_of, size_of}
 use Rattle.bp_layout.specs.Tree.{byte}
 use Rattle.bp_layout.specs.Words.{Image}
 use Rattle.bp_changes.specs.Effects.{ChangesFile}
+use Rattle.pm_words.specs.Overlay.{byte_over}
 
 -- one byte of a file once bytes were written from an offset on, where it had this size and this byte
 abbrev pub written_byte : ℕ → List ℕ → ℕ → (ℕ → ℕ) → ℕ → ℕ
-written_byte off bytes size old o =
-    if nat_le off o && nat_lt o (off + length bytes) then slice_index bytes (o - off) else if nat_lt o size then old o
-    else 0
+written_byte off bytes size old o = byte_over off bytes o (if nat_lt o size then old o else 0)
 
 -- File i reaches to the end of these bytes at least and has them from an offset on. Its other bytes are those that it
 -- had, and 0 where it had none. All else is as it was.

@@ -132,10 +132,10 @@ module _ {kept : ℕ → Bool} (old : Memory) (blocks inodes : Set) (patches : L
   wf = asks.well_formed
 
   asked : CanOverwrite image patches
-  asked = record { few = asks.few; each = asks.each; some = asks.some; short = asks.short }
+  asked = asks.can
 
   no_word : length touched.words.now ≡ 0
-  no_word = no_words image wf patches touched are none bare asks.few asks.each asks.some asks.short
+  no_word = no_words image wf patches touched are none bare asked.few asked.each asked.some asked.short
 
   shape : IsTouched touched
   shape = overwrite_shape image wf patches touched asked are none bare
@@ -177,11 +177,11 @@ module _ {kept : ℕ → Bool} (old : Memory) (blocks inodes : Set) (patches : L
   module _ (new : Memory) (after : Set) (done : CommitsTouched (size_of (current_words old)) kept touched old new blocks after) where
     pub overwrites_files : OverwritesFiles patches (current_words old) (current_words new)
     overwrites_files =
-        patches_overwrite image (current_words new) wf touched (has blocks) overwrite_can no_word at (IsTurned (job_of touched) (length (commit_cover image touched))) done.words patches are asks.each
+        patches_overwrite image (current_words new) wf touched (has blocks) overwrite_can no_word at (IsTurned (job_of touched) (length (commit_cover image touched))) done.words patches are asked.each
 
     -- the leaves of so many bytes in so few runs are few
     leaves : leaves_of touched.runs.now ≤ 47
-    leaves = omega (arith, leaves_few image patches touched.runs.now are, asks.short, asks.few)
+    leaves = omega (arith, leaves_few image patches touched.runs.now are, asked.short, asked.few)
 
     open_cover : IsOpen image kept done.taken (cover_word image touched)
     open_cover = let file = at first.0 first.1 in run_open image wf file.inode file.reached first.0 file.of kept touched shape first.1 overwrite_loose done.taken
@@ -206,10 +206,7 @@ module _ {R : Type 0} (memory : R → Memory) (patches : List Patch) (old : Part
   overwrites_at_once none room = record {
     well_formed = mounted.well_formed;
     exact = mounted.exact.sets;
-    few = can.few;
-    each = can.each;
-    some = can.some;
-    short = can.short;
+    can = can;
     clear = clear_at_once memory (overwrites (stretches_of patches)) old mounted none;
     room = room_at_once memory (overwrites (stretches_of patches)) old mounted (clear_at_once memory (overwrites (stretches_of patches)) old mounted none) room;
   }
@@ -226,10 +223,12 @@ module _ {R : Type 0} (memory : R → Memory) (patches : List Patch) (old : Part
     overwrites_thawed room = record {
       well_formed = meant_well_formed (current_words (memory old.region)) (current_words (memory middle.region)) mounted.well_formed done.thaws.shape.meaning;
       exact = done.exact.sets;
-      few = can.few;
-      each = patches_on (current_words (memory old.region)) (current_words (memory middle.region)) done.thaws.shape patches can.each;
-      some = can.some;
-      short = can.short;
+      can = record {
+        few = can.few;
+        each = patches_on (current_words (memory old.region)) (current_words (memory middle.region)) done.thaws.shape patches can.each;
+        some = can.some;
+        short = can.short;
+      };
       clear = thawed_clear memory (overwrites (stretches_of patches)) old middle mounted overwrites_of done;
       room = λ enough. omega (arith, room, needs_alike);
     }

@@ -58,10 +58,7 @@ pub record CanOverwrite (image : Image) (patches : List Patch) : Type 0 where
 pub record CanOverwriteThawed (kept : ℕ → Bool) (memory : Memory) (blocks inodes : Set) (patches : List Patch) : Type 0 where
   pub well_formed : IsWellFormed (current_words memory)
   pub exact : AreExact (current_words memory) kept blocks inodes
-  pub few : length patches ≤ max_pieces
-  pub each : Each (IsPatchIn (current_words memory)) patches
-  pub some : 1 ≤ byte_count patches
-  pub short : byte_count patches ≤ max_batch
+  pub can : CanOverwrite (current_words memory) patches
   pub clear : thawed (current_words memory) kept (overwrites (stretches_of patches)) ≡ []
   pub room : HasRoomThawed memory blocks (overwrites (stretches_of patches))
 

@@ -68,7 +68,7 @@ fn thaw_size<R: Region>(parts: &mut Parts<R>, i: u32, size: u64) -> Result<(), N
 
 /// What [`shrink_file`] does once nothing is left to thaw: the size is stored, and then the blocks come back that hold
 /// no byte below it and are not kept.
-fn cut<R: Region>(parts: &mut Parts<R>, i: u32, size: u64)
+fn shorten<R: Region>(parts: &mut Parts<R>, i: u32, size: u64)
     requires mounted { IsMounted (current_words (R.memory parts.old.region)) parts.old }
     requires reached { IsReached (current_words (R.memory parts.old.region)) i }
     requires file { IsFile (current_words (R.memory parts.old.region)) i }
@@ -99,7 +99,7 @@ fn shrink_file<R: Region>(parts: &mut Parts<R>, i: u32, size: u64) -> Result<(),
 {
     match thaw_size(parts, i, size) {
         Ok(()) => {
-            cut(parts, i, size);
+            shorten(parts, i, size);
             Ok(())
         }
         Err(lacks) => Err(lacks),

@@ -6,7 +6,7 @@ use Rattle.bp_layout.proofs.Reached.{reached-in_file}
 use Rattle.pm_region.specs.Memory.{current_words}
 use Rattle.pm_region.proofs.MemoryLaws.{length-current_words}
 use Rattle.bp_calls.proofs.Shorter.{Shrinks, can_give_back, shrunk}
-use Rattle.bp_calls.proofs.resizing.cut.Goals as goal
+use Rattle.bp_calls.proofs.resizing.shorten.Goals as goal
 use Rattle.bp_calls.proofs.CountLaws.{exact_file}
 
 pub place-size_place-requires-clause-sound : goal.place-size_place-requires-clause-sound

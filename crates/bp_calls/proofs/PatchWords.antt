@@ -1,6 +1,6 @@
 -- The words after a commit of patches: each file has their bytes, and nothing else has changed.
-use Rattle.std.proofs.Common.{◌≡◌, ◌⊎◌, ℕ, zero, suc, ◌+◌, ◌-◌, ◌*◌, ◌/◌, ◌%◌, ◌<◌, ◌≤◌, ◌==◌, List, [], ◌∷◌, length, Bool, true, false, cond, ◌&&◌, nat_le, nat_lt, refl, sym, ◌∙◌, ap, ap₂, subst, inl, inr, arith}
-use Rattle.std.specs.Prelude.{bytes_eq, slice_index}
+use Rattle.std.proofs.Common.{◌≡◌, ◌⊎◌, ℕ, zero, suc, ◌+◌, ◌-◌, ◌*◌, ◌/◌, ◌%◌, ◌<◌, ◌≤◌, ◌==◌, List, [], ◌∷◌, length, Bool, true, false, cond, refl, sym, ◌∙◌, ap, ap₂, subst, inl, inr, arith}
+use Rattle.std.specs.Prelude.{bytes_eq}
 use Rattle.std.proofs.lemmas.Bool.{cases_eq, cases_lt, eq-eqb}
 use Rattle.std.proofs.lemmas.Slice.Eq.{bytes_eq-Decides}
 use Rattle.bp_layout.specs.Inode.{inode_count, kind_of, root_of, size_of}
@@ -20,6 +20,7 @@ use Rattle.bp_changes.proofs.Committed.{commit_overwrites}
 use Rattle.bp_shapes.specs.Forest.{along, root_trail, IsTreePointer}
 use Rattle.bp_shapes.specs.Trail.{Trail, trail_of, word_on}
 use Rattle.bp_shapes.proofs.ForestLaws.{word-tree}
+use Rattle.pm_words.specs.Overlay.{byte_over}
 use Rattle.bp_stands.proofs.OverwriteStands.{byte_before, byte_elsewhere, byte_past}
 use Rattle.bp_tree.proofs.ExistingPaths.{number-digits}
 use Rattle.bp_cow.specs.declared.touched.Run.{Run}
@@ -100,10 +101,6 @@ module _ (root : WordPath) (k : ℕ) where
 
 -- ---- the bytes of a word
 
--- a byte with those of a run laid over, by the run's offset and bytes
-abbrev byte_with : ℕ → List ℕ → ℕ → ℕ → ℕ
-byte_with off bytes o had = cond (nat_le off o && nat_lt o (off + length bytes)) (slice_index bytes (o - off)) had
-
 module _ (image : Image) (wf : IsWellFormed image) (i : ℕ) (reached : IsReached image i) (k c : ℕ) (low : c < 8) where
   abbrev root : WordPath
   root = inode_path (height_of (root_of image 0)) i 1
@@ -117,7 +114,7 @@ module _ (image : Image) (wf : IsWellFormed image) (i : ℕ) (reached : IsReache
       go (inl here) b e =
           let same : bytes_eq run.root.items root ≡ true = (bytes_eq-Decides run.root.items root).1 (for_it.root ∙ ap (λ j. inode_path (height_of (root_of image 0)) j 1) here) in
           let there : (patch.inode == i) ≡ true = eq-eqb patch.inode i here in
-          rw (same, there) (byte-run_word run k old c low for_it.small ∙ ap₂ (λ off bytes. byte_with off bytes (8 * k + c) (byte_of old c)) for_it.from for_it.bytes_are)
+          rw (same, there) (byte-run_word run k old c low for_it.small ∙ ap₂ (λ off bytes. byte_over off bytes (8 * k + c) (byte_of old c)) for_it.from for_it.bytes_are)
       go (inr apart) false e = rw e (sym (byte_elsewhere patch i (8 * k + c) (byte_of old c) apart))
       go (inr apart) true e =
           absurd (apart (same_inode image wf patch.inode i is.reached reached (sym for_it.root ∙ (bytes_eq-Decides run.root.items root).0 e)))

@@ -1,5 +1,5 @@
 -- Bytes are laid into files, below their sizes.
-use Rattle.std.specs.Prelude.{◌≡◌, ℕ, ◌+◌, ◌-◌, ◌<◌, List, [], ◌∷◌, length, ◌==◌, ◌&&◌, nat_le, nat_lt, if◌then◌else◌, slice_index}
+use Rattle.std.specs.Prelude.{◌≡◌, ℕ, ◌<◌, List, [], ◌∷◌, ◌==◌, if◌then◌else◌}
 use Rattle.bp_limits.specs.Limits.{entry_words}
 use Rattle.bp_layout.specs.Words.{Image}
 use Rattle.bp_layout.specs.Tree.{byte}
@@ -7,6 +7,7 @@ use Rattle.bp_layout.specs.Inode.{IsDirectory, IsFile, kind_of, root_of, size_of
 use Rattle.bp_layout.specs.Directory.{EntryNames, inumber_at, entry_word, entry_count}
 use Rattle.bp_layout.specs.Reached.{IsReached}
 use Rattle.bp_changes.specs.KeepsTrees.{KeepsTrees}
+use Rattle.pm_words.specs.Overlay.{byte_over}
 
 -- bytes for a file, from an offset on
 pub record Patch : Type 0 where
@@ -16,9 +17,7 @@ pub record Patch : Type 0 where
 
 -- byte o of file i with a patch laid over it, where it had this one
 abbrev pub patched_by : Patch → ℕ → ℕ → ℕ → ℕ
-patched_by patch i o had =
-    if (patch.inode == i) && nat_le patch.off o && nat_lt o (patch.off + length patch.bytes)
-    then slice_index patch.bytes (o - patch.off) else had
+patched_by patch i o had = if patch.inode == i then byte_over patch.off patch.bytes o had else had
 
 -- and with several, one after the other: where two give the same byte, that of the later one stands
 abbrev pub patched : List Patch → ℕ → ℕ → ℕ → ℕ

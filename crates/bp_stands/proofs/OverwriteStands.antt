@@ -1,10 +1,10 @@
 -- The plain tree of an image into whose files the pieces of a batch were laid, one after the other.
-use Rattle.std.proofs.Common.{◌≡◌, ◌≢◌, ◌⊎◌, ℕ, ◌+◌, ◌-◌, ◌<◌, ◌≤◌, ◌&&◌, ◌==◌, cond, Bool, true, false, List, length, map, get_or, nat_le, nat_lt, Option, None, Some, refl, sym, ◌∙◌, ap, inl, inr, arith, lt-ltb, le-ltb, le-leb}
+use Rattle.std.proofs.Common.{◌≡◌, ◌≢◌, ◌⊎◌, ℕ, ◌+◌, ◌-◌, ◌<◌, ◌≤◌, ◌==◌, cond, Bool, true, false, List, length, map, get_or, Option, None, Some, refl, sym, ◌∙◌, ap, inl, inr, arith, lt-ltb, le-ltb}
 use Rattle.std.specs.Prelude.{slice_index}
 use Rattle.std.specs.List.{range_with_len}
 use Rattle.std.specs.FinMap.{get}
 use Rattle.std.specs.Option.{option_map}
-use Rattle.std.proofs.lemmas.Bool.{cases_lt, ne_eqb, lt-leb}
+use Rattle.std.proofs.lemmas.Bool.{cases_lt, ne_eqb}
 use Rattle.std.proofs.lemmas.List.FromFn.{get_or-map-range_with_len, length-map-range_with_len}
 use Rattle.bp_layout.specs.Inode.{kind_of, size_of}
 use Rattle.bp_layout.specs.Lookup.{Path, find_one, lookup}
@@ -23,6 +23,8 @@ use Rattle.bp_plain.specs.Plain as plain
 use Rattle.bp_plain.specs.PlainTree.{PathMap, is_one}
 use Rattle.bp_plain.specs.Stands.{Shows}
 use Rattle.bp_plain.proofs.Kernels.{are_one-self}
+use Rattle.pm_words.specs.Overlay.{byte_over}
+use Rattle.pm_words.proofs.OverlayLaws.{over_before, over_past, over_there}
 use Rattle.bp_stands.specs.Pieces.{ArePatches, PieceFinds, patch_of}
 use Rattle.bp_stands.specs.Pieces.ArePatches.{none, more}
 use Rattle.bp_stands.proofs.FileStands.{content_elsewhere, content_here, finds}
@@ -32,24 +34,20 @@ use Rattle.bp_stands.proofs.WrittenBytes.{in_bytes, in_front_had, in_rest, writt
 
 module _ (patch : Patch) (i o had : ℕ) where
   pub byte_inside : patch.inode ≡ i → patch.off ≤ o → o < patch.off + length patch.bytes → patched_by patch i o had ≡ slice_index patch.bytes (o - patch.off)
-  byte_inside same low high = rw (same, are_one-self i, le-leb patch.off o low, lt-ltb o (patch.off + length patch.bytes) high) refl
+  byte_inside same low high = rw (same, are_one-self i) (over_there patch.off patch.bytes o had low high)
 
   pub byte_elsewhere : patch.inode ≢ i → patched_by patch i o had ≡ had
   byte_elsewhere apart = rw (ne_eqb patch.inode i apart) refl
 
+  either : (b : Bool) → byte_over patch.off patch.bytes o had ≡ had → cond b (byte_over patch.off patch.bytes o had) had ≡ had
+  either true same = same
+  either false same = refl
+
   pub byte_before : o < patch.off → patched_by patch i o had ≡ had
-  byte_before before = rw (lt-leb patch.off o before) (go (patch.inode == i))
-    where
-      go : (b : Bool) → cond ((b && false) && nat_lt o (patch.off + length patch.bytes)) (slice_index patch.bytes (o - patch.off)) had ≡ had
-      go true = refl
-      go false = refl
+  byte_before before = either (patch.inode == i) (over_before patch.off patch.bytes o had before)
 
   pub byte_past : patch.off + length patch.bytes ≤ o → patched_by patch i o had ≡ had
-  byte_past past = rw (le-ltb o (patch.off + length patch.bytes) past) (go ((patch.inode == i) && nat_le patch.off o))
-    where
-      go : (b : Bool) → cond (b && false) (slice_index patch.bytes (o - patch.off)) had ≡ had
-      go true = refl
-      go false = refl
+  byte_past past = either (patch.inode == i) (over_past patch.off patch.bytes o had past)
 
 -- ---- one piece
 

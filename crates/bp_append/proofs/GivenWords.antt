@@ -25,16 +25,7 @@ late-word k c offset from bytes low behind past = bare-word k c low ∙ sym (giv
 
 -- the given bytes laid over nothing
 pub given_over : (from : ℕ) (bytes : List ℕ) (offset c : ℕ) → byte_over from bytes offset (byte_of 0 c) ≡ given from bytes offset
-given_over from bytes offset c = elim (cases_lt offset from) [
-  | inl before ↦ over_before from bytes offset (byte_of 0 c) before ∙ bare c ∙ sym (given-before from bytes offset before)
-  | inr behind ↦ elim (cases_lt offset (from + length bytes)) [
-    | inl inside ↦ over_there from bytes offset (byte_of 0 c) behind inside ∙ sym (given-there from bytes offset behind)
-    | inr past ↦
-        over_past from bytes offset (byte_of 0 c) past
-        ∙ bare c
-        ∙ sym (given-there from bytes offset behind ∙ get_or_past bytes (offset - from) 0 (omega (arith, past)))
-  ]
-]
+given_over from bytes offset c = ap (byte_over from bytes offset) (bare c)
 
 -- those from an offset in a word on, laid over the bytes of it that stay
 pub laid_over : (low from start old kept before c : ℕ) (bytes : List ℕ) → kept ≡ old % 256 ^ min 8 (low - start) → before ≡ min (low - from) (length bytes) → start ≤ low → low < start + 8 → c < 8 →

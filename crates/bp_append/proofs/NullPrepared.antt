@@ -1,5 +1,6 @@
 -- The whole preparation of a tree without blocks: nobody sees it, and the tree is ready.
-use Rattle.std.proofs.Common.{◌≡◌, ◌≢◌, ◌⊎◌, ℕ, ◌+◌, ◌*◌, ◌/◌, ◌<◌, ◌≤◌, List, [], ◌∷◌, length, Bool, refl, sym, ◌∙◌, ap, subst, subst₂, arith, rules, inl, inr, get_or-set_other, le_trans}
+use Rattle.std.proofs.Common.{◌≡◌, ◌≢◌, ◌⊎◌, ℕ, ◌+◌, ◌*◌, ◌/◌, ◌<◌, ◌≤◌, List, [], ◌∷◌, length, Bool, refl, sym, ◌∙◌, ap, subst, subst₂, arith, inl, inr, get_or-set_other, le_trans}
+use Rattle.bp_append.proofs.LaidLaws.{given-before}
 use Rattle.bp_append.proofs.NeedLaws.{tall_most}
 use Rattle.bp_changes.proofs.Formatted.{version_stays}
 use Rattle.bp_layout.specs.Formatted.{version_of}
@@ -38,9 +39,6 @@ by_old old new t same reached (inr kind) = inr (sym (same.kind t reached) ∙ ki
 pub full_by_words : (old : Image) → IsWellFormed old → (t : ℕ) → IsReached old t → IsReadByWords old t → IsFull old (root_of old t) (size_of old t)
 full_by_words old wf t reached (inl e) = subst (λ u. IsFull old (root_of old u) (size_of old u)) (sym e) wf.full_inode_file
 full_by_words old wf t reached (inr kind) = wf.full_directories t reached kind
-
-given_before : (from : ℕ) (raw : List ℕ) (o : ℕ) → o < from → given from raw o ≡ 0
-given_before from raw o low = search (rules, low)
 
 -- ---- a tree that had no blocks
 
@@ -126,7 +124,7 @@ module _ (kept : ℕ → Bool) (first new : Memory) (free_old free_new : List �
     reads = subst₂ (λ z r. ReadsAs (IsReadByWords middle t) middle z r makes.top) (sym sizes) (sym roots)
         (built_reads (IsReadByWords middle t) middle (size_of old t) to (root_of old t) makes.top (given_at from raw 0) made.taken (from ≡ 0)
         (λ by. none_below (by_old old middle t meaning can.reached by)) order null made.tree (free_middle made.taken taken_free)
-        (λ i low. given_before from raw (0 + i) (omega (arith, low, can.behind)))
+        (λ i low. given-before from raw (0 + i) (omega (arith, low, can.behind)))
         (rw (made.height, version_stays old middle meaning.trees.marked) (tall_most (version_of old) (root_of old t) (size_of old t) to (can.well.low t can.reached) can.fits)));
     sizes = λ u r. size-same old middle can.well agrees u r;
     roots = λ u r away. roots_stay u r;
@@ -144,7 +142,7 @@ module _ (kept : ℕ → Bool) (first new : Memory) (free_old free_new : List �
         (prepared old middle can.well t place makes.top from to raw made.taken can.reached at null_ready taken_free (given_at from raw 0) (from ≡ 0)
         (built_as middle makes.top to (given_at from raw 0) (given_at from raw 0) (Has made.taken) (λ b. HasBlock old (root_of old t) (size_of old t) b ⊎ Has made.taken b) (from ≡ 0) (from ≡ 0)
         (λ i low. refl) (λ b m. inr m) (λ b m. elim m [ inl has ↦ absurd (no_block_old b has) | inr taken ↦ taken ]) (λ p. p) made.tree)
-        (λ o low. given_before from raw (0 + o) (omega (arith, low, can.behind)) ∙ sym (old_byte o low))
+        (λ o low. given-before from raw (0 + o) (omega (arith, low, can.behind)) ∙ sym (old_byte o low))
         (λ o above below. ap (given from raw) (zero_plus o))
         (λ by. can.by_words by ∙ none_below by)
         made.height can.fits order

@@ -1,5 +1,5 @@
 -- A tree with blocks that has grown: its root, with a pointer that waited and with none.
-use Rattle.std.proofs.Common.{◌≡◌, ◌≢◌, ℕ, suc, ◌+◌, ◌-◌, ◌*◌, ◌/◌, ◌<◌, ◌≤◌, List, [], ◌∷◌, ◌++◌, Bool, false, min, set, sym, ◌∙◌, ap, subst, arith, rules, lt_of_lt_of_le}
+use Rattle.std.proofs.Common.{◌≡◌, ◌≢◌, ℕ, suc, ◌+◌, ◌-◌, ◌*◌, ◌/◌, ◌<◌, ◌≤◌, List, [], ◌∷◌, ◌++◌, Bool, false, min, set, sym, ◌∙◌, ap, subst, arith, lt_of_lt_of_le}
 use Rattle.bp_layout.proofs.MemberLaws.{each-of, has-front}
 use Rattle.bp_limits.specs.Limits.{max_height}
 use Rattle.bp_layout.specs.Words.{Image, block_of, height_of}
@@ -18,9 +18,10 @@ use Rattle.bp_shapes.proofs.NullLink as null_link
 use Rattle.pm_epochs.specs.May.{AnyOf}
 use Rattle.pm_region.specs.Memory.{Memory, current_words}
 use Rattle.bp_append.specs.Built.{IsBuilt}
+use Rattle.bp_append.proofs.LaidLaws.{given-before}
 use Rattle.bp_append.proofs.FillLaws.{apart_left, apart_parts}
 use Rattle.bp_shapes.proofs.Chain.{chain_reads}
-use Rattle.bp_append.specs.Given.{given, given_at}
+use Rattle.bp_append.specs.Given.{given_at}
 use Rattle.bp_append.specs.Visited.{Hangs}
 use Rattle.bp_append.specs.Grown.{Grows}
 use Rattle.bp_append.specs.Prepared.{CanPrepare}
@@ -29,9 +30,6 @@ use Rattle.bp_append.proofs.ReadyLaws.{HasRootReady}
 use Rattle.bp_append.proofs.TwoLinks as two
 use Rattle.bp_append.proofs.EndWays.{slot_within}
 use Rattle.bp_append.proofs.TreeGrown.{HasGrown, order, agrees, sizes, roots_stay, roots, meaning, well, there, place_there, free_there, chain_there, fresh}
-
-given_before : (from : ℕ) (raw : List ℕ) (o : ℕ) → o < from → given from raw o ≡ 0
-given_before from raw o low = search (rules, low)
 
 module _ {kept : ℕ → Bool} {first new : Memory} {free_old free_new : List ℕ} {t place from to : ℕ} {path raw : List ℕ}
     (ready : HasGrown kept first new free_old free_new t place from to path raw) where
@@ -146,7 +144,7 @@ module _ {kept : ℕ → Bool} {first new : Memory} {free_old free_new : List �
     wide_there x small inside = omega (arith, small, inside, sizes ready, order ready)
 
     zeros_there : (i : ℕ) → begins + i < size_of middle t → made i ≡ 0
-    zeros_there i inside = given_before from raw (begins + i) (omega (arith, inside, sizes ready, can.behind))
+    zeros_there i inside = given-before from raw (begins + i) (omega (arith, inside, sizes ready, can.behind))
 
     stands_there : StandsAt middle t hangs.depth hangs.index hung_place
     stands_there =

@@ -1,5 +1,5 @@
 -- Going down a tree to its last byte: what is had at each node.
-use Rattle.std.proofs.Common.{◌≡◌, ◌≢◌, ◌⊎◌, ℕ, suc, ◌+◌, ◌-◌, ◌*◌, ◌/◌, ◌%◌, ◌<◌, ◌≤◌, min, max, List, [], ◌∷◌, length, get_or, refl, sym, ◌∙◌, ap, subst, arith, rules, inl, inr, get_or-set_same, get_or-set_other, lt-ltb, le-ltb}
+use Rattle.std.proofs.Common.{◌≡◌, ◌≢◌, ◌⊎◌, ℕ, suc, ◌+◌, ◌-◌, ◌*◌, ◌/◌, ◌%◌, ◌<◌, ◌≤◌, min, max, List, [], ◌∷◌, length, get_or, refl, sym, ◌∙◌, ap, subst, arith, inl, inr, get_or-set_same, get_or-set_other, lt-ltb, le-ltb}
 use Rattle.std.proofs.lemmas.Bool.{cases_lt}
 use Rattle.bp_layout.proofs.MemberLaws.{has-front}
 use Rattle.bp_layout.specs.Words.{Image, block_of, height_of, slot_word, byte_of}
@@ -18,13 +18,11 @@ use Rattle.bp_append.specs.Built.{IsBuilt}
 use Rattle.bp_append.specs.Filled.{Builds}
 use Rattle.bp_append.specs.Visited.{extended, Hangs, AreHung, CanVisit, Visits, IsLast, VisitsSlot}
 use Rattle.bp_append.specs.Visited.AreHung.{no_link, one_link}
+use Rattle.bp_append.proofs.LaidLaws.{given-before}
 use Rattle.bp_append.proofs.IntoLaws.{into_more}
 use Rattle.bp_append.proofs.ChildrenLaws.{built_kept, built_as}
 use Rattle.bp_append.proofs.FillLaws.{may_length, slot_framed, block_row}
 use Rattle.bp_append.proofs.VisitLaws.{beside, whole_links, word_bits, kid_own, block_taken, kid_aligned, kid_named, kid_is, null_spine}
-
-given_before : (from : ℕ) (raw : List ℕ) (o : ℕ) → o < from → given from raw o ≡ 0
-given_before from raw o low = search (rules, low)
 
 pub extended_old : (image : Image) (root size from : ℕ) (raw : List ℕ) (start i : ℕ) → start + i < size → extended image root size from raw start i ≡ byte image root i
 extended_old image root size from raw start i low = rw (lt-ltb (start + i) size low) refl
@@ -164,7 +162,7 @@ module _ {old : Memory} {free_old : List ℕ} {root size below start block slot 
       same_byte : (i : ℕ) → (begin + i < size) ⊎ (size ≤ begin + i) → extended (current_words old) kid size from raw begin i ≡ given_at from raw begin i
       same_byte i (inl low) = extended_old (current_words old) kid size from raw begin i low
           ∙ ap (λ w. byte_of w (i % 8)) (null_words (current_words old) kid kid_null (height_of kid) (i / 8)) ∙ zero_byte (i % 8)
-          ∙ sym (given_before from raw (begin + i) (omega (arith, low, can.behind)))
+          ∙ sym (given-before from raw (begin + i) (omega (arith, low, can.behind)))
         where
           zero_byte : (c : ℕ) → byte_of 0 c ≡ 0
           zero_byte c = omega arith

@@ -37,7 +37,7 @@ use Rattle.bp_calls.proofs.AcrossMiddle.{across_can, across_file, bound_here, bo
 use Rattle.bp_calls.proofs.SizesWith.{sizes_with}
 use Rattle.bp_calls.proofs.AcrossTouched.{across_copies, across_cover, across_end, across_needs, across_shape, across_words}
 use Rattle.bp_calls.proofs.RunCommits.{commit_exact, commit_writes_file, laid_past}
-use Rattle.bp_calls.proofs.WriteBehind.{given_inside}
+use Rattle.bp_append.proofs.LaidLaws.{given-there}
 
 -- ---- one byte
 
@@ -112,7 +112,7 @@ module _ {kept : ℕ → Bool} (old middle new : Memory) (blocks inodes after la
       let at : size_of image (suc n) - off + (o - size_of image (suc n)) ≡ o - across.touches.run.off = omega (arith, past, across.below, across.touches.is.from) in
       byte_is o low
       ∙ laid_past across.touches.run o (byte mid (root_of mid (suc n)) o) (omega (arith, past, across_end old blocks inodes n off bytes touched across))
-      ∙ prepared.ready.bytes_are o past low ∙ given_inside (size_of image (suc n)) (drop (size_of image (suc n) - off) bytes) o past
+      ∙ prepared.ready.bytes_are o past low ∙ given-there (size_of image (suc n)) (drop (size_of image (suc n) - off) bytes) o past
       ∙ get_or-drop (size_of image (suc n) - off) bytes (o - size_of image (suc n)) 0 ∙ ap (slice_index bytes) at
 
   pub across_writes : WritesFile (suc n) off bytes (current_words old) (current_words new)

@@ -1,6 +1,7 @@
 -- The bytes of an entry that stand behind a size read back as its inumber and its name.
-use Rattle.std.proofs.Common.{◌≡◌, ℕ, ◌+◌, ◌-◌, ◌*◌, ◌/◌, ◌%◌, ◌^◌, ◌<◌, ◌≤◌, List, length, get_or, slice_index, refl, sym, ◌∙◌, ap, arith, le-leb, le-ltb, lt-ltb}
+use Rattle.std.proofs.Common.{◌≡◌, ℕ, ◌+◌, ◌-◌, ◌*◌, ◌/◌, ◌%◌, ◌^◌, ◌<◌, ◌≤◌, List, length, get_or, slice_index, refl, sym, ◌∙◌, ap, arith, le-ltb, lt-ltb}
 use Rattle.bp_append.specs.Given.{given}
+use Rattle.bp_append.proofs.LaidLaws.{given-there}
 use Rattle.bp_layout.specs.Directory.{Name, inumber_in, name_in, word_in}
 use Rattle.bp_layout.specs.Tree.{byte, content_word}
 use Rattle.bp_layout.specs.Words.{Image, byte_of}
@@ -26,7 +27,7 @@ same_word a b low high same =
 module _ (image : Image) (root size j : ℕ) (name : Name) (bytes : List ℕ) (entries : size % 256 ≡ 0) (entry : AreEntryBytes j name bytes)
     (laid : (o : ℕ) → size ≤ o → o < size + 256 → byte image root o ≡ given size bytes o) where
   byte_there : (o : ℕ) → o < 256 → byte image root (size + o) ≡ slice_index bytes o
-  byte_there o low = let offset : size + o - size ≡ o = omega arith in laid (size + o) (omega arith) (omega (arith, low)) ∙ rw (le-leb size (size + o) (omega arith), offset) refl
+  byte_there o low = let offset : size + o - size ≡ o = omega arith in laid (size + o) (omega arith) (omega (arith, low)) ∙ given-there size bytes (size + o) (omega arith) ∙ ap (slice_index bytes) offset
 
   -- a byte of the first two words
   word_byte : (k c : ℕ) → k < 2 → c < 8 → byte_of (content_word image root (size / 8 + k)) c ≡ slice_index bytes (8 * k + c)

@@ -1,10 +1,9 @@
 -- The size of the inode file is stored behind the preparation of one more leaf: what that makes of the image.
-use Rattle.std.proofs.Common.{◌≡◌, ◌≢◌, ℕ, zero, suc, ◌+◌, ◌-◌, ◌*◌, ◌/◌, ◌%◌, ◌<◌, List, [], Bool, true, false, refl, sym, ◌∙◌, ap, subst, set, get_or-set_same, get_or-set_other, inl, arith, suc-ne-zero, ◌≤◌}
+use Rattle.std.proofs.Common.{◌≡◌, ◌≢◌, ℕ, zero, suc, ◌+◌, ◌-◌, ◌*◌, ◌/◌, ◌%◌, ◌<◌, List, [], refl, sym, ◌∙◌, ap, subst, set, get_or-set_same, get_or-set_other, inl, arith, suc-ne-zero, ◌≤◌}
 use Rattle.bp_changes.proofs.Formatted.{low_stays}
 use Rattle.bp_layout.specs.Formatted.{version_of}
-use Rattle.std.specs.Prelude.{nat_le, if◌then◌else◌, slice_index}
 use Rattle.std.proofs.lemmas.List.{length-set}
-use Rattle.bp_append.specs.Given.{given}
+use Rattle.bp_append.proofs.LaidLaws.{given_none}
 use Rattle.bp_append.specs.Prepared.{Prepares}
 use Rattle.bp_changes.specs.SameMeaning.{SameMeaning}
 use Rattle.bp_layout.specs.Words.{Image, word, block_of, height_of, slot_word, byte_of}
@@ -61,14 +60,6 @@ module _ (image : Image) (value : ℕ) where
   size_stays i = inode_stays (suc i) 2
 
 -- ---- behind the preparation
-
--- where no bytes are given they are 0
-none_given : (from o : ℕ) → given from [] o ≡ 0
-none_given from o = go (nat_le from o)
-  where
-    go : (b : Bool) → (if b then slice_index [] (o - from) else 0) ≡ 0
-    go true = refl
-    go false = refl
 
 module _ (old mid : Image) (taken : List ℕ) (wf : IsWellFormed old) (ready : Prepares old mid 0 (size_of old 0) (size_of old 0 + block_size) [] taken) where
   abbrev end : ℕ
@@ -155,7 +146,7 @@ module _ (old mid : Image) (taken : List ℕ) (wf : IsWellFormed old) (ready : P
     size = size_here;
     height = ap height_of (root_stays mid end 0) ∙ rw size_here ready.height;
     kept = λ o low. byte_here 0 o ∙ ready.kept o low;
-    zeros = λ o past low. byte_here 0 o ∙ ready.bytes_are o past (rw size_here at low) ∙ none_given (size_of old 0) o;
+    zeros = λ o past low. byte_here 0 o ∙ ready.bytes_are o past (rw size_here at low) ∙ given_none (size_of old 0) o;
     blocks = λ b has. ready.blocks b (file_back b has);
     has_old = λ b has. file_on b (ready.has_old b has);
     has_taken = λ b took. file_on b (ready.has_taken b took);

@@ -1,9 +1,8 @@
 -- A file gets longer, with zeros behind its bytes: what its preparation asks, and what it leaves with the store of the size.
-use Rattle.std.proofs.Common.{◌≡◌, ℕ, zero, suc, ◌+◌, ◌-◌, ◌*◌, ◌/◌, ◌<◌, ◌≤◌, List, [], ◌∷◌, length, Bool, true, false, refl, sym, ◌∙◌, ap, ap₂, subst, arith, inl, inr}
-use Rattle.std.specs.Prelude.{nat_le, if◌then◌else◌, slice_index}
+use Rattle.std.proofs.Common.{◌≡◌, ℕ, zero, suc, ◌+◌, ◌-◌, ◌*◌, ◌/◌, ◌<◌, ◌≤◌, List, [], ◌∷◌, length, Bool, refl, sym, ◌∙◌, ap, ap₂, subst, arith, inl, inr}
 use Rattle.std.proofs.lemmas.Bool.{lt-ltb}
 use Rattle.std.proofs.lemmas.List.{append-nil, length-append}
-use Rattle.bp_append.specs.Given.{given}
+use Rattle.bp_append.proofs.LaidLaws.{given_none}
 use Rattle.bp_append.specs.Prepared.{CanPrepare, HasLooseEnd, PreparesWith, need_for}
 use Rattle.bp_append.proofs.GrownEffect.{grown_changes, grown_bytes, grown_live, grown_stays, grown_taken}
 use Rattle.bp_append.proofs.GrowsTree.{OnlyGrows, GrowsTree, only_need, grown_performs, grown_size}
@@ -43,14 +42,6 @@ pub growing_needs : (image : Image) → IsWellFormed image → (i size root long
 growing_needs image wf zero size root long reached file longer one two = absurd (omega (arith, file))
 growing_needs image wf (suc n) size root long reached file longer one two =
     only_need image (resizes (suc n) size) n size size wf reached (only_grows image (suc n) size longer) ∙ sym (ap₂ (λ r s. length (nodes_for image r s size size)) one two)
-
--- the bytes behind the file's own are 0
-none_given : (from o : ℕ) → given from [] o ≡ 0
-none_given from o = go (nat_le from o)
-  where
-    go : (b : Bool) → (if b then slice_index [] (o - from) else 0) ≡ 0
-    go true = refl
-    go false = refl
 
 module _ {kept : ℕ → Bool} (old : Memory) (blocks inodes : Set) (n size : ℕ) (can : CanGrowFile kept old blocks inodes (suc n) size) where
   abbrev image : Image
@@ -104,7 +95,7 @@ module _ {kept : ℕ → Bool} (old : Memory) (blocks inodes : Set) (n size : �
       changes = grown_changes kept old middle new (members blocks) (members rest) path n size size place [] grows (resizes (suc n) size) only;
       size_is = grown_size kept old middle new (members blocks) (members rest) path n size size place [] grows (resizes (suc n) size) only;
       kept = λ o low was. grown_bytes kept old middle new (members blocks) (members rest) path n size size place [] grows (resizes (suc n) size) only o low ∙ grows.prepared.ready.kept o was;
-      zeros = λ o low past. grown_bytes kept old middle new (members blocks) (members rest) path n size size place [] grows (resizes (suc n) size) only o low ∙ grows.prepared.ready.bytes_are o past low ∙ none_given size o;
+      zeros = λ o low past. grown_bytes kept old middle new (members blocks) (members rest) path n size size place [] grows (resizes (suc n) size) only o low ∙ grows.prepared.ready.bytes_are o past low ∙ given_none size o;
     }
 
     performs : PerformsThawed kept old new (resizes (suc n) size) (ResizesFile (suc n) size)

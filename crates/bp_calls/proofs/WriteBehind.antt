@@ -19,8 +19,8 @@ use Rattle.pm_region.specs.Memory.{Memory, current_words, room_in, Adds}
 use Rattle.pm_region.proofs.MemoryLaws.{base-adds, length-current_words}
 use Rattle.pm_region.proofs.SafeLaws.{room_after_quiet}
 use Rattle.bp_commit.specs.Performs.{PerformsThawed, room_for}
-use Rattle.bp_append.specs.Given.{given}
 use Rattle.bp_append.specs.Stores.{prep_stores}
+use Rattle.bp_append.proofs.LaidLaws.{given-before, given-there}
 use Rattle.bp_append.proofs.StoresLaws.{behind_whole, room_behind_whole}
 use Rattle.bp_append.specs.Prepared.{HasLooseEnd, CanPrepare, PreparesWith, need_for}
 use Rattle.bp_append.proofs.GrowsTree.{OnlyGrows, GrowsTree, only_need, grown_size, grown_performs}
@@ -50,12 +50,6 @@ module _ (off : ℕ) (bytes : List ℕ) (size : ℕ) (old : ℕ → ℕ) (o : �
 
   pub written_between : o < off → size ≤ o → written_byte off bytes size old o ≡ 0
   written_between low past = rw (lt-leb off o low, le-ltb o size past) refl
-
-pub given_inside : (from : ℕ) (bytes : List ℕ) (o : ℕ) → from ≤ o → given from bytes o ≡ slice_index bytes (o - from)
-given_inside from bytes o low = rw (le-leb from o low) refl
-
-given_before : (from : ℕ) (bytes : List ℕ) (o : ℕ) → o < from → given from bytes o ≡ 0
-given_before from bytes o low = rw (lt-leb from o low) refl
 
 -- ---- what the change touches
 
@@ -137,9 +131,9 @@ module _ {kept : ℕ → Bool} (old : Memory) (blocks inodes : Set) (n off : ℕ
         go (inl below) where_is =
             prepared.ready.kept o below ∙ sym (written_before off bytes (size_of image (suc n)) (byte image (root_of image (suc n))) o (omega (arith, below, behind)) below)
         go (inr past) (inl before) =
-            prepared.ready.bytes_are o past low ∙ given_before off bytes o before ∙ sym (written_between off bytes (size_of image (suc n)) (byte image (root_of image (suc n))) o before past)
+            prepared.ready.bytes_are o past low ∙ given-before off bytes o before ∙ sym (written_between off bytes (size_of image (suc n)) (byte image (root_of image (suc n))) o before past)
         go (inr past) (inr inside) =
-            prepared.ready.bytes_are o past low ∙ given_inside off bytes o inside ∙ sym (written_inside off bytes (size_of image (suc n)) (byte image (root_of image (suc n))) o inside low)
+            prepared.ready.bytes_are o past low ∙ given-there off bytes o inside ∙ sym (written_inside off bytes (size_of image (suc n)) (byte image (root_of image (suc n))) o inside low)
 
     pub behind_writes : WritesFile (suc n) off bytes image (current_words new)
     behind_writes = record {

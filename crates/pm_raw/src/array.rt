@@ -5,7 +5,7 @@ ghost use Rattle.std.specs.Vec.Ownership.{FitsInBlock};
 ghost use Rattle.pm_raw.specs.Spelled.{spelled_words};
 
 use super::cells::{Base, Cells, Deed};
-use pm_words::read_word;
+use pm_words::word_at;
 use std::alloc::{AllocError, Global};
 use std::marker::Model;
 
@@ -158,10 +158,8 @@ fn push_spelled(cells: &mut Cells<u64>, base: Base<u64>, count: usize, bytes: &[
       items = cells.old.items ++ spelled_words (length bytes.now / 8) bytes.now;
     } }
 {
-    let mut word = [0u8; 8];
     for k in 0..bytes.len() / 8 {
-        word.copy_from_slice(&bytes[8 * k..8 * k + 8]);
-        cells.push(base, count + k, read_word(&word));
+        cells.push(base, count + k, word_at(bytes, 8 * k));
     }
 }
 

@@ -43,9 +43,7 @@ tree_text totals free =
 
 -- the turns, those that were carried out, those that were refused, the storms, and what is held at the end
 abbrev pub play_text : ℕ → Summary → Totals → ℕ → List ℕ
-play_text count summary totals free =
-    turns_text count summary.ok ++ spaced summary.refused ++ crashes_text summary.crashes summary.kept summary.of
-    ++ tree_text totals free
+play_text count summary totals free = summary_text count summary ++ tree_text totals free
 
 -- ---- a play
 

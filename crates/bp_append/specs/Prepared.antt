@@ -7,7 +7,7 @@ use Rattle.bp_layout.specs.Inode.{RootPlace, root_of, size_of}
 use Rattle.bp_layout.specs.Reached.{IsReached, IsFreeBlock}
 use Rattle.bp_layout.specs.WellFormed.{IsWellFormed}
 use Rattle.bp_layout.specs.WordPaths.{WordPath, tree_path}
-use Rattle.bp_limits.specs.Limits.{block_words, greatest_height, greatest_size, max_height}
+use Rattle.bp_limits.specs.Limits.{block_words, greatest_height, greatest_size, inode_words, max_height, root_field, super_root}
 use Rattle.bp_layout.specs.Nodes.{nodes_for, height_with}
 use Rattle.bp_layout.specs.Members.{Has, Each}
 use Rattle.bp_changes.specs.SameContent.{IsReadByWords}
@@ -40,7 +40,7 @@ pub record CanPrepare (kept : ℕ → Bool) (memory : Memory) (free : List ℕ) 
     (from to : ℕ) : Type 0 where
   pub well : IsWellFormed (current_words memory)
   pub reached : IsReached (current_words memory) t
-  pub leads : path ≡ tree_path (height_of (word (current_words memory) 2)) t 0 0
+  pub leads : path ≡ tree_path (height_of (word (current_words memory) super_root)) t 0 0
   pub behind : size_of (current_words memory) t ≤ from
   pub order : from ≤ to
   pub fits : to ≤ greatest_size (version_of (current_words memory))
@@ -74,7 +74,7 @@ pub record Prepares (old new : Image) (t from to : ℕ) (bytes taken : List ℕ)
   pub apart : (u b : ℕ) → IsReached old u → u ≢ t → HasBlock new (root_of new u) (size_of new u) b
       → HasBlock new (root_of new t) to b → ⊥
   pub others : (u d k : ℕ) → IsReached old u → u ≢ t → IsLiveWord (root_of old u) (size_of old u) (suc d) k
-      → ((u ≡ 0) → (d ≡ height_of (root_of old 0)) → (k ≡ 8 * t + 1) → ⊥) →
+      → ((u ≡ 0) → (d ≡ height_of (root_of old 0)) → (k ≡ inode_words * t + root_field) → ⊥) →
       word_at new (root_of new u) (suc d) k ≡ word_at old (root_of old u) (suc d) k
 
 -- The blocks are the first of the free ones, as many as are needed. Nobody sees the stores at any moment of a crash,

@@ -1,6 +1,7 @@
 -- The size of a file is stored behind a preparation.
 use Rattle.std.specs.Prelude.{◌≡◌, ℕ, suc, ◌+◌, ◌*◌, ◌<◌, List, Bool}
 use Rattle.pm_epochs.specs.Crash.{commit}
+use Rattle.bp_limits.specs.Limits.{inode_words, size_field}
 use Rattle.bp_layout.specs.Inode.{ContentStandsAt, IsFile, size_of}
 use Rattle.bp_layout.specs.Need.Change.{resizes}
 use Rattle.bp_layout.specs.WordPaths.{WordPath}
@@ -15,7 +16,7 @@ pub record GrowsFile (kept : ℕ → Bool) (old middle new : Memory) (free_old f
   pub can : CanPrepare kept old free_old (suc n) path size size
   pub longer : size_of (current_words old) (suc n) < size
   pub is_file : IsFile (current_words old) (suc n)
-  pub stands : ContentStandsAt (current_words old) 0 (8 * suc n + 2) place
+  pub stands : ContentStandsAt (current_words old) 0 (inode_words * suc n + size_field) place
   pub bytes : List ℕ
   pub prepared : PreparesWith kept old middle free_old free_new (suc n) size size bytes
   pub stored : Adds middle new (commit place size)

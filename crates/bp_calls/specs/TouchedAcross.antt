@@ -12,6 +12,7 @@ use Rattle.bp_layout.specs.Need.Change.{writes}
 use Rattle.bp_layout.specs.Nodes.{height_with}
 use Rattle.bp_layout.specs.WordPaths.{inode_path}
 use Rattle.bp_layout.specs.Words.{Image, height_of}
+use Rattle.bp_limits.specs.Limits.{root_field, size_field}
 use Rattle.bp_shapes.specs.Sets.{kept_of}
 use Rattle.bp_calls.specs.CanWrite.{CanWriteInto}
 use Rattle.bp_calls.specs.declared.writing.across.Plan.{Plan}
@@ -19,12 +20,12 @@ use Rattle.pm_region.specs.Memory.{Memory, current_words}
 
 -- the word of the size of inode i alone, with the value that it is given
 pub record IsSizeWord (image : Image) (i end : ℕ) (words : List (ArrayVec ℕ × ℕ)) : Type 0 where
-  pub path : map (λ word. word.0.items) words ≡ inode_path (height_of (root_of image 0)) i 2 ∷ []
+  pub path : map (λ word. word.0.items) words ≡ inode_path (height_of (root_of image 0)) i size_field ∷ []
   pub value : map (λ word. word.1) words ≡ end ∷ []
 
 -- the run of these bytes from an offset on, in the tree of inode i once it is high enough for an end
 pub record IsRunAcross (image : Image) (i off end : ℕ) (bytes : List ℕ) (run : Run) : Type 0 where
-  pub root : run.root.items ≡ inode_path (height_of (root_of image 0)) i 1
+  pub root : run.root.items ≡ inode_path (height_of (root_of image 0)) i root_field
   pub height : run.height ≡ height_with (root_of image i) (size_of image i) end
   pub size : run.size ≡ end
   pub from : run.off ≡ off
@@ -35,7 +36,7 @@ pub record TouchesAcross (image : Image) (i off end : ℕ) (bytes : List ℕ) (t
   pub run : Run
   pub one : touched.runs.now ≡ run ∷ []
   pub is : IsRunAcross image i off end bytes run
-  pub sized : word_paths touched ≡ inode_path (height_of (root_of image 0)) i 2 ∷ []
+  pub sized : word_paths touched ≡ inode_path (height_of (root_of image 0)) i size_field ∷ []
   pub value : word_values touched ≡ end ∷ []
   pub no_trees : touched.trees.now ≡ []
 

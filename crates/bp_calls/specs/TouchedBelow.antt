@@ -6,12 +6,13 @@ use Rattle.bp_free.specs.Set.{Set}
 use Rattle.bp_layout.specs.Inode.{root_of, size_of}
 use Rattle.bp_layout.specs.WordPaths.{inode_path}
 use Rattle.bp_layout.specs.Words.{Image, height_of}
+use Rattle.bp_limits.specs.Limits.{root_field}
 use Rattle.bp_calls.specs.CanWrite.{CanWriteInto}
 use Rattle.pm_region.specs.Memory.{Memory, current_words}
 
 -- the run of these bytes from an offset on, in the tree of inode i
 pub record IsRunFor (image : Image) (i off : ℕ) (bytes : List ℕ) (run : Run) : Type 0 where
-  pub root : run.root.items ≡ inode_path (height_of (root_of image 0)) i 1
+  pub root : run.root.items ≡ inode_path (height_of (root_of image 0)) i root_field
   pub height : run.height ≡ height_of (root_of image i)
   pub size : run.size ≡ size_of image i
   pub from : run.off ≡ off

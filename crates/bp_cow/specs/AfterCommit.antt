@@ -1,6 +1,6 @@
 -- What a commit makes, told of single words and of trees.
 use Rattle.std.specs.Prelude.{◌≡◌, ◌≢◌, ℕ, suc, ◌+◌, ◌-◌, ◌*◌, ◌/◌, ◌<◌, ◌≤◌, ◌∷◌, length}
-use Rattle.bp_limits.specs.Limits.{block_words, inode_words, super_root}
+use Rattle.bp_limits.specs.Limits.{block_words, inode_words, size_field, super_root}
 use Rattle.bp_changes.specs.Commits.{Commits}
 use Rattle.bp_layout.specs.Inode.{IsDirectory, root_of, size_of}
 use Rattle.bp_layout.specs.Members.{Has}
@@ -62,7 +62,7 @@ CommitsTrees old new bound touched =
 -- the trail of the word with an inode's size
 abbrev pub size_trail : Image → ℕ → Trail
 size_trail image n =
-    tree_trail (height_of (word image super_root)) 0 (suc (height_of (word image super_root))) (inode_words * n + 2)
+    tree_trail (height_of (word image super_root)) 0 (suc (height_of (word image super_root))) (inode_words * n + size_field)
 
 -- the size of a reached inode is the value of its word
 abbrev pub HasSizeWord : Image → Image → Touched → ℕ → Type 0

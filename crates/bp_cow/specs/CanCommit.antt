@@ -7,7 +7,7 @@ use Rattle.bp_layout.specs.Words.{Image, word, block_count, height_of}
 use Rattle.bp_layout.specs.Inode.{root_of, size_of}
 use Rattle.bp_layout.specs.Reached.{IsReached}
 use Rattle.bp_layout.specs.WordPaths.{inode_path}
-use Rattle.bp_limits.specs.Limits.{super_root}
+use Rattle.bp_limits.specs.Limits.{root_field, super_root}
 use Rattle.bp_shapes.specs.Forest.{root_trail, tree_trail, IsForest, IsTreePointer}
 use Rattle.bp_shapes.specs.Trail.{trail_of}
 use Rattle.bp_cow.specs.Touched.{IsTouched, run_end, run_path, path_of, word_paths, end_trail, touched_trail}
@@ -24,7 +24,7 @@ pub record TellsKept (kept : ℕ → Bool) (image : Image) (set : Set) : Type 0 
 pub record IsRunIn (old : Image) (bound : ℕ → ℕ) (run : Run) : Type 0 where
   pub inode : ℕ
   pub reached : IsReached old (suc inode)
-  pub root : trail_of run.root.items (length run.root.items) ≡ root_trail (height_of (word old 2)) (suc inode)
+  pub root : trail_of run.root.items (length run.root.items) ≡ root_trail (height_of (word old super_root)) (suc inode)
   pub height : run.height ≡ height_of (root_of old (suc inode))
   pub below : run_end run ≤ bound (suc inode)
   pub counts : bound (suc inode) ≤ run.size
@@ -33,7 +33,7 @@ pub record IsRunIn (old : Image) (bound : ℕ → ℕ) (run : Run) : Type 0 wher
 pub record IsTreeIn (old : Image) (bound : ℕ → ℕ) (tree : TreeSize) : Type 0 where
   pub number : ℕ
   pub reached : IsReached old number
-  pub root : trail_of tree.root.items (length tree.root.items) ≡ root_trail (height_of (word old 2)) number
+  pub root : trail_of tree.root.items (length tree.root.items) ≡ root_trail (height_of (word old super_root)) number
   pub height : tree.height ≡ height_of (root_of old number)
   pub counts : bound number ≤ tree.size
 
@@ -93,7 +93,7 @@ CanCommitRuns image kept touched free =
 -- a tree is the image's that has an inode's root path, height and size
 abbrev pub IsInodeTree : Image → ℕ → TreeSize → Type 0
 IsInodeTree image n tree =
-    tree.root.items ≡ inode_path (height_of (root_of image 0)) n 1 → tree.height ≡ height_of (root_of image n) →
+    tree.root.items ≡ inode_path (height_of (root_of image 0)) n root_field → tree.height ≡ height_of (root_of image n) →
     tree.size ≡ size_of image n → IsTreeIn image (size_of image) tree
 
 -- .. and so is one that has those of the inode file

@@ -14,7 +14,7 @@ after_commit old job q = unwrap_or (value_upto job job.words q) (laid_on old job
 -- the same of content words, by tree and number
 abbrev pub changes_of : Image → Job → ℕ → ℕ → Option ℕ
 changes_of old job t k =
-    Some (after_commit old job (tree_trail (height_of (word old 2)) t (suc (height_of (root_of old t))) k))
+    Some (after_commit old job (tree_trail (height_of (word old super_root)) t (suc (height_of (root_of old t))) k))
 
 -- What a commit makes of the words. `Pointer`: the pointers of the image; `Counts`: the content words that count;
 -- `turned`: the pointers that lead to copies, in blocks to which none led before; `after`: the value of a word that

@@ -42,4 +42,4 @@ ContentStandsAt image t index place = StandsAt image t (height_of (root_of image
 -- the place of the root word of a tree
 pub data RootPlace (image : Image) : ℕ → ℕ → Type 0 where
   top : {t place : ℕ} → t ≡ 0 → place ≡ super_root → RootPlace image t place
-  inode : {t place : ℕ} → t ≢ 0 → ContentStandsAt image 0 (inode_words * t + 1) place → RootPlace image t place
+  inode : {t place : ℕ} → t ≢ 0 → ContentStandsAt image 0 (inode_words * t + root_field) place → RootPlace image t place

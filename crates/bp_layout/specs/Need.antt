@@ -1,7 +1,7 @@
 -- What a change touches, and how many blocks it needs.
 use Rattle.std.specs.Prelude.{ℕ, suc, ◌+◌, ◌-◌, ◌*◌, ◌/◌, min, max, List, [], ◌∷◌, ◌++◌, length, take, drop, map, filter, flat_map, Bool, not, ◌&&◌, ◌||◌, ◌==◌, nat_lt, nat_le, bytes_eq, Option, None, Some, if◌then◌else◌, fold}
 use Rattle.std.specs.List.{range_with_len, list_any}
-use Rattle.bp_limits.specs.Limits.{block_size, block_words, entry_size, entry_words}
+use Rattle.bp_limits.specs.Limits.{block_size, block_words, entry_size, entry_words, size_field}
 use Rattle.bp_layout.specs.Words.{Image, height_of}
 use Rattle.bp_layout.specs.Nodes.{TreeNode, is_present, height_with, nodes_for}
 use Rattle.bp_layout.specs.Inode.{root_of, size_of}
@@ -98,7 +98,7 @@ abbrev pub entry_path_at : (ℕ → ℕ) → ℕ → ℕ → ℕ → WordPath
 entry_path_at heights i slot f = content_path_at heights i (entry_words * slot + f)
 
 abbrev pub entered_at : (ℕ → ℕ) → ℕ → Option ℕ → WordPath
-entered_at heights i None = inode_path (heights 0) i 2
+entered_at heights i None = inode_path (heights 0) i size_field
 entered_at heights i (Some slot) = entry_path_at heights i slot 0
 
 abbrev pub stretch_paths : (ℕ → ℕ) → Stretch → List WordPath
@@ -111,8 +111,8 @@ touched_at heights image (writes i off len) =
     map (content_path_at heights i)
     (if nat_lt off (size_of image i) then range_with_len (off / 8)
     (suc ((min (off + len) (size_of image i) - 1) / 8 - off / 8)) else [])
-    ++ (if nat_lt (size_of image i) (off + len) then inode_path (heights 0) i 2 ∷ [] else [])
-touched_at heights image (resizes i size) = inode_path (heights 0) i 2 ∷ []
+    ++ (if nat_lt (size_of image i) (off + len) then inode_path (heights 0) i size_field ∷ [] else [])
+touched_at heights image (resizes i size) = inode_path (heights 0) i size_field ∷ []
 touched_at heights image (enters i entrant) = entered_at heights i (empty_slot image i) ∷ []
 touched_at heights image (leaves i s) = entry_path_at heights i s 0 ∷ []
 touched_at heights image (replaces i s j r) = entry_path_at heights i s 0 ∷ entry_path_at heights j r 0 ∷ []

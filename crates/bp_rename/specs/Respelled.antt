@@ -6,7 +6,7 @@ use Rattle.bp_layout.specs.Directory.{Name}
 use Rattle.bp_layout.specs.Inode.{root_of, size_of}
 use Rattle.bp_layout.specs.WordPaths.{inode_path}
 use Rattle.bp_layout.specs.Words.{Image, byte_of, height_of}
-use Rattle.bp_limits.specs.Limits.{entry_size, max_name}
+use Rattle.bp_limits.specs.Limits.{entry_size, max_name, root_field}
 
 -- a byte of them: eight of the name's length, the lowest first, and then the name, with zeros behind it
 abbrev pub respelled_byte : Name → ℕ → ℕ
@@ -21,7 +21,7 @@ respelled_length name = 8 + 8 * ((length name + 7) / 8)
 
 -- the run of the bytes of an entry behind its inumber that are touched
 pub record IsNameRun (image : Image) (i slot : ℕ) (name : Name) (run : Run) : Type 0 where
-  pub root : run.root.items ≡ inode_path (height_of (root_of image 0)) i 1
+  pub root : run.root.items ≡ inode_path (height_of (root_of image 0)) i root_field
   pub height : run.height ≡ height_of (root_of image i)
   pub size : run.size ≡ size_of image i
   pub from : run.off ≡ entry_size * slot + 8

@@ -4,7 +4,7 @@ use Rattle.arrayvec.specs.ArrayVec.{ArrayVec}
 use Rattle.bp_cow.specs.Touched.{word_paths, word_values}
 use Rattle.bp_cow.specs.declared.touched.Touched.{Touched}
 use Rattle.bp_cow.specs.declared.touched.TreeSize.{TreeSize}
-use Rattle.bp_limits.specs.Limits.{entry_words, max_height, super_root}
+use Rattle.bp_limits.specs.Limits.{entry_words, max_height, size_field, super_root}
 use Rattle.bp_layout.specs.Inode.{root_of, size_of}
 use Rattle.bp_layout.specs.Members.{Has}
 use Rattle.bp_layout.specs.Reached.{IsReached}
@@ -20,7 +20,7 @@ inumber_path image i slot =
 
 -- the path of the size word of an inode
 abbrev pub size_path : Image → ℕ → WordPath
-size_path image i = inode_path (height_of (root_of image 0)) i 2
+size_path image i = inode_path (height_of (root_of image 0)) i size_field
 
 -- two words, in this order, by their paths and with the values that they are given
 pub record AreTwo (words : List (ArrayVec ℕ × ℕ)) (first second : WordPath) (one two : ℕ) : Type 0 where

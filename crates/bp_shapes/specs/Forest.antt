@@ -1,6 +1,6 @@
 -- The trees of an image on their trails.
 use Rattle.std.specs.Prelude.{◌≡◌, ℕ, zero, suc, ◌+◌, ◌*◌, ◌/◌, ◌%◌, ◌<◌, ◌≤◌, [], ◌∷◌, Bool, true, false}
-use Rattle.bp_limits.specs.Limits.{block_words, greatest_height, inode_size, inode_words, super_root}
+use Rattle.bp_limits.specs.Limits.{block_words, greatest_height, inode_size, inode_words, root_field, super_root}
 use Rattle.bp_layout.specs.Formatted.{version_of}
 use Rattle.bp_layout.specs.Words.{Image, word, block_count, height_of}
 use Rattle.bp_layout.specs.Tree.{IsLivePointer, HasBlock, IsSound}
@@ -16,7 +16,7 @@ along base (suc depth) index = (index % block_words) ∷ along base depth (index
 -- where the inode file has this height
 abbrev pub root_trail : ℕ → ℕ → Trail
 root_trail height zero = []
-root_trail height (suc i) = along [] (suc height) (inode_words * suc i + 1)
+root_trail height (suc i) = along [] (suc height) (inode_words * suc i + root_field)
 
 abbrev pub tree_trail : ℕ → ℕ → ℕ → ℕ → Trail
 tree_trail height t depth index = along (root_trail height t) depth index

@@ -1,5 +1,5 @@
 -- The sets that a volume keeps: the free numbers of an image.
-use Rattle.std.specs.Prelude.{◌≡◌, ℕ, ◌*◌, ◌/◌, length, Bool}
+use Rattle.std.specs.Prelude.{◌≡◌, ℕ, ◌*◌, length, Bool}
 use Rattle.bp_free.specs.Set.{Set, has}
 use Rattle.bp_layout.specs.Free.{AreUnheld, AreUnused}
 use Rattle.bp_free.specs.declared.parts.Parts.{Parts}
@@ -7,14 +7,14 @@ use Rattle.bp_layout.specs.Inode.{size_of}
 use Rattle.bp_layout.specs.Names.{AreCounts}
 use Rattle.bp_layout.specs.Reached.{IsReached}
 use Rattle.bp_layout.specs.Words.{Image, block_count}
-use Rattle.bp_limits.specs.Limits.{block_size, inode_size}
+use Rattle.bp_limits.specs.Limits.{block_inodes}
 
 -- The sets have just the blocks that none of these trees has, under a size for each, and that are not kept, and the
 -- inodes that are none of them. They have room for all.
 pub record AreExactFor (image : Image) (Tree : ℕ → Type 0) (bound : ℕ → ℕ) (kept : ℕ → Bool)
     (blocks inodes : Set) : Type 0 where
   pub block_room : length blocks ≡ block_count image
-  pub inode_room : length inodes ≡ block_size / inode_size * block_count image
+  pub inode_room : length inodes ≡ block_inodes * block_count image
   pub free_blocks : AreUnheld image Tree bound kept (has blocks)
   pub free_inodes : AreUnused image Tree (has inodes)
 
@@ -30,5 +30,5 @@ kept_of parts = has parts.frozen
 pub record IsExact {R : Type 0} (image : Image) (parts : Parts R) : Type 0 where
   pub sets : AreExact image (kept_of parts) parts.blocks parts.inodes
   pub counts : AreCounts image parts.counts
-  pub count_room : length parts.counts ≡ block_size / inode_size * block_count image
+  pub count_room : length parts.counts ≡ block_inodes * block_count image
   pub frozen_room : length parts.frozen ≡ block_count image

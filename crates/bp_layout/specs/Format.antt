@@ -1,9 +1,9 @@
 -- The stores of a format, in their order, and those of an upgrade.
-use Rattle.std.specs.Prelude.{ℕ, List, [], ◌∷◌, ◌++◌, flat_map}
+use Rattle.std.specs.Prelude.{ℕ, ◌+◌, List, [], ◌∷◌, ◌++◌, flat_map}
 use Rattle.bp_layout.specs.Words.{Image}
 use Rattle.bp_limits.specs.declared.version.Version.{Version}
 use Rattle.bp_limits.specs.declared.version.Version.TheVariants.{One, Two}
-use Rattle.bp_limits.specs.Limits.{block_size, magic, super_blocks, super_magic, super_root, super_second_root, super_second_size, super_size}
+use Rattle.bp_limits.specs.Limits.{block_size, directory_kind, first_inode, magic, root_field, size_field, super_blocks, super_magic, super_root, super_second_root, super_second_size, super_size}
 use Rattle.bp_layout.specs.Stores.{after_stores}
 
 -- the words that version 2 keeps for a second inode file, where there is none
@@ -14,10 +14,14 @@ abbrev pub kept_words : Version → List (ℕ × ℕ)
 kept_words One = []
 kept_words Two = no_second
 
+-- the root directory without entries
+abbrev pub no_entries : List (ℕ × ℕ)
+no_entries = (first_inode, directory_kind) ∷ (first_inode + root_field, 0) ∷ (first_inode + size_field, 0) ∷ []
+
 -- the words of an empty file system of so many blocks, but for the mark
 abbrev pub empty_words : Version → ℕ → List (ℕ × ℕ)
 empty_words version blocks = (super_blocks, blocks) ∷ (super_root, 0x1000) ∷ (super_size, block_size) ∷ []
-    ++ kept_words version ++ (520, 2) ∷ (521, 0) ∷ (522, 0) ∷ []
+    ++ kept_words version ++ no_entries
 
 -- The mark goes, the words of an empty file system are stored, and the mark comes back, each in an epoch of its own.
 abbrev pub format_epochs : Version → ℕ → List (List (ℕ × ℕ))

@@ -1,6 +1,6 @@
 -- The limits of the format, of calls, of scripts and of the programs.
 use Rattle.std.specs.Prelude.{ℕ, ◌==◌, Bool, true, false, if◌then◌else◌}
-use Rattle.bp_limits.specs.declared.TheConstants.{BLOCK_SIZE, BLOCK_WORDS, MIN_BLOCKS, MAX_BLOCKS, SUPER_MAGIC, SUPER_BLOCKS, SUPER_ROOT, SUPER_SIZE, SUPER_SECOND_ROOT, SUPER_SECOND_SIZE, INODE_SIZE, INODE_WORDS, ROOT_FIELD, SIZE_FIELD, BLOCK_INODES, ROOT_INUMBER, FILE_KIND, DIRECTORY_KIND, ENTRY_SIZE, ENTRY_WORDS, BLOCK_ENTRIES, MAX_HEIGHT, MAX_SIZE, MAX_NAME, MAX_PATH, MAX_READ, MAX_WRITE, MAX_PIECES, MAX_BATCH, CALL_ROOM, MAX_LINE, MAX_TEXT, MAX_INPUT, LOG_EVENTS, MAX_MASK, MAX_TURNS}
+use Rattle.bp_limits.specs.declared.TheConstants.{BLOCK_SIZE, BLOCK_WORDS, MIN_BLOCKS, MAX_BLOCKS, SUPER_MAGIC, SUPER_BLOCKS, SUPER_ROOT, SUPER_SIZE, SUPER_SECOND_ROOT, SUPER_SECOND_SIZE, INODE_SIZE, INODE_WORDS, ROOT_FIELD, SIZE_FIELD, BLOCK_INODES, ROOT_INUMBER, FIRST_INODE, FILE_KIND, DIRECTORY_KIND, ENTRY_SIZE, ENTRY_WORDS, BLOCK_ENTRIES, MAX_HEIGHT, MAX_SIZE, MAX_NAME, MAX_PATH, MAX_READ, MAX_WRITE, MAX_PIECES, MAX_BATCH, CALL_ROOM, MAX_LINE, MAX_TEXT, MAX_INPUT, LOG_EVENTS, MAX_MASK, MAX_TURNS}
 use Rattle.bp_limits.specs.declared.version.Version.{Version}
 use Rattle.bp_limits.specs.declared.version.Version.TheVariants.{One, Two}
 
@@ -78,6 +78,10 @@ block_inodes = BLOCK_INODES
 -- the number of the root directory's inode
 abbrev pub root_inumber : ℕ
 root_inumber = ROOT_INUMBER
+
+-- the place of that inode in a new image, in words
+abbrev pub first_inode : ℕ
+first_inode = FIRST_INODE
 
 -- the first word of a file's inode, and of a directory's
 abbrev pub file_kind : ℕ

@@ -1,6 +1,6 @@
 //! The limits of the format, of calls, of scripts and of the programs: each figure in one place, under a name.
 //!
-//! Clauses cite the same figures from `specs/Limits.antt`, under the same names in small letters.
+//! Clauses cite them from `specs/Limits.antt`, all but `WORD_SIZE`, under the same names in small letters.
 #![tactic(auto)]
 
 mod version;
@@ -63,6 +63,9 @@ pub const BLOCK_INODES: u32 = 64;
 
 /// The number of the root directory's inode.
 pub const ROOT_INUMBER: u32 = 1;
+
+/// The place of that inode in a new image, in words: behind inode 0 in block 1, which is all of the inode file then.
+pub const FIRST_INODE: u32 = 520;
 
 /// The first word of a file's inode.
 pub const FILE_KIND: u64 = 1;

@@ -8,8 +8,8 @@ ghost use Rattle.bp_volume.specs.Laid.{IsLeftByFormat, OfEachReplay, format_even
 ghost use Rattle.pm_region.specs.Memory.{Adds, room_in};
 
 use bp_limits::{
-    BLOCK_SIZE, BLOCK_WORDS, SUPER_BLOCKS, SUPER_MAGIC, SUPER_ROOT, SUPER_SECOND_ROOT,
-    SUPER_SECOND_SIZE, SUPER_SIZE, Version,
+    BLOCK_SIZE, BLOCK_WORDS, DIRECTORY_KIND, FIRST_INODE, ROOT_FIELD, SIZE_FIELD, SUPER_BLOCKS,
+    SUPER_MAGIC, SUPER_ROOT, SUPER_SECOND_ROOT, SUPER_SECOND_SIZE, SUPER_SIZE, Version,
 };
 use pm_region::Region;
 
@@ -31,9 +31,9 @@ pub fn lay_front<R: Region>(region: &mut R, version: Version, blocks: u32)
         region.store(SUPER_SECOND_ROOT, 0);
         region.store(SUPER_SECOND_SIZE, 0);
     }
-    region.store(520, 2);
-    region.store(521, 0);
-    region.store(522, 0);
+    region.store(FIRST_INODE, DIRECTORY_KIND);
+    region.store(FIRST_INODE + ROOT_FIELD, 0);
+    region.store(FIRST_INODE + SIZE_FIELD, 0);
     region.barrier();
     region.store(SUPER_MAGIC, version.magic());
     region.barrier();

@@ -6,7 +6,7 @@ use Rattle.bp_layout.specs.Words.{Image, block_count, block_of, height_of, slot_
 use Rattle.bp_layout.specs.Tree.{node, byte, span, IsLiveWord, HasBlock, IsSound, IsFull}
 use Rattle.bp_layout.specs.Members.{Has}
 use Rattle.bp_layout.specs.Pieces.{piece, child, HasChildren, Joins}
-use Rattle.bp_layout.proofs.TreeLaws.{KeepsPointers, KeepsLiveWords, word_at-kept, sound-kept, full-kept, has_block-kept, has_block-stays, live_above, live_pointer_word, live_content}
+use Rattle.bp_layout.proofs.TreeLaws.{KeepsPointers, KeepsLiveWords, tree_word-kept, sound-kept, full-kept, has_block-kept, has_block-stays, live_above, live_pointer_word, live_content}
 use Rattle.bp_layout.proofs.SmallTrees.{leaf_sound, leaf_full, one_live, node-zero, content_word-leaf}
 use Rattle.bp_layout.proofs.Pieces.{joined_sound, joined_block, joined_byte, joined_full, child_block, child_full, splits, top_has, sound_shape}
 use Rattle.bp_shapes.proofs.Roots.{null_tree, null_words}
@@ -40,7 +40,7 @@ module _ (old new : Image) (root size : ℕ) (whole : length new ≡ length old)
   tree_has = has_block-stays old new root size keeps_pointers
 
   tree_byte : (i : ℕ) → i < size → byte new root i ≡ byte old root i
-  tree_byte i low = ap (λ w. byte_of w (i % 8)) (word_at-kept old new root size keeps_words (suc (height_of root)) (i / 8) (live_content root size (i / 8) (omega (arith, low))))
+  tree_byte i low = ap (λ w. byte_of w (i % 8)) (tree_word-kept old new root size keeps_words (suc (height_of root)) (i / 8) (live_content root size (i / 8) (omega (arith, low))))
 
 pub built_kept : (old new : Image) {root size : ℕ} {bytes : ℕ → ℕ} {Member : ℕ → Type 0} {Full : Type 0} → length new ≡ length old →
     ((b s : ℕ) → Member b → s < 512 → slot_word new b s ≡ slot_word old b s) → IsBuilt old root size bytes Member Full → IsBuilt new root size bytes Member Full

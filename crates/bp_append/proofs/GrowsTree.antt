@@ -15,7 +15,7 @@ use Rattle.bp_layout.specs.WellFormed.{IsWellFormed}
 use Rattle.bp_layout.specs.WordPaths.{WordPath, address, inode_path}
 use Rattle.bp_layout.proofs.Addresses.{address_from-digits}
 use Rattle.bp_layout.proofs.Reached.{reached-in_file}
-use Rattle.bp_layout.proofs.TreeLaws.{KeepsPointers, node-kept, word_at-zero, live_content, live_above, live_pointer_word}
+use Rattle.bp_layout.proofs.TreeLaws.{KeepsPointers, node-kept, tree_word-zero, live_content, live_above, live_pointer_word}
 use Rattle.bp_changes.proofs.ChangesFile as changed
 use Rattle.bp_changes.proofs.ContentStore.{word-elsewhere}
 use Rattle.bp_changes.proofs.Resize.{CanResize, resize_changes, size_here}
@@ -119,7 +119,7 @@ module _ (kept : ℕ → Bool) (old middle new : Memory) (free_old free_new : Li
   leaf_same = go (height_of (root_of image 0)) ((8 * suc n + 2) / 512) refl leaf_live
     where
       go : (d k : ℕ) → height_of (root_of image 0) ≡ d → IsLivePointer (root_of image 0) (size_of image 0) d k → node mid (root_of mid 0) d k ≡ node image (root_of image 0) d k
-      go zero k e live = ap block_of (word_at-zero mid (root_of mid 0) k ∙ roots ∙ sym (word_at-zero image (root_of image 0) k))
+      go zero k e live = ap block_of (tree_word-zero mid (root_of mid 0) k ∙ roots ∙ sym (tree_word-zero image (root_of image 0) k))
       go (suc d) k e live =
           ap block_of (grows.prepared.ready.others 0 d k inode_file (λ same. not_inodes (sym same)) (live_pointer_word _ _ (suc d) k live) (λ tree depth index. omega (arith, e, depth)))
 

@@ -3,10 +3,10 @@ use Rattle.std.proofs.Common.{◌≡◌, ◌≢◌, ℕ, zero, suc, ◌+◌, ◌
 use Rattle.bp_layout.proofs.MemberLaws.{each-has}
 use Rattle.bp_limits.specs.Limits.{max_height}
 use Rattle.bp_layout.specs.Words.{Image, block_of, height_of, slot_word, byte_of}
-use Rattle.bp_layout.specs.Tree.{word_at, node, byte, covered, span, IsLivePointer, HasBlock}
+use Rattle.bp_layout.specs.Tree.{tree_word, node, byte, covered, span, IsLivePointer, HasBlock}
 use Rattle.bp_layout.specs.Inode.{root_of, size_of, StandsAt}
 use Rattle.bp_layout.specs.Reached.{IsReached, IsLiveBlock}
-use Rattle.bp_layout.proofs.TreeLaws.{word_at-suc, word_at-zero}
+use Rattle.bp_layout.proofs.TreeLaws.{tree_word-suc, tree_word-zero}
 use Rattle.bp_shapes.specs.Links.{IsUnder, CanHang}
 use Rattle.bp_layout.specs.Members.{Has, Each}
 use Rattle.bp_shapes.specs.Links.IsUnder.{here, under}
@@ -26,21 +26,21 @@ same_number (suc d) k l slots rests =
 
 module _ (image : Image) (block level : ℕ) (low : level ≤ max_height) where
   node_below : (r l : ℕ) → node image (4096 * block) r l ≡ node image (4096 * block + level) r (rest_of r l)
-  node_below zero l = ap block_of (word_at-zero image (4096 * block) l) ∙ omega (arith, low) ∙ sym (ap block_of (word_at-zero image (4096 * block + level) 0))
+  node_below zero l = ap block_of (tree_word-zero image (4096 * block) l) ∙ omega (arith, low) ∙ sym (ap block_of (tree_word-zero image (4096 * block + level) 0))
   node_below (suc r) l =
       let row : rest_of (suc r) l / 512 ≡ rest_of r (l / 512) = omega arith in
       let column : rest_of (suc r) l % 512 ≡ l % 512 = omega arith in
-      ap block_of (word_at-suc image (4096 * block) r l
+      ap block_of (tree_word-suc image (4096 * block) r l
       ∙ ap (λ b. slot_word image b (l % 512)) (node_below r (l / 512))
-      ∙ sym (word_at-suc image (4096 * block + level) r (rest_of (suc r) l) ∙ rw (row, column) refl))
+      ∙ sym (tree_word-suc image (4096 * block + level) r (rest_of (suc r) l) ∙ rw (row, column) refl))
 
-  word_below : (r l : ℕ) → word_at image (4096 * block) (suc r) l ≡ word_at image (4096 * block + level) (suc r) (rest_of (suc r) l)
+  word_below : (r l : ℕ) → tree_word image (4096 * block) (suc r) l ≡ tree_word image (4096 * block + level) (suc r) (rest_of (suc r) l)
   word_below r l =
       let row : rest_of (suc r) l / 512 ≡ rest_of r (l / 512) = omega arith in
       let column : rest_of (suc r) l % 512 ≡ l % 512 = omega arith in
-      word_at-suc image (4096 * block) r l
+      tree_word-suc image (4096 * block) r l
       ∙ ap (λ b. slot_word image b (l % 512)) (node_below r (l / 512))
-      ∙ sym (word_at-suc image (4096 * block + level) r (rest_of (suc r) l) ∙ rw (row, column) refl)
+      ∙ sym (tree_word-suc image (4096 * block + level) r (rest_of (suc r) l) ∙ rw (row, column) refl)
 
 -- a pointer that is null, a place for it, and a tree under new blocks that is zero below the size
 module _ (image : Image) (t d k place block level size : ℕ) (bytes : ℕ → ℕ) (taken : List ℕ) (Full : Type 0) (reached : IsReached image t)
@@ -103,7 +103,7 @@ module _ (image : Image) (t d k place block level size : ℕ) (bytes : ℕ → �
     zero_bytes = λ o r b below. zero_byte o r (below_depth d k (height_of (root_of image t)) (o / 8 / 512) r b) (slot_below d k (height_of (root_of image t)) (o / 8 / 512) r b) below;
   }
     where
-      zero_byte : (o r : ℕ) → height_of (root_of image t) ≡ suc d + r → slot_of r (o / 8 / 512) ≡ k → o < size_of image t → byte_of (word_at image (4096 * block) (suc r) (o / 8)) (o % 8) ≡ 0
+      zero_byte : (o r : ℕ) → height_of (root_of image t) ≡ suc d + r → slot_of r (o / 8 / 512) ≡ k → o < size_of image t → byte_of (tree_word image (4096 * block) (suc r) (o / 8)) (o % 8) ≡ 0
       zero_byte o r deep slot below =
           let same : r ≡ level = omega (arith, deep, height) in
           let split : o / 8 * covered 0 ≡ k * span level + rest_of (suc r) (o / 8) * covered 0 =
@@ -117,7 +117,7 @@ module _ (image : Image) (t d k place block level size : ℕ) (bytes : ℕ → �
           let tall : height_of (4096 * block + level) ≡ r = omega (arith, same, low) in
           let row : (8 * rest_of (suc r) (o / 8) + o % 8) / 8 ≡ rest_of (suc r) (o / 8) = omega arith in
           let column : (8 * rest_of (suc r) (o / 8) + o % 8) % 8 ≡ o % 8 = omega arith in
-          let as_byte : byte image (4096 * block + level) (8 * rest_of (suc r) (o / 8) + o % 8) ≡ byte_of (word_at image (4096 * block + level) (suc r) (rest_of (suc r) (o / 8))) (o % 8) = rw (tall, row, column) refl in
+          let as_byte : byte image (4096 * block + level) (8 * rest_of (suc r) (o / 8) + o % 8) ≡ byte_of (tree_word image (4096 * block + level) (suc r) (rest_of (suc r) (o / 8))) (o % 8) = rw (tall, row, column) refl in
           ap (λ w. byte_of w (o % 8)) (word_below image block level low r (o / 8))
           ∙ sym as_byte
           ∙ built.bytes_are (8 * rest_of (suc r) (o / 8) + o % 8) (wide (8 * rest_of (suc r) (o / 8) + o % 8) small inside)

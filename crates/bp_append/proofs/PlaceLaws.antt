@@ -15,7 +15,7 @@ use Rattle.bp_layout.specs.Reached.IsReached.{inode_file}
 use Rattle.bp_layout.specs.WellFormed.{IsWellFormed}
 use Rattle.bp_layout.specs.WordPaths.{WordPath, digits, tree_path, address, Exists}
 use Rattle.bp_layout.specs.Inode.RootPlace.{top, inode}
-use Rattle.bp_layout.proofs.TreeLaws.{word_at-suc, slot_word-at, live_above, live_content}
+use Rattle.bp_layout.proofs.TreeLaws.{tree_word-suc, slot_word-at, live_above, live_content}
 use Rattle.bp_layout.proofs.Reached.{reached-in_file}
 use Rattle.bp_layout.proofs.Addresses.{address_from-digits}
 use Rattle.bp_tree.specs.Paths.{IsInRange}
@@ -51,13 +51,13 @@ leads_to image (suc i) wf reached = subst (Leads image (suc i)) (sym (append-nil
   in_range = in_range-digits image 2 (word image 2) (word image 3) refl sound (suc height) number live under;
   stands = inode (λ e. omega (arith, e)) (record { present = under; at = sym at });
   low = let range = sound.in_range height (number / 512) above in omega (arith, at, range, number_is, wf.formatted.sized.whole);
-  root = ap (word image) at ∙ sym (slot_word-at image (node image (word image 2) height (number / 512)) (number % 512) under) ∙ sym (word_at-suc image (word image 2) height number);
+  root = ap (word image) at ∙ sym (slot_word-at image (node image (word image 2) height (number / 512)) (number % 512) under) ∙ sym (tree_word-suc image (word image 2) height number);
   size =
       let row : (8 * suc i + 2) / 512 ≡ number / 512 = omega arith in
       let column : (8 * suc i + 2) % 512 ≡ number % 512 + 1 = omega arith in
       let next : address image (digits (suc height) number) + 1 ≡ 512 * node image (word image 2) height (number / 512) + (number % 512 + 1) = omega (arith, at) in
       ap (word image) next ∙ sym (slot_word-at image (node image (word image 2) height (number / 512)) (number % 512 + 1) under)
-      ∙ sym (word_at-suc image (word image 2) height (8 * suc i + 2) ∙ rw (row, column) refl);
+      ∙ sym (tree_word-suc image (word image 2) height (8 * suc i + 2) ∙ rw (row, column) refl);
 })
   where
     height : ℕ

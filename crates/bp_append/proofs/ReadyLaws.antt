@@ -5,7 +5,7 @@ use Rattle.bp_layout.proofs.MemberLaws.{each-has}
 use Rattle.bp_limits.specs.Limits.{greatest_height, greatest_size}
 use Rattle.bp_layout.specs.Formatted.{version_of}
 use Rattle.bp_layout.specs.Words.{Image, block_of, height_of, slot_word, byte_of}
-use Rattle.bp_layout.specs.Tree.{node, word_at, byte, IsLivePointer, IsLiveWord, HasBlock, IsSound, IsFull}
+use Rattle.bp_layout.specs.Tree.{node, tree_word, byte, IsLivePointer, IsLiveWord, HasBlock, IsSound, IsFull}
 use Rattle.bp_layout.specs.Inode.{root_of, size_of, inode_count, RootPlace}
 use Rattle.bp_layout.specs.Reached.{IsReached, IsLiveBlock}
 use Rattle.bp_layout.specs.Reached.IsReached.{inode_file}
@@ -15,7 +15,7 @@ use Rattle.bp_changes.specs.SameMeaning.{SameMeaning}
 use Rattle.bp_layout.specs.Inode.RootPlace.{top, inode}
 use Rattle.bp_layout.specs.Nodes.{height_with}
 use Rattle.bp_layout.specs.Members.{Has, Each}
-use Rattle.bp_layout.proofs.TreeLaws.{KeepsPointers, node-kept, has_block-kept, word_at-suc, live_above, live_pointer_word, live_content, slot_word-same}
+use Rattle.bp_layout.proofs.TreeLaws.{KeepsPointers, node-kept, has_block-kept, tree_word-suc, live_above, live_pointer_word, live_content, slot_word-same}
 use Rattle.bp_layout.proofs.Reached.{reached-in_file}
 use Rattle.bp_changes.proofs.Separation.{SameWord, one_place_in_nodes}
 use Rattle.bp_changes.proofs.Formatted.{version_stays}
@@ -154,13 +154,13 @@ module _ (old image : Image) (wf : IsWellFormed old) (t place other from to : �
           above_content : (d : ℕ) {k : ℕ} → IsLivePointer (root_of old u) (size_of old u) (suc d) k → height_of (root_of old u) ≡ height_of (root_of old 0) → d ≡ height_of (root_of old 0) → ⊥
           above_content d live same deep = omega (arith, live.height, same, deep)
 
-      others_last : (d k : ℕ) → IsLiveWord (root_of old u) (size_of old u) (suc d) k → ((u ≡ 0) → (d ≡ height_of (root_of old 0)) → (k ≡ 8 * t + 1) → ⊥) → word_at last (root_of last u) (suc d) k ≡ word_at old (root_of old u) (suc d) k
+      others_last : (d k : ℕ) → IsLiveWord (root_of old u) (size_of old u) (suc d) k → ((u ≡ 0) → (d ≡ height_of (root_of old 0)) → (k ≡ 8 * t + 1) → ⊥) → tree_word last (root_of last u) (suc d) k ≡ tree_word old (root_of old u) (suc d) k
       others_last d k live out =
-          ap (λ r. word_at last r (suc d) k) (roots_last u other_reached away)
-          ∙ word_at-suc last (root_of old u) d k
+          ap (λ r. tree_word last r (suc d) k) (roots_last u other_reached away)
+          ∙ tree_word-suc last (root_of old u) d k
           ∙ ap (λ b. slot_word last b (k % 512)) (node-kept old last (root_of old u) (size_of old u) same_pointers d (k / 512) (live_above _ _ d k live))
           ∙ same_slot d k live out
-          ∙ sym (word_at-suc old (root_of old u) d k)
+          ∙ sym (tree_word-suc old (root_of old u) d k)
 
       -- no block is in two trees
       apart_last : (b : ℕ) → HasBlock last (root_of last u) (size_of last u) b → HasBlock last other to b → ⊥

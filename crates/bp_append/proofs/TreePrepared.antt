@@ -11,7 +11,7 @@ use Rattle.bp_layout.specs.Members.{Has}
 use Rattle.bp_shapes.specs.Links.{raised_by}
 use Rattle.bp_layout.specs.Stores.{after_stores}
 use Rattle.bp_layout.proofs.Addresses.{present_above}
-use Rattle.bp_layout.proofs.TreeLaws.{live_above, live_pointer_word, slot_word-at, word_at-suc, word_at-zero}
+use Rattle.bp_layout.proofs.TreeLaws.{live_above, live_pointer_word, slot_word-at, tree_word-suc, tree_word-zero}
 use Rattle.bp_changes.proofs.Frame.{keeps}
 use Rattle.pm_epochs.specs.May.{AnyAt, StoresMay, AnyOf, links_of}
 use Rattle.bp_commit.specs.Performs.{IsOpen}
@@ -176,7 +176,7 @@ module _ {kept : ℕ → Bool} {first new : Memory} {free_old free_new : List �
       apart hung_place pointer hangs same =
           let block : node old root d (k / 512) ≡ node old root hangs.depth (hangs.index / 512) = omega (arith, here, hangs.at, same) in
           let slot : k % 512 ≡ hangs.index % 512 = omega (arith, here, hangs.at, same) in
-          let words = word_at-suc old root d k ∙ ap₂ (slot_word old) block slot ∙ sym (word_at-suc old root hangs.depth hangs.index) in
+          let words = tree_word-suc old root d k ∙ ap₂ (slot_word old) block slot ∙ sym (tree_word-suc old root hangs.depth hangs.index) in
           present (ap block_of words ∙ hangs.null)
 
       after : (links : List (ℕ × ℕ)) → grows.links ≡ links → get_or (after_stores middle links) p 0 ≡ get_or middle p 0 → get_or linked p 0 ≡ get_or middle p 0
@@ -201,12 +201,12 @@ module _ {kept : ℕ → Bool} {first new : Memory} {free_old free_new : List �
       ∙ (keeps old middle can.well (agrees ready) t can.reached).kept d k live
 
   old_node : (d k : ℕ) → IsLivePointer root size d k → node old root d k ≢ 0 → node last root d k ≡ node old root d k
-  old_node zero k live present = ap block_of (word_at-zero last root k ∙ sym (word_at-zero old root k))
+  old_node zero k live present = ap block_of (tree_word-zero last root k ∙ sym (tree_word-zero old root k))
   old_node (suc d) k live present =
       let up : IsLivePointer root size d (k / 512) = live_above _ _ d k (live_pointer_word _ _ (suc d) k live) in
       let above : node last root d (k / 512) ≡ node old root d (k / 512) = old_node d (k / 512) up (present_above old root d k present) in
       ap block_of
-      (word_at-suc last root d k ∙ ap (λ b. slot_word last b (k % 512)) above ∙ old_slot d k live present ∙ sym (word_at-suc old root d k))
+      (tree_word-suc last root d k ∙ ap (λ b. slot_word last b (k % 512)) above ∙ old_slot d k live present ∙ sym (tree_word-suc old root d k))
 
   chain_slot : (b : ℕ) → Has grows.chain b → slot_word last b 0 ≡ slot_word middle b 0
   chain_slot b m =

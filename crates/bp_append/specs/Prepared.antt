@@ -2,7 +2,7 @@
 use Rattle.std.specs.Prelude.{◌≡◌, ◌≢◌, ◌⊎◌, ℕ, suc, ◌+◌, ◌-◌, ◌*◌, ◌/◌, ◌<◌, ◌≤◌, List, ◌++◌, length, Bool, false}
 use Rattle.bp_layout.specs.Words.{Image, word, height_of}
 use Rattle.bp_layout.specs.Formatted.{version_of}
-use Rattle.bp_layout.specs.Tree.{word_at, byte, node, span, IsLivePointer, IsLiveWord, HasBlock, IsSound, IsFull}
+use Rattle.bp_layout.specs.Tree.{tree_word, byte, node, span, IsLivePointer, IsLiveWord, HasBlock, IsSound, IsFull}
 use Rattle.bp_layout.specs.Inode.{RootPlace, root_of, size_of}
 use Rattle.bp_layout.specs.Reached.{IsReached, IsFreeBlock}
 use Rattle.bp_layout.specs.WellFormed.{IsWellFormed}
@@ -75,7 +75,7 @@ pub record Prepares (old new : Image) (t from to : ℕ) (bytes taken : List ℕ)
       → HasBlock new (root_of new t) to b → ⊥
   pub others : (u d k : ℕ) → IsReached old u → u ≢ t → IsLiveWord (root_of old u) (size_of old u) (suc d) k
       → ((u ≡ 0) → (d ≡ height_of (root_of old 0)) → (k ≡ inode_words * t + root_field) → ⊥) →
-      word_at new (root_of new u) (suc d) k ≡ word_at old (root_of old u) (suc d) k
+      tree_word new (root_of new u) (suc d) k ≡ tree_word old (root_of old u) (suc d) k
 
 -- The blocks are the first of the free ones, as many as are needed. Nobody sees the stores at any moment of a crash,
 -- each of these blocks gets one, and no other block that was free does.

@@ -13,7 +13,7 @@ use Rattle.bp_layout.specs.Need.Change.{writes}
 use Rattle.bp_layout.specs.Tree.{IsLivePointer, IsLiveWord, node}
 use Rattle.bp_layout.proofs.Addresses.{address_from-digits}
 use Rattle.bp_layout.proofs.ThawLaws.{loose-on}
-use Rattle.bp_layout.proofs.TreeLaws.{live_above, live_content, live_pointer_word, word_at-zero}
+use Rattle.bp_layout.proofs.TreeLaws.{live_above, live_content, live_pointer_word, tree_word-zero}
 use Rattle.bp_tree.proofs.LooseWays.{loose_word}
 use Rattle.bp_cow.specs.Commit.{HasLooseCover}
 use Rattle.bp_calls.proofs.WriteTargets.{across_targets}
@@ -245,7 +245,7 @@ module _ {kept : ℕ → Bool} (old middle : Memory) (blocks inodes after : Set)
   -- ---- the pointers of the inode file stay
 
   inode_node : (d k : ℕ) → IsLivePointer (root_of image 0) (size_of image 0) d k → node mid (root_of mid 0) d k ≡ node image (root_of image 0) d k
-  inode_node zero k live = ap block_of (word_at-zero mid (root_of mid 0) k ∙ root_stays ∙ sym (word_at-zero image (root_of image 0) k))
+  inode_node zero k live = ap block_of (tree_word-zero mid (root_of mid 0) k ∙ root_stays ∙ sym (tree_word-zero image (root_of image 0) k))
   inode_node (suc d) k live =
       ap block_of (prepared.ready.others 0 d k inode_file (λ e. suc-ne-zero n (sym e)) (live_pointer_word _ _ (suc d) k live) (λ _ last _. omega (arith, last, live.height)))
 

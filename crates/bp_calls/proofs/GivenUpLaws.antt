@@ -8,7 +8,7 @@ use Rattle.bp_layout.specs.Tree.{covered, span, node, HasBlock, IsLivePointer, I
 use Rattle.bp_layout.specs.Words.{Image, block_count, block_of, height_of}
 use Rattle.bp_layout.proofs.Addresses.{present_above}
 use Rattle.bp_layout.proofs.Pieces.{InChild, sound_shape, joined_block, child_block, splits}
-use Rattle.bp_layout.proofs.TreeLaws.{first_index, word_at-zero}
+use Rattle.bp_layout.proofs.TreeLaws.{first_index, tree_word-zero}
 use Rattle.bp_shapes.specs.Freed.{IsGivenUp}
 use Rattle.bp_append.proofs.TallyLaws.{span-positive, div_order}
 use Rattle.bp_calls.specs.GivenUp.{IsTopGivenUp, IsGivenUpIn}
@@ -81,7 +81,7 @@ module _ (image : Image) (root : ℕ) where
       go (inr past) = record { has = has; past = past }
 
   present_top : (d k : ℕ) → node image root d k ≢ 0 → block_of root ≢ 0
-  present_top zero k present null = present (ap block_of (word_at-zero image root k) ∙ null)
+  present_top zero k present null = present (ap block_of (tree_word-zero image root k) ∙ null)
   present_top (suc d) k present null = present_top d (k / 512) (present_above image root d k present) null
 
   -- a tree without a topmost block has none
@@ -92,10 +92,10 @@ module _ (image : Image) (root : ℕ) where
   top_live size some = record { level = height_of root; height = omega arith; live = omega (arith, some) }
 
   pub top_block : (size : ℕ) → 0 < size → block_of root ≢ 0 → HasBlock image root size (block_of root)
-  top_block size some present = record { depth = 0; index = 0; pointer = top_live size some; named = ap block_of (word_at-zero image root 0); not_null = present }
+  top_block size some present = record { depth = 0; index = 0; pointer = top_live size some; named = ap block_of (tree_word-zero image root 0); not_null = present }
 
   pub top_in_range : (size : ℕ) → IsSound image root size → 0 < size → block_of root < block_count image
-  top_in_range size sound some = subst (λ b. b < block_count image) (ap block_of (word_at-zero image root 0)) (sound.in_range 0 0 (top_live size some))
+  top_in_range size sound some = subst (λ b. b < block_count image) (ap block_of (tree_word-zero image root 0)) (sound.in_range 0 0 (top_live size some))
 
   -- ---- a leaf
 
@@ -109,7 +109,7 @@ module _ (image : Image) (root : ℕ) where
         go : (d k : ℕ) (live : IsLivePointer root size d k) → node image root d k ≡ b → shorter ≤ k * covered (suc live.level) → IsTopGivenUp (block_of root) shorter b
         go zero k live named past =
             let first : k ≡ 0 = first_index root size k sound.fits live in
-            record { whole = omega (arith, rw first at past); is = sym named ∙ ap block_of (word_at-zero image root k) }
+            record { whole = omega (arith, rw first at past); is = sym named ∙ ap block_of (tree_word-zero image root k) }
         go (suc d) k live named past = absurd (omega (arith, live.height, leaf))
 
     pub leaf_gives : {kept : ℕ → Bool} (old new : Set) → GivesBack kept (IsTopGivenUp (block_of root) shorter) old new → GivesBack kept (IsGivenUp image root size shorter) old new

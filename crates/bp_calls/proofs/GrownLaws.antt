@@ -12,7 +12,7 @@ use Rattle.bp_layout.specs.Directory.{Name, EntryNames, IsName, name_at, inumber
 use Rattle.bp_layout.specs.Reached.{IsReached}
 use Rattle.bp_layout.specs.Reached.IsReached.{inode_file}
 use Rattle.bp_layout.specs.WellFormed.{IsWellFormed}
-use Rattle.bp_layout.proofs.TreeLaws.{KeepsPointers, content-kept, slot_word-same, word_at-suc, live_pointer_word, live_content, live_above, sound-kept, full-kept, has_block-kept, has_block-stays}
+use Rattle.bp_layout.proofs.TreeLaws.{KeepsPointers, content-kept, slot_word-same, tree_word-suc, live_pointer_word, live_content, live_above, sound-kept, full-kept, has_block-kept, has_block-stays}
 use Rattle.bp_layout.proofs.Reached.{reached-in_file}
 use Rattle.bp_changes.proofs.Separation.{stands_in_block}
 use Rattle.bp_changes.proofs.ContentStore.{word-stored, word-elsewhere}
@@ -83,7 +83,7 @@ module _ (old : Image) (wf : IsWellFormed old) (n j place : ℕ) (name : Name) (
       rw root
       (content-kept old new (root_of old 0) (size_of old 0) (keeps 0 inode_file) (8 * suc u + f) below
       ∙ elsewhere 0 (height_of (root_of old 0)) (8 * suc u + f) inode_file (live_content _ _ (8 * suc u + f) below) (λ t h l. other l)
-      ∙ sym (word_at-suc old (root_of old 0) (height_of (root_of old 0)) (8 * suc u + f)))
+      ∙ sym (tree_word-suc old (root_of old 0) (height_of (root_of old 0)) (8 * suc u + f)))
 
   kind_stays : (u : ℕ) → u < inode_count old → kind_of new u ≡ kind_of old u
   kind_stays zero low = refl
@@ -111,7 +111,7 @@ module _ (old : Image) (wf : IsWellFormed old) (n j place : ℕ) (name : Name) (
       rw (root_stays u (in_file u reached))
       (content-kept old new (root_of old u) (size_of old u) (keeps u reached) k below
       ∙ elsewhere u (height_of (root_of old u)) k reached (live_content _ _ k below) (λ t h l. inode (sym t))
-      ∙ sym (word_at-suc old (root_of old u) (height_of (root_of old u)) k))
+      ∙ sym (tree_word-suc old (root_of old u) (height_of (root_of old u)) k))
 
   content_grown : (k : ℕ) → 8 * k < size_of old (suc n) + 256 →
       content_word new (root_of new (suc n)) k ≡ content_word old (root_of old (suc n)) k
@@ -119,7 +119,7 @@ module _ (old : Image) (wf : IsWellFormed old) (n j place : ℕ) (name : Name) (
       rw (root_stays (suc n) (in_file (suc n) ready.reached))
       (content-kept old new (root_of old (suc n)) (size_of old (suc n) + 256) keeps_new k below
       ∙ new_word (height_of (root_of old (suc n))) k (live_content _ _ k below)
-      ∙ sym (word_at-suc old (root_of old (suc n)) (height_of (root_of old (suc n))) k))
+      ∙ sym (tree_word-suc old (root_of old (suc n)) (height_of (root_of old (suc n))) k))
 
   -- ---- blocks
 

@@ -7,11 +7,11 @@ use Rattle.bp_append.proofs.LaidLaws.{given_none}
 use Rattle.bp_append.specs.Prepared.{Prepares}
 use Rattle.bp_changes.specs.SameMeaning.{SameMeaning}
 use Rattle.bp_layout.specs.Words.{Image, word, block_of, height_of, slot_word, byte_of}
-use Rattle.bp_layout.specs.Tree.{node, word_at, content_word, byte, HasBlock, IsSound, IsFull}
+use Rattle.bp_layout.specs.Tree.{node, tree_word, content_word, byte, HasBlock, IsSound, IsFull}
 use Rattle.bp_layout.specs.Inode.{inode_word, kind_of, root_of, size_of}
 use Rattle.bp_layout.specs.Reached.{IsReached}
 use Rattle.bp_layout.specs.WellFormed.{IsWellFormed}
-use Rattle.bp_layout.proofs.TreeLaws.{KeepsPointers, slot_word-same, word_at-zero, word_at-suc, sound-kept, full-kept, has_block-kept, has_block-stays}
+use Rattle.bp_layout.proofs.TreeLaws.{KeepsPointers, slot_word-same, tree_word-zero, tree_word-suc, sound-kept, full-kept, has_block-kept, has_block-stays}
 use Rattle.bp_limits.specs.Limits.{block_size, greatest_height}
 use Rattle.bp_calls.specs.Growth.{AddsInodes}
 
@@ -28,19 +28,19 @@ module _ (image : Image) (value : ℕ) where
   slot_stays b s = slot_word-same image longer b s (λ present. top_word (512 * b + s) (λ e. present (omega (arith, e))))
 
   -- no word of a tree changes
-  tree_word : (root d k : ℕ) → word_at longer root d k ≡ word_at image root d k
-  tree_word root zero k = word_at-zero longer root k ∙ sym (word_at-zero image root k)
-  tree_word root (suc d) k =
-      word_at-suc longer root d k
+  walk_stays : (root d k : ℕ) → tree_word longer root d k ≡ tree_word image root d k
+  walk_stays root zero k = tree_word-zero longer root k ∙ sym (tree_word-zero image root k)
+  walk_stays root (suc d) k =
+      tree_word-suc longer root d k
       ∙ slot_stays (node longer root d (k / 512)) (k % 512)
-      ∙ ap (λ w. slot_word image (block_of w) (k % 512)) (tree_word root d (k / 512))
-      ∙ sym (word_at-suc image root d k)
+      ∙ ap (λ w. slot_word image (block_of w) (k % 512)) (walk_stays root d (k / 512))
+      ∙ sym (tree_word-suc image root d k)
 
   keeps : (root size : ℕ) → KeepsPointers image longer root size
   keeps root size = record { kept = λ d k live. slot_stays (node image root d (k / 512)) (k % 512) }
 
   content_stays : (root k : ℕ) → content_word longer root k ≡ content_word image root k
-  content_stays root k = tree_word root (suc (height_of root)) k
+  content_stays root k = walk_stays root (suc (height_of root)) k
 
   byte_stays : (root o : ℕ) → byte longer root o ≡ byte image root o
   byte_stays root o = ap (λ w. byte_of w (o % 8)) (content_stays root (o / 8))
@@ -150,7 +150,7 @@ module _ (old mid : Image) (taken : List ℕ) (wf : IsWellFormed old) (ready : P
     blocks = λ b has. ready.blocks b (file_back b has);
     has_old = λ b has. file_on b (ready.has_old b has);
     has_taken = λ b took. file_on b (ready.has_taken b took);
-    nodes = λ d k live present. rw (root_stays mid end 0) (ap block_of (tree_word mid end (root_of mid 0) (height_of (root_of mid 0) - height_of (root_of old 0) + d) k)) ∙ ready.nodes d k live present;
+    nodes = λ d k live present. rw (root_stays mid end 0) (ap block_of (walk_stays mid end (root_of mid 0) (height_of (root_of mid 0) - height_of (root_of old 0) + d) k)) ∙ ready.nodes d k live present;
     roots = λ u r other. root_stays mid end u ∙ ready.roots u r other;
-    words = λ u d k r other live. rw (root_stays mid end u) (tree_word mid end (root_of mid u) (suc d) k) ∙ ready.others u d k r other live (λ e. absurd (other e));
+    words = λ u d k r other live. rw (root_stays mid end u) (walk_stays mid end (root_of mid u) (suc d) k) ∙ ready.others u d k r other live (λ e. absurd (other e));
   }

@@ -10,7 +10,7 @@ use Rattle.bp_layout.specs.Reached.{IsReached, IsLiveBlock, IsFreeBlock}
 use Rattle.bp_layout.specs.Reached.IsReached.{inode_file}
 use Rattle.bp_layout.specs.WellFormed.{IsWellFormed}
 use Rattle.bp_layout.proofs.Finding.{find-same}
-use Rattle.bp_layout.proofs.TreeLaws.{word_at-zero, live_pointer_word}
+use Rattle.bp_layout.proofs.TreeLaws.{tree_word-zero, live_pointer_word}
 use Rattle.bp_changes.proofs.ReachedOn.{reached_on}
 use Rattle.bp_changes.proofs.SameMeaning.{reached-back, well_formed-same}
 use Rattle.bp_calls.specs.Growth.{AddsInodes}
@@ -32,7 +32,7 @@ module _ (old new : Image) (taken : List ℕ) (wf : IsWellFormed old) (adds : Ad
   longer_size (suc u) reached other = adds.meaning.size u reached
 
   pub longer_node : (u d k : ℕ) → IsReached old u → u ≢ 0 → IsLivePointer (root_of old u) (size_of old u) d k → node new (root_of new u) d k ≡ node old (root_of old u) d k
-  longer_node u zero k reached other live = ap block_of (word_at-zero new (root_of new u) k ∙ adds.roots u reached other ∙ sym (word_at-zero old (root_of old u) k))
+  longer_node u zero k reached other live = ap block_of (tree_word-zero new (root_of new u) k ∙ adds.roots u reached other ∙ sym (tree_word-zero old (root_of old u) k))
   longer_node u (suc d) k reached other live = ap block_of (adds.words u d k reached other (live_pointer_word _ _ (suc d) k live))
 
   pub longer_block : (u b : ℕ) → IsReached old u → u ≢ 0 → HasBlock old (root_of old u) (size_of old u) b → HasBlock new (root_of new u) (size_of new u) b

@@ -19,7 +19,7 @@ use Rattle.bp_layout.specs.WellFormed.{IsWellFormed}
 use Rattle.bp_layout.specs.WordPaths.{WordPath, digits, inode_path, tree_path}
 use Rattle.bp_layout.proofs.Finding.{find-passes}
 use Rattle.bp_layout.proofs.Reached.{reached-in_file}
-use Rattle.bp_layout.proofs.TreeLaws.{live_above, live_content, live_pointer_word, word_at-zero}
+use Rattle.bp_layout.proofs.TreeLaws.{live_above, live_content, live_pointer_word, tree_word-zero}
 use Rattle.bp_limits.specs.Limits.{block_size}
 use Rattle.bp_tree.proofs.Digits.{length-digits}
 use Rattle.bp_tree.proofs.ExistingPaths.{AllThere, there-append, reads-inodes, reads-tree, node-there, number-digits, cover-one, copied-one}
@@ -96,7 +96,7 @@ module _ (image : Image) (wf : IsWellFormed image) (n : ℕ) (reached : IsReache
   present : block_of (root_of image 0) ≢ 0
   present null =
       let live : IsLivePointer (root_of image 0) (size_of image 0) 0 0 = record { level = height_of (root_of image 0); height = omega arith; live = omega (arith, wf.some_inodes) } in
-      wf.full_inode_file 0 0 live (ap block_of (word_at-zero image (root_of image 0) 0) ∙ null)
+      wf.full_inode_file 0 0 live (ap block_of (tree_word-zero image (root_of image 0) 0) ∙ null)
 
   -- the node of a level that covers old inodes is there: it was, or it is made over the root
   node_is : (level k : ℕ) → level ≤ height_of height → k * span level < size_of image 0 → is_there image (enters i grown) (0, record { level = level; index = k }) ≡ true

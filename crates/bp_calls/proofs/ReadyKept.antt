@@ -10,7 +10,7 @@ use Rattle.bp_layout.specs.Tree.{node, content_word, HasBlock, IsLiveWord, IsSou
 use Rattle.bp_layout.specs.WellFormed.{IsWellFormed}
 use Rattle.bp_layout.specs.Words.{Image, word, height_of, slot_word}
 use Rattle.bp_layout.proofs.Reached.{reached-in_file}
-use Rattle.bp_layout.proofs.TreeLaws.{KeepsPointers, content-kept, slot_word-at, slot_word-same, word_at-suc, live_pointer_word, live_content, live_above, sound-kept, full-kept, has_block-kept, has_block-stays}
+use Rattle.bp_layout.proofs.TreeLaws.{KeepsPointers, content-kept, slot_word-at, slot_word-same, tree_word-suc, live_pointer_word, live_content, live_above, sound-kept, full-kept, has_block-kept, has_block-stays}
 use Rattle.bp_tree.specs.Within.{IsWithin}
 use Rattle.bp_calls.specs.Entered.{IsReadyBehind}
 use Rattle.bp_calls.proofs.AfterLaws.{kind_after, reached_after, reached_before, size_after}
@@ -59,7 +59,7 @@ module _ (old new : Image) (wf : IsWellFormed old) (trees : SameTrees old new) (
   root_word : word new (512 * node old (root_of old 0) (height_of (root_of old 0)) ((8 * suc n + 1) / 512) + (8 * suc n + 1) % 512) ≡ root
   root_word =
       frame (512 * node old (root_of old 0) (height_of (root_of old 0)) ((8 * suc n + 1) / 512) + (8 * suc n + 1) % 512) root_beside
-      ∙ sym (word_at-suc old (root_of old 0) (height_of (root_of old 0)) (8 * suc n + 1) ∙ slot_word-at old _ ((8 * suc n + 1) % 512) present)
+      ∙ sym (tree_word-suc old (root_of old 0) (height_of (root_of old 0)) (8 * suc n + 1) ∙ slot_word-at old _ ((8 * suc n + 1) % 512) present)
     where
       present : node old (root_of old 0) (height_of (root_of old 0)) ((8 * suc n + 1) / 512) ≢ 0
       present = wf.full_inode_file _ _ (live_leaf (root_of old 0) (size_of old 0) ((8 * suc n + 1) / 512) (omega (arith, in_file)))
@@ -87,7 +87,7 @@ module _ (old new : Image) (wf : IsWellFormed old) (trees : SameTrees old new) (
 
   content_stays : (k : ℕ) → 8 * k < more → content_word new root k ≡ content_word old root k
   content_stays k below =
-      content-kept old new root more keeps k below ∙ word_stays (height_of root) k (live_content _ _ k below) ∙ sym (word_at-suc old root (height_of root) k)
+      content-kept old new root more keeps k below ∙ word_stays (height_of root) k (live_content _ _ k below) ∙ sym (tree_word-suc old root (height_of root) k)
 
   -- under the new size the tree has the blocks that it had
   pub more_back : (b : ℕ) → HasBlock new (root_of new (suc n)) (size_of new (suc n) + 256) b → HasBlock old root more b

@@ -10,7 +10,7 @@ use Rattle.bp_changes.proofs.Frame as frame
 use Rattle.bp_changes.proofs.Stores.{harmless_here}
 use Rattle.pm_epochs.specs.May.{AnyAt, EachMay}
 use Rattle.bp_calls.specs.Spare.{IsSpare}
-use Rattle.bp_layout.proofs.TreeLaws.{KeepsPointers, node-kept, slot_word-at, word_at-suc}
+use Rattle.bp_layout.proofs.TreeLaws.{KeepsPointers, node-kept, slot_word-at, tree_word-suc}
 use Rattle.bp_calls.proofs.AfterLaws.{IsPrepared, agrees_prepared}
 
 -- The second image means the same, and its trees stand where those of the first stand. A tree without bytes may have another root word.
@@ -61,7 +61,7 @@ module _ (old new : Image) (trees : SameTrees old new) (t k place : ℕ) (reache
   pub word_kept : content_word new (root_of new t) k ≡ word new place
   word_kept =
       rw (trees.root t reached some)
-      (word_at-suc new (root_of old t) (height_of (root_of old t)) k
+      (tree_word-suc new (root_of old t) (height_of (root_of old t)) k
       ∙ ap (λ b. slot_word new b (k % 512)) leaf_stays
       ∙ slot_word-at new _ (k % 512) stands.present
       ∙ ap (word new) stands.at)

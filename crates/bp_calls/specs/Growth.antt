@@ -9,7 +9,7 @@ use Rattle.bp_layout.specs.Need.Change.{enters}
 use Rattle.bp_layout.specs.Need.Entrant.{grown}
 use Rattle.bp_layout.specs.Nodes.{height_with}
 use Rattle.bp_layout.specs.Reached.{IsReached}
-use Rattle.bp_layout.specs.Tree.{byte, node, word_at, HasBlock, IsLivePointer, IsLiveWord}
+use Rattle.bp_layout.specs.Tree.{byte, node, tree_word, HasBlock, IsLivePointer, IsLiveWord}
 use Rattle.bp_layout.specs.WellFormed.{IsWellFormed}
 use Rattle.bp_layout.specs.Words.{Image, height_of}
 use Rattle.bp_limits.specs.Limits.{block_size, block_words}
@@ -49,7 +49,7 @@ pub record AddsInodes (old new : Image) (taken : List ℕ) : Type 0 where
       node new (root_of new 0) (height_of (root_of new 0) - height_of (root_of old 0) + d) k ≡ node old (root_of old 0) d k
   pub roots : (u : ℕ) → IsReached old u → u ≢ 0 → root_of new u ≡ root_of old u
   pub words : (u d k : ℕ) → IsReached old u → u ≢ 0 → IsLiveWord (root_of old u) (size_of old u) (suc d) k →
-      word_at new (root_of new u) (suc d) k ≡ word_at old (root_of old u) (suc d) k
+      tree_word new (root_of new u) (suc d) k ≡ tree_word old (root_of old u) (suc d) k
 
 -- ---- stores
 

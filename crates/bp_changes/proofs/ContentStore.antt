@@ -6,7 +6,7 @@ use Rattle.bp_layout.specs.Inode.{inode_word, kind_of, root_of, size_of, inode_c
 use Rattle.bp_layout.specs.Reached.{IsReached}
 use Rattle.bp_layout.specs.Reached.IsReached.{inode_file}
 use Rattle.bp_layout.specs.WellFormed.{IsWellFormed}
-use Rattle.bp_layout.proofs.TreeLaws.{KeepsPointers, content-kept, slot_word-at, slot_word-same, word_at-suc, live_above, live_pointer_word, live_content}
+use Rattle.bp_layout.proofs.TreeLaws.{KeepsPointers, content-kept, slot_word-at, slot_word-same, tree_word-suc, live_above, live_pointer_word, live_content}
 use Rattle.bp_changes.proofs.Separation.{SameWord, one_place}
 
 -- a live word stands in the image
@@ -56,7 +56,7 @@ module _ (old : Image) (wf : IsWellFormed old) (i k place value : ℕ) (reached 
       rw root
       (content-kept old (set old place value) (root_of old t) (size_of old t) (pointers_stay t also) l in_size
       ∙ word-elsewhere old wf i (height_of (root_of old i)) k place value reached here stands t (height_of (root_of old t)) l also (live_content _ _ l in_size) (λ same. other same.tree same.index)
-      ∙ sym (word_at-suc old (root_of old t) (height_of (root_of old t)) l))
+      ∙ sym (tree_word-suc old (root_of old t) (height_of (root_of old t)) l))
 
   pub superblock_stays : (p : ℕ) → p < 512 → word (set old place value) p ≡ word old p
   superblock_stays p low = get_or-set_other old place p value 0 (λ e. stands.present (omega (arith, stands.at, e)))

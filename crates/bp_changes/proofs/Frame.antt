@@ -14,7 +14,7 @@ use Rattle.bp_layout.specs.WellFormed.{IsWellFormed}
 use Rattle.bp_layout.specs.Same.{Same}
 use Rattle.bp_changes.specs.Harmless.{Agrees}
 use Rattle.bp_layout.proofs.Reached.{reached-in_file}
-use Rattle.bp_layout.proofs.TreeLaws.{KeepsPointers, content-kept, slot_word-same, word_at-suc, slot_byte-same, sound-kept, full-kept, has_block-kept, has_block-stays}
+use Rattle.bp_layout.proofs.TreeLaws.{KeepsPointers, content-kept, slot_word-same, tree_word-suc, slot_byte-same, sound-kept, full-kept, has_block-kept, has_block-stays}
 use Rattle.bp_layout.proofs.SmallTrees.{none_live, empty_sound, empty_has_none}
 use Rattle.bp_changes.specs.SameMeaning.{SameMeaning}
 use Rattle.bp_changes.proofs.SameMeaning.{same-by_meaning}
@@ -42,7 +42,7 @@ module _ (old new : Image) (wf : IsWellFormed old) (agrees : Agrees old new) whe
       rw root
       (content-kept old new (root_of old t) (size_of old t) (keeps t reached) k below
       ∙ slot_word-same old new _ _ (λ present. same _ (record { present = present; at = refl }))
-      ∙ sym (word_at-suc old (root_of old t) (height_of (root_of old t)) k))
+      ∙ sym (tree_word-suc old (root_of old t) (height_of (root_of old t)) k))
 
   inode_word-same : (i f : ℕ) → IsReached old (suc i) → f < 3 →
       ((place : ℕ) → ContentStandsAt old 0 (8 * suc i + f) place → word new place ≡ word old place) → inode_word new (suc i) f ≡ inode_word old (suc i) f
@@ -80,7 +80,7 @@ module _ (old new : Image) (wf : IsWellFormed old) (agrees : Agrees old new) whe
       rw (root-same i reached (omega (arith, below)))
       (ap (λ w. byte_of w (o % 8)) (content-kept old new (root_of old i) (size_of old i) (keeps i reached) (o / 8) (omega (arith, below)))
       ∙ slot_byte-same old new _ _ (o % 8) (λ present. (agrees.each _).bytes i o reached kind below (record { present = present; at = refl }))
-      ∙ ap (λ w. byte_of w (o % 8)) (sym (word_at-suc old (root_of old i) (height_of (root_of old i)) (o / 8))))
+      ∙ ap (λ w. byte_of w (o % 8)) (sym (tree_word-suc old (root_of old i) (height_of (root_of old i)) (o / 8))))
 
   -- what is true of a tree by its root word and its size, and by no root word where it has no bytes
   at_old : (P : ℕ → ℕ → Type 0) → ((r s : ℕ) → P r 0 → P s 0) → (t : ℕ) → IsReached old t → P (root_of old t) (size_of old t) → P (root_of new t) (size_of new t)

@@ -10,7 +10,7 @@ use Rattle.bp_layout.specs.Inode.{inode_word, kind_of, root_of, size_of, inode_c
 use Rattle.bp_layout.specs.Reached.{IsReached}
 use Rattle.bp_layout.specs.Reached.IsReached.{inode_file}
 use Rattle.bp_layout.specs.WellFormed.{IsWellFormed}
-use Rattle.bp_layout.proofs.TreeLaws.{KeepsPointers, content-kept, slot_word-same, word_at-suc, live_pointer_word, live_content, live_above, sound-kept, full-kept, has_block-kept, has_block-stays}
+use Rattle.bp_layout.proofs.TreeLaws.{KeepsPointers, content-kept, slot_word-same, tree_word-suc, live_pointer_word, live_content, live_above, sound-kept, full-kept, has_block-kept, has_block-stays}
 use Rattle.bp_layout.proofs.Finding.{map-same}
 use Rattle.bp_layout.proofs.Reached.{reached-in_file}
 use Rattle.bp_changes.proofs.Separation.{stands_in_block}
@@ -80,7 +80,7 @@ module _ (old : Image) (wf : IsWellFormed old) (n size place : ℕ) (can : CanRe
       rw root
       (content-kept old (set old place size) (root_of old 0) (size_of old 0) (keeps 0 inode_file) (8 * suc u + f) below
       ∙ elsewhere 0 (height_of (root_of old 0)) (8 * suc u + f) inode_file (live_content _ _ (8 * suc u + f) below) (λ t h l. other l)
-      ∙ sym (word_at-suc old (root_of old 0) (height_of (root_of old 0)) (8 * suc u + f)))
+      ∙ sym (tree_word-suc old (root_of old 0) (height_of (root_of old 0)) (8 * suc u + f)))
 
   kind_stays : (u : ℕ) → u < inode_count old → kind_of (set old place size) u ≡ kind_of old u
   kind_stays zero low = refl
@@ -106,7 +106,7 @@ module _ (old : Image) (wf : IsWellFormed old) (n size place : ℕ) (can : CanRe
       rw (root_stays u (in_file u reached))
       (content-kept old (set old place size) (root_of old u) (size_of old u) (keeps u reached) k below
       ∙ elsewhere u (height_of (root_of old u)) k reached (live_content _ _ k below) (λ t h l. inode (sym t))
-      ∙ sym (word_at-suc old (root_of old u) (height_of (root_of old u)) k))
+      ∙ sym (tree_word-suc old (root_of old u) (height_of (root_of old u)) k))
 
   pub bytes_of_file : content (set old place size) (root_of (set old place size) (suc n)) (size_of (set old place size) (suc n)) ≡ content old (root_of old (suc n)) size
   bytes_of_file =
@@ -116,7 +116,7 @@ module _ (old : Image) (wf : IsWellFormed old) (n size place : ℕ) (can : CanRe
       ap (λ w. byte_of w (o % 8))
       (content-kept old (set old place size) (root_of old (suc n)) size keeps_new (o / 8) below
       ∙ new_word (height_of (root_of old (suc n))) (o / 8) (live_content _ _ (o / 8) below)
-      ∙ sym (word_at-suc old (root_of old (suc n)) (height_of (root_of old (suc n))) (o / 8)))))
+      ∙ sym (tree_word-suc old (root_of old (suc n)) (height_of (root_of old (suc n))) (o / 8)))))
 
   whole : length (set old place size) ≡ length old
   whole = length-set old place size

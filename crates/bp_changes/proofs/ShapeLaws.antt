@@ -24,7 +24,7 @@ use Rattle.bp_layout.specs.WordPaths.{WordPath, digits, inode_path, tree_path}
 use Rattle.bp_layout.proofs.Finding.{find-same}
 use Rattle.bp_layout.proofs.MemberLaws.{each-append}
 use Rattle.bp_layout.proofs.Reached.{reached-in_file}
-use Rattle.bp_layout.proofs.TreeLaws.{word_at-zero}
+use Rattle.bp_layout.proofs.TreeLaws.{tree_word-zero}
 use Rattle.bp_changes.specs.Thawed.{SameShape}
 
 -- ---- lists
@@ -90,7 +90,7 @@ root-test : (image : Image) (root size : ℕ) → is_present image root size (re
 root-test image root size =
     let none : 0 * span (height_of root) ≡ 0 = omega arith in
     let top : height_of root - height_of root ≡ 0 = omega arith in
-    rw (le-leb (height_of root) (height_of root) (omega arith), none, top, word_at-zero image root 0) refl
+    rw (le-leb (height_of root) (height_of root) (omega arith), none, top, tree_word-zero image root 0) refl
 
 abbrev raised_by : Bool → ℕ → ℕ → List TreeNode
 raised_by some low high = if some then map (λ level. record { level = level; index = 0 }) (range_with_len (suc low) (high - low)) else []

@@ -4,7 +4,7 @@ use Rattle.std.proofs.lemmas.Bool.{cases_eq}
 use Rattle.bp_limits.specs.Limits.{greatest_height}
 use Rattle.bp_layout.specs.Formatted.{version_of}
 use Rattle.bp_layout.specs.Words.{Image, word, block_count, block_of, height_of, byte_of}
-use Rattle.bp_layout.specs.Tree.{word_at, node, content_word, covered, IsLivePointer, HasBlock, IsSound, IsFull}
+use Rattle.bp_layout.specs.Tree.{tree_word, node, content_word, covered, IsLivePointer, HasBlock, IsSound, IsFull}
 use Rattle.bp_layout.specs.Inode.{kind_of, root_of, size_of}
 use Rattle.bp_layout.specs.Reached.{IsReached}
 use Rattle.bp_layout.specs.Reached.IsReached.{inode_file}
@@ -55,8 +55,8 @@ module _ (old now : Image) (bound : ℕ → ℕ) (forest : IsForest old bound) (
   pub root-now : (t : ℕ) → word_on now (root_trail (height_of (word old 2)) t) ≡ root_of now t
   root-now t = subst (λ h. word_on now (root_trail h t) ≡ root_of now t) same_height (word-root now t)
 
-  pub word-now : (t d k : ℕ) → word_on now (tree_trail (height_of (word old 2)) t d k) ≡ word_at now (root_of now t) d k
-  word-now t d k = subst (λ h. word_on now (tree_trail h t d k) ≡ word_at now (root_of now t) d k) same_height (word-tree now t d k)
+  pub word-now : (t d k : ℕ) → word_on now (tree_trail (height_of (word old 2)) t d k) ≡ tree_word now (root_of now t) d k
+  word-now t d k = subst (λ h. word_on now (tree_trail h t d k) ≡ tree_word now (root_of now t) d k) same_height (word-tree now t d k)
 
   node-now : (t d k : ℕ) → block_on now (tree_trail (height_of (word old 2)) t d k) ≡ node now (root_of now t) d k
   node-now t d k = ap block_of (word-now t d k)
@@ -74,7 +74,7 @@ module _ (old now : Image) (bound : ℕ → ℕ) (forest : IsForest old bound) (
       content_word now (root_of now t) k ≡ after_commit old job (tree_trail (height_of (word old 2)) t (suc (height_of (root_of old t))) k)
   content_after t k r low no_root =
       let some : 0 < bound t = omega (arith, low) in
-      ap (λ h. word_at now (root_of now t) (suc h) k) (root_height t r some)
+      ap (λ h. tree_word now (root_of now t) (suc h) k) (root_height t r some)
       ∙ sym (word-now t (suc (height_of (root_of old t))) k)
       ∙ stage.words (tree_trail (height_of (word old 2)) t (height_of (root_of old t)) (k / 512)) (k % 512) (leaf_pointer old bound forest t k r low) (omega arith)
       (λ n. no_pointer old bound forest t k r low k refl no_root (stage.pointers _ n)) (record { tree = t; number = k; reached = r; below = low; named = refl })

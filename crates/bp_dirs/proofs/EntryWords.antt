@@ -9,7 +9,7 @@ use Rattle.bp_layout.specs.Fields.{name_byte, name_of}
 use Rattle.bp_layout.proofs.Finding.{map-same}
 use Rattle.bp_dirs.specs.EntryWords.{HasWords, IsLeaf, IsRow}
 use Rattle.bp_dirs.specs.declared.leaf.Leaf.{Leaf}
-use Rattle.bp_layout.proofs.TreeLaws.{slot_word-at, word_at-suc}
+use Rattle.bp_layout.proofs.TreeLaws.{slot_word-at, tree_word-suc}
 use Rattle.bp_tree.specs.Bytes.{stored_byte, stored_bytes}
 use Rattle.bp_tree.proofs.LoadedWords.{length-loaded, loaded_word}
 
@@ -18,7 +18,7 @@ pub word_in-at : (image : Image) (root slot f : ℕ) → f < 32 →
 word_in-at image root slot f within =
     let leaf : (32 * slot + f) / 512 ≡ slot / 16 = omega arith in
     let at : (32 * slot + f) % 512 ≡ 32 * (slot % 16) + f = omega arith in
-    word_at-suc image root (height_of root) (32 * slot + f) ∙ ap₂ (λ l s. slot_word image (node image root (height_of root) l) s) leaf at
+    tree_word-suc image root (height_of root) (32 * slot + f) ∙ ap₂ (λ l s. slot_word image (node image root (height_of root) l) s) leaf at
 
 pub byte-at : (image : Image) (root slot part o : ℕ) → o < 8 →
     byte image root (256 * slot + 16 + (8 * part + o)) ≡ byte_of (word_in image root slot (2 + part)) o

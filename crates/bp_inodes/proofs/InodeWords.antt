@@ -3,7 +3,7 @@ use Rattle.std.proofs.Common.{◌≡◌, ◌≢◌, ℕ, zero, suc, ◌+◌, ◌
 use Rattle.bp_layout.specs.Words.{Image, block_count, height_of, slot_word, word}
 use Rattle.bp_layout.specs.Tree.{node, IsSound, IsLivePointer}
 use Rattle.bp_layout.specs.Inode.{inode_word, inode_count, kind_of, root_of, size_of}
-use Rattle.bp_layout.proofs.TreeLaws.{slot_word-at, word_at-suc}
+use Rattle.bp_layout.proofs.TreeLaws.{slot_word-at, tree_word-suc}
 use Rattle.bp_tree.proofs.LoadedWords.{loaded_word}
 
 -- the leaf with an inode that is there is live
@@ -21,7 +21,7 @@ pub inode_word-at : (image : Image) (i f : ℕ) → f < 8 →
 inode_word-at image i f within =
     let leaf : (8 * i + f) / 512 ≡ i / 64 = omega arith in
     let at : (8 * i + f) % 512 ≡ 8 * (i % 64) + f = omega arith in
-    word_at-suc image (root_of image 0) (height_of (root_of image 0)) (8 * i + f)
+    tree_word-suc image (root_of image 0) (height_of (root_of image 0)) (8 * i + f)
     ∙ ap₂ (λ l s. slot_word image (node image (root_of image 0) (height_of (root_of image 0)) l) s) leaf at
 
 -- the fields of an inode are its words

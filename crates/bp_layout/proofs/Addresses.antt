@@ -1,11 +1,11 @@
 -- A word path names the place at which its word stands.
 use Rattle.std.proofs.Common.{◌≡◌, ◌≢◌, ℕ, zero, suc, ◌+◌, ◌*◌, ◌/◌, ◌%◌, [], ◌∷◌, ◌++◌, refl, sym, ◌∙◌, ap}
 use Rattle.bp_layout.specs.Words.{Image, word, block_of, height_of, slot_word}
-use Rattle.bp_layout.specs.Tree.{word_at, node, place_of}
+use Rattle.bp_layout.specs.Tree.{tree_word, node, place_of}
 use Rattle.bp_layout.specs.Inode.{root_of}
 use Rattle.bp_layout.specs.WordPaths.{WordPath, digits, inode_path, tree_path, address_from, address}
 use Rattle.bp_layout.specs.Checks.{pointer_place, inode_place}
-use Rattle.bp_layout.proofs.TreeLaws.{word_at-zero, word_at-suc, slot_word-at}
+use Rattle.bp_layout.proofs.TreeLaws.{tree_word-zero, tree_word-suc, slot_word-at}
 
 pub address_from-append : (image : Image) (at : ℕ) (p q : WordPath) → address_from image at (p ++ q) ≡ address_from image (address_from image at p) q
 address_from-append image at [] q = refl
@@ -14,7 +14,7 @@ address_from-append image at (slot ∷ p) q = address_from-append image (512 * b
 -- below a null there are nulls
 pub present_above : (image : Image) (root d k : ℕ) → node image root (suc d) k ≢ 0 → node image root d (k / 512) ≢ 0
 present_above image root d k present null =
-    present (ap block_of (word_at-suc image root d k ∙ ap (λ b. slot_word image b (k % 512)) null))
+    present (ap block_of (tree_word-suc image root d k ∙ ap (λ b. slot_word image b (k % 512)) null))
 
 -- no null stands above a word
 abbrev pub IsUnderNodes : Image → ℕ → ℕ → ℕ → Type 0
@@ -25,9 +25,9 @@ under_above : (image : Image) (root d k : ℕ) → node image root d k ≢ 0 →
 under_above image root zero k present = tt
 under_above image root (suc d) k present = present_above image root d k present
 
-pub word-place_of : (image : Image) (at root : ℕ) → word image at ≡ root → (d k : ℕ) → IsUnderNodes image root d k → word image (place_of image at root d k) ≡ word_at image root d k
-word-place_of image at root here zero k under = here ∙ sym (word_at-zero image root k)
-word-place_of image at root here (suc d) k under = sym (slot_word-at image (node image root d (k / 512)) (k % 512) under) ∙ sym (word_at-suc image root d k)
+pub word-place_of : (image : Image) (at root : ℕ) → word image at ≡ root → (d k : ℕ) → IsUnderNodes image root d k → word image (place_of image at root d k) ≡ tree_word image root d k
+word-place_of image at root here zero k under = here ∙ sym (tree_word-zero image root k)
+word-place_of image at root here (suc d) k under = sym (slot_word-at image (node image root d (k / 512)) (k % 512) under) ∙ sym (tree_word-suc image root d k)
 
 pub address_from-digits : (image : Image) (at root : ℕ) → word image at ≡ root → (d k : ℕ) → IsUnderNodes image root d k → address_from image at (digits d k) ≡ place_of image at root d k
 address_from-digits image at root here zero k under = refl

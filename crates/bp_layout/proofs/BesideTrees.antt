@@ -2,7 +2,7 @@
 use Rattle.std.proofs.Common.{◌≡◌, ℕ, zero, suc, ◌+◌, ◌*◌, ◌/◌, ◌%◌, ◌<◌, ◌≤◌, length, refl, sym, ◌∙◌, ap, subst, subst₂, arith, le_trans}
 use Rattle.bp_limits.specs.Limits.{greatest_height}
 use Rattle.bp_layout.specs.Words.{Image, word, block_of, height_of, slot_word, byte_of}
-use Rattle.bp_layout.specs.Tree.{word_at, content_word, byte, HasBlock, IsSound, IsFull}
+use Rattle.bp_layout.specs.Tree.{tree_word, content_word, byte, HasBlock, IsSound, IsFull}
 use Rattle.bp_layout.specs.Inode.{inode_word, kind_of, root_of, size_of}
 use Rattle.bp_layout.specs.Directory.{EntryNames, IsName, name_at}
 use Rattle.bp_layout.specs.Reached.{IsReached}
@@ -34,10 +34,10 @@ module _ (old new : Image) (same : SameTrees old new) where
   slots_same zero s = refl
   slots_same (suc b) s = same.blocks (512 * suc b + s) (omega arith)
 
-  words_same : (root d k : ℕ) → word_at new root d k ≡ word_at old root d k
-  unfolding word_at
+  words_same : (root d k : ℕ) → tree_word new root d k ≡ tree_word old root d k
+  unfolding tree_word
   words_same root zero k = refl
-  words_same root (suc d) k = ap (λ w. slot_word new (block_of w) (k % 512)) (words_same root d (k / 512)) ∙ slots_same (block_of (word_at old root d (k / 512))) (k % 512)
+  words_same root (suc d) k = ap (λ w. slot_word new (block_of w) (k % 512)) (words_same root d (k / 512)) ∙ slots_same (block_of (tree_word old root d (k / 512))) (k % 512)
 
   inode_word-same : (i f : ℕ) → inode_word new i f ≡ inode_word old i f
   inode_word-same i f = ap (λ r. content_word new r (8 * i + f)) same.root ∙ words_same (word old 2) (suc (height_of (word old 2))) (8 * i + f)

@@ -2,7 +2,7 @@
 use Rattle.std.proofs.Common.{◌≡◌, ◌≢◌, ◌⊎◌, ℕ, zero, suc, ◌+◌, ◌*◌, ◌/◌, ◌%◌, ◌<◌, ◌≤◌, refl, sym, ◌∙◌, ap, subst, arith, inl, inr, ⊎_elim, le_trans}
 use Rattle.std.proofs.lemmas.Bool.{cases_eq, cases_lt}
 use Rattle.bp_layout.specs.Words.{Image, block_count, block_of, height_of, slot_word}
-use Rattle.bp_layout.specs.Tree.{word_at, node, covered, IsLivePointer, IsSound, IsFull}
+use Rattle.bp_layout.specs.Tree.{tree_word, node, covered, IsLivePointer, IsSound, IsFull}
 use Rattle.bp_layout.specs.Inode.{kind_of, root_of, size_of, inode_count}
 use Rattle.bp_layout.specs.Directory.{Name, EntryNames, IsName}
 use Rattle.bp_layout.specs.Reached.{IsReached}
@@ -15,7 +15,7 @@ use Rattle.bp_limits.proofs.Versions.{height_most}
 use Rattle.bp_layout.specs.Checks.IsFound.{inode_file, root_directory, named}
 use Rattle.bp_layout.specs.declared.check.Check.TheVariants.{Height, PointerBits, Range, BlockTwice, Hole, InodeFileSize, Inumber, InodeTwice, Kind, DirectorySize, Capacity, NameForm, NameTwice}
 use Rattle.bp_layout.specs.Checks.Fails.{height, root_bits, pointer_bits, range, twice, hole, inode_file_size, inumber, root_named, inode_twice, kind, root_kind, directory_size, capacity, name_form, name_twice}
-use Rattle.bp_layout.proofs.TreeLaws.{live_above, live_pointer_word, live_content, word_at-suc}
+use Rattle.bp_layout.proofs.TreeLaws.{live_above, live_pointer_word, live_content, tree_word-suc}
 use Rattle.bp_layout.proofs.OnePlace.{SamePointer, same_block, low_slot}
 use Rattle.bp_layout.proofs.OncePointer.{TellsBlocks, once_pointer}
 
@@ -64,19 +64,19 @@ module _ (image : Image) (none : NoneFails image) where
 
   -- each live pointer is followed, but below a null
   followed : (t d k : ℕ) → IsFound image t → IsLivePointer (root_of image t) (size_of image t) d k →
-      IsFollowed image (root_of image t) (size_of image t) d k ⊎ (word_at image (root_of image t) d k ≡ 0)
+      IsFollowed image (root_of image t) (size_of image t) d k ⊎ (tree_word image (root_of image t) d k ≡ 0)
   followed t zero k found live = inl tt
   followed t (suc d) k found live = go (followed t d (k / 512) found above) (cases_eq (node image (root_of image t) d (k / 512)) 0)
     where
       above : IsLivePointer (root_of image t) (size_of image t) d (k / 512)
       above = live_above _ _ d k (live_pointer_word _ _ (suc d) k live)
 
-      below_null : node image (root_of image t) d (k / 512) ≡ 0 → word_at image (root_of image t) (suc d) k ≡ 0
-      below_null null = word_at-suc image (root_of image t) d k ∙ ap (λ b. slot_word image b (k % 512)) null
+      below_null : node image (root_of image t) d (k / 512) ≡ 0 → tree_word image (root_of image t) (suc d) k ≡ 0
+      below_null null = tree_word-suc image (root_of image t) d k ∙ ap (λ b. slot_word image b (k % 512)) null
 
-      go : IsFollowed image (root_of image t) (size_of image t) d (k / 512) ⊎ (word_at image (root_of image t) d (k / 512) ≡ 0) →
+      go : IsFollowed image (root_of image t) (size_of image t) d (k / 512) ⊎ (tree_word image (root_of image t) d (k / 512) ≡ 0) →
           (node image (root_of image t) d (k / 512) ≡ 0) ⊎ (node image (root_of image t) d (k / 512) ≡ 0 → ⊥) →
-          IsFollowed image (root_of image t) (size_of image t) (suc d) k ⊎ (word_at image (root_of image t) (suc d) k ≡ 0)
+          IsFollowed image (root_of image t) (size_of image t) (suc d) k ⊎ (tree_word image (root_of image t) (suc d) k ≡ 0)
       go f (inl null) = inr (below_null null)
       go (inr null) (inr present) = absurd (present (ap block_of null))
       go (inl f) (inr present) = inl (fits t found, f, passes t d (k / 512) (record { found = found; live = above; followed = f; at = refl }), present)
@@ -84,7 +84,7 @@ module _ (image : Image) (none : NoneFails image) where
   pub pointer_at : (t d k : ℕ) → IsFound image t → IsLivePointer (root_of image t) (size_of image t) d k → node image (root_of image t) d k ≢ 0 → IsPointer image t d k (pointer_place image t d k)
   pointer_at t d k found live present = go (followed t d k found live)
     where
-      go : IsFollowed image (root_of image t) (size_of image t) d k ⊎ (word_at image (root_of image t) d k ≡ 0) → IsPointer image t d k (pointer_place image t d k)
+      go : IsFollowed image (root_of image t) (size_of image t) d k ⊎ (tree_word image (root_of image t) d k ≡ 0) → IsPointer image t d k (pointer_place image t d k)
       go (inl f) = record { found = found; live = live; followed = f; at = refl }
       go (inr null) = absurd (present (ap block_of null))
 
@@ -115,12 +115,12 @@ module _ (image : Image) (none : NoneFails image) where
     fits = fits t found;
   }
     where
-      bits : (d k : ℕ) → IsLivePointer (root_of image t) (size_of image t) (suc d) k → IsFollowed image (root_of image t) (size_of image t) (suc d) k ⊎ (word_at image (root_of image t) (suc d) k ≡ 0) →
-          word_at image (root_of image t) (suc d) k % 4096 ≡ 0
+      bits : (d k : ℕ) → IsLivePointer (root_of image t) (size_of image t) (suc d) k → IsFollowed image (root_of image t) (size_of image t) (suc d) k ⊎ (tree_word image (root_of image t) (suc d) k ≡ 0) →
+          tree_word image (root_of image t) (suc d) k % 4096 ≡ 0
       bits d k live (inl f) = (passes t (suc d) k (record { found = found; live = live; followed = f; at = refl })).0
       bits d k live (inr null) = omega (arith, null)
 
-      low : (d k : ℕ) → IsLivePointer (root_of image t) (size_of image t) d k → IsFollowed image (root_of image t) (size_of image t) d k ⊎ (word_at image (root_of image t) d k ≡ 0) →
+      low : (d k : ℕ) → IsLivePointer (root_of image t) (size_of image t) d k → IsFollowed image (root_of image t) (size_of image t) d k ⊎ (tree_word image (root_of image t) d k ≡ 0) →
           node image (root_of image t) d k < block_count image
       low d k live (inl f) = less _ _ (λ high. none.none Range _ (range (record { found = found; live = live; followed = f; at = refl }) high))
       low d k live (inr null) = omega (arith, null, some)

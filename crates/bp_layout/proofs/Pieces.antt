@@ -2,8 +2,8 @@
 use Rattle.std.proofs.Common.{◌≡◌, ◌≢◌, ◌⊎◌, ℕ, zero, suc, ◌+◌, ◌*◌, ◌/◌, ◌%◌, ◌<◌, ◌≤◌, refl, sym, ◌∙◌, ap, subst, arith, inl, inr, pow-suc, lt_of_mul-lt-mul_right}
 use Rattle.std.proofs.lemmas.Nat.{div-mul-add, mod-mul-add}
 use Rattle.bp_layout.specs.Words.{Image, block_count, block_of, height_of, slot_word}
-use Rattle.bp_layout.specs.Tree.{word_at, node, content_word, byte, covered, IsLivePointer, HasBlock, IsSound, IsFull}
-use Rattle.bp_layout.proofs.TreeLaws.{word_at-suc, word_at-zero}
+use Rattle.bp_layout.specs.Tree.{tree_word, node, content_word, byte, covered, IsLivePointer, HasBlock, IsSound, IsFull}
+use Rattle.bp_layout.proofs.TreeLaws.{tree_word-suc, tree_word-zero}
 use Rattle.bp_layout.proofs.TreeLaws.{first_index}
 use Rattle.bp_layout.specs.Tree.{span}
 use Rattle.bp_limits.specs.Limits.{max_height}
@@ -70,25 +70,25 @@ module _ (image : Image) (root size level : ℕ) (shape : HasChildren image root
   node_in : (d k : ℕ) → slot_of d k * span level < size → node image root (suc d) k ≡ node image (child image (block_of root) level (slot_of d k)) d (rest_of d k)
   node_in zero k below =
       let column : k % 512 ≡ k = omega (arith, low_slot k below) in
-      ap block_of (word_at-suc image root 0 k ∙ ap (λ p. slot_word image (block_of p) (k % 512)) (word_at-zero image root (k / 512)) ∙ ap (slot_word image (block_of root)) column)
+      ap block_of (tree_word-suc image root 0 k ∙ ap (λ p. slot_word image (block_of p) (k % 512)) (tree_word-zero image root (k / 512)) ∙ ap (slot_word image (block_of root)) column)
       ∙ sym (block_at k below)
-      ∙ ap block_of (sym (word_at-zero image (child image (block_of root) level k) 0))
+      ∙ ap block_of (sym (tree_word-zero image (child image (block_of root) level k) 0))
   node_in (suc d) k below =
       let up = node_in d (k / 512) below in
       let row : rest_of (suc d) k / 512 ≡ rest_of d (k / 512) = omega arith in
       let column : rest_of (suc d) k % 512 ≡ k % 512 = omega arith in
-      ap block_of (word_at-suc image root (suc d) k
+      ap block_of (tree_word-suc image root (suc d) k
       ∙ ap (λ x. slot_word image x (k % 512)) up
-      ∙ sym (word_at-suc image (child image (block_of root) level (slot_of d (k / 512))) d (rest_of (suc d) k) ∙ rw (row, column) refl))
+      ∙ sym (tree_word-suc image (child image (block_of root) level (slot_of d (k / 512))) d (rest_of (suc d) k) ∙ rw (row, column) refl))
 
   word_in : (d k : ℕ) → slot_of d (k / 512) * span level < size →
-      word_at image root (suc (suc d)) k ≡ word_at image (child image (block_of root) level (slot_of d (k / 512))) (suc d) (rest_of (suc d) k)
+      tree_word image root (suc (suc d)) k ≡ tree_word image (child image (block_of root) level (slot_of d (k / 512))) (suc d) (rest_of (suc d) k)
   word_in d k below =
       let row : rest_of (suc d) k / 512 ≡ rest_of d (k / 512) = omega arith in
       let column : rest_of (suc d) k % 512 ≡ k % 512 = omega arith in
-      word_at-suc image root (suc d) k
+      tree_word-suc image root (suc d) k
       ∙ ap (λ x. slot_word image x (k % 512)) (node_in d (k / 512) below)
-      ∙ sym (word_at-suc image (child image (block_of root) level (slot_of d (k / 512))) d (rest_of (suc d) k) ∙ rw (row, column) refl)
+      ∙ sym (tree_word-suc image (child image (block_of root) level (slot_of d (k / 512))) d (rest_of (suc d) k) ∙ rw (row, column) refl)
 
   -- a number at a rank that is below the size, in its slot's tree
   pub record IsIn (d k rank : ℕ) : Type 0 where
@@ -114,7 +114,7 @@ module _ (image : Image) (root size level : ℕ) (shape : HasChildren image root
       (found.slot, record { level = live.level; height = omega (arith, live.height, shape.height, height_at (slot_of d k) found.slot); live = found.rest })
 
   top_at : (k : ℕ) → node image root 0 k ≡ block_of root
-  top_at k = ap block_of (word_at-zero image root k)
+  top_at k = ap block_of (tree_word-zero image root k)
 
   -- a block of a slot's tree
   pub record InChild (x : ℕ) : Type 0 where
@@ -171,7 +171,7 @@ module _ (image : Image) (root size level : ℕ) (shape : HasChildren image root
       let number : rest_of (suc level) ((c * span level + i) / 8) ≡ i / 8 = omega (arith, is.1) in
       let column : (c * span level + i) % 8 ≡ i % 8 = omega (arith, is.1) in
       let word : content_word image root ((c * span level + i) / 8) ≡ content_word image (child image (block_of root) level c) (i / 8) =
-      ap (λ h. word_at image root (suc h) ((c * span level + i) / 8)) shape.height
+      ap (λ h. tree_word image root (suc h) ((c * span level + i) / 8)) shape.height
       ∙ word_in level ((c * span level + i) / 8) (subst (λ x. x * span level < size) (sym slot) below)
       ∙ rw (slot, number, height_at c below) refl in
       rw (word, column) refl
@@ -253,12 +253,12 @@ module _ (image : Image) (root size level : ℕ) (shape : HasChildren image root
 
   -- sound trees make a sound tree
   module _ (joins : Joins image root size level) where
-    pointer_bits : (d k : ℕ) → IsLivePointer root size (suc d) k → word_at image root (suc d) k % 4096 ≡ 0
+    pointer_bits : (d k : ℕ) → IsLivePointer root size (suc d) k → tree_word image root (suc d) k % 4096 ≡ 0
     pointer_bits zero k live =
         let below = (live_in 0 k live).0 in
         let column : k % 512 ≡ k = omega (arith, low_slot k below) in
-        let word : word_at image root 1 k ≡ slot_word image (block_of root) k =
-        word_at-suc image root 0 k ∙ ap (λ p. slot_word image (block_of p) (k % 512)) (word_at-zero image root (k / 512)) ∙ ap (slot_word image (block_of root)) column in
+        let word : tree_word image root 1 k ≡ slot_word image (block_of root) k =
+        tree_word-suc image root 0 k ∙ ap (λ p. slot_word image (block_of p) (k % 512)) (tree_word-zero image root (k / 512)) ∙ ap (slot_word image (block_of root)) column in
         rw word (shape.words k below)
     pointer_bits (suc d) k live =
         let found = live_in (suc d) k live in
@@ -310,7 +310,7 @@ module _ (image : Image) (root size level : ℕ) (shape : HasChildren image root
     top_live : IsLivePointer root size 0 0
     top_live = record { level = height_of root; height = omega arith; live = omega (arith, some) }
 
-    word_out : (c d k : ℕ) → StandsIn c (suc d) k → word_at image root (suc (suc d)) (back (suc d) c k) ≡ word_at image (child image (block_of root) level c) (suc d) k
+    word_out : (c d k : ℕ) → StandsIn c (suc d) k → tree_word image root (suc (suc d)) (back (suc d) c k) ≡ tree_word image (child image (block_of root) level c) (suc d) k
     word_out c d k there = word_in d (back (suc d) c k) there.below ∙ rw (there.slot, there.rest) refl
 
     child_once : (c d k e l : ℕ) → c * span level < size → IsLivePointer (child image (block_of root) level c) (piece size level c) d k →
@@ -371,7 +371,7 @@ sound_shape image root size level sound some height =
           let less : c * s < 512 * s = omega (arith, below, fits, wide) in
           let low : c < 512 = lt_of_mul-lt-mul_right s less in
           let column : c % 512 ≡ c = omega (arith, low) in
-          let word : word_at image root 1 c ≡ slot_word image (block_of root) c =
-          word_at-suc image root 0 c ∙ ap (λ p. slot_word image (block_of p) (c % 512)) (word_at-zero image root (c / 512)) ∙ ap (slot_word image (block_of root)) column in
+          let word : tree_word image root 1 c ≡ slot_word image (block_of root) c =
+          tree_word-suc image root 0 c ∙ ap (λ p. slot_word image (block_of p) (c % 512)) (tree_word-zero image root (c / 512)) ∙ ap (slot_word image (block_of root)) column in
           ap (λ w. w % 4096) (sym word) ∙ sound.pointer_bits 0 c (record { level = level; height = omega (arith, height); live = below });
     }

@@ -1,7 +1,7 @@
 -- Trees with no live block, and with one.
 use Rattle.std.proofs.Common.{◌≡◌, ◌≢◌, ℕ, suc, ◌*◌, ◌%◌, ◌<◌, ◌≤◌, refl, sym, ◌∙◌, subst, suc-ne-zero, arith}
 use Rattle.bp_layout.specs.Words.{Image, block_count, block_of, height_of, slot_word}
-use Rattle.bp_layout.specs.Tree.{word_at, node, content_word, covered, IsLivePointer, HasBlock, IsSound, IsFull}
+use Rattle.bp_layout.specs.Tree.{tree_word, node, content_word, covered, IsLivePointer, HasBlock, IsSound, IsFull}
 
 -- no pointer is live at size 0
 pub none_live : (root d k : ℕ) → IsLivePointer root 0 d k → ⊥
@@ -29,7 +29,7 @@ one_live root size d k flat small live =
 
 -- the node of the root pointer
 pub node-zero : (image : Image) (root d k : ℕ) → d ≡ 0 → node image root d k ≡ block_of root
-unfolding word_at
+unfolding tree_word
 node-zero image root d k at = rw at refl
 
 pub leaf_sound : (image : Image) (root size : ℕ) → root % 4096 ≡ 0 → block_of root < block_count image → size ≤ 4096 → IsSound image root size
@@ -53,5 +53,5 @@ leaf_full image root size whole present small d k live null =
 
 -- a content word of a tree of height 0
 pub content_word-leaf : (image : Image) (root k : ℕ) → height_of root ≡ 0 → content_word image root k ≡ slot_word image (block_of root) (k % 512)
-unfolding word_at
+unfolding tree_word
 content_word-leaf image root k flat = rw flat refl

@@ -4,7 +4,7 @@ use Rattle.std.proofs.lemmas.List.{length-set}
 use Rattle.bp_limits.specs.Limits.{magic, version_at}
 use Rattle.bp_layout.specs.Formatted.{IsFormatted, IsSized, version_of}
 use Rattle.bp_layout.specs.Words.{Image, word, block_of, slot_word}
-use Rattle.bp_layout.specs.Tree.{word_at}
+use Rattle.bp_layout.specs.Tree.{tree_word}
 use Rattle.bp_layout.specs.Trees.{snapshot_of}
 
 pub length-snapshot : (image : Image) → length (snapshot_of image) ≡ length image
@@ -46,9 +46,9 @@ snapshot-slot image zero slot = refl
 snapshot-slot image (suc b) slot = snapshot-word image (512 * suc b + slot) (λ e. omega (arith, e)) (λ e. omega (arith, e))
 
 -- so readers that are handed a root word need not know whose it is
-pub snapshot-word_at : (image : Image) (root depth index : ℕ) → word_at (snapshot_of image) root depth index ≡ word_at image root depth index
-unfolding word_at
-snapshot-word_at image root zero index = refl
-snapshot-word_at image root (suc depth) index =
-    snapshot-slot image (block_of (word_at (snapshot_of image) root depth (index / 512))) (index % 512)
-    ∙ ap (λ p. slot_word image (block_of p) (index % 512)) (snapshot-word_at image root depth (index / 512))
+pub snapshot-tree_word : (image : Image) (root depth index : ℕ) → tree_word (snapshot_of image) root depth index ≡ tree_word image root depth index
+unfolding tree_word
+snapshot-tree_word image root zero index = refl
+snapshot-tree_word image root (suc depth) index =
+    snapshot-slot image (block_of (tree_word (snapshot_of image) root depth (index / 512))) (index % 512)
+    ∙ ap (λ p. slot_word image (block_of p) (index % 512)) (snapshot-tree_word image root depth (index / 512))

@@ -1,17 +1,17 @@
 -- What a tree means stands on its live words alone.
 use Rattle.std.proofs.Common.{◌^◌, subst, ◌≤◌, ◌≡◌, ◌≢◌, ℕ, zero, suc, ◌+◌, ◌*◌, ◌/◌, ◌%◌, ◌<◌, refl, sym, ◌∙◌, ap, arith, pow-suc, length, lt_of_le_of_lt, le_trans, le_of_eq, mul_assoc, mul-le-mul_right, div-mul-le_self}
 use Rattle.bp_layout.specs.Words.{Image, word, block_of, height_of, slot_word, byte_of}
-use Rattle.bp_layout.specs.Tree.{word_at, node, content_word, covered, span, IsLiveWord, IsLivePointer, HasBlock, IsSound, IsFull}
+use Rattle.bp_layout.specs.Tree.{tree_word, node, content_word, covered, span, IsLiveWord, IsLivePointer, HasBlock, IsSound, IsFull}
 
 -- the two equations of a word
-pub word_at-zero : (image : Image) (root index : ℕ) → word_at image root zero index ≡ root
-unfolding word_at
-word_at-zero image root index = refl
+pub tree_word-zero : (image : Image) (root index : ℕ) → tree_word image root zero index ≡ root
+unfolding tree_word
+tree_word-zero image root index = refl
 
-pub word_at-suc : (image : Image) (root depth index : ℕ) →
-    word_at image root (suc depth) index ≡ slot_word image (node image root depth (index / 512)) (index % 512)
-unfolding word_at
-word_at-suc image root depth index = refl
+pub tree_word-suc : (image : Image) (root depth index : ℕ) →
+    tree_word image root (suc depth) index ≡ slot_word image (node image root depth (index / 512)) (index % 512)
+unfolding tree_word
+tree_word-suc image root depth index = refl
 
 pub covered-suc : (rank : ℕ) → covered (suc rank) ≡ 512 * covered rank
 covered-suc rank = rw pow-suc (omega arith)
@@ -37,13 +37,13 @@ pub record KeepsLiveWords (old new : Image) (root size : ℕ) : Type 0 where
   pub kept : (d k : ℕ) → IsLiveWord root size (suc d) k →
       slot_word new (node old root d (k / 512)) (k % 512) ≡ slot_word old (node old root d (k / 512)) (k % 512)
 
-pub word_at-kept : (old new : Image) (root size : ℕ) → KeepsLiveWords old new root size →
-    (d k : ℕ) → IsLiveWord root size d k → word_at new root d k ≡ word_at old root d k
-unfolding word_at
-word_at-kept old new root size keeps zero k live = refl
-word_at-kept old new root size keeps (suc d) k live =
-    let above : word_at new root d (k / 512) ≡ word_at old root d (k / 512) =
-    word_at-kept old new root size keeps d (k / 512) (live_pointer_word root size d (k / 512) (live_above root size d k live)) in
+pub tree_word-kept : (old new : Image) (root size : ℕ) → KeepsLiveWords old new root size →
+    (d k : ℕ) → IsLiveWord root size d k → tree_word new root d k ≡ tree_word old root d k
+unfolding tree_word
+tree_word-kept old new root size keeps zero k live = refl
+tree_word-kept old new root size keeps (suc d) k live =
+    let above : tree_word new root d (k / 512) ≡ tree_word old root d (k / 512) =
+    tree_word-kept old new root size keeps d (k / 512) (live_pointer_word root size d (k / 512) (live_above root size d k live)) in
     ap (λ p. slot_word new (block_of p) (k % 512)) above ∙ keeps.kept d k live
 
 -- the same of the pointers alone, and what that says of the content
@@ -52,11 +52,11 @@ pub record KeepsPointers (old new : Image) (root size : ℕ) : Type 0 where
       slot_word new (node old root d (k / 512)) (k % 512) ≡ slot_word old (node old root d (k / 512)) (k % 512)
 
 pub pointer-kept : (old new : Image) (root size : ℕ) → KeepsPointers old new root size →
-    (d k : ℕ) → IsLivePointer root size d k → word_at new root d k ≡ word_at old root d k
-unfolding word_at
+    (d k : ℕ) → IsLivePointer root size d k → tree_word new root d k ≡ tree_word old root d k
+unfolding tree_word
 pointer-kept old new root size keeps zero k live = refl
 pointer-kept old new root size keeps (suc d) k live =
-    let above : word_at new root d (k / 512) ≡ word_at old root d (k / 512) =
+    let above : tree_word new root d (k / 512) ≡ tree_word old root d (k / 512) =
     pointer-kept old new root size keeps d (k / 512) (live_above root size d k (live_pointer_word root size (suc d) k live)) in
     ap (λ p. slot_word new (block_of p) (k % 512)) above ∙ keeps.kept d k live
 
@@ -66,7 +66,7 @@ live_content root size index below = record { rank = 0; height = omega arith; li
 
 pub content-kept : (old new : Image) (root size : ℕ) → KeepsPointers old new root size → (index : ℕ) → 8 * index < size →
     content_word new root index ≡ slot_word new (node old root (height_of root) (index / 512)) (index % 512)
-unfolding word_at
+unfolding tree_word
 content-kept old new root size keeps index below =
     ap (λ p. slot_word new (block_of p) (index % 512)) (pointer-kept old new root size keeps (height_of root) (index / 512) (live_above root size (height_of root) index (live_content root size index below)))
 

@@ -4,7 +4,7 @@ use Rattle.std.specs.Prelude.{◌≡◌, ◌≢◌, ◌⊎◌, ℕ, zero, suc, �
 use Rattle.bp_layout.specs.Words.{Image, block_count, height_of}
 use Rattle.bp_layout.specs.Formatted.{version_of}
 use Rattle.bp_limits.specs.Limits.{block_size, block_words, directory_kind, entry_size, entry_words, file_kind, greatest_height, inode_words, root_inumber, super_root, super_size}
-use Rattle.bp_layout.specs.Tree.{word_at, node, place_of, covered, IsLivePointer}
+use Rattle.bp_layout.specs.Tree.{tree_word, node, place_of, covered, IsLivePointer}
 use Rattle.bp_layout.specs.Inode.{IsDirectory, inode_count, kind_of, root_of, size_of}
 use Rattle.bp_layout.specs.Directory.{EntryNames, IsName, name_at}
 use Rattle.bp_layout.specs.declared.check.Check.{Check}
@@ -31,7 +31,7 @@ abbrev pub Passes : Image → ℕ → ℕ → ℕ → Type 0
 Passes image root zero index =
     (root % block_size ≤ greatest_height (version_of image)) × (node image root zero index < block_count image)
 Passes image root (suc depth) index =
-    (word_at image root (suc depth) index % block_size ≡ 0) × (node image root (suc depth) index < block_count image)
+    (tree_word image root (suc depth) index % block_size ≡ 0) × (node image root (suc depth) index < block_count image)
 
 -- each pointer above passes, none is null, and the height holds the size
 abbrev pub IsFollowed : Image → ℕ → ℕ → ℕ → ℕ → Type 0
@@ -92,7 +92,7 @@ pub data Fails (image : Image) : Check → ℕ → Type 0 where
       → Fails image Height p
   root_bits : {t p : ℕ} → IsPointer image t 0 0 p → root_of image t / 8 % 512 ≢ 0 → Fails image PointerBits p
   pointer_bits : {t d k p : ℕ} → IsPointer image t (suc d) k p
-      → word_at image (root_of image t) (suc d) k % block_size ≢ 0 → Fails image PointerBits p
+      → tree_word image (root_of image t) (suc d) k % block_size ≢ 0 → Fails image PointerBits p
   range : {t d k p : ℕ} → IsPointer image t d k p → block_count image ≤ node image (root_of image t) d k
       → Fails image Range p
   twice : {t d k p u e l q : ℕ} → IsPointer image t d k p → IsPointer image u e l q → p ≢ q →

@@ -6,14 +6,14 @@ use Rattle.bp_limits.specs.Limits.{block_size, block_words, max_height}
 
 -- The word with a number among the words at a depth. At depth 0 stands the root word alone. A word at a depth up to
 -- the height points to a block, whose 512 words stand one deeper. So those one deeper than the height are the content.
-unfoldable pub word_at : Image → ℕ → ℕ → ℕ → ℕ
-word_at image root zero index = root
-word_at image root (suc depth) index =
-    slot_word image (block_of (word_at image root depth (index / block_words))) (index % block_words)
+unfoldable pub tree_word : Image → ℕ → ℕ → ℕ → ℕ
+tree_word image root zero index = root
+tree_word image root (suc depth) index =
+    slot_word image (block_of (tree_word image root depth (index / block_words))) (index % block_words)
 
 -- the block to which that word points, 0 where it is null or where a null is above it
 abbrev pub node : Image → ℕ → ℕ → ℕ → ℕ
-node image root depth index = block_of (word_at image root depth index)
+node image root depth index = block_of (tree_word image root depth index)
 
 -- the place at which that word stands, given that of the root word
 abbrev pub place_of : Image → ℕ → ℕ → ℕ → ℕ → ℕ
@@ -22,7 +22,7 @@ place_of image at root (suc depth) index =
     block_words * node image root depth (index / block_words) + index % block_words
 
 abbrev pub content_word : Image → ℕ → ℕ → ℕ
-content_word image root index = word_at image root (suc (height_of root)) index
+content_word image root index = tree_word image root (suc (height_of root)) index
 
 abbrev pub byte : Image → ℕ → ℕ → ℕ
 byte image root offset = byte_of (content_word image root (offset / 8)) (offset % 8)
@@ -63,7 +63,7 @@ pub record HasBlock (image : Image) (root size block : ℕ) : Type 0 where
 pub record IsSound (image : Image) (root size : ℕ) : Type 0 where
   pub low : 0 < size → height_of root ≤ max_height
   pub root_bits : 0 < size → root / 8 % 512 ≡ 0
-  pub pointer_bits : (d k : ℕ) → IsLivePointer root size (suc d) k → word_at image root (suc d) k % block_size ≡ 0
+  pub pointer_bits : (d k : ℕ) → IsLivePointer root size (suc d) k → tree_word image root (suc d) k % block_size ≡ 0
   pub in_range : (d k : ℕ) → IsLivePointer root size d k → node image root d k < block_count image
   pub once : (d k e l : ℕ) → IsLivePointer root size d k → IsLivePointer root size e l →
       node image root d k ≢ 0 → node image root d k ≡ node image root e l → (d ≡ e) × (k ≡ l)

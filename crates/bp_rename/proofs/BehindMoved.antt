@@ -18,7 +18,7 @@ use Rattle.bp_layout.specs.Reached.{IsReached}
 use Rattle.bp_layout.specs.Reached.IsReached.{inode_file}
 use Rattle.bp_layout.specs.Thaw.{thawed}
 use Rattle.bp_layout.specs.Tree.{IsFull, IsLivePointer, node}
-use Rattle.bp_layout.proofs.TreeLaws.{live_pointer_word, word_at-zero}
+use Rattle.bp_layout.proofs.TreeLaws.{live_pointer_word, tree_word-zero}
 use Rattle.bp_tree.proofs.Digits.{length-digits}
 use Rattle.bp_shapes.specs.Trail.{Trail, block_on, trail_of}
 use Rattle.bp_shapes.proofs.PathTrails.{length-trail_of}
@@ -251,7 +251,7 @@ module _ {kept : ℕ → Bool} (old middle : Memory) (move : Move) (blocks inode
 
   -- the pointers of the inode file stay
   inode_node : (d k : ℕ) → IsLivePointer (root_of image 0) (size_of image 0) d k → node mid (root_of mid 0) d k ≡ node image (root_of image 0) d k
-  inode_node zero k live = ap block_of (word_at-zero mid (root_of mid 0) k ∙ sym root_inodes ∙ sym (word_at-zero image (root_of image 0) k))
+  inode_node zero k live = ap block_of (tree_word-zero mid (root_of mid 0) k ∙ sym root_inodes ∙ sym (tree_word-zero image (root_of image 0) k))
   inode_node (suc d) k live =
       ap block_of (puts.prepared.ready.others 0 d k inode_file (λ e. not_file (sym e)) (live_pointer_word (root_of image 0) (size_of image 0) (suc d) k live) (λ e last f. omega (arith, last, live.height)))
 

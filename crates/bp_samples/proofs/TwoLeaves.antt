@@ -1,8 +1,8 @@
 -- The tree of two leaves, with a null between them, is sound.
 use Rattle.std.proofs.Common.{◌≡◌, ◌≢◌, ◌⊎◌, ℕ, zero, suc, ◌+◌, ◌-◌, ◌*◌, ◌%◌, ◌<◌, ◌≤◌, length, min, lit<, lit≤, refl, sym, ◌∙◌, ap, inl, inr, arith}
 use Rattle.bp_layout.specs.Words.{Image, word, block_of, slot_word}
-use Rattle.bp_layout.specs.Tree.{word_at, node, covered, IsLivePointer, IsSound}
-use Rattle.bp_layout.proofs.TreeLaws.{word_at-zero, word_at-suc}
+use Rattle.bp_layout.specs.Tree.{tree_word, node, covered, IsLivePointer, IsSound}
+use Rattle.bp_layout.proofs.TreeLaws.{tree_word-zero, tree_word-suc}
 use Rattle.bp_layout.proofs.LastValue.{AllWithinImage, last_value}
 use Rattle.bp_samples.specs.Laid.{laid_image}
 use Rattle.bp_samples.specs.declared.images.TheConstants.{TWO_LEAVES}
@@ -29,11 +29,11 @@ record At (d k block : ℕ) : Type 0 where
   index : block ≢ 0 → k ≡ 2 * (block - 4)
 
 module _ (image : Image) (first : word image 1536 ≡ 16384) (second : word image 1537 ≡ 0) (third : word image 1538 ≡ 20480) where
-  child_is : (k : ℕ) → k ≤ 2 → word_at image 12289 1 k ≡ pointer k
+  child_is : (k : ℕ) → k ≤ 2 → tree_word image 12289 1 k ≡ pointer k
   unfolding pointer
-  child_is zero low = word_at-suc image 12289 0 0 ∙ ap (λ w. slot_word image (block_of w) 0) (word_at-zero image 12289 0) ∙ first
-  child_is (suc zero) low = word_at-suc image 12289 0 1 ∙ ap (λ w. slot_word image (block_of w) 1) (word_at-zero image 12289 0) ∙ second
-  child_is (suc (suc zero)) low = word_at-suc image 12289 0 2 ∙ ap (λ w. slot_word image (block_of w) 2) (word_at-zero image 12289 0) ∙ third
+  child_is zero low = tree_word-suc image 12289 0 0 ∙ ap (λ w. slot_word image (block_of w) 0) (tree_word-zero image 12289 0) ∙ first
+  child_is (suc zero) low = tree_word-suc image 12289 0 1 ∙ ap (λ w. slot_word image (block_of w) 1) (tree_word-zero image 12289 0) ∙ second
+  child_is (suc (suc zero)) low = tree_word-suc image 12289 0 2 ∙ ap (λ w. slot_word image (block_of w) 2) (tree_word-zero image 12289 0) ∙ third
   child_is (suc (suc (suc k))) low = absurd (omega (arith, low))
 
   child_at : (k : ℕ) → k ≤ 2 → At 1 k (block_of (pointer k))
@@ -54,7 +54,7 @@ module _ (image : Image) (first : word image 1536 ≡ 16384) (second : word imag
     where
       go : ((d ≡ 0) × (k ≡ 0)) ⊎ ((d ≡ 1) × (k ≤ 2)) → At d k (node image 12289 d k)
       go (inl top) =
-          rw (top.0, top.1, word_at-zero image 12289 0) (record { low = lit< tt; depth = λ _. refl; index = λ _. refl })
+          rw (top.0, top.1, tree_word-zero image 12289 0) (record { low = lit< tt; depth = λ _. refl; index = λ _. refl })
       go (inr below) = rw (below.0, child_is k below.1) (child_at k below.1)
 
   two_leaves : length image ≡ 4096 → IsSound image 12289 8200
@@ -71,7 +71,7 @@ module _ (image : Image) (first : word image 1536 ≡ 16384) (second : word imag
     fits = lit≤ tt;
   }
     where
-      deeper : (d k : ℕ) → ((suc d ≡ 0) × (k ≡ 0)) ⊎ ((suc d ≡ 1) × (k ≤ 2)) → word_at image 12289 (suc d) k % 4096 ≡ 0
+      deeper : (d k : ℕ) → ((suc d ≡ 0) × (k ≡ 0)) ⊎ ((suc d ≡ 1) × (k ≤ 2)) → tree_word image 12289 (suc d) k % 4096 ≡ 0
       deeper d k (inl top) = absurd (omega (arith, top.0))
       deeper d k (inr below) = rw (below.0, child_is k below.1) (whole_pointer k below.1)
 

@@ -10,7 +10,7 @@ use Rattle.bp_layout.specs.Checks.{IsFound, IsPointer, Fails, root_place, size_p
 use Rattle.bp_layout.specs.Checks.Fails.{height, root_bits, pointer_bits, range, twice, hole, capacity}
 use Rattle.bp_layout.specs.declared.check.Check.{Check}
 use Rattle.bp_layout.specs.declared.check.Check.TheVariants.{BlockTwice}
-use Rattle.bp_layout.proofs.TreeLaws.{word_at-zero}
+use Rattle.bp_layout.proofs.TreeLaws.{tree_word-zero}
 use Rattle.bp_layout.proofs.OnePlace.{IsAbove, above_pointer, inode_block, low_slot}
 use Rattle.bp_layout.proofs.OnePlace.IsAbove.{pointer_above, inode_above}
 use Rattle.bp_layout.proofs.OncePointer.{TellsBlocks, other_root}
@@ -91,7 +91,7 @@ module _ (image : Image) (E : ℕ → Type 0) (all left : Set) (blocks : HasAllB
     fresh_deep p there u e l q z also same = clash there (ap (λ x. has left (x / 512)) same ∙ outside u e l q z also)
 
     root_node : node image (root_of image t) 0 0 ≡ block_of (root_of image t)
-    root_node = ap block_of (word_at-zero image (root_of image t) 0)
+    root_node = ap block_of (tree_word-zero image (root_of image t) 0)
 
     pub fails_tree : (c : Check) (p : ℕ) → FailsTree image (root_place image t) (root_of image t) (size_of image t) holes left c p → Fails image c p
     fails_tree _ _ (tree_height some high) = height (root_pointer image t found some) high

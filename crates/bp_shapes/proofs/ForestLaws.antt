@@ -2,7 +2,7 @@
 use Rattle.std.proofs.Common.{◌≡◌, ◌≢◌, ◌⊎◌, ℕ, zero, suc, ◌+◌, ◌*◌, ◌/◌, ◌%◌, ◌<◌, ◌≤◌, [], ◌∷◌, length, refl, sym, ◌∙◌, ap, subst, arith, inl, inr, mul-le-mul_right, zero-mul}
 use Rattle.std.proofs.lemmas.Bool.{cases_eq}
 use Rattle.bp_layout.specs.Words.{Image, word, block_count, block_of, height_of, slot_word}
-use Rattle.bp_layout.specs.Tree.{word_at, node, covered, IsLivePointer}
+use Rattle.bp_layout.specs.Tree.{tree_word, node, covered, IsLivePointer}
 use Rattle.bp_layout.specs.Inode.{root_of}
 use Rattle.bp_layout.specs.Reached.{IsReached}
 use Rattle.bp_layout.specs.Reached.IsReached.{inode_file}
@@ -11,17 +11,17 @@ use Rattle.bp_shapes.specs.Trail.{Trail, word_on, block_on, ArePointers, IsSkele
 use Rattle.bp_shapes.specs.Forest.{along, root_trail, tree_trail, IsForest, IsTreePointer}
 use Rattle.bp_shapes.proofs.TrailLaws.{word_on-top}
 
-pub word-along : (image : Image) (base : Trail) (depth index : ℕ) → word_on image (along base depth index) ≡ word_at image (word_on image base) depth index
-unfolding word_on word_at
+pub word-along : (image : Image) (base : Trail) (depth index : ℕ) → word_on image (along base depth index) ≡ tree_word image (word_on image base) depth index
+unfolding word_on tree_word
 word-along image base zero index = refl
 word-along image base (suc depth) index = ap (λ w. slot_word image (block_of w) (index % 512)) (word-along image base depth (index / 512))
 
 pub word-root : (image : Image) (t : ℕ) → word_on image (root_trail (height_of (word image 2)) t) ≡ root_of image t
 word-root image zero = word_on-top image
-word-root image (suc i) = word-along image [] (suc (height_of (word image 2))) (8 * suc i + 1) ∙ ap (λ w. word_at image w (suc (height_of (word image 2))) (8 * suc i + 1)) (word_on-top image)
+word-root image (suc i) = word-along image [] (suc (height_of (word image 2))) (8 * suc i + 1) ∙ ap (λ w. tree_word image w (suc (height_of (word image 2))) (8 * suc i + 1)) (word_on-top image)
 
-pub word-tree : (image : Image) (t depth index : ℕ) → word_on image (tree_trail (height_of (word image 2)) t depth index) ≡ word_at image (root_of image t) depth index
-word-tree image t depth index = word-along image (root_trail (height_of (word image 2)) t) depth index ∙ ap (λ w. word_at image w depth index) (word-root image t)
+pub word-tree : (image : Image) (t depth index : ℕ) → word_on image (tree_trail (height_of (word image 2)) t depth index) ≡ tree_word image (root_of image t) depth index
+word-tree image t depth index = word-along image (root_trail (height_of (word image 2)) t) depth index ∙ ap (λ w. tree_word image w depth index) (word-root image t)
 
 length-along : (base : Trail) (depth index : ℕ) → length (along base depth index) ≡ depth + length base
 length-along base zero index = omega arith

@@ -3,12 +3,12 @@ use Rattle.std.proofs.Common.{◌≡◌, ◌≢◌, ◌⊎◌, ℕ, zero, suc, �
 use Rattle.std.proofs.lemmas.Bool.{cases_eq}
 use Rattle.std.proofs.lemmas.List.{length-set}
 use Rattle.bp_layout.specs.Words.{Image, word, block_count, block_of, height_of, slot_word, byte_of}
-use Rattle.bp_layout.specs.Tree.{word_at, node, content_word, byte, IsLiveWord, IsLivePointer, HasBlock}
+use Rattle.bp_layout.specs.Tree.{tree_word, node, content_word, byte, IsLiveWord, IsLivePointer, HasBlock}
 use Rattle.bp_layout.specs.Inode.{root_of, size_of, inode_count}
 use Rattle.bp_layout.specs.Reached.{IsReached, IsLiveBlock}
 use Rattle.bp_layout.specs.Reached.IsReached.{inode_file}
 use Rattle.bp_layout.specs.WellFormed.{IsWellFormed}
-use Rattle.bp_layout.proofs.TreeLaws.{KeepsPointers, content-kept, slot_word-same, word_at-suc, word_at-zero, live_above, live_pointer_word, live_content}
+use Rattle.bp_layout.proofs.TreeLaws.{KeepsPointers, content-kept, slot_word-same, tree_word-suc, tree_word-zero, live_above, live_pointer_word, live_content}
 use Rattle.bp_layout.proofs.Reached.{reached-in_file}
 use Rattle.bp_changes.proofs.Separation.{stands_in_block}
 use Rattle.bp_changes.proofs.ContentStore.{word-stored, word-elsewhere}
@@ -45,7 +45,7 @@ pub null_below : (image : Image) (root d k : ℕ) → node image root (suc d) k 
 null_below image root d k null e l _ (here at index) = subst₂ (λ x y. node image root x y ≡ 0) (sym at) (sym index) null
 null_below image root d k null _ _ _ (under {e} {l} {r = q} b) =
     let up : node image root e (l / 512) ≡ 0 = null_below image root d k null e (l / 512) q b in
-    ap block_of (word_at-suc image root e l ∙ ap (λ x. slot_word image x (l % 512)) up)
+    ap block_of (tree_word-suc image root e l ∙ ap (λ x. slot_word image x (l % 512)) up)
 
 module _ (old : Image) (wf : IsWellFormed old) (t d k place block : ℕ) (hang : CanHang old t d k place block) where
   abbrev r : ℕ
@@ -71,15 +71,15 @@ module _ (old : Image) (wf : IsWellFormed old) (t d k place block : ℕ) (hang :
       word-elsewhere old wf t d k place (4096 * block) hang.reached the_word hang.stands u e l reached live (λ same. apart same.tree same.depth same.index)
 
   -- a word beside the subtree
-  outside : (e l : ℕ) → IsLiveWord r s e l → ((q : ℕ) → IsUnder d k e l q → ⊥) → word_at new r e l ≡ word_at old r e l
-  outside zero l live out = word_at-zero new r l ∙ sym (word_at-zero old r l)
+  outside : (e l : ℕ) → IsLiveWord r s e l → ((q : ℕ) → IsUnder d k e l q → ⊥) → tree_word new r e l ≡ tree_word old r e l
+  outside zero l live out = tree_word-zero new r l ∙ sym (tree_word-zero old r l)
   outside (suc e) l live out =
-      let up : word_at new r e (l / 512) ≡ word_at old r e (l / 512) =
+      let up : tree_word new r e (l / 512) ≡ tree_word old r e (l / 512) =
       outside e (l / 512) (live_pointer_word r s e (l / 512) (live_above r s e l live)) (λ q b. out (suc q) (under b)) in
-      word_at-suc new r e l
+      tree_word-suc new r e l
       ∙ ap (λ p. slot_word new (block_of p) (l % 512)) up
       ∙ elsewhere t e l hang.reached live (λ x y z. out 0 (here (ap suc (sym y)) (sym z)))
-      ∙ sym (word_at-suc old r e l)
+      ∙ sym (tree_word-suc old r e l)
 
   -- a word of a free block
   pub free_stays : (b c : ℕ) → c < 512 → (b ≢ 0 → IsLiveBlock old b → ⊥) → slot_word new b c ≡ slot_word old b c
@@ -87,25 +87,25 @@ module _ (old : Image) (wf : IsWellFormed old) (t d k place block : ℕ) (hang :
       let same : b ≡ node old r d (k / 512) = omega (arith, at, hang.stands.at, low) in
       free present (record { tree = t; reached = hang.reached; has = subst (HasBlock old r s) (sym same) (stands_in_block old t d k place hang.stands the_word) })))
 
-  top_word : word_at new r (suc d) k ≡ 4096 * block
+  top_word : tree_word new r (suc d) k ≡ 4096 * block
   top_word =
-      word_at-suc new r d k
+      tree_word-suc new r d k
       ∙ ap (λ p. slot_word new (block_of p) (k % 512)) (outside d (k / 512) (live_pointer_word r s d (k / 512) (live_above r s d k the_word))
       (λ q b. let deep : d ≡ suc d + q = below_depth d k d (k / 512) q b in absurd (omega (arith, deep))))
       ∙ word-stored old wf t d k place (4096 * block) hang.reached the_word hang.stands
 
   -- a word in the subtree
   inside_word : (e l q : ℕ) → IsUnder d k e (l / 512) q → IsLiveWord r s (suc e) l → node new r e (l / 512) ≡ node old (4096 * block) q (l / 512) →
-      word_at new r (suc e) l ≡ word_at old (4096 * block) (suc q) l
+      tree_word new r (suc e) l ≡ tree_word old (4096 * block) (suc q) l
   inside_word e l q b live up =
-      word_at-suc new r e l
+      tree_word-suc new r e l
       ∙ ap (λ x. slot_word new x (l % 512)) up
       ∙ free_stays _ (l % 512) (omega arith) (λ present. hang.free e (l / 512) q b (live_above r s e l live) present)
-      ∙ sym (word_at-suc old (4096 * block) q l)
+      ∙ sym (tree_word-suc old (4096 * block) q l)
 
   inside : (e l q : ℕ) → IsUnder d k e l q → IsLivePointer r s e l → node new r e l ≡ node old (4096 * block) q l
   inside e l _ (here at index) live =
-      ap block_of (subst₂ (λ x y. word_at new r x y ≡ 4096 * block) (sym at) (sym index) top_word ∙ sym (word_at-zero old (4096 * block) l))
+      ap block_of (subst₂ (λ x y. tree_word new r x y ≡ 4096 * block) (sym at) (sym index) top_word ∙ sym (tree_word-zero old (4096 * block) l))
   inside _ _ _ (under {e} {l} {r = q} b) live =
       let word : IsLiveWord r s (suc e) l = live_pointer_word r s (suc e) l live in
       ap block_of (inside_word e l q b word (inside e (l / 512) q b (live_above r s e l word)))
@@ -113,19 +113,19 @@ module _ (old : Image) (wf : IsWellFormed old) (t d k place block : ℕ) (hang :
   node_outside : (e l : ℕ) → IsLivePointer r s e l → ((q : ℕ) → IsUnder d k e l q → ⊥) → node new r e l ≡ node old r e l
   node_outside e l live out = ap block_of (outside e l (live_pointer_word r s e l live) out)
 
-  pointer_bits : (e l : ℕ) → IsLivePointer r s (suc e) l → word_at new r (suc e) l % 4096 ≡ 0
+  pointer_bits : (e l : ℕ) → IsLivePointer r s (suc e) l → tree_word new r (suc e) l % 4096 ≡ 0
   pointer_bits e l live = go (below_or d k (suc e) l)
     where
-      go_below : (f q : ℕ) → f ≡ suc e → IsUnder d k f l q → word_at new r f l % 4096 ≡ 0
+      go_below : (f q : ℕ) → f ≡ suc e → IsUnder d k f l q → tree_word new r f l % 4096 ≡ 0
       go_below f _ same (here at index) =
-          let word : word_at new r f l ≡ 4096 * block = subst₂ (λ x y. word_at new r x y ≡ 4096 * block) (sym at) (sym index) top_word in
+          let word : tree_word new r f l ≡ 4096 * block = subst₂ (λ x y. tree_word new r x y ≡ 4096 * block) (sym at) (sym index) top_word in
           omega (arith, word)
       go_below _ _ same (under {e = f} {r = q} b) =
           let here_live : IsLivePointer r s (suc f) l = subst (λ x. IsLivePointer r s x l) (sym same) live in
           let word : IsLiveWord r s (suc f) l = live_pointer_word r s (suc f) l here_live in
           rw (inside_word f l q b word (inside f (l / 512) q b (live_above r s f l word))) (hang.bits f l q b here_live)
 
-      go : Where d k (suc e) l → word_at new r (suc e) l % 4096 ≡ 0
+      go : Where d k (suc e) l → tree_word new r (suc e) l % 4096 ≡ 0
       go (is_below q b) = go_below (suc e) q refl b
       go (is_not out) = rw (outside (suc e) l (live_pointer_word r s (suc e) l live) out) ((wf.sound t hang.reached).pointer_bits e l live)
 
@@ -163,7 +163,7 @@ module _ (old : Image) (wf : IsWellFormed old) (t d k place block : ℕ) (hang :
   -- a content word: the same, or in the subtree and one of the null's
   data Content (l : ℕ) : Type 0 where
     stays : content_word new r l ≡ content_word old r l → Content l
-    hung : (q : ℕ) → IsUnder d k (height_of r) (l / 512) q → content_word new r l ≡ word_at old (4096 * block) (suc q) l → content_word old r l ≡ 0 → Content l
+    hung : (q : ℕ) → IsUnder d k (height_of r) (l / 512) q → content_word new r l ≡ tree_word old (4096 * block) (suc q) l → content_word old r l ≡ 0 → Content l
 
   content_at : (l : ℕ) → 8 * l < s → Content l
   content_at l below = go (below_or d k (suc (height_of r)) l)
@@ -177,7 +177,7 @@ module _ (old : Image) (wf : IsWellFormed old) (t d k place block : ℕ) (hang :
           let null : node old r (height_of r) (l / 512) ≡ 0 = null_below old r d k hang.null (height_of r) (l / 512) q row in
           hung q row
           (inside_word (height_of r) l q row word (inside (height_of r) (l / 512) q row (live_above r s (height_of r) l word)))
-          (word_at-suc old r (height_of r) l ∙ ap (λ x. slot_word old x (l % 512)) null)
+          (tree_word-suc old r (height_of r) l ∙ ap (λ x. slot_word old x (l % 512)) null)
 
       go : Where d k (suc (height_of r)) l → Content l
       go (is_below q b) = go_below (suc (height_of r)) q refl b
@@ -261,7 +261,7 @@ module _ (old : Image) (wf : IsWellFormed old) (t d k place block : ℕ) (hang :
       inode_root new t inode
       ∙ rw two (content-kept old new (root_of old 0) (size_of old 0) keeps (8 * t + 1) below
       ∙ elsewhere 0 (height_of (root_of old 0)) (8 * t + 1) inode_file (live_content _ _ (8 * t + 1) below) (λ x y z. inode x)
-      ∙ sym (word_at-suc old (root_of old 0) (height_of (root_of old 0)) (8 * t + 1)))
+      ∙ sym (tree_word-suc old (root_of old 0) (height_of (root_of old 0)) (8 * t + 1)))
       ∙ sym (inode_root old t inode)
 
   pub hung_reshapes : Reshapes old new t r

@@ -1,8 +1,8 @@
 -- A higher root over the same bytes.
 use Rattle.std.proofs.Common.{◌≡◌, ℕ, zero, suc, ◌*◌, ◌/◌, ◌%◌, ◌<◌, ◌≤◌, sym, ◌∙◌, ap, arith}
 use Rattle.bp_layout.specs.Words.{Image, block_of, height_of, slot_word}
-use Rattle.bp_layout.specs.Tree.{word_at, node, content_word, covered, IsLivePointer}
-use Rattle.bp_layout.proofs.TreeLaws.{KeepsPointers, live_above, live_pointer_word, live_content, word_at-suc}
+use Rattle.bp_layout.specs.Tree.{tree_word, node, content_word, covered, IsLivePointer}
+use Rattle.bp_layout.proofs.TreeLaws.{KeepsPointers, live_above, live_pointer_word, live_content, tree_word-suc}
 use Rattle.bp_layout.proofs.TreeLaws.{first_index}
 
 -- the new top's first slot holds the old root's block, and the words of the old tree stay
@@ -14,7 +14,7 @@ pub record Raises (old new : Image) (root other size : ℕ) : Type 0 where
 
 module _ (old new : Image) (root other size : ℕ) (raises : Raises old new root other size) where
   pub node-raised : (d k : ℕ) → IsLivePointer root size d k → node new other (suc d) k ≡ node new root d k
-  unfolding word_at
+  unfolding tree_word
   node-raised zero k live =
       let first : k ≡ 0 = first_index root size k raises.fits live in
       let column : k % 512 ≡ 0 = omega (arith, first) in
@@ -26,10 +26,10 @@ module _ (old new : Image) (root other size : ℕ) (raises : Raises old new root
   -- the bytes are the old ones
   pub content-raised : (k : ℕ) → 8 * k < size → content_word new other k ≡ content_word new root k
   content-raised k below =
-      ap (λ h. word_at new other (suc h) k) raises.taller
-      ∙ word_at-suc new other (suc (height_of root)) k
+      ap (λ h. tree_word new other (suc h) k) raises.taller
+      ∙ tree_word-suc new other (suc (height_of root)) k
       ∙ ap (λ b. slot_word new b (k % 512)) (node-raised (height_of root) (k / 512) (live_above root size (height_of root) k (live_content root size k below)))
-      ∙ sym (word_at-suc new root (height_of root) k)
+      ∙ sym (tree_word-suc new root (height_of root) k)
 
   -- the new tree's live pointers are the new root and the old ones
   pub live_lowered : (d k : ℕ) → IsLivePointer other size (suc d) k → IsLivePointer root size d k

@@ -10,7 +10,7 @@ use Rattle.bp_layout.specs.Reached.{IsReached, IsLiveBlock}
 use Rattle.bp_layout.specs.Reached.IsReached.{inode_file}
 use Rattle.bp_layout.specs.WellFormed.{IsWellFormed}
 use Rattle.bp_layout.specs.Same.{Same}
-use Rattle.bp_layout.proofs.TreeLaws.{KeepsPointers, content-kept, word_at-suc, live_pointer_word, live_content, sound-kept, full-kept, has_block-kept}
+use Rattle.bp_layout.proofs.TreeLaws.{KeepsPointers, content-kept, tree_word-suc, live_pointer_word, live_content, sound-kept, full-kept, has_block-kept}
 use Rattle.bp_layout.proofs.Reached.{reached-in_file}
 use Rattle.bp_changes.specs.SameContent.{SameContent, IsReadByWords}
 use Rattle.bp_changes.specs.SameMeaning.{SameMeaning}
@@ -49,7 +49,7 @@ module _ (old new : Image) (wf : IsWellFormed old) (t root : ℕ) (reshapes : Re
   word_stays u k reached other below apart =
       content-kept old new (root_of old u) (size_of old u) (keeps u reached other) k below
       ∙ reshapes.others u (height_of (root_of old u)) k reached other (live_content _ _ k below) (λ top at l. apart top l)
-      ∙ sym (word_at-suc old (root_of old u) (height_of (root_of old u)) k)
+      ∙ sym (tree_word-suc old (root_of old u) (height_of (root_of old u)) k)
 
   inode_file_word : (k : ℕ) → 8 * k + 8 ≤ size_of old 0 → (k ≡ 8 * t + 1 → ⊥) → content_word new (root_of new 0) k ≡ content_word old (root_of old 0) k
   inode_file_word k below apart = go (cases_eq t 0)

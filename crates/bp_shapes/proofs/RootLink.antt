@@ -9,7 +9,7 @@ use Rattle.bp_layout.specs.Reached.{IsReached, IsLiveBlock}
 use Rattle.bp_layout.specs.Reached.IsReached.{inode_file}
 use Rattle.bp_layout.specs.WellFormed.{IsWellFormed}
 use Rattle.bp_layout.specs.Same.{Same}
-use Rattle.bp_layout.proofs.TreeLaws.{KeepsPointers, content-kept, slot_word-same, word_at-suc, live_above, live_pointer_word, live_content, sound-kept, full-kept, has_block-kept}
+use Rattle.bp_layout.proofs.TreeLaws.{KeepsPointers, content-kept, slot_word-same, tree_word-suc, live_above, live_pointer_word, live_content, sound-kept, full-kept, has_block-kept}
 use Rattle.bp_layout.proofs.Reached.{reached-in_file}
 use Rattle.bp_changes.proofs.Separation.{stands_in_block}
 use Rattle.bp_changes.proofs.ContentStore.{word-stored, word-elsewhere}
@@ -97,7 +97,7 @@ module _ (old : Image) (wf : IsWellFormed old) (t place other : ℕ) (reached : 
   new_word k below =
       content-kept old (set old place other) other (size_of old t) keeps_new k below
       ∙ last (cases_eq (node old other (height_of other) (k / 512)) 0)
-      ∙ sym (word_at-suc old other (height_of other) k)
+      ∙ sym (tree_word-suc old other (height_of other) k)
     where
       last : (node old other (height_of other) (k / 512) ≡ 0) ⊎ (node old other (height_of other) (k / 512) ≡ 0 → ⊥) →
           slot_word (set old place other) (node old other (height_of other) (k / 512)) (k % 512) ≡ slot_word old (node old other (height_of other) (k / 512)) (k % 512)

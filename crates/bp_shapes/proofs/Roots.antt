@@ -4,9 +4,9 @@ use Rattle.bp_limits.specs.Limits.{greatest_height}
 use Rattle.bp_limits.proofs.Versions.{height_most}
 use Rattle.bp_layout.specs.Formatted.{version_of}
 use Rattle.bp_layout.specs.Words.{Image, block_count, block_of, height_of, slot_word, byte_of}
-use Rattle.bp_layout.specs.Tree.{word_at, node, covered, IsLivePointer, HasBlock, IsSound, IsFull}
+use Rattle.bp_layout.specs.Tree.{tree_word, node, covered, IsLivePointer, HasBlock, IsSound, IsFull}
 use Rattle.bp_layout.specs.Reached.{IsLiveBlock}
-use Rattle.bp_layout.proofs.TreeLaws.{word_at-suc, word_at-zero, live_pointer_word, live_above}
+use Rattle.bp_layout.proofs.TreeLaws.{tree_word-suc, tree_word-zero, live_pointer_word, live_above}
 use Rattle.bp_shapes.proofs.Raising.{Raises, node-raised, content-raised, live_lowered}
 use Rattle.bp_layout.proofs.TreeLaws.{first_index}
 use Rattle.bp_changes.specs.SameContent.{ReadsAs}
@@ -40,7 +40,7 @@ module _ (ByWords : Type 0) (image : Image) (size root other : ℕ) (can : CanRa
   raises = record { taller = can.taller; slot = can.slot; keeps = record { kept = λ d k live. refl }; fits = can.sound.fits }
 
   top_block : (k : ℕ) → node image other 0 k ≡ block_of other
-  top_block k = ap block_of (word_at-zero image other k)
+  top_block k = ap block_of (tree_word-zero image other k)
 
   wide : size ≤ covered (suc (height_of other))
   wide =
@@ -48,19 +48,19 @@ module _ (ByWords : Type 0) (image : Image) (size root other : ℕ) (can : CanRa
       let more : covered (suc (suc (height_of root))) ≡ 512 * c = rw pow-suc (omega arith) in
       subst (λ h. size ≤ covered (suc h)) (sym can.taller) (omega (arith, more, can.sound.fits))
 
-  pointer_bits : (d k : ℕ) → IsLivePointer other size (suc d) k → word_at image other (suc d) k % 4096 ≡ 0
+  pointer_bits : (d k : ℕ) → IsLivePointer other size (suc d) k → tree_word image other (suc d) k % 4096 ≡ 0
   pointer_bits zero k live =
       let first : k ≡ 0 = first_index root size k can.sound.fits (live_lowered image image root other size raises 0 k live) in
       let column : k % 512 ≡ 0 = omega (arith, first) in
-      let word : word_at image other 1 k ≡ 4096 * block_of root =
-      word_at-suc image other 0 k ∙ ap (λ b. slot_word image b (k % 512)) (top_block (k / 512)) ∙ ap (slot_word image (block_of other)) column ∙ can.slot in
+      let word : tree_word image other 1 k ≡ 4096 * block_of root =
+      tree_word-suc image other 0 k ∙ ap (λ b. slot_word image b (k % 512)) (top_block (k / 512)) ∙ ap (slot_word image (block_of other)) column ∙ can.slot in
       omega (arith, word)
   pointer_bits (suc d) k live =
       let low : IsLivePointer root size (suc d) k = live_lowered image image root other size raises (suc d) k live in
       let up : node image other (suc d) (k / 512) ≡ node image root d (k / 512) =
       node-raised image image root other size raises d (k / 512) (live_above root size d k (live_pointer_word root size (suc d) k low)) in
-      let word : word_at image other (suc (suc d)) k ≡ word_at image root (suc d) k =
-      word_at-suc image other (suc d) k ∙ ap (λ b. slot_word image b (k % 512)) up ∙ sym (word_at-suc image root d k) in
+      let word : tree_word image other (suc (suc d)) k ≡ tree_word image root (suc d) k =
+      tree_word-suc image other (suc d) k ∙ ap (λ b. slot_word image b (k % 512)) up ∙ sym (tree_word-suc image root d k) in
       rw word (can.sound.pointer_bits d k low)
 
   in_range : (d k : ℕ) → IsLivePointer other size d k → node image other d k < block_count image
@@ -128,11 +128,11 @@ module _ (ByWords : Type 0) (image : Image) (size root other : ℕ) (can : CanRa
 
 -- under a null root all is null
 pub null_tree : (image : Image) (root : ℕ) → block_of root ≡ 0 → (d k : ℕ) → node image root d k ≡ 0
-null_tree image root null zero k = ap block_of (word_at-zero image root k) ∙ null
+null_tree image root null zero k = ap block_of (tree_word-zero image root k) ∙ null
 null_tree image root null (suc d) k = ap block_of (null_word image root d k (null_tree image root null d (k / 512)))
   where
-    null_word : (image : Image) (root d k : ℕ) → node image root d (k / 512) ≡ 0 → word_at image root (suc d) k ≡ 0
-    null_word image root d k up = word_at-suc image root d k ∙ ap (λ b. slot_word image b (k % 512)) up
+    null_word : (image : Image) (root d k : ℕ) → node image root d (k / 512) ≡ 0 → tree_word image root (suc d) k ≡ 0
+    null_word image root d k up = tree_word-suc image root d k ∙ ap (λ b. slot_word image b (k % 512)) up
 
-pub null_words : (image : Image) (root : ℕ) → block_of root ≡ 0 → (d k : ℕ) → word_at image root (suc d) k ≡ 0
-null_words image root null d k = word_at-suc image root d k ∙ ap (λ b. slot_word image b (k % 512)) (null_tree image root null d (k / 512))
+pub null_words : (image : Image) (root : ℕ) → block_of root ≡ 0 → (d k : ℕ) → tree_word image root (suc d) k ≡ 0
+null_words image root null d k = tree_word-suc image root d k ∙ ap (λ b. slot_word image b (k % 512)) (null_tree image root null d (k / 512))

@@ -2,7 +2,7 @@
 use Rattle.std.specs.Prelude.{◌≡◌, ◌≢◌, ℕ, suc, ◌+◌, ◌*◌, ◌/◌, ◌%◌, ◌<◌, ◌≤◌, List, [], ◌∷◌, length}
 use Rattle.bp_layout.specs.Formatted.{version_of}
 use Rattle.bp_layout.specs.Words.{Image, block_count, block_of, height_of, slot_word, byte_of}
-use Rattle.bp_layout.specs.Tree.{word_at, node, IsLivePointer}
+use Rattle.bp_layout.specs.Tree.{tree_word, node, IsLivePointer}
 use Rattle.bp_layout.specs.Inode.{root_of, size_of, StandsAt}
 use Rattle.bp_layout.specs.Reached.{IsReached, IsLiveBlock}
 use Rattle.bp_limits.specs.Limits.{block_size, block_words, greatest_height}
@@ -22,7 +22,7 @@ pub record CanHang (image : Image) (t d k place block : ℕ) : Type 0 where
   pub stands : StandsAt image t d k place
   pub bits : (e l r : ℕ) → IsUnder d k e (l / block_words) r →
       IsLivePointer (root_of image t) (size_of image t) (suc e) l →
-      word_at image (block_size * block) (suc r) l % block_size ≡ 0
+      tree_word image (block_size * block) (suc r) l % block_size ≡ 0
   pub in_range : (e l r : ℕ) → IsUnder d k e l r → IsLivePointer (root_of image t) (size_of image t) e l →
       node image (block_size * block) r l < block_count image
   pub free : (e l r : ℕ) → IsUnder d k e l r → IsLivePointer (root_of image t) (size_of image t) e l →
@@ -32,7 +32,7 @@ pub record CanHang (image : Image) (t d k place block : ℕ) : Type 0 where
       node image (block_size * block) r l ≢ 0 →
       node image (block_size * block) r l ≡ node image (block_size * block) q m → (e ≡ f) × (l ≡ m)
   pub zero_bytes : (o r : ℕ) → IsUnder d k (height_of (root_of image t)) (o / 8 / block_words) r → o < size_of image t →
-      byte_of (word_at image (block_size * block) (suc r) (o / 8)) (o % 8) ≡ 0
+      byte_of (tree_word image (block_size * block) (suc r) (o / 8)) (o % 8) ≡ 0
 
 -- a root word one higher, with this block on top
 abbrev pub raised : ℕ → ℕ → ℕ

@@ -4,7 +4,7 @@ use Rattle.std.proofs.Math.Nat.{le-div_iff_mul-le}
 use Rattle.bp_layout.specs.Words.{Image, block_of, height_of, slot_word}
 use Rattle.bp_layout.specs.Tree.{node, covered, span, IsSound}
 use Rattle.bp_layout.specs.Pieces.{piece, child, HasChildren}
-use Rattle.bp_layout.proofs.TreeLaws.{word_at-zero, word_at-suc, covered-suc}
+use Rattle.bp_layout.proofs.TreeLaws.{tree_word-zero, tree_word-suc, covered-suc}
 use Rattle.bp_layout.proofs.Pieces.{sound_shape, splits}
 
 pub span_some : (level : ℕ) → 0 < span level
@@ -53,9 +53,9 @@ below image root size level slot sound height present live =
 
 -- below a null there are nulls
 pub null_below : (image : Image) (root : ℕ) → block_of root ≡ 0 → (d k : ℕ) → node image root d k ≡ 0
-null_below image root null zero k = ap block_of (word_at-zero image root k) ∙ null
+null_below image root null zero k = ap block_of (tree_word-zero image root k) ∙ null
 null_below image root null (suc d) k =
-    ap block_of (word_at-suc image root d k ∙ ap (λ b. slot_word image b (k % 512)) (null_below image root null d (k / 512)))
+    ap block_of (tree_word-suc image root d k ∙ ap (λ b. slot_word image b (k % 512)) (null_below image root null d (k / 512)))
 
 -- a node in a slot's tree
 pub node_below : (image : Image) (root size level slot : ℕ) → HasBelow image root size level slot →
@@ -65,9 +65,9 @@ node_below image root size level slot has zero k low =
     let column : slot % 512 ≡ slot = omega (arith, has.low) in
     let block : block_of (child image (block_of root) level slot) ≡ block_of (slot_word image (block_of root) slot) = omega (arith, has.bits, has.shape.low) in
     ap (node image root 1) first
-    ∙ ap block_of (word_at-suc image root 0 slot ∙ ap₂ (slot_word image) (ap block_of (word_at-zero image root (slot / 512))) column)
+    ∙ ap block_of (tree_word-suc image root 0 slot ∙ ap₂ (slot_word image) (ap block_of (tree_word-zero image root (slot / 512))) column)
     ∙ sym block
-    ∙ ap block_of (sym (word_at-zero image (child image (block_of root) level slot) k))
+    ∙ ap block_of (sym (tree_word-zero image (child image (block_of root) level slot) k))
 node_below image root size level slot has (suc d) k low =
     let many : 512 ^ suc d ≡ 512 * 512 ^ d = rw pow-suc (omega arith) in
     let q : ℕ = 512 ^ d in
@@ -76,6 +76,6 @@ node_below image root size level slot has (suc d) k low =
     let row : (slot * 512 ^ suc d + k) / 512 ≡ slot * 512 ^ d + k / 512 = omega (arith, whole, split) in
     let column : (slot * 512 ^ suc d + k) % 512 ≡ k % 512 = omega (arith, whole, split) in
     let fewer : k / 512 < 512 ^ d = omega (arith, low, many) in
-    ap block_of (word_at-suc image root (suc d) (slot * 512 ^ suc d + k)
+    ap block_of (tree_word-suc image root (suc d) (slot * 512 ^ suc d + k)
     ∙ ap₂ (slot_word image) (ap (node image root (suc d)) row ∙ node_below image root size level slot has d (k / 512) fewer) column
-    ∙ sym (word_at-suc image (child image (block_of root) level slot) d k))
+    ∙ sym (tree_word-suc image (child image (block_of root) level slot) d k))

@@ -7,7 +7,7 @@ use Rattle.bp_layout.specs.Words.{Image, block_count, block_of, height_of}
 use Rattle.bp_layout.specs.Tree.{node, span, IsLivePointer, HasBlock, IsSound}
 use Rattle.bp_layout.specs.Free.{numbers_below}
 use Rattle.bp_layout.specs.Pieces.{piece, child, HasChildren, Joins}
-use Rattle.bp_layout.proofs.TreeLaws.{word_at-zero}
+use Rattle.bp_layout.proofs.TreeLaws.{tree_word-zero}
 use Rattle.bp_layout.proofs.Pieces.{InChild, joined_block, child_block, top_has, splits}
 use Rattle.bp_tree.specs.Counts.{HasBlockCount}
 use Rattle.bp_tree.proofs.Below.{below, null_below}
@@ -50,7 +50,7 @@ so_far_within image root size level slots count so_far = subst (λ n. n ≤ bloc
 
 top_in_range : (image : Image) (root size : ℕ) → IsSound image root size → 0 < size → block_of root < block_count image
 top_in_range image root size sound some =
-    subst (λ b. b < block_count image) (ap block_of (word_at-zero image root 0)) (sound.in_range 0 0 (record { level = height_of root; height = omega arith; live = omega (arith, some) }))
+    subst (λ b. b < block_count image) (ap block_of (tree_word-zero image root 0)) (sound.in_range 0 0 (record { level = height_of root; height = omega arith; live = omega (arith, some) }))
 
 -- the topmost block alone
 pub first_count : (image : Image) (root size level : ℕ) → IsSound image root size → 0 < size → CountsUpTo image root size level 0 1
@@ -131,14 +131,14 @@ leaf_count image root size sound some flat present = record {
       depth = 0;
       index = 0;
       pointer = record { level = height_of root; height = omega arith; live = omega (arith, some) };
-      named = ap block_of (word_at-zero image root 0);
+      named = ap block_of (tree_word-zero image root 0);
       not_null = present;
     }
 
     only : (b d k : ℕ) → IsLivePointer root size d k → node image root d k ≡ b → b ≡ block_of root
     only b d k live named =
         let none : d ≡ 0 = omega (arith, live.height, flat) in
-        sym named ∙ ap (λ n. node image root n k) none ∙ ap block_of (word_at-zero image root k)
+        sym named ∙ ap (λ n. node image root n k) none ∙ ap block_of (tree_word-zero image root k)
 
 -- all blocks of a tree that is higher than a leaf
 pub all_counted : (image : Image) (root size level slots count : ℕ) → IsSound image root size → height_of root ≡ suc level → block_of root ≢ 0 → 0 < size →

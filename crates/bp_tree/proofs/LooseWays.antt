@@ -5,7 +5,7 @@ use Rattle.std.proofs.lemmas.Bool.{le-leb, lt-ltb, ne_eqb}
 use Rattle.std.proofs.lemmas.List.{length-append}
 use Rattle.std.proofs.Math.Seq.{take-append_seam}
 use Rattle.bp_layout.specs.Words.{Image, word, block_of, height_of}
-use Rattle.bp_layout.specs.Tree.{word_at, node, span, IsLivePointer, IsSound}
+use Rattle.bp_layout.specs.Tree.{tree_word, node, span, IsLivePointer, IsSound}
 use Rattle.bp_layout.specs.Inode.{root_of, size_of, inode_count}
 use Rattle.bp_layout.specs.Nodes.{is_present}
 use Rattle.bp_layout.specs.Members.{Has}
@@ -47,7 +47,7 @@ under_node image root (suc d) k present = present_above image root d k present
 
 -- the word at the path of a pointer is the pointer
 pointer_word : (image : Image) (t d k : ℕ) → IsUnderNodes image (word image 2) (suc (height_of (word image 2))) (8 * t + 1) → IsUnderNodes image (root_of image t) d k →
-    word image (address image (tree_path (height_of (word image 2)) t d k)) ≡ word_at image (root_of image t) d k
+    word image (address image (tree_path (height_of (word image 2)) t d k)) ≡ tree_word image (root_of image t) d k
 pointer_word image zero d k above under = ap (word image) (address-tree_path image zero d k above under) ∙ word-place_of image 2 (word image 2) refl d k under
 pointer_word image (suc i) d k above under =
     ap (word image) (address-tree_path image (suc i) d k above under)
@@ -95,7 +95,7 @@ module _ (image : Image) (wf : IsWellFormed image) where
   kept_node kept t d k reached live present =
       let there : is_there_now image (tree_path (heights_now image 0) t d k) ≡ true =
       ap (λ n. is_present image (root_of image n.0) (size_of image n.0) n.1) (node_at t d k reached live) ∙ present_now t d k live present in
-      let same : word image (address image (tree_path (heights_now image 0) t d k)) ≡ word_at image (root_of image t) d k =
+      let same : word image (address image (tree_path (heights_now image 0) t d k)) ≡ tree_word image (root_of image t) d k =
       pointer_word image t d k (inode_under t reached) (under_node image (root_of image t) d k present) in
       ap (λ b. b && kept (block_of (word image (address image (tree_path (heights_now image 0) t d k))))) there ∙ ap (λ w. kept (block_of w)) same
 

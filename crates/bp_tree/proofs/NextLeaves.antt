@@ -5,7 +5,7 @@ use Rattle.std.proofs.lemmas.Bool.{cases_lt}
 use Rattle.bp_layout.specs.Words.{Image, block_of, height_of}
 use Rattle.bp_layout.specs.Tree.{node, span, IsSound}
 use Rattle.bp_layout.specs.Pieces.{piece, child}
-use Rattle.bp_layout.proofs.TreeLaws.{word_at-zero, span-is}
+use Rattle.bp_layout.proofs.TreeLaws.{tree_word-zero, span-is}
 use Rattle.bp_tree.specs.Leaves.{HasNoLeafFrom, IsNextLeaf}
 use Rattle.bp_tree.proofs.Below.{HasBelow, below, null_below}
 use Rattle.bp_tree.proofs.NullLeaves.{leaf_in, live_back, live_out, low_in, power_some}
@@ -26,7 +26,7 @@ pub leaf_itself : (image : Image) (root size from : ℕ) → height_of root ≡ 
 leaf_itself image root size from flat present some first = record {
   behind = omega (arith, first);
   live = omega (arith, some);
-  present = λ null. present (sym (ap block_of (word_at-zero image root 0)) ∙ sym (ap (λ h. node image root h 0) flat) ∙ null);
+  present = λ null. present (sym (ap block_of (tree_word-zero image root 0)) ∙ sym (ap (λ h. node image root h 0) flat) ∙ null);
   first = λ other behind low. absurd (omega (arith, low));
 }
 

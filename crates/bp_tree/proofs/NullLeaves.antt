@@ -5,7 +5,7 @@ use Rattle.std.proofs.lemmas.Bool.{cases_lt}
 use Rattle.bp_layout.specs.Words.{Image, block_of, height_of}
 use Rattle.bp_layout.specs.Tree.{node, span, IsSound}
 use Rattle.bp_layout.specs.Pieces.{piece, child}
-use Rattle.bp_layout.proofs.TreeLaws.{word_at-zero, span-is}
+use Rattle.bp_layout.proofs.TreeLaws.{tree_word-zero, span-is}
 use Rattle.bp_tree.specs.Nulls.{HasNoNullLeaf, IsFirstNullLeaf}
 use Rattle.bp_tree.proofs.Below.{HasBelow, below, node_below, null_below}
 
@@ -16,7 +16,7 @@ pub leaf_root : (image : Image) (root size : ℕ) → IsSound image root size �
 leaf_root image root size sound flat present leaf live null =
     let fits : size ≤ span 0 = subst (λ h. size ≤ span h) flat sound.fits in
     let only : leaf ≡ 0 = omega (arith, live, fits) in
-    present (sym (ap block_of (word_at-zero image root 0)) ∙ sym (ap (λ h. node image root h 0) flat) ∙ sym (ap (node image root (height_of root)) only) ∙ null)
+    present (sym (ap block_of (tree_word-zero image root 0)) ∙ sym (ap (λ h. node image root h 0) flat) ∙ sym (ap (node image root (height_of root)) only) ∙ null)
 
 -- no leaf below the slots before one is null
 abbrev pub NoNullBefore : Image → ℕ → ℕ → ℕ → ℕ → Type 0

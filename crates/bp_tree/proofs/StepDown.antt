@@ -2,10 +2,10 @@
 use Rattle.std.proofs.Common.{◌≡◌, ℕ, zero, suc, ◌+◌, ◌-◌, ◌*◌, ◌/◌, ◌%◌, ◌^◌, ◌<◌, ◌≤◌, refl, sym, ◌∙◌, ap, ap₂, arith, pow-suc, pow-add, mul_assoc, mul-le-mul_right, lt_of_le_of_lt, le_trans, le_of_eq}
 use Rattle.std.proofs.Math.Nat.{div-div-eq-div-mul, div-mul-le_self}
 use Rattle.bp_layout.specs.Words.{Image, block_of, height_of, slot_word}
-use Rattle.bp_layout.specs.Tree.{word_at, covered, IsLiveWord, IsLivePointer, IsSound}
+use Rattle.bp_layout.specs.Tree.{tree_word, covered, IsLiveWord, IsLivePointer, IsSound}
 use Rattle.bp_limits.specs.Limits.{max_height}
 use Rattle.pm_words.specs.Digits.{digit}
-use Rattle.bp_layout.proofs.TreeLaws.{word_at-zero, word_at-suc}
+use Rattle.bp_layout.proofs.TreeLaws.{tree_word-zero, tree_word-suc}
 
 pub shift : (index level : ℕ) → index / 2 ^ (9 * level) ≡ index / 512 ^ level
 shift index level = ap (λ n. index / n) (power level)
@@ -19,17 +19,17 @@ shift index level = ap (λ n. index / n) (power level)
 pub quotient : (index l : ℕ) → index / 512 ^ suc l ≡ index / 512 ^ l / 512
 quotient index l = rw pow-suc (sym (div-div-eq-div-mul index (512 ^ l) 512))
 
-pub at_root : (image : Image) (root index depth : ℕ) → root ≡ word_at image root (depth - depth) (index / 512 ^ depth)
+pub at_root : (image : Image) (root index depth : ℕ) → root ≡ tree_word image root (depth - depth) (index / 512 ^ depth)
 at_root image root index depth =
     let none : depth - depth ≡ 0 = omega arith in
-    rw none (sym (word_at-zero image root (index / 512 ^ depth)))
+    rw none (sym (tree_word-zero image root (index / 512 ^ depth)))
 
 pub at_end : (image : Image) (root depth index levels word : ℕ) → levels ≤ 0 →
-    word ≡ word_at image root (depth - levels) (index / 512 ^ levels) → word ≡ word_at image root depth index
+    word ≡ tree_word image root (depth - levels) (index / 512 ^ levels) → word ≡ tree_word image root depth index
 at_end image root depth index zero word none at =
     let here : depth - 0 ≡ depth = omega arith in
     let all : index / 512 ^ 0 ≡ index = omega arith in
-    at ∙ ap₂ (word_at image root) here all
+    at ∙ ap₂ (tree_word image root) here all
 at_end image root depth index (suc l) word none at = absurd (omega arith)
 
 -- a live word of a sound tree stands no deeper than the greatest height and one
@@ -57,20 +57,20 @@ on_the_way root size depth index levels live some within = record {
 }
 
 one_down : (image : Image) (root depth index levels : ℕ) → 0 < levels → levels ≤ depth →
-    slot_word image (block_of (word_at image root (depth - levels) (index / 512 ^ levels))) (index / 512 ^ (levels - 1) % 512)
-    ≡ word_at image root (depth - (levels - 1)) (index / 512 ^ (levels - 1))
+    slot_word image (block_of (tree_word image root (depth - levels) (index / 512 ^ levels))) (index / 512 ^ (levels - 1) % 512)
+    ≡ tree_word image root (depth - (levels - 1)) (index / 512 ^ (levels - 1))
 one_down image root depth index levels some within =
     let l : ℕ = levels - 1 in
     let up : levels ≡ suc l = omega arith in
     let deeper : depth - l ≡ suc (depth - levels) = omega arith in
-    rw deeper (rw (word_at-suc image root (depth - levels) (index / 512 ^ l))
-    (ap (λ k. slot_word image (block_of (word_at image root (depth - levels) k)) (index / 512 ^ l % 512)) (ap (λ n. index / 512 ^ n) up ∙ quotient index l)))
+    rw deeper (rw (tree_word-suc image root (depth - levels) (index / 512 ^ l))
+    (ap (λ k. slot_word image (block_of (tree_word image root (depth - levels) k)) (index / 512 ^ l % 512)) (ap (λ n. index / 512 ^ n) up ∙ quotient index l)))
 
 -- the same as the code has it
 pub step_down : (image : Image) (root depth index levels word result : ℕ) → 0 < levels → levels ≤ depth →
-    word ≡ word_at image root (depth - levels) (index / 512 ^ levels) →
+    word ≡ tree_word image root (depth - levels) (index / 512 ^ levels) →
     result ≡ slot_word image (block_of word) (digit index (levels - 1)) →
-    result ≡ word_at image root (depth - (levels - 1)) (index / 512 ^ (levels - 1))
+    result ≡ tree_word image root (depth - (levels - 1)) (index / 512 ^ (levels - 1))
 step_down image root depth index levels word result some within at is =
     is ∙ ap (λ p. slot_word image (block_of p) (digit index (levels - 1))) at ∙ one_down image root depth index levels some within
 

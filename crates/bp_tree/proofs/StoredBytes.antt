@@ -6,7 +6,7 @@ use Rattle.std.proofs.lemmas.List.{get_or-replicate, length-replicate}
 use Rattle.std.proofs.lemmas.List.Edits.{length-between, get_or-between}
 use Rattle.bp_layout.specs.Words.{Image, word, height_of, slot_word, byte_of}
 use Rattle.bp_layout.specs.Tree.{node, byte, content_word}
-use Rattle.bp_layout.proofs.TreeLaws.{word_at-suc, slot_word-at}
+use Rattle.bp_layout.proofs.TreeLaws.{tree_word-suc, slot_word-at}
 use Rattle.bp_layout.proofs.WordBytes.{to_le-byte}
 use Rattle.bp_tree.specs.Bytes.{stored_byte, stored_bytes, content_part}
 use Rattle.bp_tree.proofs.LoadedWords.{loaded_word}
@@ -40,7 +40,7 @@ in_leaf : (image : Image) (root offset leaf : ℕ) → leaf ≡ node image root 
 in_leaf image root offset leaf is =
     let row : offset / 8 / 512 ≡ offset / 4096 = omega arith in
     ap (λ w. byte_of w (offset % 8))
-    (word_at-suc image root (height_of root) (offset / 8)
+    (tree_word-suc image root (height_of root) (offset / 8)
     ∙ ap (λ b. slot_word image b (offset / 8 % 512)) (ap (node image root (height_of root)) row ∙ sym is))
 
 -- the bytes under a null leaf
@@ -84,4 +84,4 @@ leaf_word image root leaf block i low is =
     let row : (512 * leaf + i) / 512 ≡ leaf = omega (arith, low) in
     let column : (512 * leaf + i) % 512 ≡ i = omega (arith, low) in
     ap (λ b. slot_word image b i) is
-    ∙ sym (word_at-suc image root (height_of root) (512 * leaf + i) ∙ ap₂ (λ l s. slot_word image (node image root (height_of root) l) s) row column)
+    ∙ sym (tree_word-suc image root (height_of root) (512 * leaf + i) ∙ ap₂ (λ l s. slot_word image (node image root (height_of root) l) s) row column)

@@ -1,7 +1,7 @@
 //! The walk from a root word down to one of its words.
 
 ghost use Rattle.std.specs.Prelude.{◌≡◌};
-ghost use Rattle.bp_layout.specs.Tree.{word_at, IsLiveWord, IsSound};
+ghost use Rattle.bp_layout.specs.Tree.{tree_word, IsLiveWord, IsSound};
 ghost use Rattle.pm_region.specs.Memory.{current_words};
 
 use crate::tree::{Tree, load_slot};
@@ -12,7 +12,7 @@ use pm_words::{block_of, digit};
 pub(crate) fn descend<R: Region>(region: &R, tree: Tree, depth: u32, index: u64) -> u64
     requires sound { IsSound (current_words (R.memory region.now)) tree.root tree.size }
     requires live { IsLiveWord tree.root tree.size depth index }
-    ensures { result ≡ word_at (current_words (R.memory region.now)) tree.root depth index }
+    ensures { result ≡ tree_word (current_words (R.memory region.now)) tree.root depth index }
 {
     let mut word = tree.root;
     let mut levels = depth;

@@ -5,7 +5,7 @@ use Rattle.std.proofs.lemmas.Bool.{cases_lt}
 use Rattle.std.proofs.Math.Nat.{mul-le-mul_right}
 use Rattle.bp_free.specs.Set.{Set}
 use Rattle.bp_layout.specs.Words.{Image, word, block_of, height_of}
-use Rattle.bp_layout.specs.Tree.{word_at, node, covered, IsLivePointer}
+use Rattle.bp_layout.specs.Tree.{tree_word, node, covered, IsLivePointer}
 use Rattle.bp_layout.specs.Checks.{IsFollowed, Passes}
 use Rattle.bp_layout.proofs.TreeLaws.{live_above, live_pointer_word}
 use Rattle.bp_walk.specs.Taken.{block_at}
@@ -170,7 +170,7 @@ covered_most (suc (suc (suc (suc (suc zero))))) low = omega arith
 covered_most (suc (suc (suc (suc (suc (suc zero)))))) low = omega arith
 covered_most (suc (suc (suc (suc (suc (suc (suc n))))))) low = absurd (omega (arith, low))
 
-pub child_word : (image : Image) (at root size d k p : ℕ) → IsPlace image at root size (suc d) k p → word image p ≡ word_at image root (suc d) k
+pub child_word : (image : Image) (at root size d k p : ℕ) → IsPlace image at root size (suc d) k p → word image p ≡ tree_word image root (suc d) k
 child_word image at root size d k p is = ap (word image) (sym is.stands) ∙ word_below image at root d k is.followed.3
 
 -- the pointer in a slot, as the code finds it

@@ -6,7 +6,7 @@ use Rattle.std.proofs.lemmas.Bool.{cases_eq, cases_lt}
 use Rattle.std.specs.Result.{OnOk, IfErr}
 use Rattle.bp_free.specs.Set.{Set, has, without}
 use Rattle.bp_layout.specs.Words.{Image, word, block_count, block_of, height_of}
-use Rattle.bp_layout.specs.Tree.{word_at, node, covered}
+use Rattle.bp_layout.specs.Tree.{tree_word, node, covered}
 use Rattle.bp_layout.specs.Checks.{Passes}
 use Rattle.bp_layout.specs.Fields.{IsRootWord}
 use Rattle.bp_layout.specs.declared.check.Check.{Check}
@@ -66,7 +66,7 @@ pub record ReadsSlot (image : Image) (root size : ℕ) (holes : Bool) (d k b s :
 
 module _ {image : Image} {root size : ℕ} {holes : Bool} {d k b s : ℕ} {old now : Set} {pointer : ℕ}
     (slot : ReadsSlot image root size holes d k b s old now pointer) where
-  pub here : pointer ≡ word_at image root (suc d) (512 * k + s)
+  pub here : pointer ≡ tree_word image root (suc d) (512 * k + s)
   here = slot.stands ∙ child_word image 0 root size d (512 * k + s) (512 * b + s) slot.come.child
 
   pointed : block_of pointer ≡ node image root (suc d) (512 * k + s)

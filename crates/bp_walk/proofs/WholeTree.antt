@@ -4,7 +4,7 @@ use Rattle.bp_layout.specs.Formatted.{version_of}
 use Rattle.bp_limits.specs.Limits.{greatest_height}
 use Rattle.bp_free.specs.Set.{Set}
 use Rattle.bp_layout.specs.Words.{Image, word, block_count, block_of, height_of}
-use Rattle.bp_layout.specs.Tree.{word_at, node, place_of, covered, IsLivePointer}
+use Rattle.bp_layout.specs.Tree.{tree_word, node, place_of, covered, IsLivePointer}
 use Rattle.bp_layout.specs.Checks.{IsFollowed, Passes}
 use Rattle.bp_layout.specs.Fields.{IsRootWord}
 use Rattle.bp_layout.proofs.TreeLaws.{live_above, live_pointer_word}
@@ -33,7 +33,7 @@ pub root_live : (root size : ℕ) → 0 < size → IsLivePointer root size 0 0
 root_live root size some = record { level = height_of root; height = omega arith; live = omega (arith, some) }
 
 pub root_passes : (image : Image) (root : ℕ) → IsRootWord (greatest_height (version_of image)) root → block_of root < block_count image → Passes image root 0 0
-unfolding word_at
+unfolding tree_word
 root_passes image root form in_range = (omega (arith, form.0, form.1), in_range)
 
 -- a root word that names no more than it can hold, of a tree that has a byte
@@ -54,7 +54,7 @@ module _ {image : Image} {at root size : ℕ} (roots : RootsTree image at root s
   -- the root, and what is below it
   whole_tree : {holes : Bool} {old mid new : Set} → Passes image root 0 0 → (holes ≡ false → block_of root ≢ 0) →
       Takes image (λ p. p ≡ at) old mid → WalksBelow image 0 root size holes 0 0 512 mid new → TakesTree image at root size holes old new
-  unfolding word_at
+  unfolding tree_word
   whole_tree {holes} {old} {mid} {new} passes full one walks = record {
     fits = roots.fits;
     takes = take_same image (λ p. (p ≡ at) ⊎ IsBelow image 0 root size 0 0 512 p) (IsTreePlace image at root size) old new there

@@ -4,7 +4,7 @@ use Rattle.bp_free.specs.Set.{Set, has, without}
 use Rattle.bp_limits.specs.Limits.{block_size, block_words, greatest_height}
 use Rattle.bp_layout.specs.Formatted.{version_of}
 use Rattle.bp_layout.specs.Words.{Image, block_count, block_of, height_of}
-use Rattle.bp_layout.specs.Tree.{word_at, node, place_of, covered, IsLivePointer}
+use Rattle.bp_layout.specs.Tree.{tree_word, node, place_of, covered, IsLivePointer}
 use Rattle.bp_layout.specs.Checks.{IsFollowed, Passes}
 use Rattle.bp_layout.specs.declared.check.Check.{Check}
 use Rattle.bp_layout.specs.declared.check.Check.TheVariants.{BlockTwice, Capacity, Height, Hole, PointerBits, Range}
@@ -46,7 +46,7 @@ pub record WalksBelow (image : Image) (at root size : ℕ) (holes : Bool) (d k s
 -- both pointers are below the node, or the block had left the set before. In the second the pointer itself stands in
 -- a block that had not, so it is none of those that were walked over.
 pub data FailsBelow (image : Image) (at root size : ℕ) (holes : Bool) (block : ℕ) (old : Set) : Check → ℕ → Type 0 where
-  bits : {d k p : ℕ} → IsPlace image at root size (suc d) k p → word_at image root (suc d) k % block_size ≢ 0
+  bits : {d k p : ℕ} → IsPlace image at root size (suc d) k p → tree_word image root (suc d) k % block_size ≢ 0
       → FailsBelow image at root size holes block old PointerBits p
   range : {d k p : ℕ} → IsPlace image at root size (suc d) k p → block_count image ≤ node image root (suc d) k
       → FailsBelow image at root size holes block old Range p

@@ -4,41 +4,41 @@ use Rattle.std.specs.List.{range_with_len}
 use Rattle.std.proofs.lemmas.Bool.{lt-ltb, le-ltb}
 use Rattle.std.proofs.lemmas.Bool.Decides.{eqb_tells, leb_tells}
 use Rattle.std.proofs.lemmas.List.{get_or-drop, get_or-take, get_or_append_left, get_or_push, length-append, length-drop, length-take-le, take_at, drop_at}
-use Rattle.pm_raw.specs.RunWords.{AreRuns, word_at, words_from}
+use Rattle.pm_raw.specs.RunWords.{AreRuns, run_word_at, words_from}
 
 -- ## One word
 
 -- runs that have begun before the last one that has play no part
-pub word_at-drop : (k : ℕ) (firsts starts : List ℕ) (i : ℕ) → length firsts ≡ length starts → k < length starts → ((j : ℕ) → j ≤ k → get_or starts j 0 ≤ i) → word_at firsts starts i ≡ word_at (drop k firsts) (drop k starts) i
-word_at-drop zero firsts starts i same low begun = refl
-word_at-drop (suc k) firsts [] i same low begun = absurd (omega arith)
-word_at-drop (suc k) [] (start ∷ starts) i same low begun = absurd (omega arith)
-word_at-drop (suc k) (first ∷ firsts) (start ∷ []) i same low begun = absurd (omega arith)
-word_at-drop (suc k) (first ∷ firsts) (start ∷ next ∷ starts) i same low begun =
-    rw (le-ltb i next (begun 1 (omega arith))) (word_at-drop k firsts (next ∷ starts) i (omega arith) (omega arith) (λ j below. begun (suc j) (omega arith)))
+pub run_word_at-drop : (k : ℕ) (firsts starts : List ℕ) (i : ℕ) → length firsts ≡ length starts → k < length starts → ((j : ℕ) → j ≤ k → get_or starts j 0 ≤ i) → run_word_at firsts starts i ≡ run_word_at (drop k firsts) (drop k starts) i
+run_word_at-drop zero firsts starts i same low begun = refl
+run_word_at-drop (suc k) firsts [] i same low begun = absurd (omega arith)
+run_word_at-drop (suc k) [] (start ∷ starts) i same low begun = absurd (omega arith)
+run_word_at-drop (suc k) (first ∷ firsts) (start ∷ []) i same low begun = absurd (omega arith)
+run_word_at-drop (suc k) (first ∷ firsts) (start ∷ next ∷ starts) i same low begun =
+    rw (le-ltb i next (begun 1 (omega arith))) (run_word_at-drop k firsts (next ∷ starts) i (omega arith) (omega arith) (λ j below. begun (suc j) (omega arith)))
 
 -- nor do those that have not begun
-pub word_at-take : (k : ℕ) (firsts starts : List ℕ) (i : ℕ) → 0 < k → (k < length starts → i < get_or starts k 0) → word_at (take k firsts) (take k starts) i ≡ word_at firsts starts i
-word_at-take zero firsts starts i some later = absurd (omega arith)
-word_at-take (suc k) [] starts i some later = refl
-word_at-take (suc k) (first ∷ firsts) [] i some later = refl
-word_at-take (suc zero) (first ∷ firsts) (start ∷ []) i some later = refl
-word_at-take (suc (suc k)) (first ∷ firsts) (start ∷ []) i some later = refl
-word_at-take (suc zero) (first ∷ firsts) (start ∷ next ∷ starts) i some later = rw (lt-ltb i next (later (omega arith))) refl
-word_at-take (suc (suc k)) (first ∷ firsts) (start ∷ next ∷ starts) i some later =
-    ap (λ w. if nat_lt i next then first + (i - start) else w) (word_at-take (suc k) firsts (next ∷ starts) i (omega arith) (λ low. later (omega arith)))
+pub run_word_at-take : (k : ℕ) (firsts starts : List ℕ) (i : ℕ) → 0 < k → (k < length starts → i < get_or starts k 0) → run_word_at (take k firsts) (take k starts) i ≡ run_word_at firsts starts i
+run_word_at-take zero firsts starts i some later = absurd (omega arith)
+run_word_at-take (suc k) [] starts i some later = refl
+run_word_at-take (suc k) (first ∷ firsts) [] i some later = refl
+run_word_at-take (suc zero) (first ∷ firsts) (start ∷ []) i some later = refl
+run_word_at-take (suc (suc k)) (first ∷ firsts) (start ∷ []) i some later = refl
+run_word_at-take (suc zero) (first ∷ firsts) (start ∷ next ∷ starts) i some later = rw (lt-ltb i next (later (omega arith))) refl
+run_word_at-take (suc (suc k)) (first ∷ firsts) (start ∷ next ∷ starts) i some later =
+    ap (λ w. if nat_lt i next then first + (i - start) else w) (run_word_at-take (suc k) firsts (next ∷ starts) i (omega arith) (λ low. later (omega arith)))
 
 -- the word of an event of the run with this number
-pub word_at-found : (k : ℕ) (firsts starts : List ℕ) (i : ℕ) → length firsts ≡ length starts → k < length starts → ((j : ℕ) → j ≤ k → get_or starts j 0 ≤ i) → (suc k < length starts → i < get_or starts (suc k) 0)
-    → word_at firsts starts i ≡ get_or firsts k 0 + (i - get_or starts k 0)
-word_at-found k firsts [] i same low begun later = absurd (omega arith)
-word_at-found k [] (start ∷ starts) i same low begun later = absurd (omega arith)
-word_at-found zero (first ∷ firsts) (start ∷ []) i same low begun later = refl
-word_at-found zero (first ∷ firsts) (start ∷ next ∷ starts) i same low begun later = rw (lt-ltb i next (later (omega arith))) refl
-word_at-found (suc k) (first ∷ firsts) (start ∷ []) i same low begun later = absurd (omega arith)
-word_at-found (suc k) (first ∷ firsts) (start ∷ next ∷ starts) i same low begun later =
+pub run_word_at-found : (k : ℕ) (firsts starts : List ℕ) (i : ℕ) → length firsts ≡ length starts → k < length starts → ((j : ℕ) → j ≤ k → get_or starts j 0 ≤ i) → (suc k < length starts → i < get_or starts (suc k) 0)
+    → run_word_at firsts starts i ≡ get_or firsts k 0 + (i - get_or starts k 0)
+run_word_at-found k firsts [] i same low begun later = absurd (omega arith)
+run_word_at-found k [] (start ∷ starts) i same low begun later = absurd (omega arith)
+run_word_at-found zero (first ∷ firsts) (start ∷ []) i same low begun later = refl
+run_word_at-found zero (first ∷ firsts) (start ∷ next ∷ starts) i same low begun later = rw (lt-ltb i next (later (omega arith))) refl
+run_word_at-found (suc k) (first ∷ firsts) (start ∷ []) i same low begun later = absurd (omega arith)
+run_word_at-found (suc k) (first ∷ firsts) (start ∷ next ∷ starts) i same low begun later =
     rw (le-ltb i next (begun 1 (omega arith)))
-    (word_at-found k firsts (next ∷ starts) i (omega arith) (omega arith) (λ j below. begun (suc j) (omega arith)) (λ more. later (omega arith)))
+    (run_word_at-found k firsts (next ∷ starts) i (omega arith) (omega arith) (λ j below. begun (suc j) (omega arith)) (λ more. later (omega arith)))
 
 -- ## Words in order
 
@@ -55,7 +55,7 @@ words_from-add firsts starts at (suc m) n =
     let more : suc m + n ≡ suc (m + n) = omega arith in
     let there : suc at + m ≡ at + suc m = omega arith in
     ap (words_from firsts starts at) more
-    ∙ ap (λ ws. word_at firsts starts at ∷ ws) (words_from-add firsts starts (suc at) m n ∙ ap (λ i. words_from firsts starts (suc at) m ++ words_from firsts starts i n) there)
+    ∙ ap (λ ws. run_word_at firsts starts at ∷ ws) (words_from-add firsts starts (suc at) m n ∙ ap (λ i. words_from firsts starts (suc at) m ++ words_from firsts starts i n) there)
 
 pub take-words_from : (firsts starts : List ℕ) (at k n : ℕ) → k ≤ n → take k (words_from firsts starts at n) ≡ words_from firsts starts at k
 take-words_from firsts starts at k n fits =
@@ -71,20 +71,20 @@ drop-words_from firsts starts at k n fits =
     ∙ ap (drop k) (words_from-add firsts starts at k (n - k))
     ∙ drop_at (words_from firsts starts at k) (words_from firsts starts (at + k) (n - k)) k (length-words_from firsts starts at k)
 
-pub get_or-words_from : (firsts starts : List ℕ) (at n i : ℕ) → i < n → get_or (words_from firsts starts at n) i 0 ≡ word_at firsts starts (at + i)
+pub get_or-words_from : (firsts starts : List ℕ) (at n i : ℕ) → i < n → get_or (words_from firsts starts at n) i 0 ≡ run_word_at firsts starts (at + i)
 get_or-words_from firsts starts at zero i low = absurd (omega arith)
-get_or-words_from firsts starts at (suc n) zero low = let here : at ≡ at + 0 = omega arith in ap (word_at firsts starts) here
+get_or-words_from firsts starts at (suc n) zero low = let here : at ≡ at + 0 = omega arith in ap (run_word_at firsts starts) here
 get_or-words_from firsts starts at (suc n) (suc i) low =
     let there : suc at + i ≡ at + suc i = omega arith in
-    get_or-words_from firsts starts (suc at) n i (omega arith) ∙ ap (word_at firsts starts) there
+    get_or-words_from firsts starts (suc at) n i (omega arith) ∙ ap (run_word_at firsts starts) there
 
-pub words_from-same : (firsts starts others begins : List ℕ) (at n : ℕ) → ((i : ℕ) → at ≤ i → i < at + n → word_at firsts starts i ≡ word_at others begins i) → words_from firsts starts at n ≡ words_from others begins at n
+pub words_from-same : (firsts starts others begins : List ℕ) (at n : ℕ) → ((i : ℕ) → at ≤ i → i < at + n → run_word_at firsts starts i ≡ run_word_at others begins i) → words_from firsts starts at n ≡ words_from others begins at n
 words_from-same firsts starts others begins at zero each = refl
 words_from-same firsts starts others begins at (suc n) each =
     ap (λ w. w ∷ words_from firsts starts (suc at) n) (each at (omega arith) (omega arith))
-    ∙ ap (λ ws. word_at others begins at ∷ ws) (words_from-same firsts starts others begins (suc at) n (λ i low high. each i (omega arith) (omega arith)))
+    ∙ ap (λ ws. run_word_at others begins at ∷ ws) (words_from-same firsts starts others begins (suc at) n (λ i low high. each i (omega arith) (omega arith)))
 
-pub words_from-range : (firsts starts : List ℕ) (at first n : ℕ) → ((i : ℕ) → at ≤ i → i < at + n → word_at firsts starts i ≡ first + (i - at)) → words_from firsts starts at n ≡ range_with_len first n
+pub words_from-range : (firsts starts : List ℕ) (at first n : ℕ) → ((i : ℕ) → at ≤ i → i < at + n → run_word_at firsts starts i ≡ first + (i - at)) → words_from firsts starts at n ≡ range_with_len first n
 words_from-range firsts starts at first zero each = refl
 words_from-range firsts starts at first (suc n) each =
     let here : first + (at - at) ≡ first = omega arith in
@@ -96,8 +96,8 @@ module _ (firsts starts others begins : List ℕ) (same_firsts : others ≡ firs
   pub runs-same : (at end : ℕ) → AreRuns firsts starts at end → AreRuns others begins at end
   runs-same at end runs = subst (λ fs. AreRuns fs begins at end) (sym same_firsts) (subst (λ ss. AreRuns firsts ss at end) (sym same_starts) runs)
 
-  pub word-same : (i : ℕ) → word_at others begins i ≡ word_at firsts starts i
-  word-same i = ap (λ fs. word_at fs begins i) same_firsts ∙ ap (λ ss. word_at firsts ss i) same_starts
+  pub word-same : (i : ℕ) → run_word_at others begins i ≡ run_word_at firsts starts i
+  word-same i = ap (λ fs. run_word_at fs begins i) same_firsts ∙ ap (λ ss. run_word_at firsts ss i) same_starts
 
   pub words-same : (at n : ℕ) → words_from others begins at n ≡ words_from firsts starts at n
   words-same at n = ap (λ fs. words_from fs begins at n) same_firsts ∙ ap (λ ss. words_from firsts ss at n) same_starts
@@ -125,14 +125,14 @@ module _ (firsts starts : List ℕ) (at end : ℕ) (runs : AreRuns firsts starts
   ]
 
   -- the word of an event of a run
-  pub word_in : (k i : ℕ) → k < length starts → get_or starts k 0 ≤ i → (k + 1 < length starts → i < get_or starts (k + 1) 0) → word_at firsts starts i ≡ get_or firsts k 0 + (i - get_or starts k 0)
+  pub word_in : (k i : ℕ) → k < length starts → get_or starts k 0 ≤ i → (k + 1 < length starts → i < get_or starts (k + 1) 0) → run_word_at firsts starts i ≡ get_or firsts k 0 + (i - get_or starts k 0)
   word_in k i low begun later =
       let next : suc k ≡ k + 1 = omega arith in
-      word_at-found k firsts starts i runs.same low (λ j below. begun_by k j i below low begun) (λ more. rw next (later (omega arith)))
+      run_word_at-found k firsts starts i runs.same low (λ j below. begun_by k j i below low begun) (λ more. rw next (later (omega arith)))
 
   pub words-behind : (k next n : ℕ) → k < length starts → get_or starts k 0 ≤ next → words_from (drop k firsts) (drop k starts) next n ≡ words_from firsts starts next n
   words-behind k next n low begun =
-      words_from-same (drop k firsts) (drop k starts) firsts starts next n (λ i above under. sym (word_at-drop k firsts starts i runs.same low (λ j below. begun_by k j i below low (omega arith))))
+      words_from-same (drop k firsts) (drop k starts) firsts starts next n (λ i above under. sym (run_word_at-drop k firsts starts i runs.same low (λ j below. begun_by k j i below low (omega arith))))
 
   pub runs-behind : (k next : ℕ) → at ≤ next → next ≤ end → k < length starts → get_or starts k 0 ≤ next → (k + 1 < length starts → next < get_or starts (k + 1) 0) → AreRuns (drop k firsts) (drop k starts) next end
   runs-behind k next above under low begun last =
@@ -144,12 +144,12 @@ module _ (firsts starts : List ℕ) (at end : ℕ) (runs : AreRuns firsts starts
         first = λ more. omega (arith, get_or-drop k starts 1 0, last (omega (arith, many)));
         taken = λ i inside. omega (arith, get_or-drop k starts i 0, runs.taken (k + i) (omega (arith, many)));
         rises = λ i j less inside. omega (arith, get_or-drop k starts i 0, get_or-drop k starts j 0, runs.rises (k + i) (k + j) (omega arith) (omega (arith, many)));
-        fits = λ i low_i high_i. omega (arith, word_at-drop k firsts starts i runs.same low (λ j below. begun_by k j i below low (omega arith)), runs.fits i (omega arith) high_i);
+        fits = λ i low_i high_i. omega (arith, run_word_at-drop k firsts starts i runs.same low (λ j below. begun_by k j i below low (omega arith)), runs.fits i (omega arith) high_i);
       }
 
   pub words-front : (k n : ℕ) → (0 < n → 0 < k) → (0 < n → k < length starts → at + n ≤ get_or starts k 0) → words_from (take k firsts) (take k starts) at n ≡ words_from firsts starts at n
   words-front k n some later =
-      words_from-same (take k firsts) (take k starts) firsts starts at n (λ i above under. word_at-take k firsts starts i (some (omega arith)) (λ more. omega (arith, later (omega arith) more)))
+      words_from-same (take k firsts) (take k starts) firsts starts at n (λ i above under. run_word_at-take k firsts starts i (some (omega arith)) (λ more. omega (arith, later (omega arith) more)))
 
   pub runs-front : (k last : ℕ) → at ≤ last → last ≤ end → k ≤ length starts → (at < last → 0 < k) → ((i : ℕ) → i < k → get_or starts i 0 < last) → (at < last → k < length starts → last ≤ get_or starts k 0) → AreRuns (take k firsts) (take k starts) at last
   runs-front k last above under within some taken later =
@@ -164,7 +164,7 @@ module _ (firsts starts : List ℕ) (at end : ℕ) (runs : AreRuns firsts starts
         first = λ more. omega (arith, get_or-take k starts 1 0 (omega (arith, many)), runs.first (omega (arith, many)));
         taken = λ i inside. omega (arith, get_or-take k starts i 0 (omega (arith, many)), taken i (omega (arith, many)));
         rises = λ i j less inside. omega (arith, get_or-take k starts i 0 (omega (arith, many)), get_or-take k starts j 0 (omega (arith, many)), runs.rises i j less (omega (arith, many)));
-        fits = λ i low_i high_i. omega (arith, word_at-take k firsts starts i (some (omega arith)) (λ more. omega (arith, later (omega arith) more)), runs.fits i low_i (omega arith));
+        fits = λ i low_i high_i. omega (arith, run_word_at-take k firsts starts i (some (omega arith)) (λ more. omega (arith, later (omega arith) more)), runs.fits i low_i (omega arith));
       }
 
 -- what is read of the run of an event
@@ -172,7 +172,7 @@ module _ (firsts starts : List ℕ) (count : ℕ) (runs : AreRuns firsts starts 
   pub word-read : get_or firsts run 0 + (i - get_or starts run 0) ≡ get_or (words_from firsts starts 0 count) i 0
   word-read =
       let here : i ≡ 0 + i = omega arith in
-      sym (word_in firsts starts 0 count runs run i inside begun last) ∙ ap (word_at firsts starts) here ∙ sym (get_or-words_from firsts starts 0 count i low)
+      sym (word_in firsts starts 0 count runs run i inside begun last) ∙ ap (run_word_at firsts starts) here ∙ sym (get_or-words_from firsts starts 0 count i low)
 
   pub word-low : get_or firsts run 0 + (i - get_or starts run 0) < 2 ^ 32
   word-low = omega (arith, word_in firsts starts 0 count runs run i inside begun last, runs.fits i (omega arith) low)
@@ -193,18 +193,18 @@ module _ (firsts starts : List ℕ) (count first n : ℕ) (runs : AreRuns firsts
     | inr differ ↦ let inside : j < length starts = omega (arith, differ.1) in omega (arith, get_or_append_left starts (count ∷ []) 0 j inside, runs.taken j inside)
   ]
 
-  word_more : (i : ℕ) → count ≤ i → word_at more_firsts more_starts i ≡ first + (i - count)
+  word_more : (i : ℕ) → count ≤ i → run_word_at more_firsts more_starts i ≡ first + (i - count)
   word_more i above =
       let many = length-append starts (count ∷ []) in
-      word_at-found (length starts) more_firsts more_starts i (omega (arith, many, length-append firsts (first ∷ []), runs.same)) (omega (arith, many)) (λ j within. begun_more j i within above) (λ more. omega (arith, many, more))
+      run_word_at-found (length starts) more_firsts more_starts i (omega (arith, many, length-append firsts (first ∷ []), runs.same)) (omega (arith, many)) (λ j within. begun_more j i within above) (λ more. omega (arith, many, more))
       ∙ ap (λ w. w + (i - get_or more_starts (length starts) 0)) (get_or_push firsts first 0 (length starts) runs.same)
       ∙ ap (λ s. first + (i - s)) (get_or_push starts count 0 (length starts) refl)
 
-  word_before : (i : ℕ) → i < count → word_at more_firsts more_starts i ≡ word_at firsts starts i
+  word_before : (i : ℕ) → i < count → run_word_at more_firsts more_starts i ≡ run_word_at firsts starts i
   word_before i under =
-      sym (word_at-take (length starts) more_firsts more_starts i (runs.some (omega arith)) (λ more. omega (arith, get_or_push starts count 0 (length starts) refl)))
-      ∙ ap (λ fs. word_at fs (take (length starts) more_starts) i) (take_at firsts (first ∷ []) (length starts) runs.same)
-      ∙ ap (λ ss. word_at firsts ss i) (take_at starts (count ∷ []) (length starts) refl)
+      sym (run_word_at-take (length starts) more_firsts more_starts i (runs.some (omega arith)) (λ more. omega (arith, get_or_push starts count 0 (length starts) refl)))
+      ∙ ap (λ fs. run_word_at fs (take (length starts) more_starts) i) (take_at firsts (first ∷ []) (length starts) runs.same)
+      ∙ ap (λ ss. run_word_at firsts ss i) (take_at starts (count ∷ []) (length starts) refl)
 
   pub words-begun : words_from more_firsts more_starts 0 (count + n) ≡ words_from firsts starts 0 count ++ range_with_len first n
   words-begun =
@@ -213,7 +213,7 @@ module _ (firsts starts : List ℕ) (count first n : ℕ) (runs : AreRuns firsts
       ∙ ap (λ ws. words_from firsts starts 0 count ++ ws)
       (words_from-range more_firsts more_starts (0 + count) first n (λ i low high. let same : first + (i - count) ≡ first + (i - (0 + count)) = omega arith in word_more i (omega arith) ∙ same))
 
-  pub next-begun : word_at more_firsts more_starts (count + n) ≡ first + n
+  pub next-begun : run_word_at more_firsts more_starts (count + n) ≡ first + n
   next-begun = omega (arith, word_more (count + n) (omega arith))
 
   pub runs-begun : 0 < n → AreRuns more_firsts more_starts 0 (count + n)
@@ -245,17 +245,17 @@ module _ (firsts starts : List ℕ) (count first n : ℕ) (runs : AreRuns firsts
       }
 
   -- more words of the last run
-  module _ (goes_on : first ≡ word_at firsts starts count) (some : first < 2 ^ 32) where
+  module _ (goes_on : first ≡ run_word_at firsts starts count) (some : first < 2 ^ 32) where
     is_some : 0 < length starts
     is_some = there firsts starts runs.same goes_on some
       where
-        there : (fs ss : List ℕ) → length fs ≡ length ss → first ≡ word_at fs ss count → first < 2 ^ 32 → 0 < length ss
+        there : (fs ss : List ℕ) → length fs ≡ length ss → first ≡ run_word_at fs ss count → first < 2 ^ 32 → 0 < length ss
         there [] [] same is low = absurd (omega (arith, is))
         there [] (s ∷ ss) same is low = omega arith
         there (f ∷ fs) [] same is low = absurd (omega arith)
         there (f ∷ fs) (s ∷ ss) same is low = omega arith
 
-    word_on : (i : ℕ) → count ≤ i → word_at firsts starts i ≡ first + (i - count)
+    word_on : (i : ℕ) → count ≤ i → run_word_at firsts starts i ≡ first + (i - count)
     word_on i above =
         let last = length starts - 1 in
         let low : last < length starts = omega (arith, is_some) in
@@ -270,7 +270,7 @@ module _ (firsts starts : List ℕ) (count first n : ℕ) (runs : AreRuns firsts
         ∙ ap (λ ws. words_from firsts starts 0 count ++ ws)
         (words_from-range firsts starts (0 + count) first n (λ i low high. let same : first + (i - count) ≡ first + (i - (0 + count)) = omega arith in word_on i (omega arith) ∙ same))
 
-    pub next-joined : word_at firsts starts (count + n) ≡ first + n
+    pub next-joined : run_word_at firsts starts (count + n) ≡ first + n
     next-joined = omega (arith, word_on (count + n) (omega arith))
 
     pub runs-joined : AreRuns firsts starts 0 (count + n)

@@ -13,15 +13,15 @@ is_before i (start ∷ starts) = nat_lt i start
 
 -- the word of an event, by its number, from the first words of the runs and the numbers of their first events: the last run
 -- goes on for ever, and without a run it is more than any word
-abbrev pub word_at : List ℕ → List ℕ → ℕ → ℕ
-word_at [] starts i = 4294967296
-word_at (first ∷ firsts) [] i = 4294967296
-word_at (first ∷ firsts) (start ∷ starts) i = if is_before i starts then first + (i - start) else word_at firsts starts i
+abbrev pub run_word_at : List ℕ → List ℕ → ℕ → ℕ
+run_word_at [] starts i = 4294967296
+run_word_at (first ∷ firsts) [] i = 4294967296
+run_word_at (first ∷ firsts) (start ∷ starts) i = if is_before i starts then first + (i - start) else run_word_at firsts starts i
 
 -- the words of so many events, from this one on
 abbrev pub words_from : List ℕ → List ℕ → ℕ → ℕ → List ℕ
 words_from firsts starts at zero = []
-words_from firsts starts at (suc count) = word_at firsts starts at ∷ words_from firsts starts (suc at) count
+words_from firsts starts at (suc count) = run_word_at firsts starts at ∷ words_from firsts starts (suc at) count
 
 -- each number is greater than those before it
 abbrev pub Rises : List ℕ → Type 0
@@ -36,4 +36,4 @@ pub record AreRuns (firsts starts : List ℕ) (at end : ℕ) : Type 0 where
   pub first : 1 < length starts → at < slice_index starts 1
   pub taken : (i : ℕ) → i < length starts → slice_index starts i < end
   pub rises : Rises starts
-  pub fits : (i : ℕ) → at ≤ i → i < end → word_at firsts starts i < 2 ^ 32
+  pub fits : (i : ℕ) → at ≤ i → i < end → run_word_at firsts starts i < 2 ^ 32

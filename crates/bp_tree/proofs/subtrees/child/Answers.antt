@@ -2,7 +2,7 @@ use Rattle.std.proofs.Common.{◌≡◌, ◌+◌, ◌-◌, ◌*◌, ◌<◌, min
 use Rattle.bp_layout.specs.Words.{block_count, block_of, height_of, slot_word}
 use Rattle.bp_layout.specs.Tree.{span}
 use Rattle.bp_layout.specs.Pieces.{piece, child}
-use Rattle.bp_layout.proofs.TreeLaws.{word_at-zero, span-is}
+use Rattle.bp_layout.proofs.TreeLaws.{tree_word-zero, span-is}
 use Rattle.pm_region.specs.Memory.{current_words}
 use Rattle.bp_tree.proofs.Below.{below}
 use Rattle.bp_tree.proofs.subtrees.child.Goals as goal
@@ -11,7 +11,7 @@ pub load_slot-word-requires-clause-block : goal.load_slot-word-requires-clause-b
 load_slot-word-requires-clause-block g c =
     let image = current_words (g.R.Region.memory c.args.region.now) in
     let top = c.requires.sound.in_range 0 0 (record { level = height_of c.args.tree.root; height = omega arith; live = omega arith }) in
-    subst (λ b. b < block_count image) (ap block_of (word_at-zero image c.args.tree.root 0) ∙ sym c.block.ensures) top
+    subst (λ b. b < block_count image) (ap block_of (tree_word-zero image c.args.tree.root 0) ∙ sym c.block.ensures) top
 
 pub overflow_add-result : goal.overflow_add-result
 overflow_add-result g c =

@@ -4,7 +4,7 @@ use Rattle.bp_limits.specs.Limits.{greatest_height}
 use Rattle.bp_layout.specs.Formatted.{version_of}
 use Rattle.bp_layout.specs.Words.{block_count, block_of, height_of}
 use Rattle.bp_layout.specs.Tree.{covered}
-use Rattle.bp_layout.proofs.TreeLaws.{word_at-zero}
+use Rattle.bp_layout.proofs.TreeLaws.{tree_word-zero}
 use Rattle.pm_region.specs.Memory.{current_words}
 use Rattle.bp_walk.specs.Walk.FailsTree.{capacity}
 use Rattle.bp_layout.specs.Fields.{IsRootWord}
@@ -70,7 +70,7 @@ take_below-requires-clause-passes g c =
 pub take_below-requires-clause-block : goal.take_below-requires-clause-block
 take_below-requires-clause-block g c =
     let named : block_of c.args.tree.root ≡ c.in_ok-block.block = sym c.in-Ok.ensures.block ∙ sym c.in_ok-block.ensures.named in
-    ap block_of (word_at-zero (current_words (g.R.Region.memory c.args.region.now)) c.args.tree.root 0) ∙ named
+    ap block_of (tree_word-zero (current_words (g.R.Region.memory c.args.region.now)) c.args.tree.root 0) ∙ named
 
 pub returns-then-root-eq0-clause-ok : goal.returns-then-root-eq0-clause-ok
 returns-then-root-eq0-clause-ok g c =
@@ -80,7 +80,7 @@ returns-then-root-eq0-clause-ok g c =
     let path = goal.at.returns-then-root-eq0-clause-ok g c in
     let set = c.claim_pointed.new.blocks in
     let named : block_of root ≡ c.in_ok-block.block = sym c.in-Ok.ensures.block ∙ sym c.in_ok-block.ensures.named in
-    let at_root = ap block_of (word_at-zero image root 0) ∙ named in
+    let at_root = ap block_of (tree_word-zero image root 0) ∙ named in
     let walks : WalksBelow image 0 root size c.args.holes 0 0 512 set set = elim c.then-root-eq0.branch [
       | then-root-eq0-via-then-root-eq0 w ↦ leaf image 0 root size c.args.holes 0 0 set (omega (arith, c.in-Ok.ensures.height, w.if-root-eq0.true))
       | then-root-eq0-via-else-root-eq0+then-block-eq0 w ↦ null image 0 root size c.args.holes 0 0 set (at_root ∙ w.if-block-eq0.true)

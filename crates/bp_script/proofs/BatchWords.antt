@@ -13,7 +13,7 @@ use Rattle.bp_plain.specs.declared.calls.Piece.{Piece as GivenPiece}
 use Rattle.bp_plain.specs.declared.calls.Span.{Span}
 use Rattle.bp_script.specs.Commands.{Command, and_pieces, asked_by, batch_of, bytes_spelled, decoded, decoded_piece, is_empty_word, number_spelled, path_bytes, piece_spelled, piece_words}
 use Rattle.bp_script.specs.Commands.Command.{bad_syntax, file_call}
-use Rattle.bp_script.specs.Lines.{len_behind, piece_decoded, word_bytes}
+use Rattle.bp_script.specs.Lines.{len_behind, piece_decoded, bytes_in_word}
 
 -- ---- parts of a text that keeps its front
 
@@ -80,7 +80,7 @@ front_stays at end text part_bytes longer within later is =
 
 -- ---- the piece of three words
 
-pub piece_is : (path off bytes : List ℕ) (n : ℕ) (new : List ℕ) → is_empty_word path ≡ false → number_spelled off ≡ Some n → word_bytes bytes ≡ Some new
+pub piece_is : (path off bytes : List ℕ) (n : ℕ) (new : List ℕ) → is_empty_word path ≡ false → number_spelled off ≡ Some n → bytes_in_word bytes ≡ Some new
     → piece_decoded path off bytes ≡ Some (record { path = path_bytes path; off = n; bytes = new })
 piece_is path off bytes n new some_path number spelled = go (is_empty_word bytes) refl
   where

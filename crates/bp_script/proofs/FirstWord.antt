@@ -7,7 +7,7 @@ use Rattle.std.proofs.lemmas.List.{length-drop, length-take, take-append-drop, t
 use Rattle.hex.specs.Hex.{decode_of, hex_digit_value}
 use Rattle.hex.proofs.HexLemmas.{decode_of-odd}
 use Rattle.bp_script.specs.Commands.{bytes_spelled, words_of}
-use Rattle.bp_script.specs.Lines.{first_word, word_bytes}
+use Rattle.bp_script.specs.Lines.{first_word, bytes_in_word}
 use Rattle.bp_script.proofs.DigitRuns.{both, both_nil, bytes, bytes_joined, decoded_is, one, one_none}
 
 -- ---- a word behind digits
@@ -70,7 +70,7 @@ words_told text w ws split = split ∙ ap (λ word. word ∷ ws) (sym (first_is 
 
 -- ---- the bytes of a word whose front is decoded
 
-long_word : (f w : List ℕ) → 2 ≤ length f → word_bytes (f ++ w) ≡ result_ok (decode_of (f ++ w))
+long_word : (f w : List ℕ) → 2 ≤ length f → bytes_in_word (f ++ w) ≡ result_ok (decode_of (f ++ w))
 long_word [] w long = absurd (omega (arith, long))
 long_word (a ∷ []) w long = absurd (omega (arith, long))
 long_word (a ∷ b ∷ f) w long =
@@ -88,7 +88,7 @@ empty_of (a ∷ f) none = absurd (omega (arith, none))
 -- w is what is left of it, and d its bytes
 pub word_is : (n : ℕ) (f w u : List ℕ) (d : Option (List ℕ)) → length f ≡ 2 * n → length u ≡ n → result_ok (decode_of f) ≡ Some u
     → (n ≡ 0 → (length w == 0) ≡ false) → d ≡ (if n == 0 then bytes_spelled w else result_ok (decode_of w))
-    → word_bytes (f ++ w) ≡ both (Some u) d
+    → bytes_in_word (f ++ w) ≡ both (Some u) d
 word_is n f w u d long room told some is =
     elim (cases_eq n 0) [
       | inl none ↦
@@ -106,7 +106,7 @@ word_is n f w u d long room told some is =
 pub word_decoded : (n : ℕ) (text out w : List ℕ) (ws : List (List ℕ)) (d : Option (List ℕ)) → 2 * n ≤ length text → n ≤ length out
     → result_ok (decode_of (take (2 * n) text)) ≡ Some (take n out) → words_of (take (length text - 2 * n) (drop (2 * n) text)) ≡ w ∷ ws
     → (n ≡ 0 → (length w == 0) ≡ false) → d ≡ (if n == 0 then bytes_spelled w else result_ok (decode_of w))
-    → word_bytes (first_word text) ≡ both (Some (take n out)) d
+    → bytes_in_word (first_word text) ≡ both (Some (take n out)) d
 word_decoded n text out w ws d within fits told split some is =
-    ap word_bytes (first_is text _ ws (words_split n text (take n out) w ws within told split))
+    ap bytes_in_word (first_is text _ ws (words_split n text (take n out) w ws within told split))
     ∙ word_is n (take (2 * n) text) w (take n out) d (omega (arith, within, length-take (2 * n) text)) (omega (arith, fits, length-take n out)) told some is

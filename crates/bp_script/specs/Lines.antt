@@ -98,8 +98,8 @@ abbrev pub batch_in : List ℕ → List GivenPiece → Call
 batch_in text pieces = batch (map (piece_in text) pieces)
 
 -- the bytes of a word that is not empty
-abbrev pub word_bytes : List ℕ → Option (List ℕ)
-word_bytes word = if is_empty_word word then None else bytes_spelled word
+abbrev pub bytes_in_word : List ℕ → Option (List ℕ)
+bytes_in_word word = if is_empty_word word then None else bytes_spelled word
 
 -- a piece decoded from its three words, of which none is empty
 abbrev pub piece_decoded : List ℕ → List ℕ → List ℕ → Option Piece

@@ -3,7 +3,7 @@
 ghost use Rattle.bp_plain.specs.Seen.{LiesIn, piece_in, spanned};
 ghost use Rattle.bp_script.specs.Commands.Command.{bad_syntax, file_call};
 ghost use Rattle.bp_script.specs.Commands.{asked_batch, path_bytes, words_of};
-ghost use Rattle.bp_script.specs.Lines.{batch_in, first_piece, first_word, len_behind, most_room, word_bytes, words_at, words_behind, words_len};
+ghost use Rattle.bp_script.specs.Lines.{batch_in, first_piece, first_word, len_behind, most_room, bytes_in_word, words_at, words_behind, words_len};
 ghost use Rattle.std.specs.List.{All};
 ghost use Rattle.std.specs.Option.{option_map_or};
 ghost use Rattle.std.specs.Prelude.{if◌then◌else◌, ◌∷◌, ◌+◌, ◌≡◌, ◌≤◌, IfOk, OnErr, OnOk, [], length, option_map, take, vec_capacity};
@@ -156,7 +156,7 @@ fn add_bytes_part<'a>(
     requires within { at ≤ length text.old.items }
     requires room { at + length rest.now ≤ vec_capacity text.old }
     requires low { at + length rest.now ≤ most_room }
-    ensures part { option_map (λ added. spanned text.new.items added.0) (result_ok result) ≡ word_bytes (first_word rest.now) }
+    ensures part { option_map (λ added. spanned text.new.items added.0) (result_ok result) ≡ bytes_in_word (first_word rest.now) }
     ensures behind { IfOk result (λ added. words_of rest.now ≡ first_word rest.now ∷ words_behind added.1) }
     ensures place { IfOk result (λ added. added.0.at ≡ at) }
     ensures lies { IfOk result (λ added. added.0.at + added.0.len ≤ length text.new.items) }

@@ -1,7 +1,7 @@
 //! The words of a line, and the bytes and the paths that they stand for.
 
 ghost use Rattle.bp_script.specs.Commands.{bytes_spelled, part_bytes, path_bytes, unslashed, words_of};
-ghost use Rattle.bp_script.specs.Lines.{first_word, word_bytes, words_behind};
+ghost use Rattle.bp_script.specs.Lines.{first_word, bytes_in_word, words_behind};
 ghost use Rattle.std.specs.List.{slice_split};
 ghost use Rattle.std.specs.Option.{option_map_or};
 ghost use Rattle.hex.specs.Hex.{decode_of};
@@ -73,7 +73,7 @@ pub(crate) fn decode_word<'a>(
     into: &mut [u8],
 ) -> Result<(usize, Option<&'a [u8]>), Syntax>
     requires { length text.now / 2 ≤ length into.old }
-    ensures bytes { option_map (λ word. take word.0 into.new) (result_ok result) ≡ word_bytes (first_word text.now) }
+    ensures bytes { option_map (λ word. take word.0 into.new) (result_ok result) ≡ bytes_in_word (first_word text.now) }
     ensures behind { IfOk result (λ word. words_of text.now ≡ first_word text.now ∷ words_behind word.1) }
     ensures within { IfOk result (λ word. word.0 ≤ length into.new) }
     ensures len { IfOk result (λ word. word.0 + option_map_or (λ rest. length rest.now + 1) word.1 0 ≤ length text.now) }

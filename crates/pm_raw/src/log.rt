@@ -32,7 +32,7 @@ pub enum Piece<'a> {
 
 /// Events in a row with words in a row, from this one on, and with these values.
 #[derive(Drop)]
-pub struct Row<'a> {
+pub struct ValueRow<'a> {
     /// The first word.
     pub word: u32,
     /// The values.
@@ -211,7 +211,7 @@ impl<'a> Log<'a> {
     }
 
     /// Takes the last events off, whose words are in a row, as many as their run has. There is an event.
-    pub fn take_last(&mut self) -> Row<'a>
+    pub fn take_last(&mut self) -> ValueRow<'a>
         requires { 0 < length self.old }
         ensures events { self.old ≡ self.new ++ events_of (range_with_len result.word (length result.values.now)) result.values.now }
         ensures some { 0 < length result.values.now }
@@ -225,7 +225,7 @@ impl<'a> Log<'a> {
         self.firsts = &firsts[..last];
         self.starts = &starts[..last];
         self.values = &values[..kept];
-        Row {
+        ValueRow {
             word,
             values: &values[kept..],
         }

@@ -178,8 +178,8 @@ impl DirectoryCache {
         }
     }
 
-    /// Counts a search of a large directory of which nothing is held, and makes an index of it where it was searched often. Tells
-    /// whether something is held of it then.
+    /// Counts a search of a large directory of which nothing is held, and makes an index of it where it was searched
+    /// often. Tells whether something is held of it then.
     fn make_held<R: Region>(&mut self, region: &R, dir: u32, tree: Tree) -> bool
         requires tree { HasTree (current_words (R.memory region.now)) dir tree }
         requires right { IsCacheOf (current_words (R.memory region.now)) self.old }
@@ -193,7 +193,8 @@ impl DirectoryCache {
         true
     }
 
-    /// Counts a search of a large directory, and makes an index of it where it was searched often. Tells whether something is held of it.
+    /// Counts a search of a large directory, and makes an index of it where it was searched often. Tells whether
+    /// something is held of it.
     fn count_search<R: Region>(&mut self, region: &R, dir: u32, tree: Tree) -> bool
         requires tree { HasTree (current_words (R.memory region.now)) dir tree }
         requires right { IsCacheOf (current_words (R.memory region.now)) self.old }
@@ -227,8 +228,8 @@ impl DirectoryCache {
         }
     }
 
-    /// What [`Finder::find`] tells of one name and [`DirectoryCache::find_or_free`] of another one in the same directory: by one
-    /// scan, where the first is not remembered.
+    /// What [`Finder::find`] tells of one name and [`DirectoryCache::find_or_free`] of another one in the same
+    /// directory: by one scan, where the first is not remembered.
     pub fn find_both<R: Region>(
         &mut self,
         region: &R,

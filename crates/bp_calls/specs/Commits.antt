@@ -45,8 +45,8 @@ pub record CommitsOrLacksSpace {R T : Type 0} (memory : R → Memory) (old new :
   pub refused : IfErr result (LacksSpace (current_words (memory old.region)) (kept_of old) change)
   pub same : OnErr result (new ≡ old)
 
--- The same of a call that creates a name in directory i. The least free inode gets it: so it is told for that one, or
--- for none where no inode is free.
+-- The same of a call that creates a name in directory i. Its change is told by the least free inode, or as one by which
+-- the inode file grows, where none is free.
 pub record CreatesOrLacksSpace {R T : Type 0} (memory : R → Memory) (old new : Parts R) (result : Result T NoSpace)
     (i : ℕ) (name : Name) (kind : Kind) : Type 0 where
   pub performs : OnOk result (ForCreation (current_words (memory old.region)) i (λ change.

@@ -10,7 +10,7 @@ abbrev pub entrant_of : Option ℕ → Entrant
 entrant_of None = grown
 entrant_of (Some inode) = taken inode
 
--- It holds of the change that creates a name in directory i: the least free inode gets the name, or where none is free
--- the first of those by which the inode file grows.
+-- It holds of the change that creates a name in directory i. What that touches and needs is told by the least free
+-- inode, or where none is free by the growth of the inode file. No field says that the name gets this very one.
 abbrev pub ForCreation : Image → ℕ → (Change → Type 0) → Type 0
 ForCreation image i Holds = (free : Option ℕ) → IsLeastFree image free → Holds (enters i (entrant_of free))

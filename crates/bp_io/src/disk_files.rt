@@ -42,8 +42,8 @@ use std::{io, rt};
 /// dropped. On its way there it is called as the first one with `.bpfs-sync-old` behind it, of which the
 /// same holds. None waits where a file can't have two names, or a folder can't be made last, and one that has
 /// another name meanwhile, or another length or time of change, is not written: a new one is made. A change
-/// within the same tick of the system's clock as the flush is not seen. Who opened the file before a flush reads on in the one that was
-/// replaced, and sees what is written for the flush behind the next.
+/// within the same tick of the system's clock as the flush is not seen. Who opened the file before a flush
+/// reads on in the one that was replaced, and sees what is written for the flush behind the next.
 ///
 /// A file is written **in place** where no second one can be had, or none may take its place: where
 /// it has several hard links; where its folder cannot be opened, or no file be made in it; where the

@@ -29,7 +29,8 @@ pub fn file_tree(_image: &[u64])
     ensures { (tree : FileTree) → Stands _image.now tree → IsFileTree tree }
 {}
 
-/// After the stores of a format over any words, an image of so many blocks stands for the root directory alone, in its version.
+/// After the stores of a format over any words, an image of so many blocks stands for the root directory alone, in its
+/// version.
 pub fn format_is_empty(_image: &[u64], _version: Version, _blocks: u64)
     requires whole { length _image.now ≡ 512 * _blocks }
     requires least { min_blocks ≤ _blocks }
@@ -37,7 +38,8 @@ pub fn format_is_empty(_image: &[u64], _version: Version, _blocks: u64)
     ensures { Stands (formatted _image.now _version _blocks) (empty_tree _version) }
 {}
 
-/// The calls of a tree's export, one after the other from the empty tree of its version, are all carried out, and make that tree but for its snapshot.
+/// The calls of a tree's export, one after the other from the empty tree of its version, are all carried out, and
+/// make that tree but for its snapshot.
 pub fn exports_come_back()
     ensures { (tree : FileTree) → IsExportable tree → AllDone (empty_tree tree.version) (export_calls tree) (without_snapshot tree) }
 {}

@@ -98,7 +98,8 @@ impl Replies {
     ///
     /// # Errors
     ///
-    /// `Failed` where the sink failed. It took a proper front of what waited then, the rest is given up, and the line isn't added.
+    /// `Failed` where the sink failed. It took a proper front of what waited then, the rest is given up, and the line isn't
+    /// added.
     pub fn tell<K: Sink>(&mut self, said: &Said<'_>, out: &mut K) -> Result<(), Failed>
         requires { FitsReply said.now }
         ensures all { OnOk result (PassesOn (said_text said.now) (waiting self.old) (waiting self.new)

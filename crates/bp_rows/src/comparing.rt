@@ -39,8 +39,9 @@ pub struct Comparison<'a> {
     ghost decodes: { max_line ≤ decoded_room decoded },
 }
 
-/// Writes whether the replies to a script are those of the plain program, which begins with the empty tree of a version, or else the
-/// first line at which they differ. A line for which the volume lacks blocks or memory is told, and the plain program does not do it either.
+/// Writes whether the replies to a script are those of the plain program, which begins with the empty tree of a
+/// version, or else the first line at which they differ. A line for which the volume lacks blocks or memory is told,
+/// and the plain program does not do it either.
 pub fn compare(
     alloc: Global,
     version: Version,

@@ -57,9 +57,9 @@ struct Cuts<'a> {
     kept: Vec<bool>,
 }
 
-/// Cuts the power of a run of a row's script over an image: at each moment beside a barrier or a mark and at every 64th, with each epoch,
-/// and none, all, the odd and the even stores of it. Writes which numbers of calls were kept, or else the first cut whose
-/// answers are not those of the plain tree after the calls that it keeps.
+/// Cuts the power of a run of a row's script over an image: at each moment beside a barrier or a mark and at every
+/// 64th, with each epoch, and none, all, the odd and the even stores of it. Writes which numbers of calls were kept,
+/// or else the first cut whose answers are not those of the plain tree after the calls that it keeps.
 pub fn cut_all_over(
     alloc: Global,
     row: &Row,

@@ -26,7 +26,7 @@ pub struct LineBuffers {
     pub(crate) replies: Replies,
     pub(crate) choice: Choice,
     pub(crate) backs: Backs,
-    // Made at the first line that asks for them, since they take 8 bytes for each word of the region.
+    // Made at the first line that asks for them: 8 bytes for each word of the region, and some 32 MiB for their log.
     pub(crate) caches: Option<TwoCaches>,
     ghost room: { max_line + 1 ≤ vec_capacity line },
     ghost fits: { vec_len line ≤ max_line + 1 },

@@ -37,10 +37,10 @@ fn try_table<R: Region>(region: &R, entries: &mut [Spelled], count: usize) -> Re
     check_by_table(region, found, &mut table[..2 * count + REACH + 1])
 }
 
-/// Checks the names of a directory's entries that name an inode, and puts the number of that inode into `numbers`, at the
-/// entry's slot: 0 where it names none, and `u32::MAX` where the number is no less. `entries` and `numbers` are memory for as
-/// many as the directory has. It takes time linear in them where that has room for three times as many and some more, and few hashes fall together;
-/// else it sorts them.
+/// Checks the names of a directory's entries that name an inode, and puts the number of that inode into `numbers`, at
+/// the entry's slot: 0 where it names none, and `u32::MAX` where the number is no less. `entries` and `numbers` are
+/// memory for as many as the directory has. It takes time linear in them where that has room for three times as many
+/// and some more, and few hashes fall together; else it sorts them.
 ///
 /// # Errors
 ///

@@ -142,8 +142,8 @@ impl Cores {
         let _ = &self.log;
     }
 
-    /// A core reads a word: the last store to it, or the region's word at its last drain. A line that is dirty under another core is
-    /// settled first.
+    /// A core reads a word: the last store to it, or the region's word at its last drain. A line that is dirty under another
+    /// core is settled first.
     pub fn load<R: Region>(&mut self, region: &R, core: u32, i: u32) -> u64
         requires core { core < self.old.cores }
         requires word { i < self.old.words }

@@ -1,4 +1,5 @@
--- How a log stands in an array of words and an array of values, with one place of each for an event.
+-- How a log stands in a list of words and a list of values, with one place of each for an event. In memory the words are
+-- runs, and the values a vector.
 use Rattle.std.specs.Prelude.{ℕ, ◌==◌, if◌then◌else◌, List, [], ◌∷◌}
 use Rattle.pm_epochs.specs.declared.event.Event.{Event}
 use Rattle.pm_epochs.specs.declared.event.Event.TheVariants.{Store, Barrier, Mark}

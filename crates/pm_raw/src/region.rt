@@ -17,11 +17,12 @@ use pm_region::{Region, Row};
 use std::alloc::{AllocError, Global};
 use std::marker::Model;
 
-/// A region in raw memory: the words now, the words of the events since the last drain by runs, and for each event its value and
-/// the value that it replaced. Beside them it keeps where the barriers and the marks stand, so that a crash and a storm need not look for them
-/// among the stores. The words at the last drain are held nowhere: they are what undoing the log leaves. So a drain takes
-/// constant time, as each other call does but a crash and a look at a word at the last drain, which take time for the events
-/// of the log, and a count of the barriers before an event, which takes time for the barriers.
+/// A region in raw memory: the words now, the words of the events since the last drain by runs, and for each event
+/// its value and the value that it replaced. Beside them it keeps where the barriers and the marks stand, so that a
+/// crash and a storm need not look for them among the stores. The words at the last drain are held nowhere: they are
+/// what undoing the log leaves. So a drain takes constant time, as each other call does but a crash and a look at a
+/// word at the last drain, which take time for the events of the log, and a count of the barriers before an event,
+/// which takes time for the barriers.
 #[derive(Drop)]
 pub struct RawRegion {
     current: RawArray<u64>,

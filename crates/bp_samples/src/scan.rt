@@ -1,6 +1,6 @@
 //! A small file system. Rows over the devices in memory show one damage after another (docs/rows.md).
 
-ghost use Rattle.std.specs.Prelude.{◌*◌, ◌≡◌, IfOk, length, vec_len};
+ghost use Rattle.std.specs.Prelude.{◌*◌, ◌≡◌, length, vec_len};
 ghost use Rattle.bp_limits.specs.Limits.{block_words, min_blocks};
 
 use crate::images::{EMPTY, SECOND, TWO_ENTRIES, TWO_NAMES, laid, put};
@@ -8,8 +8,8 @@ use bp_free::{Blocks, Counts, Inodes};
 use bp_layout::Check;
 use bp_scan::{MountFault, Pending, Totals, image_length, scan_whole};
 use pm_region::ListRegion;
-use std::alloc::{AllocError, Global};
-use std::test::Fail;
+use std::alloc::Global;
+use std::process::Abort;
 
 const BLOCKS: u32 = 8;
 
@@ -91,44 +91,44 @@ fn refused(fault: MountFault) -> Found {
     (Err(fault), (0, 0, 0), [0, 0, 0])
 }
 
-fn base(alloc: Global) -> Result<Vec<u64>, AllocError>
-    ensures { IfOk result (λ words. vec_len words ≡ min_blocks * block_words) }
+fn base(rt: &impl Abort, alloc: Global) -> Vec<u64>
+    ensures { vec_len result ≡ min_blocks * block_words }
 {
-    let mut words = laid(alloc, &EMPTY)?;
+    let mut words = laid(alloc, &EMPTY).expect(rt, "there is memory");
     put(&mut words, &TWO_ENTRIES);
     put(&mut words, &TWO_NAMES);
-    Ok(words)
+    words
 }
 
 /// The set of all blocks.
-fn all_blocks(alloc: Global) -> Result<Blocks, AllocError>
-    ensures { IfOk result (λ set. length set ≡ BLOCKS) }
+fn all_blocks(rt: &impl Abort, alloc: Global) -> Blocks
+    ensures { length result ≡ BLOCKS }
 {
-    let mut blocks = Blocks::new(alloc, BLOCKS)?;
+    let mut blocks = Blocks::new(alloc, BLOCKS).expect(rt, "there is memory");
     blocks.fill(0, BLOCKS);
-    Ok(blocks)
+    blocks
 }
 
 /// The set of all inodes.
-fn all_inodes(alloc: Global) -> Result<Inodes, AllocError>
-    ensures { IfOk result (λ set. length set ≡ INODES) }
+fn all_inodes(rt: &impl Abort, alloc: Global) -> Inodes
+    ensures { length result ≡ INODES }
 {
-    let mut inodes = Inodes::new(alloc, INODES)?;
+    let mut inodes = Inodes::new(alloc, INODES).expect(rt, "there is memory");
     inodes.fill(0, INODES);
-    Ok(inodes)
+    inodes
 }
 
 /// Scans an image, with sets and counts that have something before.
-fn scanned(alloc: Global, words: Vec<u64>) -> Result<Found, AllocError>
+fn scanned(rt: &impl Abort, alloc: Global, words: Vec<u64>) -> Found
     requires { vec_len words ≡ min_blocks * block_words }
 {
-    let region = ListRegion::new(alloc, words, 0)?;
-    let mut blocks = all_blocks(alloc)?;
-    let mut frozen = all_blocks(alloc)?;
-    let mut inodes = all_inodes(alloc)?;
-    let mut counts = Counts::new(alloc, INODES)?;
+    let region = ListRegion::new(alloc, words, 0).expect(rt, "there is memory");
+    let mut blocks = all_blocks(rt, alloc);
+    let mut frozen = all_blocks(rt, alloc);
+    let mut inodes = all_inodes(rt, alloc);
+    let mut counts = Counts::new(alloc, INODES).expect(rt, "there is memory");
     counts.set(1, 7);
-    let mut pending = Pending::new(alloc, INODES)?;
+    let mut pending = Pending::new(alloc, INODES).expect(rt, "there is memory");
     let answer = scan_whole(
         &region,
         &mut blocks,
@@ -138,70 +138,66 @@ fn scanned(alloc: Global, words: Vec<u64>) -> Result<Found, AllocError>
         &mut counts,
     );
     let names = [counts.names(1), counts.names(2), counts.names(3)];
-    Ok((
+    (
         answer,
         (blocks.count(), inodes.count(), frozen.count()),
         names,
-    ))
+    )
 }
 
 #[test]
-fn an_image_is_scanned(rt: HostRuntime) -> Result<(), Fail> {
-    let words = base(rt.alloc())?;
-    assert_eq!(rt; scanned(rt.alloc(), words)?, BASE);
-    let mut words = base(rt.alloc())?;
+fn an_image_is_scanned(rt: HostRuntime) {
+    let words = base(&rt, rt.alloc());
+    assert_eq!(rt; scanned(&rt, rt.alloc(), words), BASE);
+    let mut words = base(&rt, rt.alloc());
     put(&mut words, &[SECOND]);
-    assert_eq!(rt; scanned(rt.alloc(), words)?, BASE);
-    let mut words = base(rt.alloc())?;
+    assert_eq!(rt; scanned(&rt, rt.alloc(), words), BASE);
+    let mut words = base(&rt, rt.alloc());
     put(&mut words, &[(0, 0)]);
     assert_eq!(rt;
-        scanned(rt.alloc(), words)?,
+        scanned(&rt, rt.alloc(), words),
         refused(MountFault::NotFormatted)
     );
-    Ok(())
 }
 
 /// Both entries name inode 2, so that inode 3 is free.
 #[test]
-fn a_file_has_two_names(rt: HostRuntime) -> Result<(), Fail> {
-    let mut words = base(rt.alloc())?;
+fn a_file_has_two_names(rt: HostRuntime) {
+    let mut words = base(&rt, rt.alloc());
     put(&mut words, &[(1056, 2)]);
     let totals = Totals { files: 1, ..TOTALS };
     assert_eq!(rt;
-        scanned(rt.alloc(), words)?,
+        scanned(&rt, rt.alloc(), words),
         (Ok(totals), (5, 61, 0), [0, 2, 0])
     );
-    Ok(())
 }
 
 /// Block 2 is in both trees and block 3 in the second one alone; without the mark of version 2 there is one tree.
 #[test]
-fn both_trees_are_scanned(rt: HostRuntime) -> Result<(), Fail> {
-    let mut words = base(rt.alloc())?;
+fn both_trees_are_scanned(rt: HostRuntime) {
+    let mut words = base(&rt, rt.alloc());
     put(&mut words, &SNAPSHOT);
     let totals = Totals { live: 3, ..TOTALS };
     assert_eq!(rt;
-        scanned(rt.alloc(), words)?,
+        scanned(&rt, rt.alloc(), words),
         (Ok(totals), (4, 60, 2), [0, 1, 1])
     );
-    let mut words = base(rt.alloc())?;
+    let mut words = base(&rt, rt.alloc());
     put(&mut words, &SNAPSHOT[1..]);
-    assert_eq!(rt; scanned(rt.alloc(), words)?, BASE);
-    Ok(())
+    assert_eq!(rt; scanned(&rt, rt.alloc(), words), BASE);
 }
 
 #[test]
-fn each_check_fails_at_its_word(rt: HostRuntime) -> Result<(), Fail> {
+fn each_check_fails_at_its_word(rt: HostRuntime) {
     for (stores, check, place) in &DAMAGES {
-        let mut words = base(rt.alloc())?;
+        let mut words = base(&rt, rt.alloc());
         put(&mut words, *stores);
         let fault = MountFault::Damaged {
             check: *check,
             place: *place,
         };
-        assert_eq!(rt; scanned(rt.alloc(), words)?, refused(fault));
+        assert_eq!(rt; scanned(&rt, rt.alloc(), words), refused(fault));
     }
-    Ok(())
 }
 
 #[test]
@@ -224,8 +220,7 @@ fn lengths(rt: HostRuntime) {
 }
 
 #[test]
-fn memory(rt: HostRuntime) -> Result<(), Fail> {
-    let pending = Pending::new(rt.alloc(), INODES)?;
+fn memory(rt: HostRuntime) {
+    let pending = Pending::new(rt.alloc(), INODES).expect(&rt, "there is memory");
     assert_eq!(rt; pending.room(), 512);
-    Ok(())
 }

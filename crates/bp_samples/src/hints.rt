@@ -1,6 +1,6 @@
 //! Names that are remembered, and walks that are given hints.
 
-ghost use Rattle.std.specs.Prelude.{◌*◌, ◌≡◌, IfOk, vec_len};
+ghost use Rattle.std.specs.Prelude.{◌*◌, ◌≡◌, vec_len};
 ghost use Rattle.bp_layout.specs.Hints.{AreRight};
 ghost use Rattle.bp_layout.specs.WellFormed.{IsWellFormed};
 ghost use Rattle.bp_layout.specs.Words.{Image};
@@ -15,9 +15,8 @@ use bp_names::Names;
 use bp_path::{FoundEntry, WalkFault, parse, walk, walk_parent_with, walk_with};
 use bp_scan::{Pending, scan};
 use pm_region::ListRegion;
-use std::alloc::{AllocError, Global};
+use std::alloc::Global;
 use std::process::Abort;
-use std::test::Fail;
 
 /// What `/d/f` finds in the image [`DEEP`].
 const FILE: FoundEntry = FoundEntry {
@@ -51,81 +50,79 @@ impl Hints for Counting {
 }
 
 /// The words of a file system of one directory with one file.
-fn deep_words(alloc: Global) -> Result<Vec<u64>, AllocError>
-    ensures { IfOk result (λ words. vec_len words ≡ min_blocks * block_words) }
+fn deep_words(rt: &impl Abort, alloc: Global) -> Vec<u64>
+    ensures { vec_len result ≡ min_blocks * block_words }
 {
-    let mut words = laid(alloc, &EMPTY)?;
+    let mut words = laid(alloc, &EMPTY).expect(rt, "there is memory");
     put(&mut words, &DEEP);
-    Ok(words)
+    words
 }
 
 /// A file system of one directory with one file.
-fn deep(alloc: Global) -> Result<ListRegion, Fail>
-    ensures { IfOk result (λ region. IsWellFormed (current_words region)) }
+fn deep(rt: &impl Abort, alloc: Global) -> ListRegion
+    ensures { IsWellFormed (current_words result) }
 {
-    let words = deep_words(alloc)?;
-    let region = ListRegion::new(alloc, words, 0)?;
-    let mut blocks = Blocks::new(alloc, 8)?;
-    let mut inodes = Inodes::new(alloc, 512)?;
-    let mut pending = Pending::new(alloc, 512)?;
-    let mut counts = Counts::new(alloc, 512)?;
-    scan(&region, &mut blocks, &mut inodes, &mut pending, &mut counts)?;
-    Ok(region)
+    let words = deep_words(rt, alloc);
+    let region = ListRegion::new(alloc, words, 0).expect(rt, "there is memory");
+    let mut blocks = Blocks::new(alloc, 8).expect(rt, "there is memory");
+    let mut inodes = Inodes::new(alloc, 512).expect(rt, "there is memory");
+    let mut pending = Pending::new(alloc, 512).expect(rt, "there is memory");
+    let mut counts = Counts::new(alloc, 512).expect(rt, "there is memory");
+    let scanned = scan(&region, &mut blocks, &mut inodes, &mut pending, &mut counts);
+    scanned.expect(rt, "it is well formed");
+    region
 }
 
 /// Hints that know nothing yet.
-fn nothing_known(alloc: Global) -> Result<Counting, Fail>
-    ensures { IfOk result (λ hints. (image : Image) → AreRight image (known_of hints.names)) }
+fn nothing_known(rt: &impl Abort, alloc: Global) -> Counting
+    ensures { (image : Image) → AreRight image (known_of result.names) }
 {
-    let names = Names::new(alloc, 4)?;
-    Ok(Counting {
+    let names = Names::new(alloc, 4).expect(rt, "there is memory");
+    Counting {
         names,
         asked: 0,
         learned: 0,
-    })
+    }
 }
 
 #[test]
-fn a_second_walk_asks_two_hints_and_learns_nothing(rt: HostRuntime) -> Result<(), Fail> {
-    let region = deep(rt.alloc())?;
-    let mut hints = nothing_known(rt.alloc())?;
-    let path = parse(b"/d/f")?;
+fn a_second_walk_asks_two_hints_and_learns_nothing(rt: HostRuntime) {
+    let region = deep(&rt, rt.alloc());
+    let mut hints = nothing_known(&rt, rt.alloc());
+    let path = parse(b"/d/f").expect(&rt, "it is a path");
     assert_eq!(rt; walk_with(&region, &path, &mut hints), Ok(FILE));
     assert_eq!(rt; (hints.asked, hints.learned), (2, 2));
     assert_eq!(rt; walk_with(&region, &path, &mut hints), Ok(FILE));
     assert_eq!(rt; (hints.asked, hints.learned), (4, 2));
     assert_eq!(rt; walk_parent_with(&region, &path, &mut hints), Ok(2));
     assert_eq!(rt; (hints.asked, hints.learned), (5, 2));
-    Ok(())
 }
 
 /// a name that is missing, and a name below a file, of which nobody is asked
 #[test]
-fn what_is_not_found_is_not_learned(rt: HostRuntime) -> Result<(), Fail> {
-    let region = deep(rt.alloc())?;
-    let mut hints = nothing_known(rt.alloc())?;
-    let path = parse(b"/d/x")?;
+fn what_is_not_found_is_not_learned(rt: HostRuntime) {
+    let region = deep(&rt, rt.alloc());
+    let mut hints = nothing_known(&rt, rt.alloc());
+    let path = parse(b"/d/x").expect(&rt, "it is a path");
     assert_eq!(rt;
         walk_with(&region, &path, &mut hints),
         Err(WalkFault::NotFound)
     );
     assert_eq!(rt; (hints.asked, hints.learned), (2, 1));
-    let path = parse(b"/d/f/x")?;
+    let path = parse(b"/d/f/x").expect(&rt, "it is a path");
     assert_eq!(rt;
         walk_with(&region, &path, &mut hints),
         Err(WalkFault::NotDir)
     );
     assert_eq!(rt; (hints.asked, hints.learned), (4, 2));
-    Ok(())
 }
 
 #[test]
-fn who_knows_nothing_is_led_by_the_directories(rt: HostRuntime) -> Result<(), Fail> {
-    let region = deep(rt.alloc())?;
-    let path = parse(b"/d/f")?;
+fn who_knows_nothing_is_led_by_the_directories(rt: HostRuntime) {
+    let region = deep(&rt, rt.alloc());
+    let path = parse(b"/d/f").expect(&rt, "it is a path");
     assert_eq!(rt; walk(&region, &path), Ok(FILE));
     assert_eq!(rt; walk_with(&region, &path, &mut NoHints), Ok(FILE));
-    Ok(())
 }
 
 /// What is remembered of names, each of a directory: its slot.
@@ -136,8 +133,8 @@ fn remembers(rt: &impl Abort, names: &mut Names, wanted: &[(u32, &[u8], Option<u
 }
 
 #[test]
-fn the_oldest_name_goes(rt: HostRuntime) -> Result<(), Fail> {
-    let mut names = Names::new(rt.alloc(), 2)?;
+fn the_oldest_name_goes(rt: HostRuntime) {
+    let mut names = Names::new(rt.alloc(), 2).expect(&rt, "there is memory");
     for (name, slot) in [(b"a", 0), (b"b", 1), (b"c", 2)] {
         assert!(rt; names.learn(1, name, slot));
     }
@@ -148,12 +145,11 @@ fn the_oldest_name_goes(rt: HostRuntime) -> Result<(), Fail> {
         (2, b"c", None),
     ];
     remembers(&rt, &mut names, &wanted);
-    Ok(())
 }
 
 #[test]
-fn names_are_forgotten(rt: HostRuntime) -> Result<(), Fail> {
-    let mut names = Names::new(rt.alloc(), 2)?;
+fn names_are_forgotten(rt: HostRuntime) {
+    let mut names = Names::new(rt.alloc(), 2).expect(&rt, "there is memory");
     for (name, slot) in [(b"b", 1), (b"c", 2)] {
         assert!(rt; names.learn(1, name, slot));
     }
@@ -161,5 +157,4 @@ fn names_are_forgotten(rt: HostRuntime) -> Result<(), Fail> {
     remembers(&rt, &mut names, &[(1, b"b", None), (1, b"c", Some(2))]);
     names.forget_all();
     remembers(&rt, &mut names, &[(1, b"c", None)]);
-    Ok(())
 }

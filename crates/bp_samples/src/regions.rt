@@ -5,9 +5,8 @@ use pm_epochs::{BadChoice, Choice, Event, Kept, check_choice, kept_calls, replay
 use pm_raw::RawRegion;
 use pm_region::{ListRegion, Region};
 use pm_steps::{Backs, Machine, NotYet};
-use std::alloc::{AllocError, Global};
+use std::alloc::Global;
 use std::process::Abort;
-use std::test::Fail;
 
 /// A log of two epochs over three words.
 const TWO_EPOCHS: [Event; 5] = [
@@ -32,21 +31,21 @@ const CRASHES: [Crash; 7] = [
     (6, 0, &[], None),
 ];
 
-fn chosen(alloc: Global, moment: usize, epoch: usize, mask: &[bool]) -> Result<Choice, AllocError> {
-    let mut choice = Choice::new(alloc, 8)?;
+fn chosen(rt: &impl Abort, alloc: Global, moment: usize, epoch: usize, mask: &[bool]) -> Choice {
+    let mut choice = Choice::new(alloc, 8).expect(rt, "there is memory");
     choice.start(moment, epoch);
     for keep in mask {
         if choice.mask().len() < choice.room() {
             choice.push(*keep);
         }
     }
-    Ok(choice)
+    choice
 }
 
 #[test]
-fn replays_of_two_epochs(rt: HostRuntime) -> Result<(), Fail> {
+fn replays_of_two_epochs(rt: HostRuntime) {
     for (moment, epoch, mask, left) in &CRASHES {
-        let choice = chosen(rt.alloc(), *moment, *epoch, *mask)?;
+        let choice = chosen(&rt, rt.alloc(), *moment, *epoch, *mask);
         match left {
             Some(words) => {
                 for word in 0..3u32 {
@@ -57,11 +56,10 @@ fn replays_of_two_epochs(rt: HostRuntime) -> Result<(), Fail> {
             None => assert_eq!(rt; check_choice(&TWO_EPOCHS, &choice), Err(BadChoice)),
         }
     }
-    Ok(())
 }
 
 #[test]
-fn calls_without_a_store_are_kept(rt: HostRuntime) -> Result<(), Fail> {
+fn calls_without_a_store_are_kept(rt: HostRuntime) {
     let events = [
         Event::Mark,
         Event::Store { word: 0, value: 1 },
@@ -69,15 +67,19 @@ fn calls_without_a_store_are_kept(rt: HostRuntime) -> Result<(), Fail> {
         Event::Mark,
         Event::Mark,
     ];
-    let none = chosen(rt.alloc(), 0, 0, &[])?;
+    let none = chosen(&rt, rt.alloc(), 0, 0, &[]);
     assert_eq!(rt; kept_calls(&events, &none).ok(), Some(Kept { c: 1, n: 3 }));
-    let all = chosen(rt.alloc(), 5, 1, &[])?;
+    let all = chosen(&rt, rt.alloc(), 5, 1, &[]);
     assert_eq!(rt; kept_calls(&events, &all).ok(), Some(Kept { c: 3, n: 3 }));
-    Ok(())
 }
 
-fn list(alloc: Global, words: u32, capacity: usize) -> Result<ListRegion, AllocError> {
-    ListRegion::new(alloc, vec![in alloc; 0u64; words as usize]?, capacity)
+fn list(rt: &impl Abort, alloc: Global, words: u32, capacity: usize) -> ListRegion {
+    let zeros = vec![in alloc; 0u64; words as usize].expect(rt, "there is memory");
+    ListRegion::new(alloc, zeros, capacity).expect(rt, "there is memory")
+}
+
+fn raw(rt: &impl Abort, alloc: Global, words: u32, capacity: usize) -> RawRegion {
+    RawRegion::new(alloc, words, capacity).expect(rt, "there is memory")
 }
 
 /// Does an event to a region that has its word, and room.
@@ -214,36 +216,32 @@ fn crash_keeps_what_was_written_back<R: Region, A: Abort>(rt: &A, region: &mut R
 }
 
 #[test]
-fn a_raw_region_crashes(rt: HostRuntime) -> Result<(), Fail> {
+fn a_raw_region_crashes(rt: HostRuntime) {
     for (moment, epoch, mask, left) in &CRASHES {
-        let choice = chosen(rt.alloc(), *moment, *epoch, *mask)?;
-        crash_leaves(&rt, &mut RawRegion::new(rt.alloc(), 3, 8)?, &choice, *left);
+        let choice = chosen(&rt, rt.alloc(), *moment, *epoch, *mask);
+        crash_leaves(&rt, &mut raw(&rt, rt.alloc(), 3, 8), &choice, *left);
     }
-    Ok(())
 }
 
 #[test]
-fn a_list_region_crashes(rt: HostRuntime) -> Result<(), Fail> {
+fn a_list_region_crashes(rt: HostRuntime) {
     for (moment, epoch, mask, left) in &CRASHES {
-        let choice = chosen(rt.alloc(), *moment, *epoch, *mask)?;
-        crash_leaves(&rt, &mut list(rt.alloc(), 3, 8)?, &choice, *left);
+        let choice = chosen(&rt, rt.alloc(), *moment, *epoch, *mask);
+        crash_leaves(&rt, &mut list(&rt, rt.alloc(), 3, 8), &choice, *left);
     }
-    Ok(())
 }
 
 #[test]
-fn both_regions_keep_what_was_written_back(rt: HostRuntime) -> Result<(), Fail> {
-    let choice = chosen(rt.alloc(), 2, 0, &[false, true])?;
-    crash_keeps_what_was_written_back(&rt, &mut RawRegion::new(rt.alloc(), 4, 8)?, &choice);
-    crash_keeps_what_was_written_back(&rt, &mut list(rt.alloc(), 4, 8)?, &choice);
-    Ok(())
+fn both_regions_keep_what_was_written_back(rt: HostRuntime) {
+    let choice = chosen(&rt, rt.alloc(), 2, 0, &[false, true]);
+    crash_keeps_what_was_written_back(&rt, &mut raw(&rt, rt.alloc(), 4, 8), &choice);
+    crash_keeps_what_was_written_back(&rt, &mut list(&rt, rt.alloc(), 4, 8), &choice);
 }
 
 #[test]
-fn both_regions_drain(rt: HostRuntime) -> Result<(), Fail> {
-    takes_steps(&rt, &mut RawRegion::new(rt.alloc(), 4, 2)?);
-    takes_steps(&rt, &mut list(rt.alloc(), 4, 2)?);
-    Ok(())
+fn both_regions_drain(rt: HostRuntime) {
+    takes_steps(&rt, &mut raw(&rt, rt.alloc(), 4, 2));
+    takes_steps(&rt, &mut list(&rt, rt.alloc(), 4, 2));
 }
 
 /// The words of a region, and those that it shows with its second tree in the first one's place.
@@ -252,22 +250,21 @@ const TREES: [u64; 10] = [0, 1, 2, 3, 4, 5, 6, 7, 8, 9];
 const SECOND: [u64; 10] = [0, 1, 4, 5, 4, 5, 6, 7, 8, 9];
 
 #[test]
-fn a_second_tree_is_shown_first(rt: HostRuntime) -> Result<(), Fail> {
-    let words = Vec::from_slice(rt.alloc(), &TREES)?;
-    let mut region = ListRegion::new(rt.alloc(), words, 2)?;
+fn a_second_tree_is_shown_first(rt: HostRuntime) {
+    let words = Vec::from_slice(rt.alloc(), &TREES).expect(&rt, "there is memory");
+    let mut region = ListRegion::new(rt.alloc(), words, 2).expect(&rt, "there is memory");
     assert!(rt; region.words() == 10);
     let mut shown = Shown::second(&region);
     assert!(rt; stands_at(&shown, &SECOND, &SECOND));
     assert!(rt; shown.words() == 10);
     assert_eq!(rt; shown.load_words(8, 2), [8, 9].as_slice());
-    let none = chosen(rt.alloc(), 0, 0, &[])?;
+    let none = chosen(&rt, rt.alloc(), 0, 0, &[]);
     assert_eq!(rt; shown.crash_to(&none).ok(), Some(Kept { c: 0, n: 0 }));
     shown.drain();
     assert!(rt; has_log(&shown, &[]));
     assert!(rt; stands_at(&shown, &SECOND, &SECOND));
     assert_eq!(rt; shown.room(), 0);
     takes_event(&rt, &mut Shown::First(&mut region));
-    Ok(())
 }
 
 /// A store goes through to the region that is shown as it is.
@@ -329,16 +326,15 @@ fn has_words<R: Region>(machine: &Machine<'_, R>, words: &[u64; 3]) -> bool {
 
 /// All stores of an epoch go back before any of the next one, and those to one word in their order.
 #[test]
-fn stores_go_back_in_order(rt: HostRuntime) -> Result<(), Fail> {
-    let mut region = list(rt.alloc(), 3, 8)?;
+fn stores_go_back_in_order(rt: HostRuntime) {
+    let mut region = list(&rt, rt.alloc(), 3, 8);
     follow(&mut region, &TWO_EPOCHS);
     assert_eq!(rt; region.event_count(), 5);
-    let mut backs = Backs::new(rt.alloc(), 8)?;
+    let mut backs = Backs::new(rt.alloc(), 8).expect(&rt, "there is memory");
     let mut machine = Machine::over(&region, &mut backs);
     execute_all(&mut machine);
     for (which, answer, words) in &WRITE_BACKS {
         assert_eq!(rt; write_back(&mut machine, *which), Some(*answer));
         assert!(rt; has_words(&machine, words), "{which}");
     }
-    Ok(())
 }

@@ -6,7 +6,6 @@ ghost use Rattle.bp_samples.specs.Cores.{AreTwo};
 use pm_cores::{Cores, NotYet};
 use pm_region::{ListRegion, Region};
 use std::alloc::{AllocError, Global};
-use std::test::Fail;
 
 const CORES: u32 = 2;
 
@@ -206,11 +205,11 @@ fn word_of<R: Region>(region: &R, cores: &Cores, word: u32) -> Option<u64>
 }
 
 #[test]
-fn caches_of_two_cores(rt: HostRuntime) -> Result<(), Fail> {
-    let zeros = vec![in rt.alloc(); 0u64; WORDS as usize]?;
-    let region = ListRegion::new(rt.alloc(), zeros, 1)?;
+fn caches_of_two_cores(rt: HostRuntime) {
+    let zeros = vec![in rt.alloc(); 0u64; WORDS as usize].expect(&rt, "there is memory");
+    let region = ListRegion::new(rt.alloc(), zeros, 1).expect(&rt, "there is memory");
     for (steps, left) in &ROWS {
-        let mut cores = two_cores(rt.alloc())?;
+        let mut cores = two_cores(rt.alloc()).expect(&rt, "there is memory");
         for step in *steps {
             assert!(rt; gives(*step, &region, &mut cores));
         }
@@ -218,5 +217,4 @@ fn caches_of_two_cores(rt: HostRuntime) -> Result<(), Fail> {
             assert_eq!(rt; word_of(&region, &cores, *word), Some(*value));
         }
     }
-    Ok(())
 }

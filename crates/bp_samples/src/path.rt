@@ -23,9 +23,9 @@ fn fresh(alloc: Global) -> Result<ListRegion, AllocError>
 }
 
 #[test]
-fn leads_to_the_root(rt: HostRuntime) -> Result<(), Fail> {
-    let region = fresh(rt.alloc())?;
-    let path = parse(b"/")?;
+fn leads_to_the_root(rt: HostRuntime) {
+    let region = fresh(rt.alloc()).expect(&rt, "there is memory");
+    let path = parse(b"/").expect(&rt, "it is a path");
     assert!(rt; path.is_root());
     let root = FoundEntry {
         inumber: 1,
@@ -33,24 +33,22 @@ fn leads_to_the_root(rt: HostRuntime) -> Result<(), Fail> {
         slot: 0,
     };
     assert_eq!(rt; walk(&region, &path), Ok(root));
-    Ok(())
 }
 
 #[test]
-fn finds_no_name(rt: HostRuntime) -> Result<(), Fail> {
-    let region = fresh(rt.alloc())?;
-    let path = parse(b"/a/b.txt")?;
+fn finds_no_name(rt: HostRuntime) {
+    let region = fresh(rt.alloc()).expect(&rt, "there is memory");
+    let path = parse(b"/a/b.txt").expect(&rt, "it is a path");
     assert!(rt; !path.is_root());
     assert_eq!(rt; walk(&region, &path), Err(WalkFault::NotFound));
     assert_eq!(rt; walk_parent(&region, &path), Err(WalkFault::NotFound));
-    let path = parse(b"/a")?;
+    let path = parse(b"/a").expect(&rt, "it is a path");
     assert_eq!(rt; walk_parent(&region, &path), Ok(1));
     assert_eq!(rt; path.last(), b"a".as_slice());
-    Ok(())
 }
 
 #[test]
-fn refuses_what_is_no_path(rt: HostRuntime) -> Result<(), Fail> {
+fn refuses_what_is_no_path(rt: HostRuntime) {
     assert!(rt; parse(b"").is_err());
     assert!(rt; parse(b"a").is_err());
     assert!(rt; parse(b"//").is_err());
@@ -58,7 +56,6 @@ fn refuses_what_is_no_path(rt: HostRuntime) -> Result<(), Fail> {
     assert!(rt; parse(b"/a/../b").is_err());
     assert!(rt; parse(b"/a\0").is_err());
     assert!(rt; parse(b"/...").is_ok());
-    Ok(())
 }
 
 /// the root directory, which has no entry, and inode 1 in the inode file

@@ -4,27 +4,24 @@ use crate::tree::{TREE, sample};
 use bp_free::Blocks;
 use bp_layout::Check;
 use bp_walk::{CheckFault, take_tree};
-use std::test::Fail;
 
 #[test]
-fn takes_the_blocks_of_a_tree(rt: HostRuntime) -> Result<(), Fail> {
-    let region = sample(rt.alloc())?;
-    let mut blocks = Blocks::new(rt.alloc(), 8)?;
+fn takes_the_blocks_of_a_tree(rt: HostRuntime) {
+    let region = sample(rt.alloc()).expect(&rt, "there is memory");
+    let mut blocks = Blocks::new(rt.alloc(), 8).expect(&rt, "there is memory");
     blocks.fill(1, 8);
     assert_eq!(rt; take_tree(&region, 2, TREE, true, &mut blocks), Ok(()));
     assert_eq!(rt; blocks.count(), 4);
-    Ok(())
 }
 
 #[test]
-fn tells_a_hole_of_a_directory(rt: HostRuntime) -> Result<(), Fail> {
-    let region = sample(rt.alloc())?;
-    let mut blocks = Blocks::new(rt.alloc(), 8)?;
+fn tells_a_hole_of_a_directory(rt: HostRuntime) {
+    let region = sample(rt.alloc()).expect(&rt, "there is memory");
+    let mut blocks = Blocks::new(rt.alloc(), 8).expect(&rt, "there is memory");
     blocks.fill(1, 8);
     let fault = CheckFault {
         check: Check::Hole,
         place: 1537,
     };
     assert_eq!(rt; take_tree(&region, 2, TREE, false, &mut blocks), Err(fault));
-    Ok(())
 }

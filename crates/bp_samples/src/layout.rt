@@ -5,7 +5,6 @@ use bp_layout::{
     pointer_word,
 };
 use bp_limits::Version;
-use std::test::Fail;
 
 #[test]
 fn marks_spell_their_bytes(rt: HostRuntime) {
@@ -88,16 +87,17 @@ fn entries_are_read_and_written(rt: HostRuntime) {
 }
 
 #[test]
-fn listing_keeps_its_names(rt: HostRuntime) -> Result<(), Fail> {
+fn listing_keeps_its_names(rt: HostRuntime) {
     let mut entries = Vec::new(rt.alloc());
     let mut name = Name::new();
     name.push(b'a');
-    entries.push((Kind::Dir, name))?;
-    let listing = Listing::of(rt.alloc(), &entries)?;
+    entries
+        .push((Kind::Dir, name))
+        .expect(&rt, "there is memory");
+    let listing = Listing::of(rt.alloc(), &entries).expect(&rt, "there is memory");
     assert_eq!(rt; listing.len(), 1);
     assert!(rt; !listing.is_empty());
     let (kind, name) = listing.at(0);
     assert_eq!(rt; kind, Kind::Dir);
     assert_eq!(rt; name, b"a".as_slice());
-    Ok(())
 }

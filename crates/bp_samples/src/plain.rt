@@ -101,10 +101,10 @@ struct Asked {
 }
 
 impl Asked {
-    fn new(alloc: Global) -> Result<Asked, AllocError> {
-        let tree = Plain::of(alloc, Version::One)?;
-        let reply = Reply::new(alloc)?;
-        Ok(Asked { alloc, tree, reply })
+    fn new(rt: &impl Abort, alloc: Global) -> Asked {
+        let tree = Plain::of(alloc, Version::One).expect(rt, "there is memory");
+        let reply = Reply::new(alloc).expect(rt, "there is memory");
+        Asked { alloc, tree, reply }
     }
 
     fn ask(&mut self, call: &Call<'_>) -> Result<Answer<'_>, AllocError>
@@ -143,7 +143,7 @@ impl Asked {
 
 #[test]
 fn a_plain_tree_tells_names(rt: HostRuntime) {
-    let mut asked = Asked::new(rt.alloc()).expect(&rt, "there is memory");
+    let mut asked = Asked::new(&rt, rt.alloc());
     assert_eq!(rt; asked.does(&Call::Create(b"/a")), Ok(true));
     let answer = asked
         .ask(&Call::Create(b"/a/x"))
@@ -155,7 +155,7 @@ fn a_plain_tree_tells_names(rt: HostRuntime) {
 
 #[test]
 fn a_plain_tree_keeps_bytes(rt: HostRuntime) {
-    let mut asked = Asked::new(rt.alloc()).expect(&rt, "there is memory");
+    let mut asked = Asked::new(&rt, rt.alloc());
     let calls = [
         Call::Create(b"/a"),
         Call::Mkdir(b"/d"),
@@ -184,7 +184,7 @@ fn a_plain_tree_keeps_bytes(rt: HostRuntime) {
 
 #[test]
 fn a_plain_tree_counts_names(rt: HostRuntime) {
-    let mut asked = Asked::new(rt.alloc()).expect(&rt, "there is memory");
+    let mut asked = Asked::new(&rt, rt.alloc());
     let calls = [
         Call::Create(b"/a"),
         Call::Link {

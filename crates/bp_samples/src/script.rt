@@ -185,9 +185,8 @@ fn two_words(rt: HostRuntime) -> Result<(), Fail> {
     let (one, other) = decoded.pair(b"/a%20b", b"/c%2Fd");
     assert_eq!(rt; one, b"/a b".as_slice());
     assert_eq!(rt; other, b"/c\0d".as_slice());
-    let (path, bytes) = decoded.path_and_bytes(b"/e", b"00fF")?;
-    assert_eq!(rt; path, b"/e".as_slice());
-    assert_eq!(rt; bytes, b"\x00\xff".as_slice());
+    let parts = (b"/e".as_slice(), b"\x00\xff".as_slice());
+    assert_eq!(rt; decoded.path_and_bytes(b"/e", b"00fF"), Ok(parts));
     assert_eq!(rt; decoded.path_and_bytes(b"/e", b"00f"), Err(Syntax));
     assert_eq!(rt; decoded.path_and_bytes(b"/e", b"0g"), Err(Syntax));
     Ok(())

@@ -233,15 +233,27 @@ did 'create /lost' sync
 ended 5
 cmp FILE copy || failed=1
 none_left
-began
-did 'create /lost'
-mv FILE moved
-cp moved copy
-ended 5
-expect 'its reason' 'bpfs: FILE: no file has its name now' "$(cat errors)"
-[ -e FILE ] && { echo 'FAILED: FILE is there again'; failed=1; }
-cmp moved copy || failed=1
-none_left
+
+# unnamed LINE..: a run that did these lines has to end with status 5, and to leave FILE alone, where FILE lost its name meanwhile.
+unnamed() {
+  began
+  did "$@"
+  mv FILE moved
+  cp moved copy
+  ended 5
+  expect "its reason behind $*" 'bpfs: FILE: no file has its name now' "$(cat errors)"
+  [ -e FILE ] && { echo 'FAILED: FILE is there again'; failed=1; }
+  cmp moved copy || { echo 'FAILED: a file without a name was written'; failed=1; }
+  none_left
+  cp moved FILE
+}
+
+unnamed 'stat /'
+unnamed 'create /lost'
+unnamed 'create /found' sync
+ln FILE HARD
+unnamed 'create /lost'
+rm HARD
 
 # resized SIZE LINE..: a run that did these lines has to end with status 5 at the next sync, and to leave FILE alone, where FILE was
 # given another size meanwhile.

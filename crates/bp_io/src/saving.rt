@@ -143,8 +143,20 @@ impl Saver {
         done
     }
 
+    /// Looks whether its name still leads to the attached file, and whether that one has its length.
+    fn check_attached<R: rt::Files<File = File>>(
+        &self,
+        runtime: &R,
+        file: &File,
+    ) -> io::Result<()> {
+        if let Some(names) = &self.names {
+            names.check(runtime, file)?;
+        }
+        check_length(file, self.length)
+    }
+
     /// Chooses a way where something is written for the first time since the last flush. The file will
-    /// need room for so many bytes at least, and still has to have its length.
+    /// need room for so many bytes at least, and still has to have its name and its length.
     fn begin<R: rt::Files<File = File>>(
         &mut self,
         runtime: &R,
@@ -153,7 +165,7 @@ impl Saver {
     ) -> io::Result<()> {
         match self.way {
             Way::Clean => {
-                check_length(file, self.length)?;
+                self.check_attached(runtime, file)?;
                 let waiting = self.take_waiting(runtime);
                 self.way = way_to(runtime, &self.names, file, least, waiting, &mut self.held)?;
                 Ok(())
@@ -331,9 +343,9 @@ impl Saver {
     }
 
     /// Looks whether what was written can still come to the attached file.
-    fn check(&self, file: &File) -> io::Result<()> {
+    fn check<R: rt::Files<File = File>>(&self, runtime: &R, file: &File) -> io::Result<()> {
         match self.way {
-            Way::Clean | Way::Beside(_) | Way::InPlace => check_length(file, self.length),
+            Way::Clean | Way::Beside(_) | Way::InPlace => self.check_attached(runtime, file),
             Way::Lost => Err(lost()),
         }
     }
@@ -343,7 +355,7 @@ impl Saver {
         runtime: &R,
         file: &mut File,
     ) -> io::Result<()> {
-        self.check(file)?;
+        self.check(runtime, file)?;
         self.write_all(runtime, file)?;
         self.take_place(runtime, file)?;
         match mem::replace(&mut self.way, Way::Clean) {

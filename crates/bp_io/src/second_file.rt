@@ -48,6 +48,15 @@ impl Names {
         Ok(Names { file, second, old })
     }
 
+    /// Looks whether the first name still leads to this file.
+    pub(crate) fn check<R: rt::Files<File = File>>(
+        &self,
+        runtime: &R,
+        first: &File,
+    ) -> io::Result<()> {
+        check_name(runtime, self.file.as_str(), first)
+    }
+
     /// Removes the second file, where that can be done.
     pub(crate) fn remove_second<R: rt::Files<File = File>>(&self, runtime: &R) {
         let _ = fs::remove_file(runtime, &self.second);
@@ -458,7 +467,7 @@ impl SecondFile {
         first_length: u64,
     ) -> io::Result<()> {
         self.file.sync_all()?;
-        check_name(runtime, names.file.as_str(), first)?;
+        names.check(runtime, first)?;
         check_length(first, first_length)?;
         names.exchange(runtime)
     }

@@ -1,4 +1,5 @@
 pub mod PathOrder
+pub mod ListedNames
 pub mod Kernels
 pub mod Uniqueness
 pub mod Existence

@@ -4,7 +4,6 @@ use Rattle.std.specs.Prelude.{if◌then◌else◌}
 use Rattle.std.specs.Option.{option_map}
 use Rattle.std.specs.List.{IsDistinct, AllByRecursion, range_with_len, find as find_first}
 use Rattle.std.specs.Ordering.{eq_by_cmp, is_eq}
-use Rattle.std.specs.Cmp.{Equal-is}
 use Rattle.std.specs.Cmp.Lexicographic.{nat_list_cmp_total, same_text}
 use Rattle.std.specs.FinMap.{get}
 use Rattle.std.specs.FinMap.Entries.{find}
@@ -23,9 +22,10 @@ use Rattle.bp_layout.specs.declared.fields.Kind.{Kind}
 use Rattle.bp_plain.specs.PlainTree.{FileTree}
 use Rattle.bp_plain.specs.Stands.{Stands}
 use Rattle.bp_plain.specs.Plain.{kind_of_node, listing}
+use Rattle.bp_plain.proofs.ListedNames.{NamesDiffer, by_bytes, comes_before, same_name}
 use Rattle.bp_calls.specs.Asked.{ListsNames, kind_seen, entry_seen, entries_seen}
 use Rattle.bp_volume.proofs.WalkLaws.{reached_at, get-next}
-use Rattle.bp_volume.proofs.ListingLaws.{by_bytes, by_name, NamesDiffer, by_bytes-IsAntisymmetric, length-listing, sorted-listing, comes_before, keyed}
+use Rattle.bp_volume.proofs.ListingLaws.{by_name, keyed, length-listing, sorted-listing}
 
 -- the test of names in the order of names
 tied-names : (name other : Name) → eq_by_cmp by_bytes name other ≡ bytes_eq other name
@@ -37,7 +37,7 @@ tied-names name other = go (bytes_eq other name) refl (eq_by_cmp by_bytes name o
         let same : other ≡ name = same_text other name (sym at) in
         absurd (true≢false (sym (ap is_eq (tied_itself nat_list_cmp_total name)) ∙ ap (eq_by_cmp by_bytes name) (sym same) ∙ tied))
     go false at true tied =
-        let same : name ≡ other = by_bytes-IsAntisymmetric name other ((Equal-is (by_bytes name other)).0 tied) in
+        let same : name ≡ other = same_name name other tied in
         absurd (true≢false (sym ((bytes_eq-Decides other name).1 (sym same)) ∙ at))
     go false at false tied = tied ∙ sym at
 
@@ -63,8 +63,7 @@ module _ (image : Image) (wf : IsWellFormed image) (i : ℕ) (reached : IsReache
     where
       apart : inumber_at image i first ≢ 0 → (b : Bool) → eq_by_cmp by_bytes (name_at image i slot) (name_at image i first) ≡ b → b ≡ false
       apart there true at =
-          let same : name_at image i slot ≡ name_at image i first = by_bytes-IsAntisymmetric _ _ ((Equal-is (by_bytes (name_at image i slot) (name_at image i first))).0 at) in
-          let once : slot ≡ first = wf.names_once i slot first (inumber_at image i slot) (inumber_at image i first) reached (entry_at slot (omega arith) not_empty) (entry_at first (omega (arith, high)) there) same in
+          let once : slot ≡ first = wf.names_once i slot first (inumber_at image i slot) (inumber_at image i first) reached (entry_at slot (omega arith) not_empty) (entry_at first (omega (arith, high)) there) (same_name _ _ at) in
           absurd (omega (arith, once))
       apart there false at = refl
 
@@ -121,7 +120,7 @@ module _ (image : Image) (tree : FileTree) (stands : Stands image tree) (here : 
   length-entries = length-listing (λ e. e) tree.now.nodes here (entries_seen image i (entry_count image i)) seen_once seen_found
 
   -- once they are sorted by their names, they are the plain listing
-  pub listing-entries : {Item : Type 0} (seen : Item → Kind × Name) (before done : List Item) → map seen before ≡ entries_seen image i (entry_count image i) → IsPermutation before done → IsSortedBy (comes_before seen) done →
+  pub listing-entries : {Item : Type 0} (seen : Item → Kind × Name) (before done : List Item) → map seen before ≡ entries_seen image i (entry_count image i) → IsPermutation before done → IsSortedBy (comes_before (keyed seen)) done →
       map seen done ≡ listing tree.now.nodes here
   listing-entries {Item} seen before done are moved up =
       let same : map (keyed seen) before ≡ map by_name (entries_seen image i (entry_count image i)) = keyed_seen before ∙ ap (map by_name) are in

@@ -70,15 +70,15 @@ made_is image end i root size one two = ap (λ r. made_for image end r size) one
 
 module _ {kept : ℕ → Bool} (old : Memory) (blocks inodes : Set) (off : ℕ) (bytes : List ℕ) (touched : Touched) where
   not_inodes : (P : Type 0) → WritesAcross kept old blocks inodes 0 off bytes touched → P
-  not_inodes P across = absurd (omega (arith, across.can.file))
+  not_inodes P across = absurd (omega (arith, across.into.can.file))
 
   -- what is touched for a planned write
   pub planned_across : (i : ℕ) (plan : Plan) → IsPlanFor (current_words old) i off bytes plan → CanWriteInto kept (current_words old) blocks inodes i off bytes → off < size_of (current_words old) i → size_of (current_words old) i < off + length bytes →
       touched.words.now ≡ plan.sized ∷ [] → touched.runs.now ≡ plan.run ∷ [] → touched.trees.now ≡ [] → WritesAcross kept old blocks inodes i off bytes touched
-  planned_across i plan is can low past words runs none =
+  planned_across i plan is into low past words runs none =
       let sized : IsSizeWord (current_words old) i (off + length bytes) touched.words.now = subst (λ (ws : List (ArrayVec ℕ × ℕ)). IsSizeWord (current_words old) i (off + length bytes) ws) (sym words) is.sized in
       record {
-        can = can;
+        into = into;
         below = low;
         past = past;
         touches = record { run = plan.run; one = runs; is = is.run; sized = sized.path; value = sized.value; no_trees = none };
@@ -117,9 +117,9 @@ module _ {kept : ℕ → Bool} (old : Memory) (blocks inodes : Set) (off : ℕ) 
   -- the ways to the end of the file are loose
   end_loose : (n : ℕ) → WritesAcross kept old blocks inodes (suc n) off bytes touched → thawed (current_words old) kept (writes (suc n) off (length bytes)) ≡ [] → HasLooseEnd (current_words old) kept (suc n)
   end_loose n across clear =
-      loose_end (current_words old) across.can.well_formed kept (suc n) across.can.reached
+      loose_end (current_words old) across.into.well_formed kept (suc n) across.into.can.reached
       (loose-on (current_words old) kept (targets (current_words old) (writes (suc n) off (length bytes))) clear (end_path_now (current_words old) (suc n))
-      (subst (λ ps. Has ps (end_path_now (current_words old) (suc n))) (sym (across_targets (current_words old) across.can.well_formed n across.can.reached off (length bytes) across.below across.past)) (inr (inr (inl refl))))
+      (subst (λ ps. Has ps (end_path_now (current_words old) (suc n))) (sym (across_targets (current_words old) across.into.well_formed n across.into.can.reached off (length bytes) across.below across.past)) (inr (inr (inl refl))))
       (length (root_path_now (current_words old) (suc n)) - 1))
 
   pub at_prepare : (i size : ℕ) (path : WordPath) → WritesAcross kept old blocks inodes i off bytes touched → thawed (current_words old) kept (writes i off (length bytes)) ≡ [] → HasRoomThawed old blocks (writes i off (length bytes)) →
@@ -130,15 +130,15 @@ module _ {kept : ℕ → Bool} (old : Memory) (blocks inodes : Set) (off : ℕ) 
       let needs = across_needs old blocks inodes n off bytes touched across in
       let has : room_for (need (current_words old) (writes (suc n) off (length bytes))) ≤ room_in old + 2 = room enough in
       let can : CanPrepare kept old (members blocks) (suc n) path (size_of (current_words old) (suc n)) (off + length bytes) = record {
-        well = across.can.well_formed;
-        reached = across.can.reached;
+        well = across.into.well_formed;
+        reached = across.into.can.reached;
         leads = is ∙ sym (append-nil (inode_path (height_of (root_of (current_words old) 0)) (suc n) 1));
         behind = omega arith;
         order = omega (arith, across.past);
-        fits = across.can.fits;
-        by_words = λ by. elim by [ inl e ↦ omega (arith, e) | inr kind ↦ omega (arith, kind, across.can.file) ];
-        usable = usable_members (current_words old) blocks inodes across.can.exact _ (omega (arith, length-current_words old));
-        are_free = members_free (current_words old) blocks inodes across.can.exact;
+        fits = across.into.can.fits;
+        by_words = λ by. elim by [ inl e ↦ omega (arith, e) | inr kind ↦ omega (arith, kind, across.into.can.file) ];
+        usable = usable_members (current_words old) blocks inodes across.into.exact _ (omega (arith, length-current_words old));
+        are_free = members_free (current_words old) blocks inodes across.into.exact;
         loose = end_loose n across clear;
         enough = omega (arith, enough, needs);
         room = across_room _ _ _ _ _ needs (room_behind_whole (size_of (current_words old) (suc n)) (size_of (current_words old) (suc n)) (off + length bytes) max_height) has;
@@ -166,7 +166,7 @@ module _ {kept : ℕ → Bool} (old : Memory) (blocks inodes : Set) (off : ℕ) 
           well_formed = middle_formed old middle blocks inodes after n off bytes touched across prepared;
           can = across_can old middle blocks inodes after n off bytes touched across prepared;
           loose = middle_loose old middle blocks inodes after n off bytes touched across prepared clear;
-          fits = let whole = ap (λ words. words / 512) prepared.ready.meaning.trees.whole in omega (arith, whole, room, across.can.exact.block_room);
+          fits = let whole = ap (λ words. words / 512) prepared.ready.meaning.trees.whole in omega (arith, whole, room, across.into.exact.block_room);
           some = omega (arith, parts, prepared.counted, count, needs, enough);
           room = let left = room_in-piece _ _ old middle prepared.adds.part.added prepared.adds.part.adds prepared.adds.part.piece in
               roomy _ _ _ _ _ _ _ left (behind_whole (size_of (current_words old) (suc n)) (size_of (current_words old) (suc n)) (off + length bytes) max_height) (omega (arith, needs, count))

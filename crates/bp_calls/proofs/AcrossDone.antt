@@ -68,7 +68,7 @@ module _ {kept : ℕ → Bool} (old middle new : Memory) (blocks inodes after la
   write = writes (suc n) off (length bytes)
 
   wf : IsWellFormed image
-  wf = across.can.well_formed
+  wf = across.into.well_formed
 
   wf_mid : IsWellFormed mid
   wf_mid = middle_formed old middle blocks inodes after n off bytes touched across prepared
@@ -100,7 +100,7 @@ module _ {kept : ℕ → Bool} (old middle new : Memory) (blocks inodes after la
   changes = changes_over image mid (current_words new) (suc n) wf prepared.ready.meaning prepared.ready.sizes changes_mid
 
   size_was : size_of mid (suc n) ≡ size_of image (suc n)
-  size_was = prepared.ready.sizes (suc n) across.can.reached
+  size_was = prepared.ready.sizes (suc n) across.into.can.reached
 
   -- each byte is that of the run, or the one that the preparation left
   byte_is : (o : ℕ) → o < off + length bytes → byte (current_words new) (root_of (current_words new) (suc n)) o ≡ run_byte across.touches.run o (byte mid (root_of mid (suc n)) o)
@@ -140,7 +140,7 @@ module _ {kept : ℕ → Bool} (old middle new : Memory) (blocks inodes after la
 
   few : prep_stores (size_of image (suc n)) (size_of image (suc n)) (off + length bytes) (need_for image (suc n) (size_of image (suc n)) (off + length bytes)) + commit_stores mid touched ≤ most_stores_thawed (need image write)
   few =
-      go _ _ _ _ _ _ needs count_is (behind_near (size_of image (suc n)) (off + length bytes) max_height (omega (arith, across.below, across.can.short))) (across_words old blocks inodes n off bytes touched across)
+      go _ _ _ _ _ _ needs count_is (behind_near (size_of image (suc n)) (off + length bytes) max_height (omega (arith, across.below, across.into.can.short))) (across_words old blocks inodes n off bytes touched across)
       (across_copies old blocks inodes n off bytes touched across image)
     where
       go : (made copied copied_mid words needed behind : ℕ) → needed ≡ made + copied → copied_mid ≡ copied → behind ≤ 1024 + max_height → words ≡ 1 → copied ≤ 290 →

@@ -68,16 +68,16 @@ module _ {kept : ℕ → Bool} (old middle : Memory) (blocks inodes after : Set)
   bound = sizes_with (current_words middle) touched
 
   wf : IsWellFormed image
-  wf = across.can.well_formed
+  wf = across.into.well_formed
 
   pub middle_formed : IsWellFormed (current_words middle)
-  middle_formed = meaning.well_formed-same (current_words old) (current_words middle) across.can.well_formed prepared.ready.meaning
+  middle_formed = meaning.well_formed-same (current_words old) (current_words middle) across.into.well_formed prepared.ready.meaning
 
   on : (t : ℕ) → IsReached image t → IsReached mid t
   on = reached_on (current_words old) (current_words middle) prepared.ready.meaning
 
   here : IsReached mid (suc n)
-  here = on (suc n) across.can.reached
+  here = on (suc n) across.into.can.reached
 
   root_stays : root_of mid 0 ≡ root_of image 0
   root_stays = prepared.ready.roots 0 inode_file (λ e. suc-ne-zero n (sym e))
@@ -110,35 +110,35 @@ module _ {kept : ℕ → Bool} (old middle : Memory) (blocks inodes after : Set)
 
   pub bound_low : (t : ℕ) → size_of (current_words middle) t ≤ sizes_with (current_words middle) touched t
   bound_low =
-      sizes_low old middle blocks inodes after (suc n) (size_of (current_words old) (suc n)) (off + length bytes) (drop (size_of (current_words old) (suc n) - off) bytes) across.can.well_formed across.can.exact across.can.reached
+      sizes_low old middle blocks inodes after (suc n) (size_of (current_words old) (suc n)) (off + length bytes) (drop (size_of (current_words old) (suc n) - off) bytes) across.into.well_formed across.into.exact across.into.can.reached
       some past prepared (sizes_with (current_words middle) touched) bound_here bound_other
 
   pub middle_forest : IsForest (current_words middle) (sizes_with (current_words middle) touched)
   middle_forest =
-      prepared_forest old middle blocks inodes after (suc n) (size_of (current_words old) (suc n)) (off + length bytes) (drop (size_of (current_words old) (suc n) - off) bytes) across.can.well_formed across.can.exact across.can.reached
+      prepared_forest old middle blocks inodes after (suc n) (size_of (current_words old) (suc n)) (off + length bytes) (drop (size_of (current_words old) (suc n) - off) bytes) across.into.well_formed across.into.exact across.into.can.reached
       some past prepared (sizes_with (current_words middle) touched) bound_here bound_other
 
   -- ---- the blocks
 
   pub middle_live : (b : ℕ) → IsLiveBlock (current_words middle) b → IsLiveBlock (current_words old) b ⊎ Has prepared.taken b
   middle_live =
-      live_before old middle blocks inodes after (suc n) (size_of (current_words old) (suc n)) (off + length bytes) (drop (size_of (current_words old) (suc n) - off) bytes) across.can.well_formed across.can.exact across.can.reached
+      live_before old middle blocks inodes after (suc n) (size_of (current_words old) (suc n)) (off + length bytes) (drop (size_of (current_words old) (suc n) - off) bytes) across.into.well_formed across.into.exact across.into.can.reached
       some past prepared (sizes_with (current_words middle) touched) bound_here bound_other
 
   pub left_free : (b : ℕ) → has after b ≡ true → IsFreeBlock (current_words old) kept b × (Has prepared.taken b → ⊥)
   left_free =
-      still_free old middle blocks inodes after (suc n) (size_of (current_words old) (suc n)) (off + length bytes) (drop (size_of (current_words old) (suc n) - off) bytes) across.can.well_formed across.can.exact across.can.reached
+      still_free old middle blocks inodes after (suc n) (size_of (current_words old) (suc n)) (off + length bytes) (drop (size_of (current_words old) (suc n) - off) bytes) across.into.well_formed across.into.exact across.into.can.reached
       some past prepared (sizes_with (current_words middle) touched) bound_here bound_other
 
   -- so the sets are exact under these sizes
   pub middle_sets : length after ≡ length blocks → AreExactFor (current_words middle) (IsReached (current_words middle)) (sizes_with (current_words middle) touched) kept after inodes
   middle_sets =
-      prepared_sets old middle blocks inodes after (suc n) (size_of (current_words old) (suc n)) (off + length bytes) (drop (size_of (current_words old) (suc n) - off) bytes) across.can.well_formed across.can.exact across.can.reached
+      prepared_sets old middle blocks inodes after (suc n) (size_of (current_words old) (suc n)) (off + length bytes) (drop (size_of (current_words old) (suc n) - off) bytes) across.into.well_formed across.into.exact across.into.can.reached
       some past prepared (sizes_with (current_words middle) touched) bound_here bound_other
 
   pub middle_exact : AreUnheld (current_words middle) (IsReached (current_words middle)) (sizes_with (current_words middle) touched) kept (has after)
   middle_exact =
-      prepared_exact old middle blocks inodes after (suc n) (size_of (current_words old) (suc n)) (off + length bytes) (drop (size_of (current_words old) (suc n) - off) bytes) across.can.well_formed across.can.exact across.can.reached
+      prepared_exact old middle blocks inodes after (suc n) (size_of (current_words old) (suc n)) (off + length bytes) (drop (size_of (current_words old) (suc n) - off) bytes) across.into.well_formed across.into.exact across.into.can.reached
       some past prepared (sizes_with (current_words middle) touched) bound_here bound_other
 
   -- ---- the paths
@@ -169,7 +169,7 @@ module _ {kept : ℕ → Bool} (old middle : Memory) (blocks inodes after : Set)
     words = only_word (λ p. trail_of p (length p) ≡ tree_trail (height_of (word mid 2)) 0 (suc (height_of (root_of mid 0))) (8 * suc n + 2))
         (ap (trail_of (inode_path (height_of (root_of mid 0)) (suc n) 2)) size_long ∙ size_trail);
     reached = here;
-    is_file = prepared.ready.meaning.kind (suc n) across.can.reached ∙ across.can.file;
+    is_file = prepared.ready.meaning.kind (suc n) across.into.can.reached ∙ across.into.can.file;
     root = across.touches.is.root ∙ ap (λ r. inode_path (height_of r) (suc n) 1) (sym root_stays);
     height = across.touches.is.height ∙ sym prepared.ready.height;
     some = across_some old blocks inodes n off bytes touched across;
@@ -229,7 +229,7 @@ module _ {kept : ℕ → Bool} (old middle : Memory) (blocks inodes after : Set)
   run_there = record { one = across.touches.one; root = across.touches.is.root ∙ ap (λ r. inode_path (height_of r) (suc n) 1) (sym root_stays); sized = middle_sized }
 
   in_image : suc n < inode_count image
-  in_image = reached-in_file image wf (suc n) across.can.reached
+  in_image = reached-in_file image wf (suc n) across.into.can.reached
 
   pub middle_cover : commit_cover (current_words middle) touched ≡ leaf_path (height_of (root_of (current_words old) 0)) (suc n)
   middle_cover =
@@ -299,7 +299,7 @@ module _ {kept : ℕ → Bool} (old middle : Memory) (blocks inodes after : Set)
     leaf_loose : IsLoose image kept (length (leaf_path (height_of (root_of image 0)) (suc n)) - 1) (leaf_path (height_of (root_of image 0)) (suc n))
     leaf_loose =
         loose-on image kept (targets image (writes (suc n) off (length bytes))) clear (leaf_path (height_of (root_of image 0)) (suc n))
-        (subst (λ ps. Has ps (leaf_path (height_of (root_of image 0)) (suc n))) (sym (across_targets image wf n across.can.reached off (length bytes) across.below across.past)) (inl refl))
+        (subst (λ ps. Has ps (leaf_path (height_of (root_of image 0)) (suc n))) (sym (across_targets image wf n across.into.can.reached off (length bytes) across.below across.past)) (inl refl))
         (length (leaf_path (height_of (root_of image 0)) (suc n)) - 1)
 
     under_leaf : (d : ℕ) → suc d ≡ height_of (root_of image 0) → IsLivePointer (root_of image 0) (size_of image 0) d (leaf_number / 512)

@@ -96,7 +96,7 @@ module _ {kept : ℕ → Bool} (old : Memory) (blocks inodes : Set) (n off : ℕ
   run = across.touches.run
 
   wf : IsWellFormed image
-  wf = across.can.well_formed
+  wf = across.into.well_formed
 
   inode_sound : IsSound image (root_of image 0) (size_of image 0)
   inode_sound = wf.sound 0 inode_file
@@ -118,12 +118,12 @@ module _ {kept : ℕ → Bool} (old : Memory) (blocks inodes : Set) (n off : ℕ
   across_shape =
       let there : 4096 ≤ size_of image 0 = wf.some_inodes in
       let low_tree : height_with (root_of image (suc n)) (size_of image (suc n)) (off + length bytes) ≤ max_height =
-      tall_low (root_of image (suc n)) (size_of image (suc n)) (off + length bytes) (wf.sound (suc n) across.can.reached).low in
+      tall_low (root_of image (suc n)) (size_of image (suc n)) (off + length bytes) (wf.sound (suc n) across.into.can.reached).low in
       let fits : off + length bytes ≤ span (height_with (root_of image (suc n)) (size_of image (suc n)) (off + length bytes)) =
-      tall_fits (root_of image (suc n)) (size_of image (suc n)) (off + length bytes) (le_trans across.can.fits (size_most (version_of image))) in
+      tall_fits (root_of image (suc n)) (size_of image (suc n)) (off + length bytes) (le_trans across.into.can.fits (size_most (version_of image))) in
       let wide = span-is (height_with (root_of image (suc n)) (size_of image (suc n)) (off + length bytes)) in
       sized_shape (height_of (root_of image 0)) (suc n) touched across.touches.run across_run (inode_sound.low (omega (arith, there))) across_some
-      (omega (arith, across_long, across.past, across.can.short))
+      (omega (arith, across_long, across.past, across.into.can.short))
       (subst (λ h. h ≤ max_height) (sym across.touches.is.height) low_tree)
       (subst (λ h. run_end across.touches.run ≤ block_size * block_words ^ h) (sym across.touches.is.height) (omega (arith, fits, wide, across_end, across.past)))
       (no_trees (λ tree. tree.height ≤ max_height) across.touches.no_trees)
@@ -132,7 +132,7 @@ module _ {kept : ℕ → Bool} (old : Memory) (blocks inodes : Set) (n off : ℕ
   across_apart = sized_apart (height_of (root_of image 0)) (suc n) touched across.touches.run across_run across_shape
 
   inside : suc n < inode_count image
-  inside = reached-in_file image wf (suc n) across.can.reached
+  inside = reached-in_file image wf (suc n) across.into.can.reached
 
   pub across_inside : LeadsInside image touched
   across_inside = leaf_inside (height_of (root_of image 0)) (suc n) touched across.touches.run across_run across_shape image wf refl inside inode_sound
@@ -146,11 +146,11 @@ module _ {kept : ℕ → Bool} (old : Memory) (blocks inodes : Set) (n off : ℕ
 
   across_made_by : need_for image (suc n) (size_of image (suc n)) (off + length bytes) ≤ made_leaves + 2 + 3 * max_height
   across_made_by =
-      few_needed image (root_of image (suc n)) (size_of image (suc n)) (size_of image (suc n)) (off + length bytes) made_leaves (omega (arith, across.can.short, across.below)) (omega arith) (omega arith)
-      (wf.sound (suc n) across.can.reached).low
+      few_needed image (root_of image (suc n)) (size_of image (suc n)) (size_of image (suc n)) (off + length bytes) made_leaves (omega (arith, across.into.can.short, across.below)) (omega arith) (omega arith)
+      (wf.sound (suc n) across.into.can.reached).low
 
   across_leaves : run_leaves across.touches.run ≤ 257
-  across_leaves = few_leaves across.touches.run (omega (arith, across_long, across.past, across.can.short))
+  across_leaves = few_leaves across.touches.run (omega (arith, across_long, across.past, across.into.can.short))
 
   across_copies_by : (other : Image) → copied_count other touched ≤ run_leaves across.touches.run + 33
   across_copies_by other =
@@ -162,7 +162,7 @@ module _ {kept : ℕ → Bool} (old : Memory) (blocks inodes : Set) (n off : ℕ
 
   pub across_few : (other : Image) → need_for image (suc n) (size_of image (suc n)) (off + length bytes) + copied_count other touched ≤ 320
   across_few other =
-      let leaves : run_leaves across.touches.run + made_leaves ≤ 260 = omega (arith, across.touches.is.from, across_end, across.below, across.past, across.can.short) in
+      let leaves : run_leaves across.touches.run + made_leaves ≤ 260 = omega (arith, across.touches.is.from, across_end, across.below, across.past, across.into.can.short) in
       omega (arith, leaves, across_made_by, across_copies_by other)
 
   same_path : (k : ℕ) → run_path across.touches.run k ≡ content_path image write (suc n) k

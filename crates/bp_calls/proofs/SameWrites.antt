@@ -1,5 +1,5 @@
 -- What may be written into a file before a thaw may be written behind it, and so with a size that it is to get.
-use Rattle.std.proofs.Common.{◌≡◌, ◌+◌, ◌<◌, ◌≤◌, [], ℕ, Bool, List, length, sym, ◌∙◌, subst}
+use Rattle.std.proofs.Common.{◌≡◌, ◌+◌, ◌<◌, ◌≤◌, [], ℕ, List, length, sym, ◌∙◌, subst}
 use Rattle.bp_calls.specs.CanGrow.{CanGrowFile}
 use Rattle.bp_calls.specs.CanWrite.{CanWrite, CanWriteInto, CanWriteThawed}
 use Rattle.bp_calls.specs.Mounted.{IsMounted}
@@ -9,7 +9,6 @@ use Rattle.bp_calls.specs.ThawsFor.{ThawsFor}
 use Rattle.bp_calls.proofs.ThawedParts.{mounted_thawed, thawed_clear}
 use Rattle.bp_changes.proofs.Formatted.{version_stays}
 use Rattle.bp_changes.proofs.ReachedOn.{reached_on}
-use Rattle.bp_free.specs.Set.{Set}
 use Rattle.bp_free.specs.declared.parts.Parts.{Parts}
 use Rattle.bp_layout.specs.Formatted.{version_of}
 use Rattle.bp_layout.specs.Inode.{IsFile, size_of}
@@ -21,41 +20,16 @@ use Rattle.bp_limits.specs.Limits.{greatest_size}
 use Rattle.bp_shapes.specs.Sets.{kept_of}
 use Rattle.pm_region.specs.Memory.{Memory, current_words}
 
--- what is asked of the image and the sets
-pub write_into : {kept : ℕ → Bool} (memory : Memory) (blocks inodes : Set) (i off : ℕ) (bytes : List ℕ) → CanWriteThawed kept memory blocks inodes i off bytes → CanWriteInto kept (current_words memory) blocks inodes i off bytes
-write_into memory blocks inodes i off bytes can = record {
-  well_formed = can.well_formed;
-  exact = can.exact;
-  reached = can.reached;
-  file = can.file;
-  some = can.some;
-  short = can.short;
-  fits = can.fits;
-}
-
+-- mounted parts have what is asked of the image and the sets
 pub write_mounted : {R : Type 0} (image : Image) (parts : Parts R) (i off : ℕ) (bytes : List ℕ) → IsMounted image parts → CanWrite image i off bytes → CanWriteInto (kept_of parts) image parts.blocks parts.inodes i off bytes
-write_mounted image parts i off bytes mounted can = record {
-  well_formed = mounted.well_formed;
-  exact = mounted.exact.sets;
-  reached = can.reached;
-  file = can.file;
-  some = can.some;
-  short = can.short;
-  fits = can.fits;
-}
+write_mounted image parts i off bytes mounted can = record { well_formed = mounted.well_formed; exact = mounted.exact.sets; can = can }
 
 -- where no block is kept it may be written at once
 pub write_at_once : {R : Type 0} (memory : R → Memory) (parts : Parts R) (i off : ℕ) (bytes : List ℕ) → IsMounted (current_words (memory parts.region)) parts → CanWrite (current_words (memory parts.region)) i off bytes →
     thawed (current_words (memory parts.region)) (kept_of parts) (writes i off (length bytes)) ≡ [] →
     HasRoomWhereFree (memory parts.region) (kept_of parts) parts.blocks (writes i off (length bytes)) → CanWriteThawed (kept_of parts) (memory parts.region) parts.blocks parts.inodes i off bytes
 write_at_once memory parts i off bytes mounted can clear room = record {
-  well_formed = mounted.well_formed;
-  exact = mounted.exact.sets;
-  reached = can.reached;
-  file = can.file;
-  some = can.some;
-  short = can.short;
-  fits = can.fits;
+  into = write_mounted (current_words (memory parts.region)) parts i off bytes mounted can;
   clear = clear;
   room = room_at_once memory (writes i off (length bytes)) parts mounted clear room;
 }
@@ -72,14 +46,15 @@ module _ {R : Type 0} (memory : R → Memory) (old new : Parts R) (mounted : IsM
       HasRoomThawed (memory new.region) new.blocks (writes i off (length bytes)) → CanWriteThawed (kept_of new) (memory new.region) new.blocks new.inodes i off bytes
   write_behind_thaw i off bytes can done room =
       let there = mounted_thawed memory (writes i off (length bytes)) old new mounted can.reached done in
-      record {
-        well_formed = there.well_formed;
-        exact = there.exact.sets;
+      let still : CanWrite (current_words (memory new.region)) i off bytes = record {
         reached = reached_on image after done.thaws.shape.meaning i can.reached;
         file = done.thaws.shape.meaning.kind i can.reached ∙ can.file;
         some = can.some;
         short = can.short;
         fits = subst (λ v. off + length bytes ≤ greatest_size v) (sym (version_stays image after done.thaws.shape.meaning.trees.marked)) can.fits;
+      } in
+      record {
+        into = write_mounted (current_words (memory new.region)) new i off bytes there still;
         clear = thawed_clear memory (writes i off (length bytes)) old new mounted can.reached done;
         room = room;
       }

@@ -82,28 +82,28 @@ module _ {kept : ℕ → Bool} (old : Memory) (blocks inodes : Set) (n off : ℕ
   need_here = length (nodes_for image (root_of image (suc n)) (size_of image (suc n)) off end)
 
   pub behind_need : need image (writes (suc n) off (length bytes)) ≡ need_here
-  behind_need = only_need image (writes (suc n) off (length bytes)) n off end can.well_formed can.reached (only_grows image (suc n) off (length bytes) behind can.some)
+  behind_need = only_need image (writes (suc n) off (length bytes)) n off end can.into.well_formed can.into.can.reached (only_grows image (suc n) off (length bytes) behind can.into.can.some)
 
   -- the ways to the end of the file are loose
   ends : targets image (writes (suc n) off (length bytes)) ≡ cover_now image (writes (suc n) off (length bytes)) ∷ root_path_now image (suc n) ∷ end_path_now image (suc n) ∷ []
-  ends = rw (lt-ltb (size_of image (suc n)) end (let some = can.some in omega (arith, behind, some))) refl
+  ends = rw (lt-ltb (size_of image (suc n)) end (let some = can.into.can.some in omega (arith, behind, some))) refl
 
   end_loose : HasLooseEnd image kept (suc n)
   end_loose =
-      loose_end image can.well_formed kept (suc n) can.reached
+      loose_end image can.into.well_formed kept (suc n) can.into.can.reached
       (loose-on image kept (targets image (writes (suc n) off (length bytes))) can.clear (end_path_now image (suc n)) (subst (λ ps. Has ps (end_path_now image (suc n))) (sym ends) (inr (inr (inl refl)))) (length (root_path_now image (suc n)) - 1))
 
   pub behind_prepares : need_here ≤ length (members blocks) → (path : WordPath) → path ≡ inode_path (height_of (root_of image 0)) (suc n) 1 → CanPrepare kept old (members blocks) (suc n) path off end
   behind_prepares enough path is = record {
-    well = can.well_formed;
-    reached = can.reached;
+    well = can.into.well_formed;
+    reached = can.into.can.reached;
     leads = is ∙ sym (append-nil (inode_path (height_of (root_of image 0)) (suc n) 1));
     behind = behind;
     order = omega arith;
-    fits = can.fits;
-    by_words = λ by. elim by [ inl e ↦ omega (arith, e) | inr two ↦ omega (arith, two, can.file) ];
-    usable = usable_members image blocks inodes can.exact _ (omega (arith, length-current_words old));
-    are_free = members_free image blocks inodes can.exact;
+    fits = can.into.can.fits;
+    by_words = λ by. elim by [ inl e ↦ omega (arith, e) | inr two ↦ omega (arith, two, can.into.can.file) ];
+    usable = usable_members image blocks inodes can.into.exact _ (omega (arith, length-current_words old));
+    are_free = members_free image blocks inodes can.into.exact;
     loose = end_loose;
     enough = enough;
     room = let room = can.room (omega (arith, behind_need, enough)) in
@@ -113,10 +113,10 @@ module _ {kept : ℕ → Bool} (old : Memory) (blocks inodes : Set) (n off : ℕ
   module _ (middle new : Memory) (after : Set) (path : WordPath) (place : ℕ) (prepares : CanPrepare kept old (members blocks) (suc n) path off end) (stands : ContentStandsAt image 0 (8 * suc n + 2) place)
       (prepared : PreparesWith kept old middle (members blocks) (members after) (suc n) off end bytes) (stored : Adds middle new (commit place end)) where
     only : OnlyGrows image (writes (suc n) off (length bytes)) (suc n) off end
-    only = only_grows image (suc n) off (length bytes) behind can.some
+    only = only_grows image (suc n) off (length bytes) behind can.into.can.some
 
     grows : GrowsTree kept old middle new (members blocks) (members after) path n off end place bytes
-    grows = record { can = prepares; is_file = can.file; stands = stands; prepared = prepared; stored = stored }
+    grows = record { can = prepares; is_file = can.into.can.file; stands = stands; prepared = prepared; stored = stored }
 
     size_is : size_of (current_words new) (suc n) ≡ end
     size_is = grown_size kept old middle new (members blocks) (members after) path n off end place bytes grows (writes (suc n) off (length bytes)) only
@@ -149,7 +149,7 @@ module _ {kept : ℕ → Bool} (old : Memory) (blocks inodes : Set) (n off : ℕ
     pub behind_exact : length after ≡ length blocks → AreExact (current_words new) kept after inodes
     unfolding grows
     behind_exact room =
-        exact_taken image (current_words new) (suc n) can.well_formed behind_writes.changes prepared.taken blocks after inodes can.exact prepared.takes room
+        exact_taken image (current_words new) (suc n) can.into.well_formed behind_writes.changes prepared.taken blocks after inodes can.into.exact prepared.takes room
         (grown_live kept old middle new (members blocks) (members after) path n off end place bytes grows (writes (suc n) off (length bytes)) only)
         (grown_stays kept old middle new (members blocks) (members after) path n off end place bytes grows (writes (suc n) off (length bytes)) only)
         (grown_taken kept old middle new (members blocks) (members after) path n off end place bytes grows (writes (suc n) off (length bytes)) only)
@@ -158,7 +158,7 @@ module _ {kept : ℕ → Bool} (old : Memory) (blocks inodes : Set) (n off : ℕ
 
 module _ (old : Memory) (blocks inodes : Set) (off : ℕ) (bytes : List ℕ) where
   not_inodes : {kept : ℕ → Bool} (P : Type 0) → CanWriteThawed kept old blocks inodes 0 off bytes → P
-  not_inodes P can = absurd (omega (arith, can.file))
+  not_inodes P can = absurd (omega (arith, can.into.can.file))
 
   pub behind_can : {kept : ℕ → Bool} (i : ℕ) (path : WordPath) → CanWriteThawed kept old blocks inodes i off bytes → size_of (current_words old) i ≤ off → need (current_words old) (writes i off (length bytes)) ≤ length (members blocks) →
       path ≡ inode_path (height_of (root_of (current_words old) 0)) i 1 → CanPrepare kept old (members blocks) i path off (off + length bytes)

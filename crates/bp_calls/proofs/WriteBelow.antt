@@ -102,7 +102,7 @@ module _ {kept : ℕ → Bool} (old : Memory) (blocks inodes : Set) (n : ℕ) (t
 
   shape : IsTouched touched
   shape = record {
-    runs = λ r has. subst IsRun (only r has) (run_is image wf n asks.reached run is.of);
+    runs = λ r has. subst IsRun (only r has) (run_is image wf n asks.can.reached run is.of);
     few_runs = omega (arith, ap (λ (rs : List Run). length rs) is.one);
     trees = no_trees (λ tree. tree.height ≤ max_height) is.no_trees;
     few = omega (arith, none);
@@ -113,32 +113,32 @@ module _ {kept : ℕ → Bool} (old : Memory) (blocks inodes : Set) (n : ℕ) (t
   }
 
   can : CanCommit image (size_of image) kept touched (has blocks)
-  can = runs_can image wf touched shape (has blocks) asks.exact.free_blocks (no_trees (IsTreeIn image (size_of image)) is.no_trees) none (λ r has. subst (IsRunIn image (size_of image)) (only r has) (run_in image wf n asks.reached run is.of))
+  can = runs_can image wf touched shape (has blocks) asks.exact.free_blocks (no_trees (IsTreeIn image (size_of image)) is.no_trees) none (λ r has. subst (IsRunIn image (size_of image)) (only r has) (run_in image wf n asks.can.reached run is.of))
 
   copies_need : copied_count image touched ≡ need image (writes (suc n) run.off (length run.bytes.now))
-  copies_need = run_need image wf (size_of image) touched (has blocks) can run n is.one is.no_words asks.reached is.of.root is.of.height is.of.some is.of.below
+  copies_need = run_need image wf (size_of image) touched (has blocks) can run n is.one is.no_words asks.can.reached is.of.root is.of.height is.of.some is.of.below
 
   cover_is : commit_cover image touched ≡ cover image (writes (suc n) run.off (length run.bytes.now))
-  cover_is = run_cover image wf (size_of image) touched (has blocks) can run n is.one is.no_words asks.reached is.of.root is.of.height is.of.some is.of.below
+  cover_is = run_cover image wf (size_of image) touched (has blocks) can run n is.one is.no_words asks.can.reached is.of.root is.of.height is.of.some is.of.below
 
   below_loose : thawed image kept (writes (suc n) run.off (length run.bytes.now)) ≡ [] → HasLooseCover image kept touched
   below_loose clear =
       let among : Has (targets image (writes (suc n) run.off (length run.bytes.now))) (commit_cover image touched) =
       inl (writes_now image (suc n) run.off (length run.bytes.now) is.of.below ∙ sym cover_is) in
-      run_loose image wf n asks.reached run is.of kept touched shape here
+      run_loose image wf n asks.can.reached run is.of kept touched shape here
       (loose-on image kept (targets image (writes (suc n) run.off (length run.bytes.now))) clear (commit_cover image touched) among (length (commit_cover image touched) - 1))
 
   below_can : CanCommitRun kept old blocks (suc n) touched run
   below_can = record {
     can = can;
     need_is = copies_need;
-    few = let most = few_copies image (size_of image) touched (has blocks) wf can run is.one in omega (arith, most, few_leaves run asks.short, none);
+    few = let most = few_copies image (size_of image) touched (has blocks) wf can run is.one in omega (arith, most, few_leaves run asks.can.short, none);
     cover_is = cover_is ∙ sym (writes_now image (suc n) run.off (length run.bytes.now) is.of.below);
     loose = below_loose;
     room = λ asked enough.
         let few = few_copies image (size_of image) touched (has blocks) wf can run is.one in
         let room : room_for (need image (writes (suc n) run.off (length run.bytes.now))) ≤ room_in old + 2 = asked (omega (arith, copies_need, enough)) in
-        omega (arith, few, few_leaves run asks.short, none, copies_need, room);
+        omega (arith, few, few_leaves run asks.can.short, none, copies_need, room);
   }
 
   module _ (new : Memory) (after : Set) (small : (i : ℕ) → slice_index run.bytes.now i < 256) (done : CommitsTouched (size_of (current_words old)) kept touched old new blocks after) where
@@ -146,10 +146,10 @@ module _ {kept : ℕ → Bool} (old : Memory) (blocks inodes : Set) (n : ℕ) (t
     turned = length (commit_cover image touched)
 
     changes : ChangesFile image (current_words new) (suc n)
-    changes = run_changes image (current_words new) wf touched (has blocks) can run n is.one none asks.reached asks.file is.of.root is.of.height is.of.some is.of.below small (IsTurned (job_of touched) turned) done.words
+    changes = run_changes image (current_words new) wf touched (has blocks) can run n is.one none asks.can.reached asks.can.file is.of.root is.of.height is.of.some is.of.below small (IsTurned (job_of touched) turned) done.words
 
     size_is : size_of (current_words new) (suc n) ≡ size_of image (suc n)
-    size_is = run_size image (current_words new) wf touched (has blocks) can run n is.one none asks.reached asks.file is.of.root is.of.height is.of.some is.of.below small (IsTurned (job_of touched) turned) done.words
+    size_is = run_size image (current_words new) wf touched (has blocks) can run n is.one none asks.can.reached asks.can.file is.of.root is.of.height is.of.some is.of.below small (IsTurned (job_of touched) turned) done.words
 
     sizes : (t : ℕ) → IsReached image t → size_of (current_words new) t ≡ size_of image t
     sizes t reached = go (cases_eq t (suc n))
@@ -162,15 +162,15 @@ module _ {kept : ℕ → Bool} (old : Memory) (blocks inodes : Set) (n : ℕ) (t
     below_writes =
         commit_writes_file image (current_words new) (suc n) run run.bytes.now changes
         (sym (take_all (size_of image (suc n) - run.off) run.bytes.now (omega (arith, is.of.below)))) (omega (arith, is.of.below)) (omega (arith, size_is, is.of.below))
-        (run_bytes image (current_words new) wf touched (has blocks) can run n is.one none asks.reached asks.file is.of.root is.of.height is.of.some is.of.below small (IsTurned (job_of touched) turned) done.words)
+        (run_bytes image (current_words new) wf touched (has blocks) can run n is.one none asks.can.reached asks.can.file is.of.root is.of.height is.of.some is.of.below small (IsTurned (job_of touched) turned) done.words)
         (λ o past low. absurd (omega (arith, past, low, size_is)))
 
     below_performs : PerformsThawed kept old new (writes (suc n) run.off (length run.bytes.now)) (WritesFile (suc n) run.off run.bytes.now)
     below_performs =
         commit_performs old new (writes (suc n) run.off (length run.bytes.now)) (WritesFile (suc n) run.off run.bytes.now) (size_of image) touched blocks after done
-        (run_cover image wf (size_of image) touched (has blocks) can run n is.one is.no_words asks.reached is.of.root is.of.height is.of.some is.of.below) copies_need
-        (let few = stores_few image (size_of image) touched (has blocks) wf can in omega (arith, few, leaves, few_leaves run asks.short, none, copies_need))
-        (run_open image wf n asks.reached run is.of kept touched shape here done.loose done.taken)
+        (run_cover image wf (size_of image) touched (has blocks) can run n is.one is.no_words asks.can.reached is.of.root is.of.height is.of.some is.of.below) copies_need
+        (let few = stores_few image (size_of image) touched (has blocks) wf can in omega (arith, few, leaves, few_leaves run asks.can.short, none, copies_need))
+        (run_open image wf n asks.can.reached run is.of kept touched shape here done.loose done.taken)
         (well_formed-same image (current_words new) (suc n) wf changes) below_writes
 
     below_exact : length after ≡ length blocks → AreExact (current_words new) kept after inodes
@@ -180,7 +180,7 @@ module _ {kept : ℕ → Bool} (old : Memory) (blocks inodes : Set) (n : ℕ) (t
 
 module _ {kept : ℕ → Bool} (old : Memory) (blocks inodes : Set) (touched : Touched) (run : Run) where
   not_inodes : (P : Type 0) → CanWriteInto kept (current_words old) blocks inodes 0 run.off run.bytes.now → P
-  not_inodes P asks = absurd (omega (arith, asks.file))
+  not_inodes P asks = absurd (omega (arith, asks.can.file))
 
   can_at : (i : ℕ) → IsRunAlone (current_words old) i touched run → CanWriteInto kept (current_words old) blocks inodes i run.off run.bytes.now → CanCommitRun kept old blocks i touched run
   can_at zero is asks = not_inodes _ asks
@@ -209,7 +209,7 @@ module _ {kept : ℕ → Bool} (old : Memory) (blocks inodes : Set) (i off : ℕ
   from_run P there = subst (λ o. P o bytes) write.touches.is.from (subst (λ (bs : List ℕ). P run.off bs) write.touches.is.bytes_are there)
 
   asks : CanWriteInto kept (current_words old) blocks inodes i run.off run.bytes.now
-  asks = of_run (CanWriteInto kept (current_words old) blocks inodes i) write.can
+  asks = of_run (CanWriteInto kept (current_words old) blocks inodes i) write.into
 
   alone : IsRunAlone (current_words old) i touched run
   alone = record {
@@ -219,8 +219,8 @@ module _ {kept : ℕ → Bool} (old : Memory) (blocks inodes : Set) (i off : ℕ
     of = record {
       root = write.touches.is.root;
       height = write.touches.is.height;
-      some = omega (arith, asks.some);
-      few = asks.short;
+      some = omega (arith, asks.can.some);
+      few = asks.can.short;
       below = of_run (λ o bs. o + length bs ≤ size_of (current_words old) i) write.below;
       counts = omega (arith, write.touches.is.size);
     };
@@ -233,10 +233,10 @@ module _ {kept : ℕ → Bool} (old : Memory) (blocks inodes : Set) (i off : ℕ
   write_can = ready.can
 
   pub write_inside : LeadsInside (current_words old) touched
-  write_inside d alike = first-range (current_words old) (size_of (current_words old)) touched (has blocks) write.can.well_formed write_can d alike
+  write_inside d alike = first-range (current_words old) (size_of (current_words old)) touched (has blocks) write.into.well_formed write_can d alike
 
   pub write_apart : NoneBegins (all_paths touched)
-  write_apart = none-begins (current_words old) (size_of (current_words old)) touched (has blocks) write.can.well_formed write_can
+  write_apart = none-begins (current_words old) (size_of (current_words old)) touched (has blocks) write.into.well_formed write_can
 
   -- so many blocks it takes, and near its cover it stores
   pub write_needs : copied_count (current_words old) touched ≡ need (current_words old) (writes i off (length bytes))
@@ -258,7 +258,7 @@ module _ {kept : ℕ → Bool} (old : Memory) (blocks inodes : Set) (i off : ℕ
       LacksBlocks (current_words old) kept (need (current_words old) (writes i off (length bytes))) (record { need = copies; free = free })
   write_lacks copies free counted number fewer = record {
     needed = sym (counted ∙ write_needs);
-    free = subst (HasFree (current_words old) kept) (sym number) (free_members (current_words old) kept blocks write.can.exact.free_blocks write.can.exact.block_room);
+    free = subst (HasFree (current_words old) kept) (sym number) (free_members (current_words old) kept blocks write.into.exact.free_blocks write.into.exact.block_room);
     fewer = fewer;
   }
 

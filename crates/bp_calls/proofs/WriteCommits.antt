@@ -29,7 +29,7 @@ module _ {R T : Type 0} (memory : R → Memory) (old new : Parts R) (i off : ℕ
         frozen = done.frozen;
         exact = exact_file (current_words (memory old.region)) (current_words (memory new.region)) old new exact
             (rw done.inodes (write_exact (memory old.region) old.blocks old.inodes i off bytes touched write (memory new.region) new.blocks small done.commits done.size))
-            done.frozen done.counts i write.can.well_formed performs.effect.changes;
+            done.frozen done.counts i write.into.well_formed performs.effect.changes;
         refused = tt;
         free = tt;
         same = tt;

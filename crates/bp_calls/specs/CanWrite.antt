@@ -27,21 +27,10 @@ pub record CanWriteInto (kept : ℕ → Bool) (image : Image) (blocks inodes : S
     : Type 0 where
   pub well_formed : IsWellFormed image
   pub exact : AreExact image kept blocks inodes
-  pub reached : IsReached image i
-  pub file : IsFile image i
-  pub some : 1 ≤ length bytes
-  pub short : length bytes ≤ max_write
-  pub fits : off + length bytes ≤ greatest_size (version_of image)
+  pub can : CanWrite image i off bytes
 
--- The same, where the image is well formed, the sets are exact, and nothing is left to thaw. The log has room for the
--- change, where enough blocks are free.
+-- The same, where nothing is left to thaw. The log has room for the change, where enough blocks are free.
 pub record CanWriteThawed (kept : ℕ → Bool) (memory : Memory) (blocks inodes : Set) (i off : ℕ) (bytes : List ℕ) : Type 0 where
-  pub well_formed : IsWellFormed (current_words memory)
-  pub exact : AreExact (current_words memory) kept blocks inodes
-  pub reached : IsReached (current_words memory) i
-  pub file : IsFile (current_words memory) i
-  pub some : 1 ≤ length bytes
-  pub short : length bytes ≤ max_write
-  pub fits : off + length bytes ≤ greatest_size (version_of (current_words memory))
+  pub into : CanWriteInto kept (current_words memory) blocks inodes i off bytes
   pub clear : thawed (current_words memory) kept (writes i off (length bytes)) ≡ []
   pub room : HasRoomThawed memory blocks (writes i off (length bytes))

@@ -44,7 +44,7 @@ pub record TouchesAcross (image : Image) (i off end : ℕ) (bytes : List ℕ) (t
 -- the size.
 pub record WritesAcross (kept : ℕ → Bool) (memory : Memory) (blocks inodes : Set) (i off : ℕ) (bytes : List ℕ)
     (touched : Touched) : Type 0 where
-  pub can : CanWriteInto kept (current_words memory) blocks inodes i off bytes
+  pub into : CanWriteInto kept (current_words memory) blocks inodes i off bytes
   pub below : off < size_of (current_words memory) i
   pub past : size_of (current_words memory) i < off + length bytes
   pub touches : TouchesAcross (current_words memory) i off (off + length bytes)

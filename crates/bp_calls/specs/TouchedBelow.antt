@@ -31,6 +31,6 @@ pub record TouchesBelow (image : Image) (i off : ℕ) (bytes : List ℕ) (touche
 -- bytes that end below the size of a file or with it, and what is touched for them
 pub record WritesBelow (kept : ℕ → Bool) (memory : Memory) (blocks inodes : Set) (i off : ℕ)
     (bytes : List ℕ) (touched : Touched) : Type 0 where
-  pub can : CanWriteInto kept (current_words memory) blocks inodes i off bytes
+  pub into : CanWriteInto kept (current_words memory) blocks inodes i off bytes
   pub below : off + length bytes ≤ size_of (current_words memory) i
   pub touches : TouchesBelow (current_words memory) i off bytes touched

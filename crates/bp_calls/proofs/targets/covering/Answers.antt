@@ -13,7 +13,7 @@ pub cover-requires-clause-touched : goal.cover-requires-clause-touched
 cover-requires-clause-touched g c =
     let memory = g.R.Region.memory in
     let write : WritesBelow (kept_of c.args.parts.now) (memory c.args.parts.now.region) c.args.parts.now.blocks c.args.parts.now.inodes c.args.i c.args.off c.args.bytes.now c.touched_by.result = record {
-      can = write_mounted (current_words (memory c.args.parts.now.region)) c.args.parts.now c.args.i c.args.off c.args.bytes.now c.requires.mounted c.requires.can;
+      into = write_mounted (current_words (memory c.args.parts.now.region)) c.args.parts.now c.args.i c.args.off c.args.bytes.now c.requires.mounted c.requires.can;
       below = c.requires.below;
       touches = record { run = c.run_for.result; one = c.touched_by.ensures.runs; no_words = c.touched_by.ensures.words; no_trees = c.touched_by.ensures.trees; is = c.run_for.ensures };
     } in
@@ -23,7 +23,7 @@ pub cover-requires-clause-in_range : goal.cover-requires-clause-in_range
 cover-requires-clause-in_range g c =
     let memory = g.R.Region.memory in
     let write : WritesBelow (kept_of c.args.parts.now) (memory c.args.parts.now.region) c.args.parts.now.blocks c.args.parts.now.inodes c.args.i c.args.off c.args.bytes.now c.touched_by.result = record {
-      can = write_mounted (current_words (memory c.args.parts.now.region)) c.args.parts.now c.args.i c.args.off c.args.bytes.now c.requires.mounted c.requires.can;
+      into = write_mounted (current_words (memory c.args.parts.now.region)) c.args.parts.now c.args.i c.args.off c.args.bytes.now c.requires.mounted c.requires.can;
       below = c.requires.below;
       touches = record { run = c.run_for.result; one = c.touched_by.ensures.runs; no_words = c.touched_by.ensures.words; no_trees = c.touched_by.ensures.trees; is = c.run_for.ensures };
     } in
@@ -34,7 +34,7 @@ returns g c =
     let memory = g.R.Region.memory in
     let image = current_words (memory c.args.parts.now.region) in
     let write : WritesBelow (kept_of c.args.parts.now) (memory c.args.parts.now.region) c.args.parts.now.blocks c.args.parts.now.inodes c.args.i c.args.off c.args.bytes.now c.touched_by.result = record {
-      can = write_mounted (current_words (memory c.args.parts.now.region)) c.args.parts.now c.args.i c.args.off c.args.bytes.now c.requires.mounted c.requires.can;
+      into = write_mounted (current_words (memory c.args.parts.now.region)) c.args.parts.now c.args.i c.args.off c.args.bytes.now c.requires.mounted c.requires.can;
       below = c.requires.below;
       touches = record { run = c.run_for.result; one = c.touched_by.ensures.runs; no_words = c.touched_by.ensures.words; no_trees = c.touched_by.ensures.trees; is = c.run_for.ensures };
     } in

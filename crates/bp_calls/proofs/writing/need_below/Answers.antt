@@ -10,7 +10,7 @@ pub need_cover-requires-clause-touched : goal.need_cover-requires-clause-touched
 need_cover-requires-clause-touched g c =
     let memory = g.R.Region.memory in
     let write : WritesBelow (kept_of c.args.parts.now) (memory c.args.parts.now.region) c.args.parts.now.blocks c.args.parts.now.inodes c.args.i c.args.off c.args.bytes.now c.touched_by.result = record {
-      can = write_mounted (current_words (memory c.args.parts.now.region)) c.args.parts.now c.args.i c.args.off c.args.bytes.now c.requires.mounted c.requires.can;
+      into = write_mounted (current_words (memory c.args.parts.now.region)) c.args.parts.now c.args.i c.args.off c.args.bytes.now c.requires.mounted c.requires.can;
       below = c.requires.below;
       touches = record { run = c.run_for.result; one = c.touched_by.ensures.runs; no_words = c.touched_by.ensures.words; no_trees = c.touched_by.ensures.trees; is = c.run_for.ensures };
     } in
@@ -20,7 +20,7 @@ pub need_cover-requires-clause-in_range : goal.need_cover-requires-clause-in_ran
 need_cover-requires-clause-in_range g c =
     let memory = g.R.Region.memory in
     let write : WritesBelow (kept_of c.args.parts.now) (memory c.args.parts.now.region) c.args.parts.now.blocks c.args.parts.now.inodes c.args.i c.args.off c.args.bytes.now c.touched_by.result = record {
-      can = write_mounted (current_words (memory c.args.parts.now.region)) c.args.parts.now c.args.i c.args.off c.args.bytes.now c.requires.mounted c.requires.can;
+      into = write_mounted (current_words (memory c.args.parts.now.region)) c.args.parts.now c.args.i c.args.off c.args.bytes.now c.requires.mounted c.requires.can;
       below = c.requires.below;
       touches = record { run = c.run_for.result; one = c.touched_by.ensures.runs; no_words = c.touched_by.ensures.words; no_trees = c.touched_by.ensures.trees; is = c.run_for.ensures };
     } in
@@ -30,7 +30,7 @@ pub need_cover-requires-clause-apart : goal.need_cover-requires-clause-apart
 need_cover-requires-clause-apart g c =
     let memory = g.R.Region.memory in
     let write : WritesBelow (kept_of c.args.parts.now) (memory c.args.parts.now.region) c.args.parts.now.blocks c.args.parts.now.inodes c.args.i c.args.off c.args.bytes.now c.touched_by.result = record {
-      can = write_mounted (current_words (memory c.args.parts.now.region)) c.args.parts.now c.args.i c.args.off c.args.bytes.now c.requires.mounted c.requires.can;
+      into = write_mounted (current_words (memory c.args.parts.now.region)) c.args.parts.now c.args.i c.args.off c.args.bytes.now c.requires.mounted c.requires.can;
       below = c.requires.below;
       touches = record { run = c.run_for.result; one = c.touched_by.ensures.runs; no_words = c.touched_by.ensures.words; no_trees = c.touched_by.ensures.trees; is = c.run_for.ensures };
     } in
@@ -40,7 +40,7 @@ pub returns-clause-need : goal.returns-clause-need
 returns-clause-need g c =
     let memory = g.R.Region.memory in
     let write : WritesBelow (kept_of c.args.parts.now) (memory c.args.parts.now.region) c.args.parts.now.blocks c.args.parts.now.inodes c.args.i c.args.off c.args.bytes.now c.touched_by.result = record {
-      can = write_mounted (current_words (memory c.args.parts.now.region)) c.args.parts.now c.args.i c.args.off c.args.bytes.now c.requires.mounted c.requires.can;
+      into = write_mounted (current_words (memory c.args.parts.now.region)) c.args.parts.now c.args.i c.args.off c.args.bytes.now c.requires.mounted c.requires.can;
       below = c.requires.below;
       touches = record { run = c.run_for.result; one = c.touched_by.ensures.runs; no_words = c.touched_by.ensures.words; no_trees = c.touched_by.ensures.trees; is = c.run_for.ensures };
     } in
@@ -50,7 +50,7 @@ pub returns-clause-few : goal.returns-clause-few
 returns-clause-few g c =
     let memory = g.R.Region.memory in
     let write : WritesBelow (kept_of c.args.parts.now) (memory c.args.parts.now.region) c.args.parts.now.blocks c.args.parts.now.inodes c.args.i c.args.off c.args.bytes.now c.touched_by.result = record {
-      can = write_mounted (current_words (memory c.args.parts.now.region)) c.args.parts.now c.args.i c.args.off c.args.bytes.now c.requires.mounted c.requires.can;
+      into = write_mounted (current_words (memory c.args.parts.now.region)) c.args.parts.now c.args.i c.args.off c.args.bytes.now c.requires.mounted c.requires.can;
       below = c.requires.below;
       touches = record { run = c.run_for.result; one = c.touched_by.ensures.runs; no_words = c.touched_by.ensures.words; no_trees = c.touched_by.ensures.trees; is = c.run_for.ensures };
     } in

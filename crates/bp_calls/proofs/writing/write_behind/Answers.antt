@@ -11,10 +11,10 @@ use Rattle.bp_calls.proofs.writing.write_behind.Goals as goal
 use Rattle.bp_calls.proofs.CountLaws.{exact_file}
 
 pub place-size_place-requires-clause-sound : goal.place-size_place-requires-clause-sound
-place-size_place-requires-clause-sound g c = c.requires.can.well_formed.sound 0 inode_file
+place-size_place-requires-clause-sound g c = c.requires.can.into.well_formed.sound 0 inode_file
 
 pub place-size_place-requires-clause-there : goal.place-size_place-requires-clause-there
-place-size_place-requires-clause-there g c = reached-in_file (current_words (g.R.Region.memory c.args.parts.now.region)) c.requires.can.well_formed c.args.i c.requires.can.reached
+place-size_place-requires-clause-there g c = reached-in_file (current_words (g.R.Region.memory c.args.parts.now.region)) c.requires.can.into.well_formed c.args.i c.requires.can.into.can.reached
 
 pub prep-requires : goal.prep-requires
 prep-requires g c =
@@ -58,5 +58,5 @@ returns g c =
           (rw c.prep.ensures.inodes
           (behind_exact_at (memory c.args.parts.now.region) c.args.parts.now.blocks c.args.parts.now.inodes c.args.off c.args.bytes.now (memory c.prep.new.parts.region) c.prep.new.parts.blocks (memory c.commit_word.new.region)
           c.root_path-root.result.items c.place-size_place.result c.args.i c.requires.can c.requires.behind prepares c.place-size_place.ensures.place (c.prep.ensures.prepares c.args.i prepares) c.commit_word.ensures c.prep.ensures.room))
-          c.prep.ensures.frozen c.prep.ensures.counts c.args.i c.requires.can.well_formed done.effect.changes;
+          c.prep.ensures.frozen c.prep.ensures.counts c.args.i c.requires.can.into.well_formed done.effect.changes;
     }

@@ -29,7 +29,7 @@ from_run image i off bytes run is P there = subst (λ o. P o bytes) is.from (sub
 pub find_ways-found-requires-clause-touched : goal.find_ways-found-requires-clause-touched
 find_ways-found-requires-clause-touched g c =
     let write : WritesBelow (kept_of c.args.parts.now) (g.R.Region.memory c.args.parts.now.region) c.args.parts.now.blocks c.args.parts.now.inodes c.args.i c.args.off c.args.bytes.now c.touched_by-touched.result = record {
-      can = write_mounted (current_words (g.R.Region.memory c.args.parts.now.region)) c.args.parts.now c.args.i c.args.off c.args.bytes.now c.requires.mounted c.requires.can;
+      into = write_mounted (current_words (g.R.Region.memory c.args.parts.now.region)) c.args.parts.now c.args.i c.args.off c.args.bytes.now c.requires.mounted c.requires.can;
       below = c.requires.below;
       touches = record { run = c.run_for.result; one = c.touched_by-touched.ensures.runs; no_words = c.touched_by-touched.ensures.words; no_trees = c.touched_by-touched.ensures.trees; is = c.run_for.ensures };
     } in
@@ -38,7 +38,7 @@ find_ways-found-requires-clause-touched g c =
 pub find_ways-found-requires-clause-in_range : goal.find_ways-found-requires-clause-in_range
 find_ways-found-requires-clause-in_range g c =
     let write : WritesBelow (kept_of c.args.parts.now) (g.R.Region.memory c.args.parts.now.region) c.args.parts.now.blocks c.args.parts.now.inodes c.args.i c.args.off c.args.bytes.now c.touched_by-touched.result = record {
-      can = write_mounted (current_words (g.R.Region.memory c.args.parts.now.region)) c.args.parts.now c.args.i c.args.off c.args.bytes.now c.requires.mounted c.requires.can;
+      into = write_mounted (current_words (g.R.Region.memory c.args.parts.now.region)) c.args.parts.now c.args.i c.args.off c.args.bytes.now c.requires.mounted c.requires.can;
       below = c.requires.below;
       touches = record { run = c.run_for.result; one = c.touched_by-touched.ensures.runs; no_words = c.touched_by-touched.ensures.words; no_trees = c.touched_by-touched.ensures.trees; is = c.run_for.ensures };
     } in
@@ -47,7 +47,7 @@ find_ways-found-requires-clause-in_range g c =
 pub is_clear_below-requires-clause-cover : goal.is_clear_below-requires-clause-cover
 is_clear_below-requires-clause-cover g c =
     let write : WritesBelow (kept_of c.args.parts.now) (g.R.Region.memory c.args.parts.now.region) c.args.parts.now.blocks c.args.parts.now.inodes c.args.i c.args.off c.args.bytes.now c.touched_by-touched.result = record {
-      can = write_mounted (current_words (g.R.Region.memory c.args.parts.now.region)) c.args.parts.now c.args.i c.args.off c.args.bytes.now c.requires.mounted c.requires.can;
+      into = write_mounted (current_words (g.R.Region.memory c.args.parts.now.region)) c.args.parts.now c.args.i c.args.off c.args.bytes.now c.requires.mounted c.requires.can;
       below = c.requires.below;
       touches = record { run = c.run_for.result; one = c.touched_by-touched.ensures.runs; no_words = c.touched_by-touched.ensures.words; no_trees = c.touched_by-touched.ensures.trees; is = c.run_for.ensures };
     } in
@@ -69,7 +69,7 @@ is_clear_below-requires-clause-below g c =
 pub commit_found-requires-clause-can : goal.commit_found-requires-clause-can
 commit_found-requires-clause-can g c =
     let write : WritesBelow (kept_of c.args.parts.now) (g.R.Region.memory c.args.parts.now.region) c.args.parts.now.blocks c.args.parts.now.inodes c.args.i c.args.off c.args.bytes.now c.touched_by-touched.result = record {
-      can = write_mounted (current_words (g.R.Region.memory c.args.parts.now.region)) c.args.parts.now c.args.i c.args.off c.args.bytes.now c.requires.mounted c.requires.can;
+      into = write_mounted (current_words (g.R.Region.memory c.args.parts.now.region)) c.args.parts.now c.args.i c.args.off c.args.bytes.now c.requires.mounted c.requires.can;
       below = c.requires.below;
       touches = record { run = c.run_for.result; one = c.touched_by-touched.ensures.runs; no_words = c.touched_by-touched.ensures.words; no_trees = c.touched_by-touched.ensures.trees; is = c.run_for.ensures };
     } in
@@ -78,7 +78,7 @@ commit_found-requires-clause-can g c =
 pub commit_found-requires-clause-loose : goal.commit_found-requires-clause-loose
 commit_found-requires-clause-loose g c =
     let write : WritesBelow (kept_of c.args.parts.now) (g.R.Region.memory c.args.parts.now.region) c.args.parts.now.blocks c.args.parts.now.inodes c.args.i c.args.off c.args.bytes.now c.touched_by-touched.result = record {
-      can = write_mounted (current_words (g.R.Region.memory c.args.parts.now.region)) c.args.parts.now c.args.i c.args.off c.args.bytes.now c.requires.mounted c.requires.can;
+      into = write_mounted (current_words (g.R.Region.memory c.args.parts.now.region)) c.args.parts.now c.args.i c.args.off c.args.bytes.now c.requires.mounted c.requires.can;
       below = c.requires.below;
       touches = record { run = c.run_for.result; one = c.touched_by-touched.ensures.runs; no_words = c.touched_by-touched.ensures.words; no_trees = c.touched_by-touched.ensures.trees; is = c.run_for.ensures };
     } in
@@ -90,7 +90,7 @@ commit_found-requires-clause-loose g c =
 pub commit_found-requires-clause-room : goal.commit_found-requires-clause-room
 commit_found-requires-clause-room g c =
     let write : WritesBelow (kept_of c.args.parts.now) (g.R.Region.memory c.args.parts.now.region) c.args.parts.now.blocks c.args.parts.now.inodes c.args.i c.args.off c.args.bytes.now c.touched_by-touched.result = record {
-      can = write_mounted (current_words (g.R.Region.memory c.args.parts.now.region)) c.args.parts.now c.args.i c.args.off c.args.bytes.now c.requires.mounted c.requires.can;
+      into = write_mounted (current_words (g.R.Region.memory c.args.parts.now.region)) c.args.parts.now c.args.i c.args.off c.args.bytes.now c.requires.mounted c.requires.can;
       below = c.requires.below;
       touches = record { run = c.run_for.result; one = c.touched_by-touched.ensures.runs; no_words = c.touched_by-touched.ensures.words; no_trees = c.touched_by-touched.ensures.trees; is = c.run_for.ensures };
     } in
@@ -102,7 +102,7 @@ commit_found-requires-clause-room g c =
 pub returns-then-is_clear_below : goal.returns-then-is_clear_below
 returns-then-is_clear_below g c =
     let write : WritesBelow (kept_of c.args.parts.now) (g.R.Region.memory c.args.parts.now.region) c.args.parts.now.blocks c.args.parts.now.inodes c.args.i c.args.off c.args.bytes.now c.touched_by-touched.result = record {
-      can = write_mounted (current_words (g.R.Region.memory c.args.parts.now.region)) c.args.parts.now c.args.i c.args.off c.args.bytes.now c.requires.mounted c.requires.can;
+      into = write_mounted (current_words (g.R.Region.memory c.args.parts.now.region)) c.args.parts.now c.args.i c.args.off c.args.bytes.now c.requires.mounted c.requires.can;
       below = c.requires.below;
       touches = record { run = c.run_for.result; one = c.touched_by-touched.ensures.runs; no_words = c.touched_by-touched.ensures.words; no_trees = c.touched_by-touched.ensures.trees; is = c.run_for.ensures };
     } in

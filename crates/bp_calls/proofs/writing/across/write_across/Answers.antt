@@ -2,7 +2,6 @@ use Rattle.std.proofs.Common.{◌≡◌, ◌<◌, ◌≤◌, ℕ, [], List, arit
 use Rattle.bp_calls.specs.TouchedAcross.{WritesAcross}
 use Rattle.bp_calls.proofs.AcrossCalls.{at_inside, at_shape, from_plan, of_plan, planned_across}
 use Rattle.bp_calls.proofs.CommitLaws.{committed, lacking_blocks}
-use Rattle.bp_calls.proofs.SameWrites.{write_into}
 use Rattle.bp_calls.specs.Commits.{CommitsChange}
 use Rattle.bp_calls.specs.Space.{HasRoomThawed, LacksBlocks}
 use Rattle.bp_calls.specs.WritesFile.{WritesFile}
@@ -24,7 +23,7 @@ find_ways-found-requires-clause-touched g c =
     let planned = c.plan_write-plan.ensures in
     let across : WritesAcross (kept_of c.args.parts.now) (memory c.args.parts.now.region) c.args.parts.now.blocks c.args.parts.now.inodes c.args.i c.args.off c.args.bytes.now c.touched_across-touched.result =
     planned_across (memory c.args.parts.now.region) c.args.parts.now.blocks c.args.parts.now.inodes c.args.off c.args.bytes.now c.touched_across-touched.result c.args.i plan planned
-    (write_into (memory c.args.parts.now.region) c.args.parts.now.blocks c.args.parts.now.inodes c.args.i c.args.off c.args.bytes.now c.requires.can) c.requires.below c.requires.past
+    c.requires.can.into c.requires.below c.requires.past
     c.touched_across-touched.ensures.words c.touched_across-touched.ensures.runs c.touched_across-touched.ensures.trees in
     at_shape (memory c.args.parts.now.region) c.args.parts.now.blocks c.args.parts.now.inodes c.args.off c.args.bytes.now c.touched_across-touched.result c.args.i across
 
@@ -35,7 +34,7 @@ find_ways-found-requires-clause-in_range g c =
     let planned = c.plan_write-plan.ensures in
     let across : WritesAcross (kept_of c.args.parts.now) (memory c.args.parts.now.region) c.args.parts.now.blocks c.args.parts.now.inodes c.args.i c.args.off c.args.bytes.now c.touched_across-touched.result =
     planned_across (memory c.args.parts.now.region) c.args.parts.now.blocks c.args.parts.now.inodes c.args.off c.args.bytes.now c.touched_across-touched.result c.args.i plan planned
-    (write_into (memory c.args.parts.now.region) c.args.parts.now.blocks c.args.parts.now.inodes c.args.i c.args.off c.args.bytes.now c.requires.can) c.requires.below c.requires.past
+    c.requires.can.into c.requires.below c.requires.past
     c.touched_across-touched.ensures.words c.touched_across-touched.ensures.runs c.touched_across-touched.ensures.trees in
     at_inside (memory c.args.parts.now.region) c.args.parts.now.blocks c.args.parts.now.inodes c.args.off c.args.bytes.now c.touched_across-touched.result c.args.i across
 
@@ -46,7 +45,7 @@ need_found-need-requires-clause-across g c =
     let planned = c.plan_write-plan.ensures in
     let across : WritesAcross (kept_of c.args.parts.now) (memory c.args.parts.now.region) c.args.parts.now.blocks c.args.parts.now.inodes c.args.i c.args.off c.args.bytes.now c.touched_across-touched.result =
     planned_across (memory c.args.parts.now.region) c.args.parts.now.blocks c.args.parts.now.inodes c.args.off c.args.bytes.now c.touched_across-touched.result c.args.i plan planned
-    (write_into (memory c.args.parts.now.region) c.args.parts.now.blocks c.args.parts.now.inodes c.args.i c.args.off c.args.bytes.now c.requires.can) c.requires.below c.requires.past
+    c.requires.can.into c.requires.below c.requires.past
     c.touched_across-touched.ensures.words c.touched_across-touched.ensures.runs c.touched_across-touched.ensures.trees in
     of_plan (current_words (memory c.args.parts.now.region)) c.args.i c.args.off c.args.bytes.now plan planned
     (λ i off (bytes : List ℕ). WritesAcross (kept_of c.args.parts.now) (memory c.args.parts.now.region) c.args.parts.now.blocks c.args.parts.now.inodes i off bytes c.touched_across-touched.result) across
@@ -70,7 +69,7 @@ write_planned-requires-clause-across g c =
     let planned = c.plan_write-plan.ensures in
     let across : WritesAcross (kept_of c.args.parts.now) (memory c.args.parts.now.region) c.args.parts.now.blocks c.args.parts.now.inodes c.args.i c.args.off c.args.bytes.now c.touched_across-touched.result =
     planned_across (memory c.args.parts.now.region) c.args.parts.now.blocks c.args.parts.now.inodes c.args.off c.args.bytes.now c.touched_across-touched.result c.args.i plan planned
-    (write_into (memory c.args.parts.now.region) c.args.parts.now.blocks c.args.parts.now.inodes c.args.i c.args.off c.args.bytes.now c.requires.can) c.requires.below c.requires.past
+    c.requires.can.into c.requires.below c.requires.past
     c.touched_across-touched.ensures.words c.touched_across-touched.ensures.runs c.touched_across-touched.ensures.trees in
     of_plan (current_words (memory c.args.parts.now.region)) c.args.i c.args.off c.args.bytes.now plan planned
     (λ i off (bytes : List ℕ). WritesAcross (kept_of c.args.parts.now) (memory c.args.parts.now.region) c.args.parts.now.blocks c.args.parts.now.inodes i off bytes c.touched_across-touched.result) across

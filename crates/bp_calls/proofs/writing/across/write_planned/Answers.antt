@@ -60,5 +60,5 @@ returns g c =
       performs = done.0;
       frozen = c.commit_at.ensures.frozen ∙ c.prep.ensures.frozen;
       exact = exact_file _ _ c.args.parts.now _ c.requires.exact (rw (c.commit_at.ensures.inodes, c.prep.ensures.inodes) done.1)
-          (c.commit_at.ensures.frozen ∙ c.prep.ensures.frozen) (c.commit_at.ensures.counts ∙ c.prep.ensures.counts) plan.inode c.requires.across.can.well_formed done.0.effect.changes;
+          (c.commit_at.ensures.frozen ∙ c.prep.ensures.frozen) (c.commit_at.ensures.counts ∙ c.prep.ensures.counts) plan.inode c.requires.across.into.well_formed done.0.effect.changes;
     }

@@ -32,12 +32,12 @@ by_bytes-IsAntisymmetric = slice_cmp-IsAntisymmetric nat_cmp-IsAntisymmetric
 pub same_name : (a b : Name) → eq_by_cmp by_bytes a b ≡ true → a ≡ b
 same_name a b tied = by_bytes-IsAntisymmetric a b ((Equal-is (by_bytes a b)).0 tied)
 
--- an entry of a listing under its name, with what is kept of its kind
+-- an entry of a listing under its name, with what is told of its kind
 abbrev pub under_name : {A : Type 0} → (Kind → A) → Kind × Name → Name × A
 under_name of entry = (entry.1, of entry.0)
 
-abbrev pub kept_of : {A : Type 0} → (Kind → A) → Node → A
-kept_of of node = of (kind_of_node node)
+abbrev pub value_of : {A : Type 0} → (Kind → A) → Node → A
+value_of of node = of (kind_of_node node)
 
 abbrev pub NamesDiffer : {A : Type 0} → List (Name × A) → Type 0
 NamesDiffer es = IsDistinct (eq_by_cmp by_bytes) (map (λ e. e.0) es)
@@ -87,22 +87,22 @@ module _ {A : Type 0} (of : Kind → A) (here : Path) where
   abbrev listed : List (Path × Node) → List (Name × A)
   listed es = map (under_name of) (filter_map (listed_in here) es)
 
-  abbrev kept_at : Name → List (Path × Node) → Option A
-  kept_at name es = option_map (kept_of of) (find path_cmp (here ++ name ∷ []) es)
+  abbrev value_at : Name → List (Path × Node) → Option A
+  value_at name es = option_map (value_of of) (find path_cmp (here ++ name ∷ []) es)
 
-  find-listed : (es : List (Path × Node)) (name : Name) → find by_bytes name (listed es) ≡ kept_at name es
+  find-listed : (es : List (Path × Node)) (name : Name) → find by_bytes name (listed es) ≡ value_at name es
   find-listed [] name = refl
   find-listed (entry ∷ es) name = go (find-listed es name) (only_name (rest_below here entry.0)) refl
     where
-      go : find by_bytes name (listed es) ≡ kept_at name es → (o : Option Name) → only_name (rest_below here entry.0) ≡ o →
-          find by_bytes name (listed (entry ∷ es)) ≡ kept_at name (entry ∷ es)
+      go : find by_bytes name (listed es) ≡ value_at name es → (o : Option Name) → only_name (rest_below here entry.0) ≡ o →
+          find by_bytes name (listed (entry ∷ es)) ≡ value_at name (entry ∷ es)
       go rest None at = rw at (rw (not_there here entry.0 name at) rest)
       go rest (Some other) at = rw at (
-          ap₂ (λ b o. cond b (Some (kept_of of entry.1)) o) (sym (ap is_eq (path_cmp-below here name other))) rest
-          ∙ ap (λ p. cond (is_eq (path_cmp (here ++ name ∷ []) p)) (Some (kept_of of entry.1)) (kept_at name es)) (sym (only_at here entry.0 other at))
+          ap₂ (λ b o. cond b (Some (value_of of entry.1)) o) (sym (ap is_eq (path_cmp-below here name other))) rest
+          ∙ ap (λ p. cond (is_eq (path_cmp (here ++ name ∷ []) p)) (Some (value_of of entry.1)) (value_at name es)) (sym (only_at here entry.0 other at))
           ∙ pushed (eq_by_cmp path_cmp (here ++ name ∷ []) entry.0))
         where
-          pushed : (b : Bool) → cond b (Some (kept_of of entry.1)) (kept_at name es) ≡ option_map (kept_of of) (cond b (Some entry.1) (find path_cmp (here ++ name ∷ []) es))
+          pushed : (b : Bool) → cond b (Some (value_of of entry.1)) (value_at name es) ≡ option_map (value_of of) (cond b (Some entry.1) (find path_cmp (here ++ name ∷ []) es))
           pushed true = refl
           pushed false = refl
 
@@ -130,8 +130,8 @@ module _ {A : Type 0} (of : Kind → A) (here : Path) where
 
   -- what a listing has under a name, and that it is sorted
   pub find-listing : (nodes : Nodes) (name : Name) →
-      find by_bytes name (map (under_name of) (listing nodes here)) ≡ option_map (kept_of of) (get nodes (here ++ name ∷ []))
-  find-listing nodes name = find-listed (entries nodes) name ∙ ap (option_map (kept_of of)) (sym (get-entries nodes (here ++ name ∷ [])))
+      find by_bytes name (map (under_name of) (listing nodes here)) ≡ option_map (value_of of) (get nodes (here ++ name ∷ []))
+  find-listing nodes name = find-listed (entries nodes) name ∙ ap (option_map (value_of of)) (sym (get-entries nodes (here ++ name ∷ [])))
 
   pub sorted_listing : (nodes : Nodes) → T (is_sorted by_bytes (map (under_name of) (listing nodes here)))
   sorted_listing nodes = sorted_listed (entries nodes) (entries_sorted nodes)
@@ -225,7 +225,7 @@ module _ {Item A : Type 0} (keyed : Item → Name × A) where
 
   -- items that are found where the tree lists a name are its listing
   pub sorted-listed : (of : Kind → A) (here : Path) (nodes : Nodes) (items : List Item) → IsSortedBy comes_before items → NamesDiffer (map keyed items) →
-      ((name : Name) → find by_bytes name (map keyed items) ≡ option_map (kept_of of) (get nodes (here ++ name ∷ []))) →
+      ((name : Name) → find by_bytes name (map keyed items) ≡ option_map (value_of of) (get nodes (here ++ name ∷ []))) →
       map keyed items ≡ map (under_name of) (listing nodes here)
   sorted-listed of here nodes items up apart finds =
       same_entries by_bytes nat_list_cmp_total by_bytes-IsAntisymmetric (map keyed items) (map (under_name of) (listing nodes here))

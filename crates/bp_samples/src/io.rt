@@ -7,9 +7,10 @@ use bp_io::{
     NullSink, Sink, Source, StdSink, StdSource,
 };
 use std::alloc::{AllocError, Global};
+use std::fs::File;
 use std::io::{ErrorKind, Read, Write};
 use std::process::Abort;
-use std::{fs, io};
+use std::{fs, io, rt};
 
 /// The bytes at these places of a file.
 fn has_bytes(rt: &impl Abort, bytes: &[u8], wanted: &[(usize, u8)]) {
@@ -294,14 +295,24 @@ fn disk_files_keep_off_a_file_cut_short(rt: HostRuntime) {
     fs::remove_file(&rt, "cut.img").expect(&rt, "it is removed");
 }
 
+/// Flushes a file of two blocks, and once more when another program made it longer. The answer is whether that is a fault.
+fn flush_made_longer<R: rt::Files<File = File>, F: Files>(
+    runtime: &R,
+    files: &mut F,
+) -> Result<bool, Failed> {
+    if files.attach("longer.img", Access::Write)? != Some(8192) {
+        return Ok(false);
+    }
+    files.flush()?;
+    let is_longer = fs::write(runtime, "longer.img", [6u8; 8193].as_slice()).is_ok();
+    Ok(is_longer && files.flush().is_err())
+}
+
 #[test]
 fn disk_files_flush_no_file_made_longer(rt: HostRuntime) {
     fs::write(&rt, "longer.img", [5u8; 8192].as_slice()).expect(&rt, "it is written");
     let mut files = DiskFiles::new(rt.alloc(), &rt).expect(&rt, "there is memory");
-    assert_eq!(rt; files.attach("longer.img", Access::Write), Ok(Some(8192)));
-    assert_eq!(rt; files.flush(), Ok(()));
-    fs::write(&rt, "longer.img", [6u8; 8193].as_slice()).expect(&rt, "it is written");
-    assert_eq!(rt; files.flush(), Err(Failed));
+    assert_eq!(rt; flush_made_longer(&rt, &mut files), Ok(true));
     fs::remove_file(&rt, "longer.img").expect(&rt, "it is removed");
 }
 

@@ -3,3 +3,4 @@ pub mod Replay
 pub mod Keeping
 pub mod Crash
 pub mod May
+pub mod Kind

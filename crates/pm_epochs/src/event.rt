@@ -1,5 +1,8 @@
 //! What a log is made of.
 
+ghost use Rattle.std.specs.Prelude.{◌≡◌};
+ghost use Rattle.pm_epochs.specs.Kind.{event_kind};
+
 /// What a processor does to persistent memory.
 #[derive(Clone, Copy, Debug, PartialEq, Eq)]
 pub enum Event {
@@ -9,4 +12,28 @@ pub enum Event {
     Barrier,
     /// A call ends. It does nothing to memory.
     Mark,
+}
+
+/// What an event is, but for the value that a store brings.
+#[derive(Clone, Copy, Debug, PartialEq, Eq)]
+pub enum EventKind {
+    /// A store to this word.
+    Store(u32),
+    /// A barrier.
+    Barrier,
+    /// The end of a call.
+    Mark,
+}
+
+impl Event {
+    /// What it is, but for its value.
+    pub fn kind(self) -> EventKind
+        ensures { result ≡ event_kind self }
+    {
+        match self {
+            Event::Store { word, .. } => EventKind::Store(word),
+            Event::Barrier => EventKind::Barrier,
+            Event::Mark => EventKind::Mark,
+        }
+    }
 }

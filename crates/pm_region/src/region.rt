@@ -1,21 +1,22 @@
 //! What a region can do.
 
-ghost use Rattle.std.specs.Prelude.{◌≡◌, ◌+◌, ◌<◌, ◌≤◌, ◌↔◌, [], ◌∷◌, length, take, slice_get, slice_index, slice_index_or, slice_range, Some, IsOk, IfOk, OnOk, OnErr};
+ghost use Rattle.std.specs.Prelude.{◌≡◌, ◌+◌, ◌<◌, ◌≤◌, ◌↔◌, [], ◌∷◌, length, option_map, take, slice_get, slice_index, slice_index_or, slice_range, Some, IsOk, IfOk, OnOk, OnErr};
 ghost use Rattle.pm_epochs.specs.declared.event.Event.TheVariants.{Store, Barrier, Mark};
-ghost use Rattle.pm_epochs.specs.Log.{barriers, marks};
+ghost use Rattle.pm_epochs.specs.Kind.{event_kind};
+ghost use Rattle.pm_epochs.specs.Log.{barriers, marks, words_after};
 ghost use Rattle.pm_epochs.specs.Replay.{IsRight, kept_calls};
 ghost use Rattle.pm_region.specs.Epochs.{epoch_start};
 ghost use Rattle.pm_region.specs.Memory.{Memory, crashed, current_words, room_in, drained, stores_from, AreInRow, AreWithin, Adds};
 
-use pm_epochs::{BadChoice, Choice, Event, Kept};
+use pm_epochs::{BadChoice, Choice, Event, EventKind, Kept};
 
 /// The words that are read one by one: those of the first cache line. A region may show other words in their places than those
 /// that stand there, which no slice of what it holds could.
 pub const HEAD_WORDS: u32 = 8;
 
-/// An event of a log, and how many from it on, itself among them, are stores to words in a row: one where it is no store.
+/// What an event of a log is, and how many from it on, itself among them, are stores to words in a row: one where it is no store.
 pub struct Row {
-    pub event: Event,
+    pub kind: EventKind,
     pub len: usize,
 }
 
@@ -81,23 +82,44 @@ pub trait Region {
         ensures few { result ≤ (memory self.now).capacity }
         ensures within { AreWithin (length (memory self.now).base) (memory self.now).events };
 
-    /// An event of the log, by its number from 0.
+    /// What an event of the log is, by its number from 0, but for the value of a store.
+    fn kind(&self, i: usize) -> EventKind
+        requires { i < length (memory self.now).events }
+        ensures { option_map event_kind (slice_get (memory self.now).events i) ≡ Some result };
+
+    /// A word as it was behind the first `moment` events of the log. It takes time for the events behind those.
+    fn word_at(&self, moment: usize, word: u32) -> u64
+        requires moment { moment ≤ length (memory self.now).events }
+        requires in_range { word < length (memory self.now).base }
+        ensures { result ≡ slice_index (words_after (memory self.now).base (take moment (memory self.now).events)) word };
+
+    /// An event of the log, by its number from 0. A store takes time for the events behind it, for its value.
     fn event(&self, i: usize) -> Event
         requires { i < length (memory self.now).events }
         ensures get { slice_get (memory self.now).events i ≡ Some result }
-        ensures value { result ≡ slice_index_or (memory self.now).events i result };
+        ensures value { result ≡ slice_index_or (memory self.now).events i result }
+    {
+        match self.kind(i) {
+            EventKind::Store(word) => Event::Store {
+                word,
+                value: self.word_at(i + 1, word),
+            },
+            EventKind::Barrier => Event::Barrier,
+            EventKind::Mark => Event::Mark,
+        }
+    }
 
-    /// An event of the log, by its number from 0, and how many from it on are stores to words in a row. Fewer may be told than
-    /// there are.
+    /// What an event of the log is, by its number from 0, and how many from it on are stores to words in a row. Fewer may be
+    /// told than there are.
     fn row(&self, first: usize) -> Row
         requires { first < length (memory self.now).events }
-        ensures get { slice_get (memory self.now).events first ≡ Some result.event }
+        ensures get { option_map event_kind (slice_get (memory self.now).events first) ≡ Some result.kind }
         ensures some { 0 < result.len }
         ensures inside { first + result.len ≤ length (memory self.now).events }
         ensures row { AreInRow (memory self.now).events first result.len }
     {
         Row {
-            event: self.event(first),
+            kind: self.kind(first),
             len: 1,
         }
     }
@@ -109,10 +131,10 @@ pub trait Region {
     {
         let mut count = 0;
         for i in 0..moment {
-            match self.event(i) {
-                Event::Store { .. } => {}
-                Event::Barrier => count += 1,
-                Event::Mark => {}
+            match self.kind(i) {
+                EventKind::Store(_) => {}
+                EventKind::Barrier => count += 1,
+                EventKind::Mark => {}
             }
         }
         count
@@ -128,19 +150,22 @@ pub trait Region {
             if left == 0 {
                 return i;
             }
-            match self.event(i) {
-                Event::Store { .. } => {}
-                Event::Barrier => left -= 1,
-                Event::Mark => {}
+            match self.kind(i) {
+                EventKind::Store(_) => {}
+                EventKind::Barrier => left -= 1,
+                EventKind::Mark => {}
             }
         }
         self.event_count()
     }
 
-    /// A word at the last drain.
+    /// A word at the last drain. It takes time for the events of the log.
     fn base_word(&self, word: u32) -> u64
         requires { word < length (memory self.now).base }
-        ensures { result ≡ slice_index (memory self.now).base word };
+        ensures { result ≡ slice_index (memory self.now).base word }
+    {
+        self.word_at(0, word)
+    }
 
     /// Crashes, and goes on with what the choice leaves, with an empty log. `BadChoice` is the answer where the choice is not
     /// right for the log, and then nothing changes.

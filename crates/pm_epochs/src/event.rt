@@ -1,7 +1,7 @@
 //! What a log is made of.
 
 ghost use Rattle.std.specs.Prelude.{◌≡◌};
-ghost use Rattle.pm_epochs.specs.Kind.{event_kind};
+ghost use Rattle.pm_epochs.specs.Kind.{event_kind, event_value, event_of};
 
 /// What a processor does to persistent memory.
 #[derive(Clone, Copy, Debug, PartialEq, Eq)]
@@ -28,7 +28,8 @@ pub enum EventKind {
 impl Event {
     /// What it is, but for its value.
     pub fn kind(self) -> EventKind
-        ensures { result ≡ event_kind self }
+        ensures kind { result ≡ event_kind self }
+        ensures whole { self ≡ event_of result (event_value self) }
     {
         match self {
             Event::Store { word, .. } => EventKind::Store(word),

@@ -5,3 +5,4 @@ pub mod PutBack
 pub mod RunLaws
 pub mod WithinLaws
 pub mod EpochLaws
+pub mod KindLaws

@@ -3,13 +3,14 @@
 ghost use Rattle.std.specs.Prelude.{◌≡◌, ◌^◌, ◌<◌, [], ◌∷◌, ◌++◌, IfOk, length, vec_len};
 
 use super::region::Region;
-use super::words::{apply, apply_event, apply_kept, put_back};
-use pm_epochs::{BadChoice, Choice, Event, Kept, kept_calls};
+use super::words::{apply, apply_event, apply_kept, apply_to_word, put_back};
+use pm_epochs::{BadChoice, Choice, Event, EventKind, Kept, kept_calls};
 use std::alloc::{AllocError, Global};
 use std::marker::Model;
 
-/// A region in ordinary memory, for tests, simulations and files that are read whole. Each call but a drain and a crash takes
-/// constant time; those two take time for the events of the log, and none for words that no event stores to.
+/// A region in ordinary memory, for tests, simulations and files that are read whole. A drain, a crash and a look at a word of
+/// the past take time for the events of the log, and none for words that no event stores to. Each other call takes constant
+/// time.
 #[derive(Drop)]
 pub struct ListRegion {
     base: Vec<u64>,
@@ -106,6 +107,14 @@ impl Region for ListRegion {
 
     fn event_count(&self) -> usize {
         self.events.len()
+    }
+
+    fn kind(&self, i: usize) -> EventKind {
+        self.events[i].kind()
+    }
+
+    fn word_at(&self, moment: usize, word: u32) -> u64 {
+        apply_to_word(self.base[word as usize], &self.events[..moment], word)
     }
 
     fn event(&self, i: usize) -> Event {

@@ -1,8 +1,8 @@
 //! What a region can do.
 
-ghost use Rattle.std.specs.Prelude.{◌≡◌, ◌+◌, ◌<◌, ◌≤◌, ◌↔◌, [], ◌∷◌, length, option_map, take, slice_get, slice_index, slice_index_or, slice_range, Some, IsOk, IfOk, OnOk, OnErr};
+ghost use Rattle.std.specs.Prelude.{◌≡◌, ◌+◌, ◌<◌, ◌≤◌, ◌↔◌, [], ◌∷◌, length, take, slice_get, slice_index, slice_index_or, slice_range, Some, IsOk, IfOk, OnOk, OnErr};
 ghost use Rattle.pm_epochs.specs.declared.event.Event.TheVariants.{Store, Barrier, Mark};
-ghost use Rattle.pm_epochs.specs.Kind.{event_kind};
+ghost use Rattle.pm_epochs.specs.Kind.{event_of, value_at};
 ghost use Rattle.pm_epochs.specs.Log.{barriers, marks, words_after};
 ghost use Rattle.pm_epochs.specs.Replay.{IsRight, kept_calls};
 ghost use Rattle.pm_region.specs.Epochs.{epoch_start};
@@ -85,20 +85,25 @@ pub trait Region {
     /// What an event of the log is, by its number from 0, but for the value of a store.
     fn kind(&self, i: usize) -> EventKind
         requires { i < length (memory self.now).events }
-        ensures { option_map event_kind (slice_get (memory self.now).events i) ≡ Some result };
+        ensures get { slice_get (memory self.now).events i ≡
+            Some (event_of result (value_at (memory self.now).events i)) }
+        ensures value { event_of result (value_at (memory self.now).events i) ≡
+            slice_index_or (memory self.now).events i (event_of result (value_at (memory self.now).events i)) };
 
-    /// A word as it was behind the first `moment` events of the log. It takes time for the events behind those.
+    /// A word as it was behind the first `moment` events of the log. It may take time for each event of the log.
     fn word_at(&self, moment: usize, word: u32) -> u64
         requires moment { moment ≤ length (memory self.now).events }
         requires in_range { word < length (memory self.now).base }
         ensures { result ≡ slice_index (words_after (memory self.now).base (take moment (memory self.now).events)) word };
 
-    /// An event of the log, by its number from 0. A store takes time for the events behind it, for its value.
+    /// An event of the log, by its number from 0. The value of a store may take time for each event of the log: `kind` does
+    /// without it.
     fn event(&self, i: usize) -> Event
         requires { i < length (memory self.now).events }
         ensures get { slice_get (memory self.now).events i ≡ Some result }
         ensures value { result ≡ slice_index_or (memory self.now).events i result }
     {
+        let _count = self.event_count();
         match self.kind(i) {
             EventKind::Store(word) => Event::Store {
                 word,
@@ -113,7 +118,8 @@ pub trait Region {
     /// told than there are.
     fn row(&self, first: usize) -> Row
         requires { first < length (memory self.now).events }
-        ensures get { option_map event_kind (slice_get (memory self.now).events first) ≡ Some result.kind }
+        ensures get { slice_get (memory self.now).events first ≡
+            Some (event_of result.kind (value_at (memory self.now).events first)) }
         ensures some { 0 < result.len }
         ensures inside { first + result.len ≤ length (memory self.now).events }
         ensures row { AreInRow (memory self.now).events first result.len }
@@ -159,7 +165,7 @@ pub trait Region {
         self.event_count()
     }
 
-    /// A word at the last drain. It takes time for the events of the log.
+    /// A word at the last drain. It may take time for each event of the log.
     fn base_word(&self, word: u32) -> u64
         requires { word < length (memory self.now).base }
         ensures { result ≡ slice_index (memory self.now).base word }

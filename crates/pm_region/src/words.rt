@@ -1,7 +1,7 @@
 //! What logs do to words, for the implementations of regions.
 
 ghost use Rattle.std.specs.Prelude.{◌≡◌, ◌+◌, ◌≤◌, [], ◌∷◌, length, slice_index, slice_set};
-ghost use Rattle.pm_epochs.specs.Log.{words_after, IsStoredIn};
+ghost use Rattle.pm_epochs.specs.Log.{words_after, word_after, IsStoredIn};
 ghost use Rattle.pm_epochs.specs.May.{AnyAt, EachMay};
 ghost use Rattle.pm_epochs.specs.Replay.{stores_of};
 ghost use Rattle.pm_region.specs.Memory.{stores_from};
@@ -45,6 +45,21 @@ pub fn apply(words: &mut [u64], events: &[Event])
     for event in events {
         apply_event(words, *event);
     }
+}
+
+/// One word after the stores of a log, from what it was before.
+pub fn apply_to_word(base: u64, events: &[Event], word: u32) -> u64
+    ensures { result ≡ word_after base events.now word }
+{
+    let mut now = base;
+    for event in events {
+        if let Event::Store { word: place, value } = *event {
+            if place == word {
+                now = value;
+            }
+        }
+    }
+    now
 }
 
 /// Does the stores of a log that are kept.

@@ -7,7 +7,7 @@ ghost use Rattle.pm_steps.specs.Machine.{IsInOrder, MayGoBack, IsFirstMissing, I
 ghost use Rattle.pm_steps.specs.Runs.{FindsFirstTo, FindsMissing, words_in};
 
 use super::backs::Backs;
-use pm_epochs::{Choice, Event, Kept};
+use pm_epochs::{Choice, Event, EventKind, Kept};
 use pm_region::Region;
 
 /// A store can't go back yet, since an earlier one has to go first: of an earlier epoch, or to the same word.
@@ -159,10 +159,10 @@ fn is_done<R: Region>(region: &R, backs: &Backs, which: usize) -> bool
         slice_get backs.now.back which ≡ Some true }
     ensures waits { result ≡ false → IsWaiting (R.memory region.now).events backs.now.back which }
 {
-    match region.event(which) {
-        Event::Store { .. } => backs.is_back(which),
-        Event::Barrier => true,
-        Event::Mark => true,
+    match region.kind(which) {
+        EventKind::Store(_) => backs.is_back(which),
+        EventKind::Barrier => true,
+        EventKind::Mark => true,
     }
 }
 
@@ -191,10 +191,10 @@ fn has_barrier<R: Region>(region: &R, from: usize, to: usize) -> bool
         epoch_of (R.memory region.now).events from ≡ epoch_of (R.memory region.now).events to }
 {
     for i in from..to {
-        match region.event(i) {
-            Event::Store { .. } => {}
-            Event::Barrier => return true,
-            Event::Mark => {}
+        match region.kind(i) {
+            EventKind::Store(_) => {}
+            EventKind::Barrier => return true,
+            EventKind::Mark => {}
         }
     }
     false
@@ -213,15 +213,15 @@ fn first_waiting_to<R: Region>(
     ensures { FindsFirstTo result (R.memory region.now).events backs.now.back word from to }
 {
     for i in from..to {
-        match region.event(i) {
-            Event::Store { word: place, .. } => {
+        match region.kind(i) {
+            EventKind::Store(place) => {
                 let is_back = backs.is_back(i);
                 if place == word && !is_back {
                     return Some(i);
                 }
             }
-            Event::Barrier => {}
-            Event::Mark => {}
+            EventKind::Barrier => {}
+            EventKind::Mark => {}
         }
     }
     None
@@ -235,10 +235,10 @@ fn first_missing<R: Region>(region: &R, backs: &Backs, low: usize, which: usize)
     requires which { IsWaiting (R.memory region.now).events backs.now.back which }
     ensures { FindsMissing result (R.memory region.now).events backs.now.back which }
 {
-    let word = match region.event(which) {
-        Event::Store { word, .. } => word,
-        Event::Barrier => unreachable!(),
-        Event::Mark => unreachable!(),
+    let word = match region.kind(which) {
+        EventKind::Store(word) => word,
+        EventKind::Barrier => unreachable!(),
+        EventKind::Mark => unreachable!(),
     };
     if low >= which {
         return None;
@@ -279,14 +279,14 @@ fn open_epoch_at<R: Region>(region: &R, backs: &Backs) -> usize
     let mut passed = 0;
     for i in 0..backs.len() {
         let is_back = backs.is_back(i);
-        match region.event(i) {
-            Event::Store { .. } => {
+        match region.kind(i) {
+            EventKind::Store(_) => {
                 if !is_back {
                     return passed;
                 }
             }
-            Event::Barrier => passed += 1,
-            Event::Mark => {}
+            EventKind::Barrier => passed += 1,
+            EventKind::Mark => {}
         }
     }
     passed
@@ -305,19 +305,19 @@ fn push_flags<R: Region>(region: &R, backs: &Backs, epoch: usize, choice: &mut C
     let mut left = epoch;
     for i in 0..backs.len() {
         let is_back = backs.is_back(i);
-        match region.event(i) {
-            Event::Store { .. } => {
+        match region.kind(i) {
+            EventKind::Store(_) => {
                 if left == 0 {
                     choice.push(is_back);
                 }
             }
-            Event::Barrier => {
+            EventKind::Barrier => {
                 if left == 0 {
                     return;
                 }
                 left -= 1;
             }
-            Event::Mark => {}
+            EventKind::Mark => {}
         }
     }
 }
@@ -328,15 +328,15 @@ fn waiting_mark_count<R: Region>(region: &R, backs: &Backs) -> usize
 {
     let mut count = 0;
     for i in 0..region.event_count() {
-        match region.event(i) {
-            Event::Store { .. } => {
+        match region.kind(i) {
+            EventKind::Store(_) => {
                 let is_back = i < backs.len() && backs.is_back(i);
                 if !is_back {
                     return count;
                 }
             }
-            Event::Barrier => {}
-            Event::Mark => count += 1,
+            EventKind::Barrier => {}
+            EventKind::Mark => count += 1,
         }
     }
     count
@@ -348,7 +348,7 @@ fn mark_count<R: Region>(region: &R) -> usize
 {
     let mut count = 0;
     for i in 0..region.event_count() {
-        if let Event::Mark = region.event(i) {
+        if let EventKind::Mark = region.kind(i) {
             count += 1;
         }
     }

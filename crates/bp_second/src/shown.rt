@@ -5,7 +5,7 @@ ghost use Rattle.bp_layout.specs.Trees.{snapshot_of};
 ghost use Rattle.pm_region.specs.Memory.{current_words};
 
 use bp_limits::{SUPER_ROOT, SUPER_SECOND_ROOT, SUPER_SECOND_SIZE, SUPER_SIZE};
-use pm_epochs::{BadChoice, Choice, Event, Kept, kept_calls};
+use pm_epochs::{BadChoice, Choice, Event, EventKind, Kept, kept_calls};
 use pm_region::Region;
 
 /// A region that is lent to read its second tree: the root word and the size of that tree stand in the place of those of the
@@ -127,6 +127,20 @@ impl<'a, R: Region> Region for Shown<'a, R> {
         match self {
             Shown::First(region) => region.event_count(),
             Shown::Second(_) => 0,
+        }
+    }
+
+    fn kind(&self, i: usize) -> EventKind {
+        match self {
+            Shown::First(region) => region.kind(i),
+            Shown::Second(_) => unreachable!(),
+        }
+    }
+
+    fn word_at(&self, moment: usize, word: u32) -> u64 {
+        match self {
+            Shown::First(region) => region.word_at(moment, word),
+            Shown::Second(second) => second.load(word),
         }
     }
 

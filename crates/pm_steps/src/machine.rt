@@ -7,7 +7,7 @@ ghost use Rattle.pm_steps.specs.Machine.{IsInOrder, MayGoBack, IsFirstMissing, I
 ghost use Rattle.pm_steps.specs.Runs.{FindsFirstTo, FindsMissing, words_in};
 
 use super::backs::Backs;
-use pm_epochs::{Choice, Event, EventKind, Kept};
+use pm_epochs::{Choice, EventKind, Kept};
 use pm_region::Region;
 
 /// A store can't go back yet, since an earlier one has to go first: of an earlier epoch, or to the same word.
@@ -115,8 +115,8 @@ impl<'a, R: Region> Machine<'a, R> {
         }
     }
 
-    /// A word of the memory: what a crash would leave now, since what is not back is lost. Takes time for all events that
-    /// were executed.
+    /// A word of the memory: what a crash would leave now, since what is not back is lost. Takes time for all events of the
+    /// log.
     pub fn image_word(&self, word: u32) -> u64
         requires { word < length (R.memory self.now.region.now).base }
         ensures { result ≡ slice_index (words_in (R.memory self.now.region.now) self.now.backs.now.back) word }
@@ -255,20 +255,21 @@ fn image_word_of<R: Region>(region: &R, backs: &Backs, word: u32) -> u64
     requires in_range { word < length (R.memory region.now).base }
     ensures { result ≡ slice_index (words_in (R.memory region.now) backs.now.back) word }
 {
-    let mut now = region.base_word(word);
+    // Behind so many events of the log it has the value of the last store to it that is back.
+    let mut moment = 0;
     for i in 0..backs.len() {
         let is_back = backs.is_back(i);
-        match region.event(i) {
-            Event::Store { word: place, value } => {
+        match region.kind(i) {
+            EventKind::Store(place) => {
                 if is_back && place == word {
-                    now = value;
+                    moment = i + 1;
                 }
             }
-            Event::Barrier => {}
-            Event::Mark => {}
+            EventKind::Barrier => {}
+            EventKind::Mark => {}
         }
     }
-    now
+    region.word_at(moment, word)
 }
 
 /// The epoch that is being written back: the barriers that were executed before the first store that is not back.

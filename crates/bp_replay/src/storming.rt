@@ -8,7 +8,7 @@ ghost use Rattle.bp_replay.specs.Generator.{next_state, drawn};
 ghost use Rattle.bp_replay.specs.Storm.{drawn_cut, goes_back, waiting_behind, storm_cut};
 
 use super::generator::Generator;
-use pm_epochs::{Choice, Event};
+use pm_epochs::{Choice, EventKind};
 use pm_region::Region;
 use pm_steps::Backs;
 
@@ -64,13 +64,13 @@ fn choose_drawn<R: Region>(
     // Whether a store waits of the epoch that the machine has come to, which it does not leave then.
     let mut waits = false;
     for i in start..moment {
-        match region.event(i) {
-            Event::Store { word, .. } => {
+        match region.kind(i) {
+            EventKind::Store(word) => {
                 let is_back = draws && draw_for(word, generator, backs);
                 waits = waits || !is_back;
                 choice.push(is_back);
             }
-            Event::Barrier => {
+            EventKind::Barrier => {
                 if waits {
                     return;
                 }
@@ -78,7 +78,7 @@ fn choose_drawn<R: Region>(
                 let next = choice.epoch() + 1;
                 choice.start(moment, next);
             }
-            Event::Mark => {}
+            EventKind::Mark => {}
         }
     }
 }

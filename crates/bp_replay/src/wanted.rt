@@ -6,7 +6,7 @@ ghost use Rattle.pm_epochs.specs.Replay.{IsRight};
 ghost use Rattle.bp_replay.specs.Wanted.{all, wanted_by, bits, trimmed, cut_for, mask_places};
 
 use super::cut::Cut;
-use pm_epochs::{BadChoice, Choice, Event};
+use pm_epochs::{BadChoice, Choice, EventKind};
 use pm_region::Region;
 
 /// Makes the choice that a script asks for. `BadChoice` is the answer where it is not right for the region's log: its moment
@@ -46,10 +46,10 @@ fn stores_before<R: Region>(region: &R, moment: usize, epoch: usize) -> usize
 {
     let mut count = 0;
     for i in region.start_of_epoch(epoch)..moment {
-        match region.event(i) {
-            Event::Store { .. } => count += 1,
-            Event::Barrier => return count,
-            Event::Mark => {}
+        match region.kind(i) {
+            EventKind::Store(_) => count += 1,
+            EventKind::Barrier => return count,
+            EventKind::Mark => {}
         }
     }
     count

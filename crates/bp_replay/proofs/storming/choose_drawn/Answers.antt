@@ -1,4 +1,4 @@
-use Rattle.std.proofs.Common.{◌≡◌, ◌∙◌, [], ap, sym, subst, arith, Some, take}
+use Rattle.std.proofs.Common.{◌≡◌, ◌∙◌, [], sym, subst, arith, take}
 use Rattle.std.proofs.lemmas.List.{length-take}
 use Rattle.pm_epochs.specs.Replay.{IsRight}
 use Rattle.pm_steps.specs.Machine.{cut_of}
@@ -11,7 +11,7 @@ returns-then-waits-2-clause-chosen g c =
     let events = (g.R.Region.memory c.args.region.now).events in
     let moment = c.moment-moment.result in
     let loop = c.loop-i in
-    let ends = stands_barrier loop.waits loop.draws loop.generator.state loop.backs.waiting loop.choice.cut events moment loop.i (omega arith) (c.event.ensures.get ∙ ap Some c.in-Barrier.is) c.if-waits-2.true in
+    let ends = stands_barrier loop.waits loop.draws loop.generator.state loop.backs.waiting loop.choice.cut events moment loop.i (omega arith) c.in-Barrier.ensures.get c.if-waits-2.true in
     let first = stands_first c.args.generator.now.state c.args.start moment c.args.choice.now.cut events c.moment-moment.ensures c.requires.taken c.requires.begun c.requires.start c.requires.mask in
     sym ends ∙ loop.invariant.stands ∙ first
 

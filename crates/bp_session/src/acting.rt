@@ -27,7 +27,7 @@ use bp_limits::MAX_LINE;
 use bp_replay::{Cut, choice_of, storm};
 use bp_script::{Line, Syntax};
 use bp_volume::Volume;
-use pm_epochs::{BadChoice, Choice, Event};
+use pm_epochs::{BadChoice, Choice, EventKind};
 use pm_region::Region;
 use pm_steps::Backs;
 use std::alloc::Global;
@@ -90,10 +90,10 @@ fn count_log<R: Region>(region: &R) -> Outcome
     let mut barriers: usize = 0;
     let mut calls: usize = 0;
     for i in 0..events {
-        match region.event(i) {
-            Event::Store { .. } => {}
-            Event::Barrier => barriers += 1,
-            Event::Mark => calls += 1,
+        match region.kind(i) {
+            EventKind::Store(_) => {}
+            EventKind::Barrier => barriers += 1,
+            EventKind::Mark => calls += 1,
         }
     }
     Outcome::Logged {

@@ -14,7 +14,7 @@ use crate::blocks::{RUN_BLOCKS, read_blocks};
 use bp_io::{Failed, Files};
 use bp_limits::{BLOCK_SIZE, BLOCK_WORDS, CALL_ROOM, MAX_BLOCKS};
 use bp_volume::Volume;
-use pm_epochs::Event;
+use pm_epochs::EventKind;
 use pm_region::{Region, Row};
 
 /// The bytes of a block, as a length.
@@ -97,17 +97,17 @@ fn mark_rows<R: Region>(region: &R, marks: &mut [bool], most: usize) -> bool
     let mut left = most;
     let mut i: usize = 0;
     while i < count {
-        let Row { event, len } = region.row(i);
-        match event {
-            Event::Store { word, .. } => {
+        let Row { kind, len } = region.row(i);
+        match kind {
+            EventKind::Store(word) => {
                 if left == 0 {
                     return false;
                 }
                 mark_words(marks, word, len);
                 left -= 1;
             }
-            Event::Barrier => {}
-            Event::Mark => {}
+            EventKind::Barrier => {}
+            EventKind::Mark => {}
         }
         i += len;
     }

@@ -1,4 +1,5 @@
 use Rattle.std.proofs.Common.{arith}
+use Rattle.pm_epochs.specs.Kind.{event_of, value_at}
 use Rattle.bp_session.proofs.ActingLaws.{one_more_barrier, one_more_mark}
 use Rattle.bp_session.proofs.acting.count_log.Goals as goal
 use Rattle.bp_session.proofs.acting.count_log.Goals.{in-Store, in-Barrier, in-Mark}
@@ -6,9 +7,10 @@ use Rattle.bp_session.proofs.acting.count_log.Goals.{in-Store, in-Barrier, in-Ma
 pub loop-i-preserved : goal.loop-i-preserved
 loop-i-preserved g c =
     let events = (g.R.Region.memory c.args.region.now).events in
-    let more_barriers = one_more_barrier events c.loop-i.i c.event.result c.event.ensures.get in
-    let more_marks = one_more_mark events c.loop-i.i c.event.result c.event.ensures.get in
-    elim c.match-event.branch [
+    let event = event_of c.kind.result (value_at events c.loop-i.i) in
+    let more_barriers = one_more_barrier events c.loop-i.i event c.kind.ensures.get in
+    let more_marks = one_more_mark events c.loop-i.i event c.kind.ensures.get in
+    elim c.match-kind.branch [
       | in-Store w ↦
           let b = rw w.in-Store.is at more_barriers in
           let m = rw w.in-Store.is at more_marks in

@@ -1,7 +1,7 @@
 use Rattle.std.proofs.Common.{◌≡◌, ◌+◌, ◌∙◌, length, sym, refl, ap, arith, subst, List, Bool, true}
 use Rattle.std.specs.Prelude.{Some, slice_get}
-use Rattle.pm_epochs.specs.declared.event.Event.{Event}
 use Rattle.pm_epochs.specs.declared.event.Event.TheVariants.{Barrier, Mark, Store}
+use Rattle.pm_epochs.specs.Kind.{event_of, value_at}
 use Rattle.bp_session.specs.Changed.{is_marked}
 use Rattle.bp_session.proofs.MarkLaws.{MarksStores, marks_alone, marks_changes, marks_more, marks_row, none_at, row_alone, row_within}
 use Rattle.bp_session.proofs.saving.mark_rows.Goals as goal
@@ -20,15 +20,15 @@ pub mark_words-requires-clause-fits : goal.mark_words-requires-clause-fits
 mark_words-requires-clause-fits g c =
     let memory = g.R.Region.memory c.args.region.now in
     let words = length memory.base in
-    let row = c.row-event.ensures in
+    let row = c.row-kind.ensures in
     let word = c.in-Store.word in
-    let value = c.in-Store.value in
-    let at : slice_get memory.events c.loop-i.i ≡ Some (Store word value) = row.get ∙ ap (λ (event : Event). Some event) c.in-Store.is in
+    let value = value_at memory.events c.loop-i.i in
+    let at : slice_get memory.events c.loop-i.i ≡ Some (Store word value) = row.get ∙ ap (λ kind. Some (event_of kind value)) c.in-Store.is in
     omega (
       arith,
       c.words-words.ensures,
       c.words-words.type_inv,
-      row_within words memory.events c.loop-i.i c.row-event.result.len word value at row.row row.inside row.some c.event_count-count.ensures.within,
+      row_within words memory.events c.loop-i.i c.row-kind.result.len word value at row.row row.inside row.some c.event_count-count.ensures.within,
     )
 
 pub loop-i-preserved : goal.loop-i-preserved
@@ -36,39 +36,40 @@ loop-i-preserved g c =
     let memory = g.R.Region.memory c.args.region.now in
     let events = memory.events in
     let old = c.loop-i.marks in
-    let new = c.match-event.marks in
+    let new = c.match-kind.marks in
     let here = c.loop-i.invariant in
     let i = c.loop-i.i in
-    let count = c.row-event.result.len in
-    let row = c.row-event.ensures in
+    let count = c.row-kind.result.len in
+    let row = c.row-kind.ensures in
+    let value = value_at events i in
     record {
       here = omega (arith, row.inside, c.event_count-count.ensures.count);
-      marks = elim c.match-event.branch [
+      marks = elim c.match-kind.branch [
         | in-Store+else-left-eq0 w ↦
-            let at : slice_get events i ≡ Some (Store w.in-Store.word w.in-Store.value) = row.get ∙ ap (λ (event : Event). Some event) w.in-Store.is in
+            let at : slice_get events i ≡ Some (Store w.in-Store.word value) = row.get ∙ ap (λ kind. Some (event_of kind value)) w.in-Store.is in
             subst (λ (marks : List Bool). MarksStores marks events (i + count)) (sym w.marks-is)
-            (marks_row w.mark_words.new.marks events i count w.in-Store.word w.in-Store.value at row.row row.inside w.mark_words.ensures.marked
+            (marks_row w.mark_words.new.marks events i count w.in-Store.word value at row.row row.inside w.mark_words.ensures.marked
             (marks_more old w.mark_words.new.marks events i w.mark_words.ensures.more here.marks))
         | in-Barrier w ↦
-            let at : slice_get events i ≡ Some Barrier = row.get ∙ ap (λ (event : Event). Some event) w.in-Barrier.is in
+            let at : slice_get events i ≡ Some Barrier = row.get ∙ ap (λ kind. Some (event_of kind value)) w.in-Barrier.is in
             subst (λ (marks : List Bool). MarksStores marks events (i + count)) (sym w.marks-is)
             (marks_alone old events i count Barrier at (λ word value e. cc) (row_alone events i count Barrier at (λ next follows. follows) row.row row.inside) here.marks)
         | in-Mark w ↦
-            let at : slice_get events i ≡ Some Mark = row.get ∙ ap (λ (event : Event). Some event) w.in-Mark.is in
+            let at : slice_get events i ≡ Some Mark = row.get ∙ ap (λ kind. Some (event_of kind value)) w.in-Mark.is in
             subst (λ (marks : List Bool). MarksStores marks events (i + count)) (sym w.marks-is)
             (marks_alone old events i count Mark at (λ word value e. cc) (row_alone events i count Mark at (λ next follows. follows) row.row row.inside) here.marks)
       ];
-      more = elim c.match-event.branch [
+      more = elim c.match-kind.branch [
         | in-Store+else-left-eq0 w ↦ λ k on. subst (λ (marks : List Bool). is_marked marks k ≡ true) (sym w.marks-is) (w.mark_words.ensures.more k (here.more k on))
         | in-Barrier w ↦ λ k on. subst (λ (marks : List Bool). is_marked marks k ≡ true) (sym w.marks-is) (here.more k on)
         | in-Mark w ↦ λ k on. subst (λ (marks : List Bool). is_marked marks k ≡ true) (sym w.marks-is) (here.more k on)
       ];
-      none = elim c.match-event.branch [
-        | in-Store+else-left-eq0 w ↦ λ none. absurd (none_at events i w.in-Store.word w.in-Store.value none (row.get ∙ ap (λ (event : Event). Some event) w.in-Store.is))
+      none = elim c.match-kind.branch [
+        | in-Store+else-left-eq0 w ↦ λ none. absurd (none_at events i w.in-Store.word value none (row.get ∙ ap (λ kind. Some (event_of kind value)) w.in-Store.is))
         | in-Barrier w ↦ λ none. w.marks-is ∙ here.none none
         | in-Mark w ↦ λ none. w.marks-is ∙ here.none none
       ];
-      size = elim c.match-event.branch [
+      size = elim c.match-kind.branch [
         | in-Store+else-left-eq0 w ↦ ap (λ (marks : List Bool). length marks) w.marks-is ∙ w.mark_words.ensures.size ∙ here.size
         | in-Barrier w ↦ ap (λ (marks : List Bool). length marks) w.marks-is ∙ here.size
         | in-Mark w ↦ ap (λ (marks : List Bool). length marks) w.marks-is ∙ here.size
@@ -84,4 +85,4 @@ returns-clause-marks g c = λ _.
 pub returns-then-left-eq0-clause-some : goal.returns-then-left-eq0-clause-some
 returns-then-left-eq0-clause-some g c = λ _ none.
     let events = (g.R.Region.memory c.args.region.now).events in
-    none_at events c.loop-i.i c.in-Store.word c.in-Store.value none (c.row-event.ensures.get ∙ ap (λ (event : Event). Some event) c.in-Store.is)
+    none_at events c.loop-i.i c.in-Store.word (value_at events c.loop-i.i) none (c.row-kind.ensures.get ∙ ap (λ kind. Some (event_of kind (value_at events c.loop-i.i))) c.in-Store.is)

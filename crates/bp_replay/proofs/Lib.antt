@@ -5,3 +5,4 @@ pub mod Rule
 pub mod Standing
 pub mod CacheRuns
 pub mod CachePlayed
+pub mod Blind

@@ -3,6 +3,7 @@ use Rattle.std.specs.Prelude.{◌≡◌, ℕ, ◌+◌, ◌%◌, ◌<◌, ◌≤�
 use Rattle.std.specs.List.{list_all}
 use Rattle.pm_epochs.specs.declared.event.Event.{Event}
 use Rattle.pm_epochs.specs.declared.event.Event.TheVariants.{Store, Barrier, Mark}
+use Rattle.pm_epochs.specs.Kind.{event_kind, event_of}
 use Rattle.pm_epochs.specs.Replay.{PowerCut}
 use Rattle.pm_cores.specs.declared.entry.Owner.{Owner}
 use Rattle.pm_cores.specs.Caches.{Caches, owner_at, with_back, after_load, after_store, after_barrier}
@@ -53,6 +54,10 @@ cache_run caches last state [] = caches
 cache_run caches last state (event ∷ events) =
     cache_run (after_draw (after_event caches event) (last_word last event) (drawn state)) (last_word last event)
     (next_state state) events
+
+-- the event with 0 in place of its value
+abbrev pub without_value : Event → Event
+without_value event = event_of (event_kind event) 0
 
 -- how many events are done
 abbrev pub cache_moment : List Event → ℕ → ℕ

@@ -1,11 +1,17 @@
 -- A run of caches does the same whatever values are stored: its log alone has them.
-use Rattle.std.proofs.Common.{◌≡◌, ℕ, zero, suc, ◌+◌, ◌%◌, Bool, true, false, cond, eqb, leb, ◌&&◌, ◌||◌, Option, Some, None, List, [], ◌∷◌, ◌++◌, length, get_or, set, take, map, refl, sym, ◌∙◌, ap}
+use Rattle.std.proofs.Common.{◌≡◌, ℕ, zero, suc, ◌+◌, ◌%◌, ◌<◌, ◌≤◌, subst, Bool, true, false, cond, eqb, leb, ◌&&◌, ◌||◌, Option, Some, None, List, [], ◌∷◌, ◌++◌, length, get_or, set, take, map, refl, sym, ◌∙◌, ap}
 use Rattle.std.specs.List.{slice_get, range_with_len}
 use Rattle.std.specs.Option.{option_map}
 use Rattle.std.proofs.lemmas.List.{length-map, map-append}
 use Rattle.std.proofs.lemmas.Option.{slice_get-map}
 use Rattle.pm_epochs.specs.declared.event.Event.{Event}
 use Rattle.pm_epochs.specs.declared.event.Event.TheVariants.{Store as Set, Barrier as Fence, Mark}
+use Rattle.pm_epochs.specs.declared.event.EventKind.{EventKind}
+use Rattle.pm_epochs.specs.declared.event.EventKind.TheVariants as kinds
+use Rattle.pm_epochs.specs.Kind.{event_of}
+use Rattle.pm_epochs.specs.Log.{barriers, epoch_stores}
+use Rattle.pm_epochs.specs.May.{StoresMay}
+use Rattle.pm_epochs.specs.Replay.{PowerCut, IsRight}
 use Rattle.pm_cores.specs.declared.entry.Entry.{Entry}
 use Rattle.pm_cores.specs.declared.entry.Entry.TheVariants.{Load, Store, Barrier}
 use Rattle.pm_cores.specs.declared.entry.Owner.{Owner}
@@ -13,6 +19,7 @@ use Rattle.pm_cores.specs.Log.{core_barriers, epoch_at}
 use Rattle.pm_cores.specs.Caches.{Caches, caches_over, owner_at, line_owner, is_up_to, entry_is_up_to, entry_is_of, settled, written_by, written_under, logged, ready_to_load, ready_to_store, stored, after_load, after_store}
 use Rattle.pm_cores.specs.Choice.{dirty_epoch, first_epoch, flag_in, mask_to, cut_at}
 use Rattle.pm_cores.proofs.Views.{map_range_same}
+use Rattle.bp_replay.proofs.CacheRuns.{stored_below}
 use Rattle.bp_replay.specs.Generator.{next_state, drawn}
 use Rattle.bp_replay.specs.Cache.{may_go, after_back, after_event, last_word, by_draw, after_draw, cache_run, cache_moment, cache_cut, without_value}
 
@@ -190,7 +197,7 @@ cut-blind caches last state events moment none =
     ∙ ap (λ it. cut_at it moment) (cache_run-bare caches last state events)
     ∙ cut_at-bare (cache_run caches last state events) moment
 
-take-map : (n : ℕ) (events : List Event) → take n (map without_value events) ≡ map without_value (take n events)
+pub take-map : (n : ℕ) (events : List Event) → take n (map without_value events) ≡ map without_value (take n events)
 take-map zero events = refl
 take-map (suc n) [] = refl
 take-map (suc n) (event ∷ events) = ap (λ es. without_value event ∷ es) (take-map n events)
@@ -202,3 +209,47 @@ cache_cut-blind cores words capacity events seed =
     ap (λ n. cut_at (cache_run begun None (next_state seed) (take (drawn seed % (n + 1)) (map without_value events))) (drawn seed % (n + 1))) (length-map events without_value)
     ∙ ap (λ es. cut_at (cache_run begun None (next_state seed) es) moment) (take-map moment events)
     ∙ cut-blind begun None (next_state seed) (take moment events) moment refl
+
+-- ## A log without values
+
+pub get-bare : (events : List Event) (i : ℕ) (kind : EventKind) (value : ℕ) → slice_get events i ≡ Some (event_of kind value) → slice_get (map without_value events) i ≡ Some (event_of kind 0)
+get-bare events i kind value is = slice_get-map without_value events i ∙ ap (option_map without_value) is ∙ ap Some (of kind)
+  where
+    of : (kind : EventKind) → without_value (event_of kind value) ≡ event_of kind 0
+    of (kinds.Store word) = refl
+    of kinds.Barrier = refl
+    of kinds.Mark = refl
+
+may-bare : (bound : ℕ) (events : List Event) → StoresMay (λ at its. at < bound) events → StoresMay (λ at its. at < bound) (map without_value events)
+may-bare bound [] may = tt
+may-bare bound (Set word value ∷ events) may = (may.0, may-bare bound events may.1)
+may-bare bound (Fence ∷ events) may = may-bare bound events may
+may-bare bound (Mark ∷ events) may = may-bare bound events may
+
+pub below-bare : (bound : ℕ) (events : List Event) (i : ℕ) (kind : EventKind) (value : ℕ) → StoresMay (λ at its. at < bound) events → slice_get events i ≡ Some (event_of kind value) → (word other : ℕ) → event_of kind 0 ≡ Set word other → word < bound
+below-bare bound events i kind value may is word other same = stored_below bound (map without_value events) i word other (may-bare bound events may) (get-bare events i kind value is ∙ ap Some same)
+
+barriers-bare : (events : List Event) → barriers (map without_value events) ≡ barriers events
+barriers-bare [] = refl
+barriers-bare (Set word value ∷ events) = barriers-bare events
+barriers-bare (Fence ∷ events) = ap suc (barriers-bare events)
+barriers-bare (Mark ∷ events) = barriers-bare events
+
+epoch_stores-bare : (epoch : ℕ) (events : List Event) → epoch_stores epoch (map without_value events) ≡ epoch_stores epoch events
+epoch_stores-bare epoch [] = refl
+epoch_stores-bare zero (Set word value ∷ events) = ap suc (epoch_stores-bare zero events)
+epoch_stores-bare (suc epoch) (Set word value ∷ events) = epoch_stores-bare (suc epoch) events
+epoch_stores-bare zero (Fence ∷ events) = refl
+epoch_stores-bare (suc epoch) (Fence ∷ events) = epoch_stores-bare epoch events
+epoch_stores-bare zero (Mark ∷ events) = epoch_stores-bare zero events
+epoch_stores-bare (suc epoch) (Mark ∷ events) = epoch_stores-bare (suc epoch) events
+
+-- a choice that is right without the values is right
+pub right-bare : (events : List Event) (cut : PowerCut) → IsRight (map without_value events) cut → IsRight events cut
+right-bare events cut right =
+    let done = take-map cut.moment events in
+    record {
+      moment = subst (λ n. cut.moment ≤ n) (length-map events without_value) right.moment;
+      epoch = subst (λ n. cut.epoch ≤ n) (ap barriers done ∙ barriers-bare (take cut.moment events)) right.epoch;
+      mask = subst (λ n. length cut.mask ≤ n) (ap (epoch_stores cut.epoch) done ∙ epoch_stores-bare cut.epoch (take cut.moment events)) right.mask;
+    }

@@ -1,7 +1,8 @@
 //! Crashes of a run with two cores' caches.
 
 ghost use Rattle.std.specs.Prelude.{◌≡◌, ℕ, ◌*◌, ◌<◌, ◌≤◌, length};
-ghost use Rattle.pm_epochs.specs.declared.event.Event.TheVariants.{Store};
+ghost use Rattle.pm_epochs.specs.declared.event.EventKind.TheVariants.{Store};
+ghost use Rattle.pm_epochs.specs.Kind.{event_of};
 ghost use Rattle.pm_epochs.specs.May.{StoresMay};
 ghost use Rattle.pm_epochs.specs.Replay.{IsRight};
 ghost use Rattle.pm_cores.specs.Caches.{caches_over};
@@ -11,7 +12,7 @@ ghost use Rattle.bp_replay.specs.Cache.{after_back, after_event, last_word, by_d
 use super::generator::Generator;
 use pm_cores::Cores;
 use pm_cores::laws::a_choice_leaves_the_memory;
-use pm_epochs::{Choice, Event};
+use pm_epochs::{Choice, EventKind};
 use pm_region::Region;
 
 /// A random run of two cores' caches over the region's log, and the choice of what a crash then keeps. A moment is drawn. Core
@@ -35,9 +36,9 @@ pub fn cache<R: Region>(region: &R, seed: u64, cores: &mut Cores, choice: &mut C
     cores.begin();
     let mut last = None;
     for i in 0..moment {
-        let event = region.event(i);
-        play_event(event, cores);
-        last = word_behind(last, event);
+        let kind = region.kind(i);
+        play_kind(kind, cores);
+        last = word_behind(last, kind);
         play_draw(region, generator.draw(), last, cores);
     }
     cores.is_coherent();
@@ -45,28 +46,28 @@ pub fn cache<R: Region>(region: &R, seed: u64, cores: &mut Cores, choice: &mut C
     cores.choice(choice, moment);
 }
 
-/// Core 0 does an event.
-fn play_event(event: Event, cores: &mut Cores)
+/// Core 0 does an event of a kind. A store is one of 0, since no value plays a part in what a crash keeps.
+fn play_kind(kind: EventKind, cores: &mut Cores)
     requires cores { 0 < cores.old.cores }
-    requires word { (word value : ℕ) → event ≡ Store word value → word < cores.old.words }
+    requires word { (word : ℕ) → kind ≡ Store word → word < cores.old.words }
     requires room { length cores.old.log < cores.old.capacity }
-    ensures { cores.new ≡ after_event cores.old event }
+    ensures { cores.new ≡ after_event cores.old (event_of kind 0) }
 {
-    match event {
-        Event::Store { word, value } => cores.store(0, word, value),
-        Event::Barrier => cores.barrier(0),
-        Event::Mark => {}
+    match kind {
+        EventKind::Store(word) => cores.store(0, word, 0),
+        EventKind::Barrier => cores.barrier(0),
+        EventKind::Mark => {}
     }
 }
 
 /// The word of the last store, behind one more event.
-fn word_behind(last: Option<u32>, event: Event) -> Option<u32>
-    ensures { result ≡ last_word last event }
+fn word_behind(last: Option<u32>, kind: EventKind) -> Option<u32>
+    ensures { result ≡ last_word last (event_of kind 0) }
 {
-    match event {
-        Event::Store { word, .. } => Some(word),
-        Event::Barrier => last,
-        Event::Mark => last,
+    match kind {
+        EventKind::Store(word) => Some(word),
+        EventKind::Barrier => last,
+        EventKind::Mark => last,
     }
 }
 

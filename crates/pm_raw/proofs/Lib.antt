@@ -3,7 +3,10 @@ mod EntryLaws
 mod WordLaws
 mod PieceLaws
 mod LogLaws
-mod UndoLaws
+mod UnwoundLaws
+mod KindLaws
+mod RowLaws
+mod RegionLaws
 mod EpochLaws
 mod PlaceLaws
 pub mod SpelledLaws

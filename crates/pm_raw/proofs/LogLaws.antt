@@ -1,7 +1,6 @@
 -- Parts of a log as they stand in memory.
-use Rattle.std.proofs.Common.{◌≡◌, ℕ, ◌+◌, ◌-◌, ◌^◌, ◌<◌, ◌≤◌, inl, inr, List, ◌++◌, length, take, drop, get_or, sym, ◌∙◌, ap, arith, subst}
+use Rattle.std.proofs.Common.{◌≡◌, ℕ, ◌+◌, ◌-◌, ◌^◌, ◌<◌, ◌≤◌, List, ◌++◌, length, take, drop, get_or, sym, ◌∙◌, ap, arith, subst}
 use Rattle.std.specs.List.{range_with_len}
-use Rattle.std.proofs.lemmas.Bool.Decides.{eqb_tells}
 use Rattle.std.proofs.lemmas.List.{length-drop, length-take-le, take-append-drop, take_rest}
 use Rattle.pm_epochs.specs.declared.event.Event.{Event}
 use Rattle.pm_raw.specs.Entries.{events_of}
@@ -75,16 +74,6 @@ module _ (firsts starts values : List ℕ) (at : ℕ) (runs : AreRuns firsts sta
   pub front-taken : (n run : ℕ) → run < length starts → 0 < n → get_or starts run 0 ≤ at + (n - 1) → (i : ℕ) → i < run + 1 → get_or starts i 0 < at + n
   front-taken n run inside some begun i low = omega (arith, begun_by firsts starts at (at + length values) runs run i (at + (n - 1)) (omega arith) inside begun)
 
-  -- the last run begins before the end, and where it is not the only one the events begin before it
-  pub last-taken : (i : ℕ) → i < length starts - 1 → get_or starts i 0 < get_or starts (length starts - 1) 0
-  last-taken i low = runs.rises i (length starts - 1) low (omega arith)
-
-  pub last-alone : at < get_or starts (length starts - 1) 0 → 0 < length starts - 1
-  last-alone more = elim (eqb_tells (length starts - 1) 0) [
-    | inl none ↦ absurd (omega (arith, ap (λ i. get_or starts i 0) none.1, runs.begun))
-    | inr some ↦ omega (arith, some.1)
-  ]
-
   -- the events of a run
   pub run-in : (run n : ℕ) (from word : ℕ) → run < length starts → get_or starts run 0 ≤ from → (run + 1 < length starts → from + n ≤ get_or starts (run + 1) 0) → word ≡ get_or firsts run 0 + (from - get_or starts run 0)
       → words_from firsts starts from n ≡ range_with_len word n
@@ -107,31 +96,3 @@ module _ (firsts starts values : List ℕ) (at : ℕ) (runs : AreRuns firsts sta
   first-low some =
       let here = word_in firsts starts at (at + length values) runs 0 at (runs.some (omega arith)) runs.begun runs.first in
       omega (arith, here, runs.fits at (omega arith) (omega arith))
-
-  -- the events of the last run
-  module _ (kept word : ℕ) (some : 0 < length values) (fits : kept < length values) (begun : get_or starts (length starts - 1) 0 ≤ at + kept) (is : word ≡ get_or firsts (length starts - 1) 0 + ((at + kept) - get_or starts (length starts - 1) 0)) where
-    abbrev final : List ℕ
-    final = take (length values - kept) (drop kept values)
-
-    long-final : length final ≡ length values - kept
-    long-final = ap length (take_rest values kept) ∙ length-drop kept values
-
-    pub last-row : take kept events ++ events_of (range_with_len word (length (take (length values - kept) (drop kept values)))) (take (length values - kept) (drop kept values)) ≡ events
-    last-row =
-        let there = runs.some (omega arith) in
-        ap (λ k. take kept events ++ events_of (range_with_len word k) final) long-final
-        ∙ ap (λ vs. take kept events ++ events_of (range_with_len word (length values - kept)) vs) (take_rest values kept)
-        ∙ ap (λ ws. take kept events ++ events_of ws (drop kept values)) (sym (run-in (length starts - 1) (length values - kept) (at + kept) word (omega arith) begun (λ more. absurd (omega arith)) is))
-        ∙ ap (λ ws. take kept events ++ events_of ws (drop kept values)) (sym (drop-words_from firsts starts at kept (length values) (omega arith)))
-        ∙ ap (λ es. take kept events ++ es) (events_of-drop kept words values each)
-        ∙ take-append-drop kept events
-
-    pub last-some : 0 < length (take (length values - kept) (drop kept values))
-    last-some = omega (arith, long-final)
-
-    pub last-fits : word + length (take (length values - kept) (drop kept values)) ≤ 2 ^ 32
-    last-fits =
-        let there = runs.some (omega arith) in
-        let end = (at + length values) - 1 in
-        let here = word_in firsts starts at (at + length values) runs (length starts - 1) end (omega arith) (omega arith) (λ more. absurd (omega arith)) in
-        omega (arith, is, here, long-final, runs.fits end (omega arith) (omega arith))

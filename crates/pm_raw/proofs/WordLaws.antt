@@ -302,3 +302,14 @@ row_words firsts starts count run i end runs inside begun ends j low =
     let here = word-read firsts starts count runs i run (omega (arith, past, within)) inside begun (ends.last i past) in
     let there = word-read firsts starts count runs (i + j) run (omega (arith, past, within, low)) inside (omega (arith, begun)) (ends.last (i + j) (omega (arith, past, low))) in
     omega (arith, here, there, begun)
+
+-- the words of a run up to one of its events
+pub row_words_before : (firsts starts : List ℕ) (count run from last n word : ℕ) → AreRuns firsts starts 0 count → run < length starts → get_or starts run 0 ≤ from → from ≤ last → last < count
+    → (run + 1 < length starts → last < get_or starts (run + 1) 0) → n ≡ (last + 1) - from → word + (last - from) ≡ get_or firsts run 0 + (last - get_or starts run 0)
+    → take n (drop from (words_from firsts starts 0 count)) ≡ range_with_len word n
+row_words_before firsts starts count run from last n word runs inside begun within low before many is =
+    ap (take n) (drop-words_from firsts starts 0 from count (omega arith))
+    ∙ take-words_from firsts starts (0 + from) n (count - from) (omega arith)
+    ∙ words_from-range firsts starts (0 + from) word n (λ i least less.
+    let here = word_in firsts starts 0 count runs run i inside (omega arith) (λ more. omega (arith, before more)) in
+    omega (arith, here, is))

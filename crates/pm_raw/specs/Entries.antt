@@ -20,9 +20,8 @@ events_of [] values = []
 events_of (word ∷ words) [] = []
 events_of (word ∷ words) (value ∷ values) = event_of word value ∷ events_of words values
 
--- the events that code holds, each by its word, its value and the value that it replaced, and how many it has room for
+-- the events that code holds, each by its word and its number, and how many it has room for
 pub record Entered : Type 0 where
   pub words : List ℕ
-  pub values : List ℕ
-  pub replaced : List ℕ
+  pub saved : List ℕ
   pub room : ℕ

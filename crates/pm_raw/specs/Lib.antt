@@ -13,6 +13,5 @@ pub mod LogRuns
 pub mod Pieces
 pub mod EntriesRoom
 pub mod Places
-pub mod Undo
+pub mod Unwound
 pub mod RawRegion
-pub mod Runs

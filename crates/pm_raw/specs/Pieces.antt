@@ -1,5 +1,5 @@
 -- The events of a piece of a log.
-use Rattle.std.specs.Prelude.{ℕ, zero, suc, ◌+◌, ◌==◌, Bool, true, false, if◌then◌else◌, length, List, [], ◌∷◌}
+use Rattle.std.specs.Prelude.{ℕ, zero, suc, ◌+◌, Bool, true, false, length, List, [], ◌∷◌}
 use Rattle.pm_epochs.specs.declared.event.Event.{Event}
 use Rattle.pm_epochs.specs.declared.event.Event.TheVariants as event
 use Rattle.pm_region.specs.Memory.{stores_from}
@@ -23,12 +23,6 @@ keeps zero mask = true
 keeps (suc n) [] = false
 keeps (suc n) (true ∷ mask) = keeps n mask
 keeps (suc n) (false ∷ mask) = false
-
--- how many stores a piece has, where the first one goes to this word, and otherwise none
-abbrev pub goes_on : Piece → ℕ → ℕ
-goes_on (Stores first values) word = if first == word then length values.now else 0
-goes_on Barrier word = 0
-goes_on Mark word = 0
 
 -- the word that goes on with a piece's stores, 0 where it is none
 abbrev pub piece_end : Piece → ℕ

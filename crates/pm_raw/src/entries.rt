@@ -1,23 +1,26 @@
 //! What a region writes down of each event since the last drain.
-ghost use Rattle.std.specs.Prelude.{◌≡◌, ◌+◌, ◌-◌, ◌^◌, ◌<◌, ◌≤◌, [], ◌∷◌, ◌++◌, IfOk, Some, length, slice_get, slice_index_or, vec_capacity, vec_len};
+ghost use Rattle.std.specs.Prelude.{◌≡◌, ◌+◌, ◌-◌, ◌^◌, ◌<◌, ◌≤◌, [], ◌∷◌, ◌++◌, IfOk, Some, drop, length, option_map, slice_get, take, vec_capacity, vec_len};
 ghost use Rattle.std.specs.List.{range_with_len};
-ghost use Rattle.pm_region.specs.Memory.{AreInRow};
+ghost use Rattle.pm_epochs.specs.Kind.{event_kind};
+ghost use Rattle.pm_region.specs.Memory.{AreInRow, AreWithin};
 ghost use Rattle.pm_raw.specs.Entries.{event_of, events_of};
+ghost use Rattle.pm_raw.specs.Unwound.{base_from, events_from};
 
 use super::log::{BARRIER, Log, NO_WORD};
 use super::runs::{Runs, WordRow};
-use pm_epochs::Event;
+use super::unwind::unwind;
+use pm_epochs::EventKind;
 use pm_region::Row;
 use std::alloc::{AllocError, Global};
 use std::marker::Model;
 
-/// The events of a log: the words of all, by runs, and the value of each and the value that it replaced, in two vectors that
-/// take their memory once.
+/// The events of a log: the words of all, by runs, and for each one number, in a vector that takes its memory once. The number
+/// of a store is the value that it replaced: the one that it brought is what the next store to its word replaced, or the word
+/// now.
 #[derive(Drop)]
 pub struct Entries {
     words: Runs,
-    values: Vec<u64>,
-    replaced: Vec<u64>,
+    saved: Vec<u64>,
 }
 
 impl Model for Entries {
@@ -25,11 +28,11 @@ impl Model for Entries {
 
     ghost Value = { Entered };
 
-    ghost use Rattle.pm_raw.specs.EntriesRoom.{entered_of, HasValues};
+    ghost use Rattle.pm_raw.specs.EntriesRoom.{entered_of, HasNumbers};
 
     ghost view = { entered_of };
 
-    ghost invariant = { HasValues };
+    ghost invariant = { HasNumbers };
 }
 
 /// Adds values, in room that is there.
@@ -45,35 +48,30 @@ fn add(values: &mut Vec<u64>, more: &[u64])
     }
 }
 
-/// The event with this word and this value.
+/// What the event with this word and this number is.
 #[tactic(auto, using(std::proofs::lemmas::Bool::Decides::nat_tests))]
-fn read_event(word: u32, value: u64) -> Event
-    ensures { result ≡ event_of word value }
+fn read_kind(word: u32, number: u64) -> EventKind
+    ensures { result ≡ event_kind (event_of word number) }
 {
     if word == NO_WORD {
-        if value == BARRIER {
-            Event::Barrier
+        if number == BARRIER {
+            EventKind::Barrier
         } else {
-            Event::Mark
+            EventKind::Mark
         }
     } else {
-        Event::Store { word, value }
+        EventKind::Store(word)
     }
 }
 
 impl Entries {
     /// None yet, with room for so many. Fails only for want of memory; no other call takes any.
     pub fn new(alloc: Global, room: usize) -> Result<Entries, AllocError>
-        ensures { IfOk result (λ entries. entries ≡ record { words = []; values = []; replaced = []; room = room }) }
+        ensures { IfOk result (λ entries. entries ≡ record { words = []; saved = []; room = room }) }
     {
         let words = Runs::new(alloc, room)?;
-        let values = Vec::with_capacity(alloc, room)?;
-        let replaced = Vec::with_capacity(alloc, room)?;
-        Ok(Entries {
-            words,
-            values,
-            replaced,
-        })
+        let saved = Vec::with_capacity(alloc, room)?;
+        Ok(Entries { words, saved })
     }
 
     /// How many there are.
@@ -90,88 +88,89 @@ impl Entries {
         self.words.room()
     }
 
-    /// The events.
+    /// The undo log.
     pub fn log(&self) -> Log<'_>
-        requires { length self.now.values ≡ length self.now.words }
-        ensures { result ≡ events_of self.now.words self.now.values }
+        requires { length self.now.saved ≡ length self.now.words }
+        ensures { result ≡ events_of self.now.words self.now.saved }
     {
-        self.words.log(&self.values)
+        self.words.log(&self.saved)
     }
 
-    /// One of them, by its number from 0.
+    /// What one of the events is, by its number from 0.
     #[inline]
-    pub fn event(&self, i: usize) -> Event
-        requires each { length self.now.values ≡ length self.now.words }
+    pub fn kind(&self, i: usize) -> EventKind
+        requires each { length self.now.saved ≡ length self.now.words }
         requires inside { i < length self.now.words }
-        ensures get { slice_get (events_of self.now.words self.now.values) i ≡ Some result }
-        ensures value { result ≡ slice_index_or (events_of self.now.words self.now.values) i result }
+        ensures { option_map event_kind (slice_get (events_of self.now.words self.now.saved) i) ≡ Some result }
     {
-        read_event(self.words.word(i), self.values[i])
+        read_kind(self.words.word(i), self.saved[i])
     }
 
-    /// One of them, by its number from 0, and how many from it on are stores to words in a row.
+    /// What one of the events is, by its number from 0, and how many from it on are stores to words in a row.
     #[inline]
     pub fn row(&self, i: usize) -> Row
-        requires each { length self.now.values ≡ length self.now.words }
+        requires each { length self.now.saved ≡ length self.now.words }
         requires inside { i < length self.now.words }
-        ensures get { slice_get (events_of self.now.words self.now.values) i ≡ Some result.event }
+        ensures get { option_map event_kind (slice_get (events_of self.now.words self.now.saved) i) ≡ Some result.kind }
         ensures some { 0 < result.len }
         ensures fits { i + result.len ≤ length self.now.words }
-        ensures row { AreInRow (events_of self.now.words self.now.values) i result.len }
+        ensures row { AreInRow (events_of self.now.words self.now.saved) i result.len }
     {
         let WordRow { first, len } = self.words.row(i);
         // The word that stands for no store is none of a row.
         let stores = (NO_WORD - first) as usize;
         Row {
-            event: read_event(first, self.values[i]),
+            kind: read_kind(first, self.saved[i]),
             len: len.min(stores.max(1)),
         }
     }
 
-    /// The values that they replaced.
-    pub fn replaced(&self) -> &[u64]
-        ensures { result.now ≡ self.now.replaced }
+    /// Unwinds the events from the last one to that with the number `start`: the words are then those before it, and the numbers
+    /// of the stores from it on are the values that they brought.
+    pub fn unwind(&mut self, words: &mut [u64], start: usize)
+        requires each { length self.old.saved ≡ length self.old.words }
+        requires fits { start ≤ length self.old.words }
+        requires within { AreWithin (length words.old) (events_of self.old.words self.old.saved) }
+        ensures each { length self.new.saved ≡ length self.new.words }
+        ensures words { words.new ≡ base_from words.old (drop start (events_of self.old.words self.old.saved)) }
+        ensures log { let undos = events_of self.old.words self.old.saved in
+            events_of self.new.words self.new.saved ≡ take start undos ++ events_from words.old (drop start undos) }
+        ensures room { self.new.room ≡ self.old.room }
     {
-        &self.replaced
+        unwind(words, &self.words, &mut self.saved, start);
     }
 
     /// Begins anew, with none. The room stays.
     pub fn clear(&mut self)
-        ensures { self.new ≡ record { words = []; values = []; replaced = []; room = self.old.room } }
+        ensures { self.new ≡ record { words = []; saved = []; room = self.old.room } }
     {
         self.words.clear();
-        self.values.clear();
-        self.replaced.clear();
+        self.saved.clear();
     }
 
     /// One more, behind the others.
     #[inline(always)]
-    pub fn push(&mut self, word: u32, value: u64, replaced: u64)
+    pub fn push(&mut self, word: u32, saved: u64)
         requires { length self.old.words < self.old.room }
         ensures words { self.new.words ≡ self.old.words ++ word ∷ [] }
-        ensures values { self.new.values ≡ self.old.values ++ value ∷ [] }
-        ensures replaced { self.new.replaced ≡ self.old.replaced ++ replaced ∷ [] }
+        ensures saved { self.new.saved ≡ self.old.saved ++ saved ∷ [] }
         ensures room { self.new.room ≡ self.old.room }
     {
-        self.values.push_reserved(value);
-        self.replaced.push_reserved(replaced);
+        self.saved.push_reserved(saved);
         self.words.push(word, 1);
     }
 
-    /// A run of stores, behind the others, to the words from `first` on.
+    /// A run of stores, behind the others, to the words from `first` on, which replaced these values.
     // By itself, so that the callers that compare words before they store them stay small enough to be inlined.
     #[inline(never)]
-    pub fn push_run(&mut self, first: u32, values: &[u64], replaced: &[u64])
-        requires each { length replaced.now ≡ length values.now }
-        requires room { length self.old.words + length values.now ≤ self.old.room }
-        requires in_range { first + length values.now < 2 ^ 32 }
-        ensures words { self.new.words ≡ self.old.words ++ range_with_len first (length values.now) }
-        ensures values { self.new.values ≡ self.old.values ++ values.now }
-        ensures replaced { self.new.replaced ≡ self.old.replaced ++ replaced.now }
+    pub fn push_run(&mut self, first: u32, saved: &[u64])
+        requires room { length self.old.words + length saved.now ≤ self.old.room }
+        requires in_range { first + length saved.now < 2 ^ 32 }
+        ensures words { self.new.words ≡ self.old.words ++ range_with_len first (length saved.now) }
+        ensures saved { self.new.saved ≡ self.old.saved ++ saved.now }
         ensures room { self.new.room ≡ self.old.room }
     {
-        add(&mut self.values, values);
-        add(&mut self.replaced, replaced);
-        self.words.extend(first, values.len());
+        add(&mut self.saved, saved);
+        self.words.extend(first, saved.len());
     }
 }

@@ -4,8 +4,7 @@ ghost use Rattle.std.specs.Prelude.{◌≡◌, ◌+◌, ◌^◌, ◌<◌, ◌≤
 ghost use Rattle.std.specs.List.{range_with_len};
 ghost use Rattle.pm_raw.specs.Entries.{no_word, signal_of, events_of};
 ghost use Rattle.pm_raw.specs.RunWords.{AreRuns, Rises, words_from};
-ghost use Rattle.pm_raw.specs.Pieces.{goes_on, piece_end, piece_events};
-ghost use Rattle.pm_raw.specs.Runs.{IsRun};
+ghost use Rattle.pm_raw.specs.Pieces.{piece_end, piece_events};
 
 use super::runs::run_of;
 use std::marker::Model;
@@ -28,15 +27,6 @@ pub enum Piece<'a> {
     Barrier,
     /// The end of a call.
     Mark,
-}
-
-/// Events in a row with words in a row, from this one on, and with these values.
-#[derive(Drop)]
-pub struct ValueRow<'a> {
-    /// The first word.
-    pub word: u32,
-    /// The values.
-    pub values: &'a [u64],
 }
 
 /// A part of a log as it stands in memory: the runs of words, each by its first word and the number of its first event, the
@@ -208,63 +198,5 @@ impl<'a> Log<'a> {
         self.starts = &starts[run..];
         self.values = &values[count..];
         piece_of(word, &values[..count])
-    }
-
-    /// Takes the last events off, whose words are in a row, as many as their run has. There is an event.
-    pub fn take_last(&mut self) -> ValueRow<'a>
-        requires { 0 < length self.old }
-        ensures events { self.old ≡ self.new ++ events_of (range_with_len result.word (length result.values.now)) result.values.now }
-        ensures some { 0 < length result.values.now }
-        ensures in_range { result.word + length result.values.now ≤ 2 ^ 32 }
-    {
-        let (firsts, starts, values) = (self.firsts, self.starts, self.values);
-        let last = starts.len() - 1;
-        let from = self.at.max(starts[last]);
-        let word = firsts[last] + (from - starts[last]) as u32;
-        let kept = from - self.at;
-        self.firsts = &firsts[..last];
-        self.starts = &starts[..last];
-        self.values = &values[..kept];
-        ValueRow {
-            word,
-            values: &values[kept..],
-        }
-    }
-
-    /// The values of the stores that the log begins with, where the first one goes to this word, the second one to the next
-    /// word, and so on: at most so many. They are found by the words alone.
-    pub fn run(&self, word: u32, most: usize) -> &'a [u64]
-        ensures { IsRun self.now word most result.now }
-    {
-        let values = self.values;
-        let mut rest = self.behind(0);
-        let mut count = 0;
-        while rest.len() > 0 {
-            let piece = rest.take_first();
-            let more = stores_at(&piece, word as usize + count);
-            if more == 0 {
-                return &values[..count.min(most)];
-            }
-            count += more;
-        }
-        &values[..count.min(most)]
-    }
-}
-
-/// How many stores a piece has, where the first one goes to this word, and otherwise none.
-fn stores_at(piece: &Piece<'_>, word: usize) -> usize
-    ensures { result ≡ goes_on piece.now word }
-{
-    match piece {
-        Piece::Stores {
-            word: first,
-            values,
-        } => if *first as usize == word {
-            values.len()
-        } else {
-            0
-        },
-        Piece::Barrier => 0,
-        Piece::Mark => 0,
     }
 }

@@ -1,28 +1,27 @@
 //! A region over raw memory.
 
-ghost use Rattle.std.specs.Prelude.{◌≡◌, ◌+◌, ◌^◌, ◌<◌, ◌≤◌, [], ◌∷◌, ◌++◌, IfOk, drop, length, replicate};
+ghost use Rattle.std.specs.Prelude.{◌≡◌, ◌+◌, ◌^◌, ◌<◌, [], ◌∷◌, ◌++◌, ◌≤◌, IfOk, length, replicate};
 ghost use Rattle.pm_region.specs.Memory.{with_values};
 ghost use Rattle.pm_raw.specs.Entries.{signal_of};
 ghost use Rattle.pm_raw.specs.Places.{is_barrier, is_mark, places_where};
-ghost use Rattle.pm_raw.specs.Runs.{IsRun};
 
 use super::array::RawArray;
 use super::crash::{apply_first, kept_calls, start_of, start_of_epoch};
 use super::entries::Entries;
 use super::log::{BARRIER, MARK, NO_WORD};
 use super::places::Places;
-use super::undo::{undo_from, word_before};
-use pm_epochs::{BadChoice, Choice, Event, Kept};
+use super::unwind::word_before;
+use pm_epochs::{BadChoice, Choice, EventKind, Kept};
 use pm_region::{Region, Row};
 use std::alloc::{AllocError, Global};
 use std::marker::Model;
 
-/// A region in raw memory: the words now, the words of the events since the last drain by runs, and for each event
-/// its value and the value that it replaced. Beside them it keeps where the barriers and the marks stand, so that a
-/// crash and a storm need not look for them among the stores. The words at the last drain are held nowhere: they are
-/// what undoing the log leaves. So a drain takes constant time, as each other call does but a crash and a look at a
-/// word at the last drain, which take time for the events of the log, and a count of the barriers before an event,
-/// which takes time for the barriers.
+/// A region in raw memory: the words now, the words of the events since the last drain by runs, and for each store the
+/// value that it replaced. Beside them it keeps where the barriers and the marks stand, so that a crash and a storm need
+/// not look for them among the stores. The words at the last drain are held nowhere: they are what unwinding the log
+/// leaves; nor is the value of a store, which is what the next store to its word replaced, or the word now. So a drain
+/// takes constant time, as each other call does but a crash and a look at a word of an earlier moment, which take time
+/// for the events behind it, and a count of the barriers before an event, which takes time for the barriers.
 #[derive(Drop)]
 pub struct RawRegion {
     current: RawArray<u64>,
@@ -105,16 +104,6 @@ impl RawRegion {
         self.current = words;
     }
 
-    /// The values of the stores that stand in the log from the event `first` on, where the first one goes to this word, the
-    /// second one to the next word, and so on: at most so many. They are lent as they stand in the log, and how many there are
-    /// is told by the words alone.
-    pub fn run_values(&self, first: usize, word: u32, most: usize) -> &[u64]
-        requires { first ≤ length self.now.events }
-        ensures { IsRun (drop first self.now.events) word most result.now }
-    {
-        self.entries.log().behind(first).run(word, most)
-    }
-
     /// Puts an event that is no store at the end of the log, by its value.
     #[inline(always)]
     fn push_signal(&mut self, value: u64)
@@ -123,7 +112,7 @@ impl RawRegion {
     {
         let place = self.entries.len();
         note_signal(&mut self.barriers, &mut self.marks, place, value);
-        self.entries.push(NO_WORD, value, 0);
+        self.entries.push(NO_WORD, value);
     }
 }
 
@@ -147,7 +136,7 @@ impl Region for RawRegion {
     fn store(&mut self, word: u32, value: u64) {
         let replaced = self.current.as_slice()[word as usize];
         self.current.set(word as usize, value);
-        self.entries.push(word, value, replaced);
+        self.entries.push(word, replaced);
     }
 
     // Most runs have a length that their caller knows: inlined, their copies are a few moves.
@@ -155,7 +144,7 @@ impl Region for RawRegion {
     fn store_words(&mut self, first: u32, values: &[u64]) {
         let place = first as usize;
         let replaced = &self.current.as_slice()[place..place + values.len()];
-        self.entries.push_run(first, values, replaced);
+        self.entries.push_run(first, replaced);
         overwrite(self.current.as_mut_slice(), place, values);
     }
 
@@ -184,8 +173,16 @@ impl Region for RawRegion {
         self.entries.len()
     }
 
-    fn event(&self, i: usize) -> Event {
-        self.entries.event(i)
+    fn kind(&self, i: usize) -> EventKind {
+        self.entries.kind(i)
+    }
+
+    fn word_at(&self, moment: usize, word: u32) -> u64 {
+        word_before(
+            self.current.as_slice(),
+            self.entries.log().behind(moment),
+            word,
+        )
     }
 
     fn row(&self, first: usize) -> Row {
@@ -200,25 +197,13 @@ impl Region for RawRegion {
         start_of_epoch(&self.entries.log(), &self.barriers, epoch)
     }
 
-    fn base_word(&self, word: u32) -> u64 {
-        word_before(
-            self.current.as_slice(),
-            &self.entries.log(),
-            self.entries.replaced(),
-            word,
-        )
-    }
-
     fn crash_to(&mut self, choice: &Choice) -> Result<Kept, BadChoice> {
         let log = self.entries.log();
         let start = start_of(&log, &self.barriers, choice)?;
         let kept = kept_calls(&log, &self.marks, start, choice);
-        undo_from(
-            self.current.as_mut_slice(),
-            &log,
-            self.entries.replaced(),
-            start,
-        );
+        self.entries.unwind(self.current.as_mut_slice(), start);
+        // Its stores from there on now have the values that they brought.
+        let log = self.entries.log();
         apply_first(
             self.current.as_mut_slice(),
             log.front(choice.moment()).behind(start),

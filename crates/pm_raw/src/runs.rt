@@ -1,10 +1,10 @@
 //! The words of a log's events, held by runs of words in a row.
-ghost use Rattle.std.specs.Prelude.{◌≡◌, ℕ, ◌+◌, ◌-◌, ◌^◌, ◌<◌, ◌≤◌, [], ◌++◌, IfOk, length, slice_index};
+ghost use Rattle.std.specs.Prelude.{◌≡◌, ℕ, ◌+◌, ◌-◌, ◌^◌, ◌<◌, ◌≤◌, [], ◌++◌, IfOk, drop, length, slice_index, take};
 ghost use Rattle.std.specs.List.{range_with_len};
-ghost use Rattle.pm_raw.specs.Entries.{events_of};
+ghost use Rattle.pm_raw.specs.Entries.{events_of, no_word};
 ghost use Rattle.pm_raw.specs.RunWords.{Rises};
 
-use super::log::Log;
+use super::log::{Log, NO_WORD};
 use std::alloc::{AllocError, Global};
 use std::cell::Cell;
 use std::marker::Model;
@@ -89,6 +89,22 @@ fn run_near(starts: &[usize], event: usize, near: usize) -> usize
     run_of(starts, event)
 }
 
+/// Where a row begins whose last event is `last`, with this word, in a run that begins at `begun`: not before `start`, and with
+/// the event itself where it is no store.
+fn row_start(word: u32, last: usize, begun: usize, start: usize) -> usize
+    requires { (begun ≤ last) × (start ≤ last) }
+    ensures run { begun ≤ result }
+    ensures low { start ≤ result }
+    ensures within { result ≤ last }
+    ensures signal { word ≡ no_word → result ≡ last }
+{
+    if word == NO_WORD {
+        last
+    } else {
+        begun.max(start)
+    }
+}
+
 impl Runs {
     /// None yet, with room for the words of so many events. Fails only for want of memory; no other call takes any.
     pub fn new(alloc: Global, room: usize) -> Result<Runs, AllocError>
@@ -161,6 +177,31 @@ impl Runs {
         WordRow {
             first: firsts[run] + (i - starts[run]) as u32,
             len: end - i,
+        }
+    }
+
+    /// The last of the first `end` events, and those before it, from `start` on, whose words are in a row with its own: one alone
+    /// where it is no store, and no such one behind stores.
+    pub fn row_before(&self, start: usize, end: usize) -> WordRow
+        requires some { start < end }
+        requires inside { end ≤ length self.now.words }
+        ensures some { 0 < result.len }
+        ensures fits { start + result.len ≤ end }
+        ensures row { take result.len (drop (end - result.len) self.now.words) ≡ range_with_len result.first result.len }
+        ensures in_range { result.first + result.len ≤ 2 ^ 32 }
+        ensures signal { result.first ≡ no_word → result.len ≡ 1 }
+        ensures stores { result.first < no_word → result.first + result.len ≤ no_word }
+    {
+        let (firsts, starts) = (self.firsts.as_slice(), self.starts.as_slice());
+        let last = end - 1;
+        let run = run_near(starts, last, self.asked.get());
+        // Events are asked for from the last to the first.
+        self.asked.set(run.saturating_sub(1));
+        let word = firsts[run] + (last - starts[run]) as u32;
+        let from = row_start(word, last, starts[run], start);
+        WordRow {
+            first: word - (last - from) as u32,
+            len: end - from,
         }
     }
 

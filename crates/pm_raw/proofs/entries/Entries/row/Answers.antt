@@ -1,5 +1,7 @@
-use Rattle.std.proofs.Common.{◌≡◌, ◌+◌, ◌<◌, ◌∙◌, ap, arith, get_or, length, subst, sym}
+use Rattle.std.proofs.Common.{◌≡◌, ◌+◌, ◌<◌, ◌∙◌, Some, ap, arith, get_or, length, subst, sym}
+use Rattle.std.specs.Prelude.{option_map}
 use Rattle.std.proofs.lemmas.List.{get_or_read}
+use Rattle.pm_epochs.specs.Kind.{event_kind}
 use Rattle.pm_region.specs.Memory.{AreInRow}
 use Rattle.pm_raw.specs.Entries.{Entered, event_of, events_of}
 use Rattle.pm_raw.proofs.EntryLaws.{get_or-events_of, length_events, row_events, slice_get_read}
@@ -9,24 +11,26 @@ pub returns-clause-get : goal.returns-clause-get
 returns-clause-get c =
     let entries = c.self.inside in
     let words = entries.words.words in
-    let values = entries.values.items in
-    let counted = c.self.invariant.values_counted in
+    let saved = entries.saved.items in
+    let counted = c.self.invariant.counted in
     let i = c.args.i in
     let low : i < length words = omega (arith, c.requires.inside, ap (λ (e : Entered). length e.words) c.self.view_is) in
-    let read : c.index.result.now ≡ get_or values i 0 = get_or_read values i c.index.result.now (omega (arith, low, counted)) c.index.ensures 0 in
+    let read : c.index.result.now ≡ get_or saved i 0 = get_or_read saved i c.index.result.now (omega (arith, low, counted)) c.index.ensures 0 in
     let held = c.args.self.now in
-    slice_get_read (events_of held.words held.values) i c.read_event.result (omega (arith, length_events held.words held.values c.requires.each, c.requires.inside))
-    (c.read_event.ensures
-    ∙ ap (λ w. event_of w c.index.result.now) c.row-first.ensures.first
+    let event = event_of c.row-first.result.first c.index.result.now in
+    ap (option_map event_kind) (
+    slice_get_read (events_of held.words held.saved) i event (omega (arith, length_events held.words held.saved c.requires.each, c.requires.inside))
+    (ap (λ w. event_of w c.index.result.now) c.row-first.ensures.first
     ∙ ap (event_of (get_or words i 0)) read
-    ∙ sym (get_or-events_of words values i c.read_event.result counted low)
-    ∙ ap (λ (e : Entered). get_or (events_of e.words e.values) i c.read_event.result) c.self.view_is)
+    ∙ sym (get_or-events_of words saved i event counted low)
+    ∙ ap (λ (e : Entered). get_or (events_of e.words e.saved) i event) c.self.view_is))
+    ∙ ap Some (sym c.read_kind.ensures)
 
 pub returns-clause-row : goal.returns-clause-row
 returns-clause-row c =
     let entries = c.self.inside in
-    subst (λ (e : Entered). AreInRow (events_of e.words e.values) c.args.i c.min.result) c.self.view_is
-    (row_events entries.words.words entries.values.items c.args.i c.min.result c.row-first.result.first c.self.invariant.values_counted
+    subst (λ (e : Entered). AreInRow (events_of e.words e.saved) c.args.i c.min.result) c.self.view_is
+    (row_events entries.words.words entries.saved.items c.args.i c.min.result c.row-first.result.first c.self.invariant.counted
     (omega (arith, c.min.ensures, c.row-first.ensures.inside))
     (λ j low. c.row-first.ensures.row j (omega (arith, c.min.ensures, low)) ∙ ap (λ w. w + j) (sym c.row-first.ensures.first))
     (λ more. omega (arith, c.min.ensures, c.max.ensures, more)))

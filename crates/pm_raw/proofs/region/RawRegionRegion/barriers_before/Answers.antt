@@ -1,16 +1,23 @@
-use Rattle.std.proofs.Common.{◌∙◌, ap, take}
+use Rattle.std.proofs.Common.{◌∙◌, ap, sym, take}
 use Rattle.pm_epochs.specs.Log.{barriers}
 use Rattle.pm_region.specs.Memory.{Memory}
 use Rattle.pm_raw.specs.Entries.{events_of}
 use Rattle.pm_raw.specs.Places.{Placed}
+use Rattle.pm_raw.specs.Unwound.{events_from}
+use Rattle.pm_raw.proofs.KindLaws.{barriers-front-kinds, erased-events}
 use Rattle.pm_raw.proofs.PlaceLaws.{barriers-below}
 use Rattle.pm_raw.proofs.region.RawRegionRegion.barriers_before.Goals as goal
 
 pub returns : goal.returns
 returns c =
     let region = c.self.inside in
-    let log = events_of region.entries.words region.entries.values in
-    let kept = ap (λ (p : Placed). p.items) c.self.invariant.barriers in
+    let words = region.entries.words in
+    let saved = region.entries.saved in
+    let undos = events_of words saved in
+    let step = c.self.invariant in
+    let kept = ap (λ (p : Placed). p.items) step.barriers in
+    let moment = c.args.moment in
     c.before-2.ensures
-    ∙ barriers-below log region.barriers.items c.args.moment kept
-    ∙ ap (λ (m : Memory). barriers (take c.args.moment m.events)) c.self.view_is
+    ∙ barriers-below undos region.barriers.items moment kept
+    ∙ sym (barriers-front-kinds moment (events_from region.current undos) undos (erased-events region.current undos))
+    ∙ ap (λ (m : Memory). barriers (take moment m.events)) c.self.view_is

@@ -1,20 +1,50 @@
-use Rattle.std.proofs.Common.{◌∙◌, ap, arith, length, sym}
-use Rattle.std.specs.Prelude.{slice_get}
-use Rattle.pm_region.specs.Memory.{Memory}
-use Rattle.pm_raw.proofs.EntryLaws.{length_events}
+use Rattle.std.proofs.Common.{◌∙◌, ap, arith, length, subst, sym}
+use Rattle.std.specs.Prelude.{option_map, slice_get}
+use Rattle.pm_epochs.specs.Kind.{event_kind}
+use Rattle.pm_region.specs.Memory.{AreInRow, Memory}
+use Rattle.pm_raw.specs.Entries.{events_of}
+use Rattle.pm_raw.specs.Unwound.{events_from}
+use Rattle.pm_raw.proofs.KindLaws.{erased-events, kind-kinds, kind-told, row-kinds}
+use Rattle.pm_raw.proofs.RegionLaws.{count-events}
 use Rattle.pm_raw.proofs.region.RawRegionRegion.row.Goals as goal
 
 pub row-requires-clause-inside : goal.row-requires-clause-inside
 row-requires-clause-inside c =
-    let entries = c.self.inside.entries in
-    omega (arith, c.requires, length_events entries.words entries.values c.self.invariant.values_counted, ap (λ (m : Memory). length m.events) c.self.view_is)
+    let region = c.self.inside in
+    let words = region.entries.words in
+    let saved = region.entries.saved in
+    let step = c.self.invariant in
+    let long = count-events region.current words saved step.counted in
+    let events_are = ap (λ (m : Memory). length m.events) c.self.view_is in
+    omega (arith, c.requires, long, events_are)
 
 pub returns-clause-get : goal.returns-clause-get
 returns-clause-get c =
-    let log_is = ap (λ (m : Memory). m.events) c.self.view_is in
-    ap (λ es. slice_get es c.args.first) (sym log_is) ∙ c.row.ensures.get
+    let region = c.self.inside in
+    let words = region.entries.words in
+    let saved = region.entries.saved in
+    let undos = events_of words saved in
+    let step = c.self.invariant in
+    let same = kind-kinds (events_from region.current undos) undos (erased-events region.current undos) c.args.first in
+    kind-told c.args.self.now.events c.args.first c.row.result.kind
+    (sym (ap (λ (m : Memory). option_map event_kind (slice_get m.events c.args.first)) c.self.view_is) ∙ same ∙ c.row.ensures.get)
 
 pub returns-clause-inside : goal.returns-clause-inside
 returns-clause-inside c =
-    let entries = c.self.inside.entries in
-    omega (arith, c.row.ensures.fits, length_events entries.words entries.values c.self.invariant.values_counted, ap (λ (m : Memory). length m.events) c.self.view_is)
+    let region = c.self.inside in
+    let words = region.entries.words in
+    let saved = region.entries.saved in
+    let step = c.self.invariant in
+    let long = count-events region.current words saved step.counted in
+    let events_are = ap (λ (m : Memory). length m.events) c.self.view_is in
+    omega (arith, c.row.ensures.fits, long, events_are)
+
+pub returns-clause-row : goal.returns-clause-row
+returns-clause-row c =
+    let region = c.self.inside in
+    let words = region.entries.words in
+    let saved = region.entries.saved in
+    let undos = events_of words saved in
+    let step = c.self.invariant in
+    subst (λ (m : Memory). AreInRow m.events c.args.first c.row.result.len) c.self.view_is
+    (row-kinds undos (events_from region.current undos) c.args.first c.row.result.len (sym (erased-events region.current undos)) c.row.ensures.row)

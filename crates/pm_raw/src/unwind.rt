@@ -1,0 +1,102 @@
+//! Words as they were before the last events of a log, by its undo log.
+
+ghost use Rattle.std.specs.Prelude.{◌≡◌, ◌+◌, ◌-◌, ◌<◌, ◌≤◌, ◌++◌, true, false, drop, length, slice_index, take};
+ghost use Rattle.pm_region.specs.Memory.{AreWithin, stores_from};
+ghost use Rattle.pm_raw.specs.Entries.{events_of};
+ghost use Rattle.pm_raw.specs.Unwound.{base_from, events_from};
+
+use super::log::{Log, NO_WORD, Piece};
+use super::runs::{Runs, WordRow};
+
+/// Whether a word is one of so many in a row, from the first one on.
+fn is_among(word: u32, first: u32, count: usize) -> bool
+    ensures inside { result ≡ true → (first ≤ word) × (word < first + count) }
+    ensures outside { result ≡ false → first ≤ word → first + count ≤ word }
+{
+    first <= word && ((word - first) as usize) < count
+}
+
+/// What a word was before a log with these undos: what the first store to it replaced.
+pub fn word_before(words: &[u64], undos: Log<'_>, word: u32) -> u64
+    requires { word < length words.now }
+    ensures { result ≡ slice_index (base_from words.now undos.entry) word }
+{
+    let mut rest = undos;
+    while rest.len() > 0 {
+        match rest.take_first() {
+            Piece::Stores {
+                word: first,
+                values,
+            } => {
+                if is_among(word, first, values.len()) {
+                    return values[(word - first) as usize];
+                }
+            }
+            Piece::Barrier => {}
+            Piece::Mark => {}
+        }
+    }
+    words[word as usize]
+}
+
+/// Unwinds stores to words in a row, from `first` on, which replaced these values: from the last one to the first, each word is
+/// swapped with the value.
+fn unwind_stores(words: &mut [u64], first: usize, saved: &mut [u64])
+    requires { first + length saved.old ≤ length words.old }
+    ensures words { words.new ≡ base_from words.old (stores_from first saved.old) }
+    ensures saved { stores_from first saved.new ≡ events_from words.old (stores_from first saved.old) }
+{
+    let mut left = saved.len();
+    while left > 0 {
+        left -= 1;
+        let value = words[first + left];
+        words[first + left] = saved[left];
+        saved[left] = value;
+    }
+}
+
+/// Unwinds the last of the first `end` events, and those before it, from `start` on, that are in a row with it. It tells where
+/// they begin.
+fn unwind_row(
+    words: &mut [u64],
+    places: &Runs,
+    saved: &mut [u64],
+    start: usize,
+    end: usize,
+) -> usize
+    requires each { length saved.old ≡ length places.now.words }
+    requires some { start < end }
+    requires inside { end ≤ length saved.old }
+    requires within { AreWithin (length words.old) (events_of places.now.words saved.old) }
+    ensures low { start ≤ result }
+    ensures less { result < end }
+    ensures each { length saved.new ≡ length saved.old }
+    ensures words { words.new ≡ base_from words.old (take (end - result) (drop result (events_of places.now.words saved.old))) }
+    ensures log { let undos = events_of places.now.words saved.old in
+        events_of places.now.words saved.new
+        ≡ take result undos ++ (events_from words.old (take (end - result) (drop result undos)) ++ drop end undos) }
+{
+    let WordRow { first, len } = places.row_before(start, end);
+    let from = end - len;
+    if first != NO_WORD {
+        unwind_stores(words, first as usize, &mut saved[from..end]);
+    }
+    from
+}
+
+/// Unwinds a log from its last event to that with the number `start`: the words are then those before that event, and the values
+/// that its events replaced are then those that they brought.
+pub fn unwind(words: &mut [u64], places: &Runs, saved: &mut [u64], start: usize)
+    requires each { length saved.old ≡ length places.now.words }
+    requires fits { start ≤ length saved.old }
+    requires within { AreWithin (length words.old) (events_of places.now.words saved.old) }
+    ensures each { length saved.new ≡ length saved.old }
+    ensures words { words.new ≡ base_from words.old (drop start (events_of places.now.words saved.old)) }
+    ensures log { let undos = events_of places.now.words saved.old in
+        events_of places.now.words saved.new ≡ take start undos ++ events_from words.old (drop start undos) }
+{
+    let mut end = saved.len();
+    while end > start {
+        end = unwind_row(words, places, saved, start, end);
+    }
+}

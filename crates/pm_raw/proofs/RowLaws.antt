@@ -1,5 +1,5 @@
 -- The events of a row, among those of a log, and a log whose end is unwound row by row.
-use Rattle.std.proofs.Common.{◌≡◌, ℕ, zero, suc, ◌+◌, ◌-◌, ◌<◌, ◌≤◌, List, [], ◌∷◌, ◌++◌, length, take, drop, get_or, set, refl, sym, ◌∙◌, ap, arith, subst}
+use Rattle.std.proofs.Common.{◌≡◌, ℕ, zero, suc, ◌+◌, ◌-◌, ◌<◌, ◌≤◌, ◌⊎◌, inl, inr, List, [], ◌∷◌, ◌++◌, length, take, drop, get_or, set, refl, sym, ◌∙◌, ap, arith, subst}
 use Rattle.std.specs.List.{range_with_len}
 use Rattle.std.proofs.lemmas.List.{drop-drop, drop-set-lt, drop_all, drop_at, drop_more, drop-take, length-drop, length-take-le, take-append-drop, take-append-le, take-set-le, take-take, take_at}
 use Rattle.pm_epochs.specs.declared.event.Event.{Event}
@@ -202,6 +202,15 @@ told-above told words first word value are low past =
     ∙ sym (take-set-le (length told) (drop first words) (word - first) value past)
     ∙ sym (ap (take (length told)) (drop-set-in first (word - first) words value))
     ∙ sym (ap (λ k. take (length told) (drop first (set words k value))) is)
+
+-- stores to words in a row of which none is told
+pub told-apart : (told words : List ℕ) (first word : ℕ) (saved : List ℕ) → told ≡ take (length told) (drop first words) → (word + length saved ≤ first) ⊎ (first + length told ≤ word)
+    → told ≡ take (length told) (drop first (base_from words (stores_from word saved)))
+told-apart told words first word [] are apart = are
+told-apart told words first word (old ∷ saved) are (inl before) =
+    told-below told (base_from words (stores_from (word + 1) saved)) first word old (told-apart told words first (word + 1) saved are (inl (omega (arith, before)))) (omega (arith, before))
+told-apart told words first word (old ∷ saved) are (inr behind) =
+    told-above told (base_from words (stores_from (word + 1) saved)) first word old (told-apart told words first (word + 1) saved are (inr (omega (arith, behind)))) (omega (arith, behind)) (omega (arith, behind))
 
 -- the stores of a run from one on
 pub stores-at : (first : ℕ) (held : List ℕ) (left : ℕ) → left < length held → stores_from (first + left) (drop left held) ≡ Store (first + left) (get_or held left 0) ∷ stores_from (first + (left + 1)) (drop (left + 1) held)

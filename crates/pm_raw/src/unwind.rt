@@ -119,6 +119,10 @@ fn tell_row(told: &mut [u64], first: usize, word: u32, saved: &[u64])
     ensures told { (words : List ℕ) → told.old ≡ take (length told.old) (drop first words) →
         told.new ≡ take (length told.old) (drop first (base_from words (stores_from word saved.now))) }
 {
+    // Most rows have none of these words.
+    if word as usize + saved.len() <= first || first.saturating_add(told.len()) <= word as usize {
+        return;
+    }
     let mut left = saved.len();
     while left > 0 {
         left -= 1;

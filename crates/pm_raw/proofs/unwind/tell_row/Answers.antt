@@ -1,7 +1,8 @@
-use Rattle.std.proofs.Common.{◌≡◌, ◌+◌, ◌-◌, ◌<◌, ◌∙◌, ap, arith, drop, get_or, length, set, sym, take}
+use Rattle.std.proofs.Common.{◌≡◌, ◌+◌, ◌-◌, ◌<◌, ◌∙◌, ap, arith, drop, get_or, inl, inr, length, set, sym, take}
 use Rattle.pm_region.specs.Memory.{stores_from}
 use Rattle.pm_raw.specs.Unwound.{base_from}
-use Rattle.pm_raw.proofs.RowLaws.{stores-at}
+use Rattle.pm_raw.proofs.RowLaws.{stores-at, told-apart}
+use Rattle.pm_raw.proofs.unwind.tell_row.Goals.{then-word-saved-via-then-word-saved, then-word-saved-via-else-word-saved+then-saturating_add-word}
 use Rattle.pm_raw.proofs.unwind.tell_row.Goals as goal
 
 pub loop-left-preserved : goal.loop-left-preserved
@@ -23,3 +24,11 @@ loop-left-preserved c =
           ∙ ap (λ k. take (length c.args.told.now) (drop first (set (base_from words (stores_from (word + k) (drop k saved))) (word + left) (get_or saved left 0)))) up
           ∙ sym (ap (λ es. take (length c.args.told.now) (drop first (base_from words es))) (stores-at word saved left low));
     }
+
+pub returns-then-word-saved-clause-told : goal.returns-then-word-saved-clause-told
+returns-then-word-saved-clause-told c = elim c.then-word-saved.branch [
+  | then-word-saved-via-then-word-saved w ↦ λ words are.
+      told-apart c.args.told.now words c.args.first c.args.word c.args.saved.now are (inl (omega (arith, w.if-word-saved.true)))
+  | then-word-saved-via-else-word-saved+then-saturating_add-word w ↦ λ words are.
+      told-apart c.args.told.now words c.args.first c.args.word c.args.saved.now are (inr (omega (arith, w.saturating_add.ensures, w.if-saturating_add-word.true, c.ranges.word.fits)))
+]

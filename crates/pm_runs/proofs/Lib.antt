@@ -1,2 +1,3 @@
 mod CopyLaws
 pub mod PieceLaws
+mod RedoLaws

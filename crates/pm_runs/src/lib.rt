@@ -3,5 +3,7 @@
 
 pub mod laws;
 mod pieces;
+mod redo;
 
 pub use pieces::{Run, run_at};
+pub use redo::RedoRegion;

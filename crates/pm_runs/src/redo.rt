@@ -1,0 +1,172 @@
+//! A region that keeps the values of its log.
+ghost use Rattle.std.specs.Prelude.{◌≡◌, ◌+◌, ◌^◌, ◌<◌, ◌≤◌, [], ◌++◌, IfOk, length, map, replicate, vec_capacity, vec_len};
+ghost use Rattle.pm_epochs.specs.Kind.{event_value};
+
+use pm_epochs::{BadChoice, Choice, Event, EventKind, Kept};
+use pm_raw::{RawArray, RawRegion};
+use pm_region::{Region, Row};
+use std::alloc::{AllocError, Global};
+use std::marker::Model;
+
+/// A raw region with the value of each event of its log beside it, 0 for what is no store. The region itself knows what a
+/// store replaced, and would have to look for what it brought: here the values of stores in a row are lent as they stand.
+#[derive(Drop)]
+pub struct RedoRegion {
+    region: RawRegion,
+    values: Vec<u64>,
+}
+
+impl Model for RedoRegion {
+    ghost use Rattle.pm_region.specs.Memory.{Memory};
+
+    ghost Value = { Memory };
+
+    ghost use Rattle.pm_runs.specs.Redo.{redo_memory, HasValues};
+
+    ghost view = { redo_memory };
+
+    ghost invariant = { HasValues };
+}
+
+/// Adds values, in room that is there.
+#[inline(always)]
+fn add(values: &mut Vec<u64>, more: &[u64])
+    requires { vec_len values.old + length more.now ≤ vec_capacity values.old }
+    ensures items { values.new.items ≡ values.old.items ++ more.now }
+    ensures room { vec_capacity values.old ≤ vec_capacity values.new }
+{
+    match values.extend_from_slice(more) {
+        Ok(()) => {}
+        Err(_) => unreachable!(),
+    }
+}
+
+impl RedoRegion {
+    ghost use Rattle.pm_region.specs.Memory.{Memory};
+
+    /// A region of `size` words, each 0, with an empty log that can take `capacity` events. Fails only for want of memory; no
+    /// other call takes any.
+    pub fn new(alloc: Global, size: u32, capacity: usize) -> Result<RedoRegion, AllocError>
+        ensures { IfOk result (λ region. region ≡ record {
+          base = replicate size 0;
+          events = [];
+          capacity = capacity;
+          drains = 0;
+        }) }
+    {
+        let region = RawRegion::new(alloc, size, capacity)?;
+        let values = Vec::with_capacity(alloc, capacity)?;
+        Ok(RedoRegion { region, values })
+    }
+
+    /// Puts these words in place of all of its own, as words that were there at the last drain.
+    pub fn adopt_all(&mut self, words: RawArray<u64>)
+        requires few { length words < 2 ^ 32 }
+        requires drained { self.old.events ≡ [] }
+        ensures { self.new ≡ record self.old { base = words } }
+    {
+        self.region.adopt_all(words);
+    }
+
+    /// The value of each event of the log, 0 for what is no store.
+    #[inline]
+    pub fn values(&self) -> &[u64]
+        ensures { result.now ≡ map event_value self.now.events }
+    {
+        &self.values
+    }
+}
+
+impl Region for RedoRegion {
+    ghost memory = { λ region. region };
+
+    fn words(&self) -> u32 {
+        self.region.words()
+    }
+
+    fn load(&self, word: u32) -> u64 {
+        self.region.load(word)
+    }
+
+    fn load_words(&self, first: u32, count: u32) -> &[u64] {
+        self.region.load_words(first, count)
+    }
+
+    #[inline(always)]
+    fn store(&mut self, word: u32, value: u64) {
+        self.region.store(word, value);
+        self.values.push_reserved(value);
+    }
+
+    #[inline(always)]
+    fn store_words(&mut self, first: u32, values: &[u64]) {
+        self.region.store_words(first, values);
+        add(&mut self.values, values);
+    }
+
+    #[inline(always)]
+    fn barrier(&mut self) {
+        self.region.barrier();
+        self.values.push_reserved(0);
+    }
+
+    #[inline(always)]
+    fn mark(&mut self) {
+        self.region.mark();
+        self.values.push_reserved(0);
+    }
+
+    fn drain(&mut self) {
+        self.region.drain();
+        self.values.clear();
+    }
+
+    fn room(&self) -> usize {
+        self.region.room()
+    }
+
+    fn event_count(&self) -> usize {
+        self.region.event_count()
+    }
+
+    fn kind(&self, i: usize) -> EventKind {
+        self.region.kind(i)
+    }
+
+    fn word_at(&self, moment: usize, word: u32) -> u64 {
+        self.region.word_at(moment, word)
+    }
+
+    fn event(&self, i: usize) -> Event {
+        match self.region.kind(i) {
+            EventKind::Store(word) => Event::Store {
+                word,
+                value: self.values[i],
+            },
+            EventKind::Barrier => Event::Barrier,
+            EventKind::Mark => Event::Mark,
+        }
+    }
+
+    fn row(&self, first: usize) -> Row {
+        self.region.row(first)
+    }
+
+    fn barriers_before(&self, moment: usize) -> usize {
+        self.region.barriers_before(moment)
+    }
+
+    fn start_of_epoch(&self, epoch: usize) -> usize {
+        self.region.start_of_epoch(epoch)
+    }
+
+    fn base_word(&self, word: u32) -> u64 {
+        self.region.base_word(word)
+    }
+
+    fn crash_to(&mut self, choice: &Choice) -> Result<Kept, BadChoice> {
+        let kept = self.region.crash_to(choice)?;
+        self.values.clear();
+        Ok(kept)
+    }
+}

@@ -1,20 +1,11 @@
 -- Pieces of a log: stores to words in a row, a barrier, or a mark.
-use Rattle.std.specs.Prelude.{◌≡◌, ◌≤◌, ◌<◌, ◌+◌, ℕ, List, [], ◌∷◌, ◌++◌, Some, drop, length, slice_get, take}
+use Rattle.std.specs.Prelude.{◌≡◌, ◌≤◌, ◌<◌, ◌+◌, ℕ, List, [], ◌∷◌, ◌++◌, drop, length, take}
 use Rattle.pm_epochs.specs.declared.event.Event.{Event}
-use Rattle.pm_epochs.specs.declared.event.Event.TheVariants.{Barrier, Mark, Store}
+use Rattle.pm_epochs.specs.declared.event.Event.TheVariants.{Barrier, Mark}
 use Rattle.pm_epochs.specs.Log.{words_after}
 use Rattle.pm_region.specs.Memory.{stores_from, with_values}
 use Rattle.pm_runs.specs.declared.pieces.Run.{Run}
 use Rattle.pm_runs.specs.declared.pieces.Run.TheVariants as run
-
--- So many events of a log, from one on, store to words in a row, from a word on, and their values stand in front: at
--- least one where the first of them stores to that word, and there is room.
-pub record HasStores (events : List Event) (first word : ℕ) (old : List ℕ) (count : ℕ) (new : List ℕ) : Type 0 where
-  pub within : first + count ≤ length events
-  pub fits : count ≤ length old
-  pub stores : take count (drop first events) ≡ stores_from word (take count new)
-  pub begun : (value : ℕ) → slice_get events first ≡ Some (Store word value) → 0 < length old → 0 < count
-  pub rest : drop count new ≡ drop count old
 
 -- how many events a run tells, and how many values it has
 abbrev pub run_length : Run → ℕ

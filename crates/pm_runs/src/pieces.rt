@@ -1,11 +1,11 @@
 //! Pieces of a log.
 
-ghost use Rattle.std.specs.Prelude.{◌<◌, length};
-ghost use Rattle.pm_runs.specs.Runs.{HasStores, TellsRun};
+ghost use Rattle.std.specs.Prelude.{◌≡◌, ◌<◌, ◌++◌, drop, length, min, take};
+ghost use Rattle.pm_runs.specs.Runs.{TellsRun};
 
-use pm_epochs::Event;
-use pm_raw::RawRegion;
-use pm_region::Region;
+use super::redo::RedoRegion;
+use pm_epochs::EventKind;
+use pm_region::{Region, Row};
 
 /// A piece of a log.
 #[derive(Clone, Copy, Debug, PartialEq, Eq)]
@@ -23,30 +23,30 @@ pub enum Run {
     Mark,
 }
 
-/// Copies the values of stores to words in a row, from this word and this event on, as many as there are and as there is
-/// room for, and says how many these are.
-fn copy_values(region: &RawRegion, first: usize, word: u32, values: &mut [u64]) -> usize
-    requires { first < length region.now.events }
-    ensures { HasStores region.now.events first word values.old result values.new }
+/// Copies as many of these values as there is room for in front of the others, and says how many these are.
+fn copy_front(values: &[u64], into: &mut [u64]) -> usize
+    ensures count { result ≡ min (length values.now) (length into.old) }
+    ensures copied { into.new ≡ take result values.now ++ drop result into.old }
 {
-    let run = region.run_values(first, word, values.len());
-    values[..run.len()].copy_from_slice(run);
-    run.len()
+    let count = values.len().min(into.len());
+    into[..count].copy_from_slice(&values[..count]);
+    count
 }
 
 /// The piece of a region's log that begins with an event. The values of its stores are put in front of `values`; it has as
 /// many as follow each other there and as there is room for. It ends where a barrier or a mark stands, or a store to
 /// another word than the next one.
-pub fn run_at(region: &RawRegion, first: usize, values: &mut [u64]) -> Run
+pub fn run_at(region: &RedoRegion, first: usize, values: &mut [u64]) -> Run
     requires { first < length region.now.events }
     ensures { TellsRun region.now.events first values.old result values.new }
 {
-    match region.event(first) {
-        Event::Store { word, .. } => Run::Stores {
+    let Row { kind, len } = region.row(first);
+    match kind {
+        EventKind::Store(word) => Run::Stores {
             word,
-            count: copy_values(region, first, word, values),
+            count: copy_front(&region.values()[first..first + len], values),
         },
-        Event::Barrier => Run::Barrier,
-        Event::Mark => Run::Mark,
+        EventKind::Barrier => Run::Barrier,
+        EventKind::Mark => Run::Mark,
     }
 }

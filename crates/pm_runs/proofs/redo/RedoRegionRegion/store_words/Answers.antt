@@ -1,5 +1,4 @@
 use Rattle.std.proofs.Common.{ap, arith, length, sym}
-use Rattle.std.proofs.lemmas.Grind.{common_steps}
 use Rattle.std.proofs.lemmas.List.{length-append}
 use Rattle.pm_region.specs.Memory.{Memory, stores_from}
 use Rattle.pm_region.proofs.MemoryLaws.{length-stores_from}

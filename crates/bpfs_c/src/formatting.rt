@@ -5,7 +5,7 @@ use crate::codes::{NO_MEMORY, OK, OUT_OF_RANGE};
 use crate::logging::{Logged, copy_events};
 use bp_limits::{BLOCK_WORDS, MAX_BLOCKS, MIN_BLOCKS, Version};
 use bp_volume::lay_front;
-use pm_raw::RawRegion;
+use pm_runs::RedoRegion;
 use std::alloc::Global;
 
 /// The events that make an empty file system of a version and of so many blocks, whatever the words hold.
@@ -22,7 +22,7 @@ pub extern "C" fn bpfs_format_events(
     if blocks < MIN_BLOCKS || MAX_BLOCKS < blocks || version < 1 || 2 < version {
         return OUT_OF_RANGE;
     }
-    let mut region = match RawRegion::new(alloc, 2 * BLOCK_WORDS, 16) {
+    let mut region = match RedoRegion::new(alloc, 2 * BLOCK_WORDS, 16) {
         Ok(region) => region,
         Err(_) => return NO_MEMORY,
     };

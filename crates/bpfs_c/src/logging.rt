@@ -9,8 +9,8 @@ ghost use Rattle.bpfs_c.specs.Words.{TellsWords};
 use crate::codes::{CLOSED, OK, OUT_OF_RANGE};
 use crate::handle::Handle;
 use pm_epochs::Event;
-use pm_raw::RawRegion;
 use pm_region::{HEAD_WORDS, Region};
+use pm_runs::RedoRegion;
 use std::alloc::Global;
 
 /// The kind of a store of a word.
@@ -55,7 +55,7 @@ fn seen(event: Event) -> Logged
 }
 
 /// Copies events of a region's log from this one on, as many as there are and as there is room for.
-pub(crate) fn copy_events(region: &RawRegion, first: usize, into: &mut [Logged]) -> usize
+pub(crate) fn copy_events(region: &RedoRegion, first: usize, into: &mut [Logged]) -> usize
     ensures { HasEvents region.now.events first into.old result into.new }
 {
     let count = region.event_count().saturating_sub(first).min(into.len());
@@ -112,7 +112,7 @@ pub extern "C" fn bpfs_drain(alloc: Global, handle: &mut Handle) -> u32
 }
 
 /// Copies a region's words from this one on, one by one.
-fn copy_by_word(region: &RawRegion, first: u32, into: &mut [u64])
+fn copy_by_word(region: &RedoRegion, first: u32, into: &mut [u64])
     requires in_range { first + length into.old ≤ length region.now.base }
     requires fits { first + length into.old < 2 ^ 32 }
     ensures { into.new ≡ slice_range (current_words region.now) first (first + length into.old) }
@@ -123,7 +123,7 @@ fn copy_by_word(region: &RawRegion, first: u32, into: &mut [u64])
 }
 
 /// Copies a region's words from this one on, which stand behind its head.
-fn copy_run(region: &RawRegion, first: u32, into: &mut [u64])
+fn copy_run(region: &RedoRegion, first: u32, into: &mut [u64])
     requires in_range { first + length into.old ≤ length region.now.base }
     requires fits { first + length into.old < 2 ^ 32 }
     requires behind_head { 0 < length into.old → HEAD_WORDS ≤ first }
@@ -137,7 +137,7 @@ fn copy_run(region: &RawRegion, first: u32, into: &mut [u64])
 }
 
 /// Copies a region's words from this one on, where there are so many.
-fn copy_words(region: &RawRegion, first: u32, into: &mut [u64]) -> u32
+fn copy_words(region: &RedoRegion, first: u32, into: &mut [u64]) -> u32
     ensures { TellsWords (current_words region.now) first into.old result into.new }
 {
     let words = region.words();

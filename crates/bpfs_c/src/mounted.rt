@@ -7,13 +7,13 @@ ghost use Rattle.pm_region.specs.Memory.{room_in};
 use bp_layout::Listing;
 use bp_limits::CALL_ROOM;
 use bp_volume::Volume;
-use pm_raw::RawRegion;
 use pm_region::Region;
+use pm_runs::RedoRegion;
 
 /// A volume, and the last listing that was made.
 #[derive(Drop)]
 pub struct Mounted {
-    pub volume: Volume<RawRegion>,
+    pub volume: Volume<RedoRegion>,
     pub listing: Option<Listing>,
 }
 

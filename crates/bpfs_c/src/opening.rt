@@ -10,7 +10,8 @@ use crate::handle::Handle;
 use crate::mounted::Mounted;
 use bp_limits::{BLOCK_WORDS, LOG_EVENTS, MAX_BLOCKS, MIN_BLOCKS};
 use bp_volume::{MountFault, Volume};
-use pm_raw::{RawArray, RawRegion};
+use pm_raw::RawArray;
+use pm_runs::RedoRegion;
 use std::alloc::{AllocError, Global};
 
 /// Why words are no image: the check that fails and the word at which it does, or the bytes that there are and those that
@@ -64,7 +65,7 @@ fn array_of(alloc: Global, words: &[u64]) -> Result<RawArray<u64>, AllocError>
 }
 
 /// A region of these words.
-fn copy(alloc: Global, words: &[u64]) -> Result<RawRegion, AllocError>
+fn copy(alloc: Global, words: &[u64]) -> Result<RedoRegion, AllocError>
     requires { IsSized words.now }
     ensures { IfOk result (λ region. region ≡ record {
       base = words.now;
@@ -73,13 +74,13 @@ fn copy(alloc: Global, words: &[u64]) -> Result<RawRegion, AllocError>
       drains = 0;
     }) }
 {
-    let mut region = RawRegion::new(alloc, 0, LOG_EVENTS)?;
+    let mut region = RedoRegion::new(alloc, 0, LOG_EVENTS)?;
     region.adopt_all(array_of(alloc, words)?);
     Ok(region)
 }
 
 /// Mounts a copy of these words.
-fn mount(alloc: Global, words: &[u64]) -> Result<Volume<RawRegion>, MountFault>
+fn mount(alloc: Global, words: &[u64]) -> Result<Volume<RedoRegion>, MountFault>
     requires sized { IsSized words.now }
     ensures { Mounts words.now result }
 {
@@ -93,7 +94,7 @@ fn mount(alloc: Global, words: &[u64]) -> Result<Volume<RawRegion>, MountFault>
 }
 
 /// Gives a volume to a handle, which lets go what it held.
-fn hold(alloc: Global, handle: &mut Handle, volume: Volume<RawRegion>) -> u32
+fn hold(alloc: Global, handle: &mut Handle, volume: Volume<RedoRegion>) -> u32
     ensures { Holds volume handle.old.held result handle.new.held }
 {
     match Box::new(

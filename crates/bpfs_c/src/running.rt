@@ -7,9 +7,8 @@ ghost use Rattle.bpfs_c.specs.Runs.{HasPiece, seen_run};
 
 use crate::handle::Handle;
 use crate::logging::{BARRIER, MARK, STORE};
-use pm_raw::RawRegion;
 use pm_region::Region;
-use pm_runs::{Run, run_at};
+use pm_runs::{RedoRegion, Run, run_at};
 use std::alloc::Global;
 
 /// A piece of the log: 0 stores to words in a row, from this one on; 1 a barrier; 2 the end of a call.
@@ -48,7 +47,7 @@ fn tell_run(run: Run, told: &mut Told) -> usize
 }
 
 /// Tells the piece of a region's log that begins with this event.
-fn copy_run(region: &RawRegion, first: usize, told: &mut Told, values: &mut [u64]) -> usize
+fn copy_run(region: &RedoRegion, first: usize, told: &mut Told, values: &mut [u64]) -> usize
     ensures { HasPiece region.now.events first told.old values.old result told.new values.new }
 {
     if region.event_count() <= first {

@@ -71,6 +71,14 @@ mkfifo lines
 "$program" format FILE --blocks 16 > out || exit 1
 saved 'a plain file' replaced
 
+"$program" format SPARSE --blocks 4096 > out || exit 1
+saved 'a file with holes' replaced SPARSE
+expect 'its room is less than a tenth' yes "$([ "$(stat -c %b SPARSE)" -lt 3276 ] && echo yes)"
+cp --sparse=never SPARSE WHOLE
+saved 'a file without holes' replaced WHOLE
+expect 'it has all of its room' yes "$([ "$(stat -c %b WHOLE)" -ge 32768 ] && echo yes)"
+rm SPARSE WHOLE
+
 ln -s FILE LINK
 saved 'through a symbolic link' replaced LINK
 expect 'the link' FILE "$(readlink LINK)"

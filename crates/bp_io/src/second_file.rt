@@ -1,5 +1,5 @@
 // A second file, which takes the place of the first once it is whole.
-ghost use Rattle.std.specs.Prelude.{◌<◌, ◌+◌, ◌^◌, length};
+ghost use Rattle.std.specs.Prelude.{◌<◌, ◌≤◌, ◌+◌, ◌^◌, length};
 
 use crate::Access;
 use crate::held::{Held, HeldBlocks, TOLD_APART};
@@ -175,6 +175,9 @@ pub(crate) struct SecondFile {
     kept: u64,
     /// The length that is to be.
     length: u64,
+    /// Whether zeros of the first file are left out: it was made anew, so that it has zeros there by its length, and the
+    /// first file lacks room of its own as well.
+    has_holes: bool,
 }
 
 /// Whether an error says that there is no room on the disk.
@@ -185,10 +188,15 @@ pub(crate) fn lacks_room(error: &io::Error) -> bool {
     )
 }
 
+/// Whether a file has all of its room on the disk.
+fn is_full(metadata: &Metadata) -> bool {
+    metadata.len() / ROOM_UNIT <= metadata.blocks()
+}
+
 /// Whether a file has all of its room on the disk, so that no write in it wants more, up to this length.
 pub(crate) fn has_room(file: &File, length: u64) -> io::Result<bool> {
     let metadata = file.metadata()?;
-    Ok(length <= metadata.len() && metadata.len() / ROOM_UNIT <= metadata.blocks())
+    Ok(length <= metadata.len() && is_full(&metadata))
 }
 
 /// Whether this is a name of a file, and no symbolic link to it.
@@ -237,20 +245,34 @@ fn take_after(file: &File, first: &Metadata) -> io::Result<()> {
     file.set_permissions(first.permissions())
 }
 
-/// Copies the bytes from `start` up to `end` from a file to the same place in another one, by way of a piece of memory.
+/// Whether a piece has the bytes of a hole, where there are holes.
+fn is_hole(piece: &[u8], hole: Option<&[u8; PIECE]>) -> bool
+    requires { length piece.now ≤ 65536 }
+{
+    match hole {
+        Some(zeros) => piece == &zeros[..piece.len()],
+        None => false,
+    }
+}
+
+/// Copies the bytes from `start` up to `end` from a file to the same place in another one, by way of a piece of memory. Pieces
+/// that have the bytes of a hole are left out.
 fn copy_bytes(
     from: &File,
     to: &File,
     start: u64,
     end: u64,
     piece: &mut [u8; PIECE],
+    hole: Option<&[u8; PIECE]>,
 ) -> io::Result<()> {
     let mut at = start;
     while at < end {
         let count = (end - at).min(PIECE as u64);
         let bytes = &mut piece[..count as usize];
         from.read_exact_at(bytes, at)?;
-        to.write_all_at(bytes, at)?;
+        if !is_hole(bytes, hole) {
+            to.write_all_at(bytes, at)?;
+        }
         at += count;
     }
     Ok(())
@@ -293,7 +315,14 @@ fn prepare(file: &File, first: &File, metadata: &Metadata) -> io::Result<()> {
     lock(file, Access::Write)?;
     take_after(file, metadata)?;
     file.set_len(metadata.len())?;
-    copy_bytes(first, file, TOLD_APART, metadata.len(), &mut [0; PIECE])
+    copy_bytes(
+        first,
+        file,
+        TOLD_APART,
+        metadata.len(),
+        &mut [0; PIECE],
+        None,
+    )
 }
 
 /// The folder of a file, to be flushed.
@@ -342,6 +371,7 @@ impl SecondFile {
             return Err(ErrorKind::TooManyLinks.into());
         }
         let folder = open_folder(runtime, &names.file)?;
+        let has_holes = waiting.is_none() && !is_full(&metadata);
         let file = match waiting {
             Some(file) => file,
             None => make_second(runtime, names.second.as_str())?,
@@ -355,6 +385,7 @@ impl SecondFile {
             folder,
             kept: metadata.len(),
             length: metadata.len(),
+            has_holes,
         })
     }
 
@@ -374,13 +405,14 @@ impl SecondFile {
         Ok(())
     }
 
-    /// Gives it all bytes of the first file that it lacks.
+    /// Gives it all bytes of the first file that it lacks. Where that one has holes, so has it.
     pub(crate) fn complete(&self, held: &mut HeldBlocks, first: &File) -> io::Result<()> {
-        let mut piece = [0; PIECE];
+        let (mut piece, zeros) = ([0; PIECE], [0; PIECE]);
+        let hole = if self.has_holes { Some(&zeros) } else { None };
         let mut at = 0;
         while let Some(run) = held.run_of(at, Held::Lacking) {
             let end = run.end.min(self.kept);
-            copy_bytes(first, &self.file, run.start, end, &mut piece)?;
+            copy_bytes(first, &self.file, run.start, end, &mut piece, hole)?;
             held.set_same(run);
             at = run.next;
         }
@@ -428,10 +460,10 @@ impl SecondFile {
         let mut at = 0;
         while let Some(run) = held.run_of(at, Held::Written) {
             let end = run.end.min(self.length);
-            copy_bytes(&self.file, first, run.start, end, &mut piece)?;
+            copy_bytes(&self.file, first, run.start, end, &mut piece, None)?;
             at = run.next;
         }
-        copy_bytes(&self.file, first, TOLD_APART, self.length, &mut piece)
+        copy_bytes(&self.file, first, TOLD_APART, self.length, &mut piece, None)
     }
 
     /// Gives the first file zeros where this one has them by its length alone, up to a byte.

@@ -81,7 +81,8 @@ impl Listing {
     /// # Errors
     ///
     /// Where there is no memory for it. The list stays as it was.
-    #[inline]
+    // Two walks push a name a turn, so no compiler inlines it by itself: a call would be 70 of some 1,400 instructions a name.
+    #[inline(always)]
     pub fn push(&mut self, kind: Kind, name: &[u8]) -> Result<(), AllocError>
         requires { length name.now ≤ max_name }
         ensures pushed { OnOk result (self.new ≡ self.old ++ (kind, name.now) ∷ []) }

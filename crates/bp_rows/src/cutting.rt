@@ -8,7 +8,7 @@ use bp_limits::{LOG_EVENTS, Version};
 use bp_session::{Work, serve};
 use bp_shell::open;
 use bp_volume::Volume;
-use pm_epochs::{Choice, Event};
+use pm_epochs::{Choice, EventKind};
 use pm_raw::RawRegion;
 use pm_region::Region;
 use std::alloc::{AllocError, Global};
@@ -52,7 +52,8 @@ struct Cuts<'a> {
     asks: &'a str,
     work: Work,
     choice: Choice,
-    events: Vec<Event>,
+    /// What each event of the log is.
+    events: Vec<EventKind>,
     /// Whether some cut kept so many calls, for each number of them.
     kept: Vec<bool>,
 }
@@ -71,7 +72,7 @@ pub fn cut_all_over(
 }
 
 /// Whether cuts at a moment are tried.
-fn is_tried(events: &[Event], moment: usize) -> bool {
+fn is_tried(events: &[EventKind], moment: usize) -> bool {
     let before = match moment.checked_sub(1) {
         Some(last) => events.get(last),
         None => None,
@@ -80,45 +81,45 @@ fn is_tried(events: &[Event], moment: usize) -> bool {
 }
 
 /// Whether an event is a barrier or a mark, or none is there.
-fn is_border(event: Option<&Event>) -> bool {
+fn is_border(event: Option<&EventKind>) -> bool {
     match event {
-        Some(Event::Store { .. }) => false,
-        Some(Event::Barrier) => true,
-        Some(Event::Mark) => true,
+        Some(EventKind::Store(_)) => false,
+        Some(EventKind::Barrier) => true,
+        Some(EventKind::Mark) => true,
         None => true,
     }
 }
 
 /// How many stores an epoch has.
-fn stores_of(events: &[Event], epoch: usize) -> usize {
+fn stores_of(events: &[EventKind], epoch: usize) -> usize {
     let mut barriers: usize = 0;
     let mut stores: usize = 0;
     for event in events {
         match event {
-            Event::Store { .. } => {
+            EventKind::Store(_) => {
                 if barriers == epoch {
                     stores = stores.saturating_add(1);
                 }
             }
-            Event::Barrier => barriers = barriers.saturating_add(1),
-            Event::Mark => {}
+            EventKind::Barrier => barriers = barriers.saturating_add(1),
+            EventKind::Mark => {}
         }
     }
     stores
 }
 
-fn barriers_of(events: &[Event]) -> usize {
+fn barriers_of(events: &[EventKind]) -> usize {
     events
         .iter()
-        .filter(|event| matches!(event, Event::Barrier))
+        .filter(|event| matches!(event, EventKind::Barrier))
         .count()
 }
 
 /// How many calls have their end among events.
-fn calls_of(events: &[Event]) -> usize {
+fn calls_of(events: &[EventKind]) -> usize {
     events
         .iter()
-        .filter(|event| matches!(event, Event::Mark))
+        .filter(|event| matches!(event, EventKind::Mark))
         .count()
 }
 
@@ -203,10 +204,10 @@ impl<'a> Cuts<'a> {
         }
     }
 
-    /// Takes the events of a region's log. The answer is whether they are of a call for each line.
+    /// Takes what the events of a region's log are. The answer is whether they are of a call for each line.
     fn take_events<R: Region>(&mut self, region: &R) -> Result<bool, AllocError> {
         for i in 0..region.event_count() {
-            self.events.push(region.event(i))?;
+            self.events.push(region.kind(i))?;
         }
         let calls = calls_of(&self.events);
         self.kept = vec![in self.alloc; false; calls.saturating_add(1)]?;

@@ -1,7 +1,7 @@
 //! A log of two epochs, what a crash leaves of it, and both regions.
 
 use bp_second::Shown;
-use pm_epochs::{BadChoice, Choice, Event, Kept, check_choice, kept_calls, replay_word};
+use pm_epochs::{BadChoice, Choice, Event, EventKind, Kept, check_choice, kept_calls, replay_word};
 use pm_raw::RawRegion;
 use pm_region::{ListRegion, Region};
 use pm_steps::{Backs, Machine, NotYet};
@@ -105,15 +105,28 @@ fn follow<R: Region>(region: &mut R, events: &[Event]) {
     }
 }
 
-/// Whether a region's log has these events.
+/// Whether an event of a region's log is this one: by itself, by what it is, and by the word that it stores to.
+fn has_event<R: Region>(region: &R, i: usize, event: Event) -> bool {
+    if i >= region.event_count() || region.event(i) != event || region.kind(i) != event.kind() {
+        return false;
+    }
+    match event {
+        Event::Store { word, value } => {
+            word >= region.words() || region.word_at(i + 1, word) == value
+        }
+        Event::Barrier => true,
+        Event::Mark => true,
+    }
+}
+
+/// Whether a region's log has these events, and no more.
 fn has_log<R: Region>(region: &R, log: &[Event]) -> bool {
-    let count = region.event_count();
-    for i in 0..count {
-        if log.get(i) != Some(&region.event(i)) {
+    for (i, event) in log.iter().enumerate() {
+        if !has_event(region, i, *event) {
             return false;
         }
     }
-    log.len() == count
+    log.len() == region.event_count()
 }
 
 /// Whether these are a region's words, as the processor sees them and at the last drain.
@@ -305,10 +318,10 @@ fn write_back<R: Region>(machine: &mut Machine<'_, R>, which: usize) -> Option<R
     if which >= machine.moment() || machine.is_back(which) {
         return None;
     }
-    match machine.region.event(which) {
-        Event::Store { .. } => Some(machine.back(which)),
-        Event::Barrier => None,
-        Event::Mark => None,
+    match machine.region.kind(which) {
+        EventKind::Store(_) => Some(machine.back(which)),
+        EventKind::Barrier => None,
+        EventKind::Mark => None,
     }
 }
 

@@ -1,6 +1,7 @@
 mod Blocks
 mod EntryLaws
 mod WordLaws
+mod RunLaws
 mod PieceLaws
 mod LogLaws
 mod UnwoundLaws

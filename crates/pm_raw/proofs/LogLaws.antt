@@ -4,11 +4,28 @@ use Rattle.std.specs.List.{range_with_len}
 use Rattle.std.proofs.lemmas.List.{length-drop, length-take-le, take-append-drop, take_rest}
 use Rattle.pm_epochs.specs.declared.event.Event.{Event}
 use Rattle.pm_raw.specs.Entries.{events_of}
+use Rattle.pm_raw.specs.LogRuns.{IsPart, events_in_log}
 use Rattle.pm_raw.specs.RunWords.{AreRuns, words_from}
+use Rattle.pm_raw.specs.declared.log.Log.TheInside.{Inside}
 use Rattle.pm_raw.proofs.EntryLaws.{events_of-drop, events_of-take, length_events}
 use Rattle.pm_raw.proofs.WordLaws.{begun_by, drop-words_from, length-words_from, runs-behind, runs-front, runs-same, take-words_from, word_in, words-behind, words-front, words-same, words_from-range}
 
-module _ (firsts starts values : List ℕ) (at : ℕ) (runs : AreRuns firsts starts at (at + length values)) where
+module _ (log : Inside) (part : IsPart log) where
+  abbrev pub firsts : List ℕ
+  firsts = log.firsts.now
+
+  abbrev pub starts : List ℕ
+  starts = log.starts.now
+
+  abbrev pub values : List ℕ
+  values = log.values.now
+
+  abbrev pub at : ℕ
+  at = log.at
+
+  runs : AreRuns firsts starts at (at + length values)
+  runs = part.runs
+
   abbrev pub words : List ℕ
   words = words_from firsts starts at (length values)
 
@@ -20,6 +37,10 @@ module _ (firsts starts values : List ℕ) (at : ℕ) (runs : AreRuns firsts sta
 
   pub length-part : length events ≡ length values
   length-part = length_events words values each ∙ sym each
+
+  -- it has an event for each value
+  pub length-seen : (seen : List Event) → events_in_log log ≡ seen → length seen ≡ length values
+  length-seen seen is = sym (ap length is) ∙ length-part
 
   -- what is left behind the first events, with the runs from that of the first one of them on
   module _ (n run : ℕ) (fits : n ≤ length values) (inside : run < length starts) (begun : get_or starts run 0 ≤ at + n) (last : run + 1 < length starts → at + n < get_or starts (run + 1) 0) where
@@ -38,8 +59,8 @@ module _ (firsts starts values : List ℕ) (at : ℕ) (runs : AreRuns firsts sta
         (runs-same (drop run firsts) (drop run starts) (take (length firsts - run) (drop run firsts)) (take (length starts - run) (drop run starts)) (take_rest firsts run) (take_rest starts run) (at + n) (at + length values)
         (runs-behind firsts starts at (at + length values) runs run (at + n) (omega arith) (omega arith) inside begun last))
 
-    pub behind-small : at + length values < 2 ^ 64 → (at + n) + length (take (length values - n) (drop n values)) < 2 ^ 64
-    behind-small small = omega (arith, ends)
+    pub behind-small : (at + n) + length (take (length values - n) (drop n values)) < 2 ^ 64
+    behind-small = omega (arith, ends, part.small)
 
     pub behind-events : events_of (words_from (take (length firsts - run) (drop run firsts)) (take (length starts - run) (drop run starts)) (at + n) (length (take (length values - n) (drop n values)))) (take (length values - n) (drop n values)) ≡ drop n events
     behind-events =
@@ -60,8 +81,8 @@ module _ (firsts starts values : List ℕ) (at : ℕ) (runs : AreRuns firsts sta
         subst (λ k. AreRuns (take run firsts) (take run starts) at (at + k)) (sym long-front)
         (runs-front firsts starts at (at + length values) runs run (at + n) (omega arith) (omega arith) within (λ more. some (omega arith)) taken (λ more. later (omega arith)))
 
-    pub front-small : at + length values < 2 ^ 64 → at + length (take n values) < 2 ^ 64
-    front-small small = omega (arith, long-front)
+    pub front-small : at + length (take n values) < 2 ^ 64
+    front-small = omega (arith, long-front, part.small)
 
     pub front-events : events_of (words_from (take run firsts) (take run starts) at (length (take n values))) (take n values) ≡ take n events
     front-events =

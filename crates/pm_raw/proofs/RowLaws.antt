@@ -28,6 +28,32 @@ stores-fit count first [] some within = absurd (omega (arith, some))
 stores-fit count first (value ∷ []) some within = omega (arith, within.0)
 stores-fit count first (value ∷ next ∷ values) some within = let rest = stores-fit count (first + 1) (next ∷ values) (omega arith) within.1 in omega (arith, rest)
 
+-- the events from `from` on and before `end` are in a row, from the word `first` on: one alone where it is no store
+pub record IsRow (words : List ℕ) (first from end : ℕ) : Type 0 where
+  pub up : from + (end - from) ≡ end
+  pub fits : from + (end - from) ≤ length words
+  pub are : take (end - from) (drop from words) ≡ range_with_len first (end - from)
+  pub some : 0 < end - from
+  pub low : first ≤ no_word
+  pub signal : first ≡ no_word → end - from ≡ 1
+  pub stores : first < no_word → first + (end - from) ≤ no_word
+
+-- so are the last ones before `end`, where a search has found as many
+pub row-before : (words : List ℕ) (first len end : ℕ) → 0 < len → len ≤ end → end ≤ length words → first ≤ no_word
+    → take len (drop (end - len) words) ≡ range_with_len first len → (first ≡ no_word → len ≡ 1) → (first < no_word → first + len ≤ no_word)
+    → IsRow words first (end - len) end
+row-before words first len end some fits inside low row signal stores =
+    let many : end - (end - len) ≡ len = omega (arith, fits) in
+    record {
+      up = omega (arith, fits);
+      fits = omega (arith, fits, inside);
+      are = ap (λ n. take n (drop (end - len) words)) many ∙ row ∙ sym (ap (range_with_len first) many);
+      some = omega (arith, many, some);
+      low = low;
+      signal = λ is. many ∙ signal is;
+      stores = λ less. omega (arith, many, stores less);
+    }
+
 -- so many entries from one on, whose words are in a row
 module _ (words saved : List ℕ) (counted : length saved ≡ length words) (from n first : ℕ) (fits : from + n ≤ length words) (row : take n (drop from words) ≡ range_with_len first n) where
   abbrev undos : List Event

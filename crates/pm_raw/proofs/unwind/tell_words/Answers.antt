@@ -1,12 +1,12 @@
-use Rattle.std.proofs.Common.{◌≡◌, ◌+◌, ◌-◌, ◌<◌, ◌≤◌, ◌∙◌, ap, arith, drop, length, sym, take}
-use Rattle.std.specs.List.{range_with_len}
+use Rattle.std.proofs.Common.{◌≡◌, ◌+◌, ◌-◌, ◌∙◌, ap, arith, drop, length, sym, take}
 use Rattle.std.proofs.lemmas.List.{length-drop, length-take-le}
 use Rattle.pm_region.specs.Memory.{stores_from}
 use Rattle.pm_raw.specs.Entries.{no_word, events_of}
 use Rattle.pm_raw.specs.Unwound.{base_from}
 use Rattle.pm_raw.proofs.EntryLaws.{length_events}
-use Rattle.pm_raw.proofs.RowLaws.{base-further, row-signalled, row-stored, words-whole}
+use Rattle.pm_raw.proofs.RowLaws.{IsRow, base-further, row-before, row-signalled, row-stored, words-whole}
 use Rattle.pm_raw.proofs.UnwoundLaws.{base-signal}
+use Rattle.pm_raw.proofs.unwind.tell_words.Goals.{After-row_before-word}
 use Rattle.pm_raw.proofs.unwind.tell_words.Goals as goal
 
 pub loop-end-init : goal.loop-end-init
@@ -25,68 +25,59 @@ loop-end-init c =
       told = told_is ∙ ap (λ ws. take count (drop first ws)) (words-whole now undos (length c.args.saved.now) (omega (arith, many, c.requires.each)));
     }
 
+-- the row that was found
+row : (c : After-row_before-word) → IsRow c.args.places.now.words c.row_before-word.result.first (c.loop-end.end - c.row_before-word.result.len) c.loop-end.end
+row c =
+    let found = c.row_before-word.ensures in
+    let step = c.loop-end.invariant in
+    row-before _ _ c.row_before-word.result.len _ found.some (omega (arith, found.fits)) (omega (arith, step.fits, c.requires.each))
+    (omega (arith, found.in_range, found.some)) found.row found.signal found.stores
+
 pub loop-end-preserved-then-word : goal.loop-end-preserved-then-word
 loop-end-preserved-then-word c =
+    let at = row (goal.at.loop-end-preserved-then-word c).After-row_before-word in
     let step = c.loop-end.invariant in
-    let now = c.args.words.now in
-    let words = c.args.places.now.words in
     let saved = c.args.saved.now in
-    let undos = events_of words saved in
-    let row = c.row_before-word.ensures in
+    let undos = events_of c.args.places.now.words saved in
+    let found = c.row_before-word.ensures in
     let word = c.row_before-word.result.first in
-    let len = c.row_before-word.result.len in
     let end = c.loop-end.end in
-    let from = end - len in
-    let n = end - from in
+    let from = end - c.row_before-word.result.len in
     let first = c.args.first in
     let count = length c.args.told.now in
-    let behind = base_from now (drop end undos) in
-    let many : n ≡ len = omega (arith, row.fits) in
-    let fits : from + n ≤ length words = omega (arith, row.fits, step.fits, c.requires.each) in
-    let are : take n (drop from words) ≡ range_with_len word n =
-    ap (λ k. take k (drop from words)) many ∙ row.row ∙ sym (ap (range_with_len word) many) in
-    let further = base-further now undos from n end (omega (arith, row.fits)) in
-    let less : word < no_word = omega (arith, c.if-word.true, row.in_range, row.some) in
-    let low : word + n ≤ no_word = omega (arith, row.stores less, many) in
-    let olds = take n (drop from saved) in
-    let stored = row-stored words saved c.requires.each from n word fits are low in
+    let behind = base_from c.args.words.now (drop end undos) in
+    let further = base-further c.args.words.now undos from (end - from) end at.up in
+    let low = at.stores (omega (arith, c.if-word.true, at.low)) in
+    let stored = row-stored c.args.places.now.words saved c.requires.each from (end - from) word at.fits at.are low in
     record {
-      low = omega (arith, row.fits);
+      low = omega (arith, found.fits);
       fits = omega (arith, step.fits);
       each = c.tell_row.ensures.each ∙ step.each;
       told =
           c.tell_row.ensures.told behind (step.told ∙ sym (ap (λ k. take k (drop first behind)) step.each))
-          ∙ ap (λ k. take k (drop first (base_from behind (stores_from word olds)))) step.each
+          ∙ ap (λ k. take k (drop first (base_from behind (stores_from word (take (end - from) (drop from saved)))))) step.each
           ∙ sym (ap (λ es. take count (drop first (base_from behind es))) stored)
           ∙ sym (ap (λ ws. take count (drop first ws)) further);
     }
 
 pub loop-end-preserved : goal.loop-end-preserved
 loop-end-preserved c =
+    let at = row (goal.at.loop-end-preserved c).After-row_before-word in
     let step = c.loop-end.invariant in
-    let now = c.args.words.now in
-    let words = c.args.places.now.words in
     let saved = c.args.saved.now in
-    let undos = events_of words saved in
-    let row = c.row_before-word.ensures in
-    let word = c.row_before-word.result.first in
-    let len = c.row_before-word.result.len in
+    let undos = events_of c.args.places.now.words saved in
+    let found = c.row_before-word.ensures in
     let end = c.loop-end.end in
-    let from = end - len in
-    let n = end - from in
+    let from = end - c.row_before-word.result.len in
     let first = c.args.first in
-    let count = length c.args.told.now in
-    let behind = base_from now (drop end undos) in
-    let many : n ≡ len = omega (arith, row.fits) in
-    let fits : from + n ≤ length words = omega (arith, row.fits, step.fits, c.requires.each) in
-    let are : take n (drop from words) ≡ range_with_len word n =
-    ap (λ k. take k (drop from words)) many ∙ row.row ∙ sym (ap (range_with_len word) many) in
-    let further = base-further now undos from n end (omega (arith, row.fits)) in
-    let is : word ≡ no_word = omega (arith, c.if-word.false) in
-    let signalled = row-signalled words saved c.requires.each from n word fits are is (many ∙ row.signal is) in
+    let behind = base_from c.args.words.now (drop end undos) in
+    let further = base-further c.args.words.now undos from (end - from) end at.up in
+    let is : c.row_before-word.result.first ≡ no_word = omega (arith, c.if-word.false) in
+    let signalled = row-signalled c.args.places.now.words saved c.requires.each from (end - from) _ at.fits at.are is (at.signal is) in
+    let same = further ∙ ap (base_from behind) signalled ∙ base-signal behind _ in
     record {
-      low = omega (arith, row.fits);
+      low = omega (arith, found.fits);
       fits = omega (arith, step.fits);
       each = step.each;
-      told = step.told ∙ sym (ap (λ ws. take count (drop first ws)) (further ∙ ap (base_from behind) signalled ∙ base-signal behind _));
+      told = step.told ∙ sym (ap (λ ws. take (length c.args.told.now) (drop first ws)) same);
     }

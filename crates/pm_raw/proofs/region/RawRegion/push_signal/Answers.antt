@@ -1,87 +1,73 @@
-use Rattle.std.proofs.Common.{◌≡◌, ◌<◌, ◌∙◌, [], ◌∷◌, ◌++◌, ap, arith, length, refl, sym}
-use Rattle.std.proofs.lemmas.List.{length-append}
-use Rattle.pm_region.specs.Memory.{Memory}
-use Rattle.pm_region.proofs.WithinLaws.{within-append, within-same}
-use Rattle.pm_raw.specs.Entries.{no_word, events_of, signal_of}
+use Rattle.std.proofs.Common.{◌≡◌, ◌∙◌, [], ◌∷◌, ◌++◌, ap, arith, length, refl}
+use Rattle.pm_raw.specs.declared.region.RawRegion.TheInside.{Inside}
+use Rattle.pm_raw.specs.Entries.{no_word, signal_of}
 use Rattle.pm_raw.specs.Places.{Placed, is_barrier, is_mark}
-use Rattle.pm_raw.proofs.EntryLaws.{length_events, log-pushed, within-signal}
+use Rattle.pm_raw.specs.RawRegion.{undos_of}
+use Rattle.pm_raw.proofs.EntryLaws.{within-signal}
 use Rattle.pm_raw.proofs.PlaceLaws.{places-few, placed-more}
-use Rattle.pm_raw.proofs.RegionLaws.{count-events, memory-pushed}
+use Rattle.pm_raw.proofs.RegionLaws.{IsPushed, consistent-pushed, memory-pushed, sizes, undos-pushed}
 use Rattle.pm_raw.proofs.UnwoundLaws.{after-signal, undo-signal}
+use Rattle.pm_raw.proofs.region.RawRegion.push_signal.Goals.{After-push}
 use Rattle.pm_raw.proofs.region.RawRegion.push_signal.Goals as goal
 
 pub push-requires : goal.push-requires
 push-requires c =
-    let region = c.self.inside in
-    let words = region.entries.words in
-    let saved = region.entries.saved in
-    let step = c.self.invariant in
-    let long = count-events region.current words saved step.counted in
-    let events_are = ap (λ (m : Memory). length m.events) c.self.view_is in
-    let capacity_is = ap (λ (m : Memory). m.capacity) c.self.view_is in
-    omega (arith, c.requires, events_are, capacity_is, long)
+    let told = sizes c.self.inside _ c.self.invariant c.self.view_is in
+    omega (arith, c.requires, told.events, told.capacity)
 
 pub note_signal-requires-clause-barriers_room : goal.note_signal-requires-clause-barriers_room
 note_signal-requires-clause-barriers_room c =
-    let region = c.self.inside in
-    let words = region.entries.words in
-    let saved = region.entries.saved in
-    let undos = events_of words saved in
     let step = c.self.invariant in
-    let long = count-events region.current words saved step.counted in
-    let events_are = ap (λ (m : Memory). length m.events) c.self.view_is in
-    let capacity_is = ap (λ (m : Memory). m.capacity) c.self.view_is in
-    let undos_count = length_events words saved step.counted in
-    let room : length words < region.entries.room = omega (arith, c.requires, events_are, capacity_is, long) in
-    omega (arith, room, undos_count, ap (λ (p : Placed). length p.items) step.barriers, ap (λ (p : Placed). p.room) step.barriers, places-few is_barrier 0 undos)
+    let told = sizes c.self.inside _ step c.self.view_is in
+    let few = places-few is_barrier 0 (undos_of c.self.inside) in
+    let many = ap (λ (p : Placed). length p.items) step.barriers in
+    omega (arith, c.requires, told.events, told.capacity, told.undos, few, many, ap (λ (p : Placed). p.room) step.barriers)
 
 pub note_signal-requires-clause-marks_room : goal.note_signal-requires-clause-marks_room
 note_signal-requires-clause-marks_room c =
-    let region = c.self.inside in
-    let words = region.entries.words in
-    let saved = region.entries.saved in
-    let undos = events_of words saved in
     let step = c.self.invariant in
-    let long = count-events region.current words saved step.counted in
-    let events_are = ap (λ (m : Memory). length m.events) c.self.view_is in
-    let capacity_is = ap (λ (m : Memory). m.capacity) c.self.view_is in
-    let undos_count = length_events words saved step.counted in
-    let room : length words < region.entries.room = omega (arith, c.requires, events_are, capacity_is, long) in
-    omega (arith, room, undos_count, ap (λ (p : Placed). length p.items) step.marks, ap (λ (p : Placed). p.room) step.marks, places-few is_mark 0 undos)
+    let told = sizes c.self.inside _ step c.self.view_is in
+    let few = places-few is_mark 0 (undos_of c.self.inside) in
+    let many = ap (λ (p : Placed). length p.items) step.marks in
+    omega (arith, c.requires, told.events, told.capacity, told.undos, few, many, ap (λ (p : Placed). p.room) step.marks)
+
+-- the region as it is left
+abbrev next : After-push → Inside
+next c = record c.self.inside { entries = c.push.new.self; barriers = c.note_signal.new.barriers; marks = c.note_signal.new.marks }
+
+-- it has the signal behind its log
+pushed : (c : After-push) → IsPushed c.self.inside (next c) (no_word ∷ []) (c.args.value ∷ [])
+pushed c =
+    let told = sizes c.self.inside _ c.self.invariant c.self.view_is in
+    record {
+      words_are = c.push.ensures.words;
+      saved_are = c.push.ensures.saved;
+      room = c.push.ensures.room;
+      each = refl;
+      fits = omega (arith, c.requires, told.events, told.capacity);
+      same = refl;
+      within = within-signal _ c.args.value;
+    }
 
 pub invariant_of-self : goal.invariant_of-self
 invariant_of-self c =
     let region = c.self.inside in
-    let words = region.entries.words in
-    let saved = region.entries.saved in
-    let undos = events_of words saved in
     let step = c.self.invariant in
-    let long = count-events region.current words saved step.counted in
-    let events_are = ap (λ (m : Memory). length m.events) c.self.view_is in
-    let capacity_is = ap (λ (m : Memory). m.capacity) c.self.view_is in
-    let undos_count = length_events words saved step.counted in
-    let room : length words < region.entries.room = omega (arith, c.requires, events_are, capacity_is, long) in
+    let told = sizes region _ step c.self.view_is in
+    let undos = undos_of region in
     let event = signal_of c.args.value in
-    let undos_are = log-pushed words saved _ _ (no_word ∷ []) (c.args.value ∷ []) step.counted c.push.ensures.words c.push.ensures.saved in
-    let there : length undos ≡ c.len-place.result = omega (arith, undos_count, c.len-place.ensures) in
-    record {
-      barriers = placed-more is_barrier region.barriers _ undos _ (event ∷ []) c.len-place.result region.entries.room _ there undos_are c.push.ensures.room step.barriers c.note_signal.ensures.barriers;
-      marks = placed-more is_mark region.marks _ undos _ (event ∷ []) c.len-place.result region.entries.room _ there undos_are c.push.ensures.room step.marks c.note_signal.ensures.marks;
-      within = within-same _ _ (undos ++ event ∷ []) _ refl (sym undos_are) (within-append _ undos _ step.within (within-signal _ c.args.value));
-      few = step.few;
-      counted = omega (arith, ap length c.push.ensures.words, ap length c.push.ensures.saved, length-append words (no_word ∷ []), length-append saved (c.args.value ∷ []), step.counted);
-      fits = omega (arith, room, ap length c.push.ensures.words, length-append words (no_word ∷ []), c.push.ensures.room);
-      small = omega (arith, c.push.ensures.room, step.small);
-    }
+    let place = c.len-place.result in
+    let there : length undos ≡ place = omega (arith, told.undos, c.len-place.ensures) in
+    let undos_are = undos-pushed region (next c) _ _ step (pushed c) in
+    let note = c.note_signal.ensures in
+    consistent-pushed region (next c) _ _ step (pushed c)
+    (placed-more is_barrier region.barriers _ undos _ (event ∷ []) place region.entries.room _ there undos_are c.push.ensures.room step.barriers note.barriers)
+    (placed-more is_mark region.marks _ undos _ (event ∷ []) place region.entries.room _ there undos_are c.push.ensures.room step.marks note.marks)
 
 pub returns : goal.returns
 returns c =
     let region = c.self.inside in
-    let words = region.entries.words in
-    let saved = region.entries.saved in
-    let undos = events_of words saved in
-    let step = c.self.invariant in
-    let event = signal_of c.args.value in
-    let undos_are = log-pushed words saved _ _ (no_word ∷ []) (c.args.value ∷ []) step.counted c.push.ensures.words c.push.ensures.saved in
-    memory-pushed _ region.current _ undos _ (event ∷ []) region.entries.room _ region.drains c.self.view_is (after-signal region.current c.args.value)
-    (undos_are ∙ ap (λ es. undos ++ es) (undo-signal region.current c.args.value)) (within-signal _ c.args.value) c.push.ensures.room
+    let value = c.args.value in
+    let undos_are = undos-pushed region (next c) _ _ c.self.invariant (pushed c) ∙ ap (λ es. undos_of region ++ es) (undo-signal region.current value) in
+    memory-pushed _ region.current _ (undos_of region) _ (signal_of value ∷ []) region.entries.room _ region.drains c.self.view_is
+    (after-signal region.current value) undos_are (within-signal _ value) c.push.ensures.room

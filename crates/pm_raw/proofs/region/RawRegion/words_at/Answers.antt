@@ -1,36 +1,26 @@
 use Rattle.std.proofs.Common.{◌≡◌, ◌+◌, ◌-◌, ◌∙◌, ap, arith, drop, length, sym, take}
 use Rattle.pm_epochs.specs.Log.{words_after}
 use Rattle.pm_region.specs.Memory.{Memory}
-use Rattle.pm_raw.specs.Entries.{events_of}
+use Rattle.pm_raw.specs.RawRegion.{undos_of}
 use Rattle.pm_raw.specs.Unwound.{base_from}
-use Rattle.pm_raw.proofs.RegionLaws.{count-events}
-use Rattle.pm_raw.proofs.UnwoundLaws.{length-base, words-front}
+use Rattle.pm_raw.proofs.RegionLaws.{sizes}
+use Rattle.pm_raw.proofs.UnwoundLaws.{words-front}
 use Rattle.pm_raw.proofs.region.RawRegion.words_at.Goals as goal
 
 pub tell_words-requires-clause-moment : goal.tell_words-requires-clause-moment
 tell_words-requires-clause-moment c =
-    let region = c.self.inside in
-    let words = region.entries.words in
-    let saved = region.entries.saved in
-    let step = c.self.invariant in
-    omega (arith, c.requires.moment, ap (λ (m : Memory). length m.events) c.self.view_is, count-events region.current words saved step.counted)
+    let told = sizes c.self.inside _ c.self.invariant c.self.view_is in
+    omega (arith, c.requires.moment, told.events, c.self.invariant.counted)
 
 pub tell_words-requires-clause-in_range : goal.tell_words-requires-clause-in_range
 tell_words-requires-clause-in_range c =
-    let region = c.self.inside in
-    let words = region.entries.words in
-    let saved = region.entries.saved in
-    let undos = events_of words saved in
-    let step = c.self.invariant in
-    omega (arith, c.requires.in_range, ap (λ (m : Memory). length m.base) c.self.view_is, length-base region.current undos, ap length c.as_slice.ensures)
+    let told = sizes c.self.inside _ c.self.invariant c.self.view_is in
+    omega (arith, c.requires.in_range, told.base, ap length c.as_slice.ensures)
 
 pub returns : goal.returns
 returns c =
     let region = c.self.inside in
-    let words = region.entries.words in
-    let saved = region.entries.saved in
-    let undos = events_of words saved in
-    let step = c.self.invariant in
+    let undos = undos_of region in
     let moment = c.args.moment in
     let first = c.args.first in
     let count = length c.args.told.now in

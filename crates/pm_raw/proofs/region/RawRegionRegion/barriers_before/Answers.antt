@@ -1,7 +1,7 @@
 use Rattle.std.proofs.Common.{◌∙◌, ap, sym, take}
 use Rattle.pm_epochs.specs.Log.{barriers}
 use Rattle.pm_region.specs.Memory.{Memory}
-use Rattle.pm_raw.specs.Entries.{events_of}
+use Rattle.pm_raw.specs.RawRegion.{undos_of}
 use Rattle.pm_raw.specs.Places.{Placed}
 use Rattle.pm_raw.specs.Unwound.{events_from}
 use Rattle.pm_raw.proofs.KindLaws.{barriers-front-kinds, erased-events}
@@ -11,11 +11,8 @@ use Rattle.pm_raw.proofs.region.RawRegionRegion.barriers_before.Goals as goal
 pub returns : goal.returns
 returns c =
     let region = c.self.inside in
-    let words = region.entries.words in
-    let saved = region.entries.saved in
-    let undos = events_of words saved in
-    let step = c.self.invariant in
-    let kept = ap (λ (p : Placed). p.items) step.barriers in
+    let undos = undos_of region in
+    let kept = ap (λ (p : Placed). p.items) c.self.invariant.barriers in
     let moment = c.args.moment in
     c.before-2.ensures
     ∙ barriers-below undos region.barriers.items moment kept

@@ -2,7 +2,8 @@ use Rattle.std.proofs.Common.{◌+◌, ◌<◌, ◌∙◌, ◌++◌, [], ◌∷�
 use Rattle.std.proofs.lemmas.List.{length-append}
 use Rattle.std.specs.List.{range_with_len}
 use Rattle.pm_raw.specs.RunWords.{Worded}
-use Rattle.pm_raw.proofs.WordLaws.{length-words_from, next-begun, next-joined, runs-begun, runs-joined, runs-same, word-same, words-begun, words-joined, words-same}
+use Rattle.pm_raw.proofs.RunLaws.{length-seen}
+use Rattle.pm_raw.proofs.WordLaws.{next-begun, next-joined, runs-begun, runs-joined, runs-same, word-same, words-begun, words-joined, words-same}
 use Rattle.pm_raw.proofs.runs.Runs.push.Goals as goal
 use Rattle.pm_raw.proofs.runs.Runs.push.Goals.{then-first-self, else-first-self}
 
@@ -10,15 +11,17 @@ pub push_reserved-requires : goal.push_reserved-requires
 push_reserved-requires c =
     let runs = c.self.inside in
     let step = c.self.invariant in
-    let many = length-words_from runs.firsts.items runs.starts.items 0 runs.count in
-    omega (arith, step.few, step.firsts_room, runs.firsts.ok.0, c.requires.some, c.requires.room, many, ap (λ (w : Worded). length w.words) c.self.view_is, ap (λ (w : Worded). w.room) c.self.view_is)
+    let many = length-seen runs _ step c.self.view_is in
+    let room = ap (λ (w : Worded). w.room) c.self.view_is in
+    omega (arith, step.few, step.firsts_room, runs.firsts.ok.0, c.requires.some, c.requires.room, many, room)
 
 pub push_reserved-requires-then-first-self : goal.push_reserved-requires-then-first-self
 push_reserved-requires-then-first-self c =
     let runs = c.self.inside in
     let step = c.self.invariant in
-    let many = length-words_from runs.firsts.items runs.starts.items 0 runs.count in
-    omega (arith, step.few, step.are.same, step.starts_room, runs.starts.ok.0, c.requires.some, c.requires.room, many, ap (λ (w : Worded). length w.words) c.self.view_is, ap (λ (w : Worded). w.room) c.self.view_is)
+    let many = length-seen runs _ step c.self.view_is in
+    let room = ap (λ (w : Worded). w.room) c.self.view_is in
+    omega (arith, step.few, step.are.same, step.starts_room, runs.starts.ok.0, c.requires.some, c.requires.room, many, room)
 
 pub invariant_of-self : goal.invariant_of-self
 invariant_of-self c =
@@ -28,8 +31,7 @@ invariant_of-self c =
     let starts = runs.starts.items in
     let first = c.args.first in
     let wanted = c.args.wanted in
-    let many = length-words_from firsts starts 0 runs.count in
-    let size = ap (λ (w : Worded). length w.words) c.self.view_is in
+    let many = length-seen runs _ step c.self.view_is in
     let room = ap (λ (w : Worded). w.room) c.self.view_is in
     elim c.if-first-self.branch [
       | then-first-self w ↦
@@ -43,7 +45,7 @@ invariant_of-self c =
                 word-same (firsts ++ first ∷ []) (starts ++ runs.count ∷ []) _ _ firsts_are starts_are (runs.count + wanted)
                 ∙ next-begun firsts starts runs.count first wanted step.are c.requires.in_range);
             few = omega (arith, ap length firsts_are, length-append firsts (first ∷ []), step.few, c.requires.some);
-            counted = omega (arith, c.requires.room, many, size, room);
+            counted = omega (arith, c.requires.room, many, room);
             firsts_room = omega (arith, w.push_reserved.ensures.capacity, step.firsts_room);
             starts_room = omega (arith, w.push_reserved-then-first-self.ensures.capacity, step.starts_room);
           })
@@ -54,7 +56,7 @@ invariant_of-self c =
             are = runs-joined firsts starts runs.count first wanted step.are c.requires.in_range goes_on low;
             next = sym (next-joined firsts starts runs.count first wanted step.are c.requires.in_range goes_on low);
             few = omega (arith, step.few);
-            counted = omega (arith, c.requires.room, many, size, room);
+            counted = omega (arith, c.requires.room, many, room);
             firsts_room = step.firsts_room;
             starts_room = step.starts_room;
           })

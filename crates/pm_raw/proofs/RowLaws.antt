@@ -10,7 +10,7 @@ use Rattle.pm_raw.specs.Entries.{no_word, signal_of, events_of}
 use Rattle.pm_raw.specs.Unwound.{base_from, erased, erased_event, events_from}
 use Rattle.pm_raw.proofs.EntryLaws.{events_of-append, events_of-drop, events_of-take, row_signal, row_stores}
 use Rattle.pm_raw.proofs.KindLaws.{erased-events, within-kinds}
-use Rattle.pm_raw.proofs.UnwoundLaws.{base-append, events-append, length-base}
+use Rattle.pm_raw.proofs.UnwoundLaws.{base-append, base-signal, events-append, length-base}
 
 within-drop : (count n : ℕ) (events : List Event) → AreWithin count events → AreWithin count (drop n events)
 within-drop count zero events within = within
@@ -249,6 +249,26 @@ stores-at first held left low =
 pub base-further : (now : List ℕ) (undos : List Event) (from n end : ℕ) → from + n ≡ end → base_from now (drop from undos) ≡ base_from (base_from now (drop end undos)) (take n (drop from undos))
 base-further now undos from n end is =
     sym (ap (base_from now) (rest-split from n end undos is)) ∙ base-append now (take n (drop from undos)) (drop end undos)
+
+module _ (now words saved : List ℕ) (each : length saved ≡ length words) (first from end : ℕ) (at : IsRow words first from end) where
+  abbrev log : List Event
+  log = events_of words saved
+
+  -- the words before a row of stores are those behind it with its stores undone
+  pub base-stored : first < no_word
+      → base_from now (drop from (events_of words saved))
+      ≡ base_from (base_from now (drop end (events_of words saved))) (stores_from first (take (end - from) (drop from saved)))
+  base-stored less =
+      base-further now log from (end - from) end at.up
+      ∙ ap (base_from (base_from now (drop end log))) (row-stored words saved each from (end - from) first at.fits at.are (at.stores less))
+
+  -- what is no store leaves them as they are
+  pub base-signalled : first ≡ no_word → base_from now (drop from (events_of words saved)) ≡ base_from now (drop end (events_of words saved))
+  base-signalled is =
+      let behind = base_from now (drop end log) in
+      base-further now log from (end - from) end at.up
+      ∙ ap (base_from behind) (row-signalled words saved each from (end - from) first at.fits at.are is (at.signal is))
+      ∙ base-signal behind _
 
 -- nothing is unwound yet
 pub words-whole : (now : List ℕ) (undos : List Event) (end : ℕ) → length undos ≤ end → now ≡ base_from now (drop end undos)

@@ -1,11 +1,10 @@
 use Rattle.std.proofs.Common.{◌≡◌, ◌+◌, ◌-◌, ◌∙◌, ap, arith, drop, length, sym, take}
 use Rattle.std.proofs.lemmas.List.{length-drop, length-take-le}
 use Rattle.pm_region.specs.Memory.{stores_from}
-use Rattle.pm_raw.specs.Entries.{no_word, events_of}
+use Rattle.pm_raw.specs.Entries.{events_of}
 use Rattle.pm_raw.specs.Unwound.{base_from}
 use Rattle.pm_raw.proofs.EntryLaws.{length_events}
-use Rattle.pm_raw.proofs.RowLaws.{IsRow, base-further, row-before, row-signalled, row-stored, words-whole}
-use Rattle.pm_raw.proofs.UnwoundLaws.{base-signal}
+use Rattle.pm_raw.proofs.RowLaws.{IsRow, base-signalled, base-stored, row-before, words-whole}
 use Rattle.pm_raw.proofs.unwind.tell_words.Goals.{After-row_before-word}
 use Rattle.pm_raw.proofs.unwind.tell_words.Goals as goal
 
@@ -37,47 +36,34 @@ pub loop-end-preserved-then-word : goal.loop-end-preserved-then-word
 loop-end-preserved-then-word c =
     let at = row (goal.at.loop-end-preserved-then-word c).After-row_before-word in
     let step = c.loop-end.invariant in
+    let words = c.args.places.now.words in
     let saved = c.args.saved.now in
-    let undos = events_of c.args.places.now.words saved in
-    let found = c.row_before-word.ensures in
     let word = c.row_before-word.result.first in
     let end = c.loop-end.end in
     let from = end - c.row_before-word.result.len in
     let first = c.args.first in
-    let count = length c.args.told.now in
-    let behind = base_from c.args.words.now (drop end undos) in
-    let further = base-further c.args.words.now undos from (end - from) end at.up in
-    let low = at.stores (omega (arith, c.if-word.true, at.low)) in
-    let stored = row-stored c.args.places.now.words saved c.requires.each from (end - from) word at.fits at.are low in
+    let behind = base_from c.args.words.now (drop end (events_of words saved)) in
+    let undone = base-stored c.args.words.now words saved c.requires.each word from end at (omega (arith, c.if-word.true, at.low)) in
     record {
-      low = omega (arith, found.fits);
+      low = omega (arith, c.row_before-word.ensures.fits);
       fits = omega (arith, step.fits);
       each = c.tell_row.ensures.each ∙ step.each;
       told =
           c.tell_row.ensures.told behind (step.told ∙ sym (ap (λ k. take k (drop first behind)) step.each))
           ∙ ap (λ k. take k (drop first (base_from behind (stores_from word (take (end - from) (drop from saved)))))) step.each
-          ∙ sym (ap (λ es. take count (drop first (base_from behind es))) stored)
-          ∙ sym (ap (λ ws. take count (drop first ws)) further);
+          ∙ sym (ap (λ ws. take (length c.args.told.now) (drop first ws)) undone);
     }
 
 pub loop-end-preserved : goal.loop-end-preserved
 loop-end-preserved c =
     let at = row (goal.at.loop-end-preserved c).After-row_before-word in
     let step = c.loop-end.invariant in
-    let saved = c.args.saved.now in
-    let undos = events_of c.args.places.now.words saved in
-    let found = c.row_before-word.ensures in
-    let end = c.loop-end.end in
-    let from = end - c.row_before-word.result.len in
-    let first = c.args.first in
-    let behind = base_from c.args.words.now (drop end undos) in
-    let further = base-further c.args.words.now undos from (end - from) end at.up in
-    let is : c.row_before-word.result.first ≡ no_word = omega (arith, c.if-word.false) in
-    let signalled = row-signalled c.args.places.now.words saved c.requires.each from (end - from) _ at.fits at.are is (at.signal is) in
-    let same = further ∙ ap (base_from behind) signalled ∙ base-signal behind _ in
+    let from = c.loop-end.end - c.row_before-word.result.len in
+    let same =
+    base-signalled c.args.words.now c.args.places.now.words c.args.saved.now c.requires.each _ from c.loop-end.end at (omega (arith, c.if-word.false)) in
     record {
-      low = omega (arith, found.fits);
+      low = omega (arith, c.row_before-word.ensures.fits);
       fits = omega (arith, step.fits);
       each = step.each;
-      told = step.told ∙ sym (ap (λ ws. take (length c.args.told.now) (drop first ws)) same);
+      told = step.told ∙ sym (ap (λ ws. take (length c.args.told.now) (drop c.args.first ws)) same);
     }

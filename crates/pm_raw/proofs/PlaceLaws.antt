@@ -115,6 +115,12 @@ placed-stores is_one placed log next word values size next_size none next_is siz
     placed-more is_one placed placed log next (stores_from word values) (length log) size next_size refl next_is size_is is
     (ap (λ ps. record placed { items = ps }) (sym nothing))
 
+-- where a log has room for one more event, so have its places
+pub placed-room : (is_one : Event → Bool) (placed : Placed) (log : List Event) (room : ℕ) →
+    placed ≡ record { items = places_where is_one 0 log; room = room } → length log < room → length placed.items < placed.room
+placed-room is_one placed log room is more =
+    omega (arith, more, places-few is_one 0 log, ap (λ (p : Placed). length p.items) is, ap (λ (p : Placed). p.room) is)
+
 pub placed-none : (is_one : Event → Bool) (old new : Placed) (log next : List Event) (size next_size : ℕ) →
     next ≡ [] → next_size ≡ size → old ≡ record { items = places_where is_one 0 log; room = size } → new ≡ record { items = []; room = old.room } →
     new ≡ record { items = places_where is_one 0 next; room = next_size }

@@ -1,10 +1,10 @@
 use Rattle.std.proofs.Common.{◌≡◌, ◌∙◌, [], ◌∷◌, ◌++◌, ap, arith, length, refl}
 use Rattle.pm_raw.specs.declared.region.RawRegion.TheInside.{Inside}
 use Rattle.pm_raw.specs.Entries.{no_word, signal_of}
-use Rattle.pm_raw.specs.Places.{Placed, is_barrier, is_mark}
+use Rattle.pm_raw.specs.Places.{is_barrier, is_mark}
 use Rattle.pm_raw.specs.RawRegion.{undos_of}
 use Rattle.pm_raw.proofs.EntryLaws.{within-signal}
-use Rattle.pm_raw.proofs.PlaceLaws.{places-few, placed-more}
+use Rattle.pm_raw.proofs.PlaceLaws.{placed-more, placed-room}
 use Rattle.pm_raw.proofs.RegionLaws.{IsPushed, consistent-pushed, memory-pushed, sizes, undos-pushed}
 use Rattle.pm_raw.proofs.UnwoundLaws.{after-signal, undo-signal}
 use Rattle.pm_raw.proofs.region.RawRegion.push_signal.Goals.{After-push}
@@ -17,19 +17,15 @@ push-requires c =
 
 pub note_signal-requires-clause-barriers_room : goal.note_signal-requires-clause-barriers_room
 note_signal-requires-clause-barriers_room c =
-    let step = c.self.invariant in
-    let told = sizes c.self.inside _ step c.self.view_is in
-    let few = places-few is_barrier 0 (undos_of c.self.inside) in
-    let many = ap (λ (p : Placed). length p.items) step.barriers in
-    omega (arith, c.requires, told.events, told.capacity, told.undos, few, many, ap (λ (p : Placed). p.room) step.barriers)
+    let region = c.self.inside in
+    let told = sizes region _ c.self.invariant c.self.view_is in
+    placed-room is_barrier _ (undos_of region) region.entries.room c.self.invariant.barriers (omega (arith, c.requires, told.events, told.capacity, told.undos))
 
 pub note_signal-requires-clause-marks_room : goal.note_signal-requires-clause-marks_room
 note_signal-requires-clause-marks_room c =
-    let step = c.self.invariant in
-    let told = sizes c.self.inside _ step c.self.view_is in
-    let few = places-few is_mark 0 (undos_of c.self.inside) in
-    let many = ap (λ (p : Placed). length p.items) step.marks in
-    omega (arith, c.requires, told.events, told.capacity, told.undos, few, many, ap (λ (p : Placed). p.room) step.marks)
+    let region = c.self.inside in
+    let told = sizes region _ c.self.invariant c.self.view_is in
+    placed-room is_mark _ (undos_of region) region.entries.room c.self.invariant.marks (omega (arith, c.requires, told.events, told.capacity, told.undos))
 
 -- the region as it is left
 abbrev next : After-push → Inside

@@ -1,5 +1,6 @@
 pub mod PathOrder
 pub mod ListedNames
+pub mod EntryItems
 pub mod Kernels
 pub mod Uniqueness
 pub mod Existence

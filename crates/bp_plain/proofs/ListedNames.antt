@@ -11,7 +11,7 @@ use Rattle.std.specs.Cmp.Lexicographic.{slice_cmp, nat_list_cmp_total}
 use Rattle.std.specs.FinMap.{IsAntisymmetric, entries, entries_sorted, get, get-entries, nat_cmp-IsAntisymmetric, slice_cmp-IsAntisymmetric}
 use Rattle.std.specs.FinMap.Entries.{below_all, find, is_sorted, same_entries}
 use Rattle.std.proofs.lemmas.Cmp.{tied_itself}
-use Rattle.std.proofs.lemmas.List.Sorted.{IsPermutation-map, ranks_by, sorted_far}
+use Rattle.std.proofs.lemmas.List.Sorted.{Contains-permutation, IsPermutation-map, IsPermutation-sym, ranks_by, sorted_far}
 use Rattle.std.proofs.lemmas.Map.Keys.{IsDistinct-IsPermutation}
 use Rattle.bp_layout.specs.Below.{rest_below}
 use Rattle.bp_layout.specs.Directory.{Name}
@@ -199,6 +199,24 @@ module _ {Item A : Type 0} (keyed : Item → Name × A) where
   NamesDiffer-permutation items done moved =
       IsDistinct-IsPermutation (eq_by_cmp by_bytes) (eq_by_cmp_equiv nat_list_cmp_total).symm (map (λ e. e.0) (map keyed items)) (map (λ e. e.0) (map keyed done))
       (IsPermutation-map (λ e. e.0) (map keyed items) (map keyed done) (IsPermutation-map keyed items done moved))
+
+  -- what is found among some items is found among others that have them, so a search finds the same once they are moved
+  found-among : (some others : List Item) → NamesDiffer (map keyed others) → ((x : Item) → Contains some x → Contains others x) →
+      (name : Name) (value : A) → find by_bytes name (map keyed some) ≡ Some value → find by_bytes name (map keyed others) ≡ Some value
+  found-among some others apart among name value e =
+      let item = find-item some name value e in
+      subst (λ (k : Name × A). find by_bytes k.0 (map keyed others) ≡ Some k.1) item.2 (item-find others item.0 apart (among item.0 item.1))
+
+  pub find-moved : (items done : List Item) → IsPermutation items done → NamesDiffer (map keyed items) →
+      (name : Name) → find by_bytes name (map keyed done) ≡ find by_bytes name (map keyed items)
+  find-moved items done moved apart name = go (find by_bytes name (map keyed done)) refl (find by_bytes name (map keyed items)) refl
+    where
+      go : (o : Option A) → find by_bytes name (map keyed done) ≡ o → (p : Option A) → find by_bytes name (map keyed items) ≡ p →
+          find by_bytes name (map keyed done) ≡ find by_bytes name (map keyed items)
+      go (Some value) e p f = e ∙ sym (found-among done items apart (λ x c. Contains-permutation _ _ x (IsPermutation-sym _ _ moved) c) name value e)
+      go None e (Some value) f =
+          found-among items done (NamesDiffer-permutation items done moved apart) (λ x c. Contains-permutation _ _ x moved c) name value f ∙ sym f
+      go None e None f = e ∙ sym f
 
   -- ---- and sorted
 

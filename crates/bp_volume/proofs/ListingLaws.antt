@@ -1,19 +1,19 @@
 -- The listing of a plain tree is the sorted list of a directory's entries.
-use Rattle.std.proofs.Common.{◌≡◌, List, [], ◌∷◌, ◌++◌, map, length, Bool, true, false, Option, None, Some, refl, sym, ◌∙◌, ap, subst, arith, IsPermutation, IsSortedBy, Contains}
+use Rattle.std.proofs.Common.{◌≡◌, List, [], ◌∷◌, ◌++◌, map, length, Bool, true, false, Option, None, Some, refl, sym, ◌∙◌, ap, arith, IsPermutation, IsSortedBy}
 use Rattle.std.specs.Option.{option_map}
 use Rattle.std.specs.List.{IsDistinct, AllByRecursion}
 use Rattle.std.specs.Ordering.{eq_by_cmp}
 use Rattle.std.specs.Cmp.Lexicographic.{nat_list_cmp_total}
 use Rattle.std.specs.FinMap.{FinMap, entries, entries_sorted, get, get-entries, from_entries, get-from_entries, len, len-entries, len-empty, len-insert, contains_key}
 use Rattle.std.specs.FinMap.Entries.{find, same_entries}
-use Rattle.std.proofs.lemmas.List.{length-map}
-use Rattle.std.proofs.lemmas.List.Sorted.{Contains-permutation, IsPermutation-sym}
+use Rattle.std.proofs.lemmas.List.{length-map, map-id}
+use Rattle.std.proofs.lemmas.Simd.{map-map}
 use Rattle.bp_layout.specs.Directory.{Name}
 use Rattle.bp_layout.specs.Lookup.{Path}
 use Rattle.bp_layout.specs.declared.fields.Kind.{Kind}
 use Rattle.bp_plain.specs.PlainTree.{Nodes}
 use Rattle.bp_plain.specs.Plain.{kind_of_node, listing}
-use Rattle.bp_plain.proofs.ListedNames.{NamesDiffer, NamesDiffer-permutation, by_bytes, by_bytes-IsAntisymmetric, comes_before, find-item, find-listing, item-find, sorted-listed, sorted_listing}
+use Rattle.bp_plain.proofs.ListedNames.{NamesDiffer, NamesDiffer-permutation, by_bytes, by_bytes-IsAntisymmetric, comes_before, find-listing, find-moved, sorted-listed, sorted_listing}
 
 -- an entry of a listing under its name
 abbrev pub by_name : Kind × Name → Name × Kind
@@ -39,28 +39,6 @@ module _ {Item : Type 0} (seen : Item → Kind × Name) where
   abbrev pub keyed : Item → Name × Kind
   keyed item = by_name (seen item)
 
-  -- what is found among some items is found among others that have them
-  found-among : (some others : List Item) → NamesDiffer (map keyed others) → ((x : Item) → Contains some x → Contains others x) →
-      (name : Name) (kind : Kind) → find by_bytes name (map keyed some) ≡ Some kind → find by_bytes name (map keyed others) ≡ Some kind
-  found-among some others apart among name kind e =
-      let item = find-item keyed some name kind e in
-      subst (λ (k : Name × Kind). find by_bytes k.0 (map keyed others) ≡ Some k.1) item.2 (item-find keyed others item.0 apart (among item.0 item.1))
-
-  find-moved : (items done : List Item) → IsPermutation items done → NamesDiffer (map keyed items) →
-      (name : Name) → find by_bytes name (map keyed done) ≡ find by_bytes name (map keyed items)
-  find-moved items done moved apart name = go (find by_bytes name (map keyed done)) refl (find by_bytes name (map keyed items)) refl
-    where
-      go : (o : Option Kind) → find by_bytes name (map keyed done) ≡ o → (p : Option Kind) → find by_bytes name (map keyed items) ≡ p →
-          find by_bytes name (map keyed done) ≡ find by_bytes name (map keyed items)
-      go (Some kind) e p f = e ∙ sym (found-among done items apart (λ x c. Contains-permutation _ _ x (IsPermutation-sym _ _ moved) c) name kind e)
-      go None e (Some kind) f =
-          found-among items done (NamesDiffer-permutation keyed items done moved apart) (λ x c. Contains-permutation _ _ x moved c) name kind f ∙ sym f
-      go None e None f = e ∙ sym f
-
-  seen_back : (items : List Item) → map (λ (e : Name × Kind). (e.1, e.0)) (map keyed items) ≡ map seen items
-  seen_back [] = refl
-  seen_back (x ∷ xs) = ap (λ ys. seen x ∷ ys) (seen_back xs)
-
   module _ (nodes : Nodes) (here : Path) (items : List Item) (apart : NamesDiffer (map keyed items))
       (finds : (name : Name) → find by_bytes name (map keyed items) ≡ option_map kind_of_node (get nodes (here ++ name ∷ []))) where
     -- there are as many as the listing has
@@ -76,9 +54,8 @@ module _ {Item : Type 0} (seen : Item → Kind × Name) where
     pub sorted-listing : (done : List Item) → IsPermutation items done → IsSortedBy (comes_before keyed) done → map seen done ≡ listing nodes here
     sorted-listing done moved up =
         let same : map keyed done ≡ map by_name (listing nodes here) =
-        sorted-listed keyed (λ k. k) here nodes done up (NamesDiffer-permutation keyed items done moved apart) (λ name. find-moved items done moved apart name ∙ finds name) in
-        sym (seen_back done) ∙ ap (map (λ (e : Name × Kind). (e.1, e.0))) same ∙ listed_back (listing nodes here)
+        sorted-listed keyed (λ k. k) here nodes done up (NamesDiffer-permutation keyed items done moved apart) (λ name. find-moved keyed items done moved apart name ∙ finds name) in
+        sym (map-map swapped keyed done) ∙ ap (map swapped) same ∙ map-map swapped by_name (listing nodes here) ∙ map-id (listing nodes here)
       where
-        listed_back : (es : List (Kind × Name)) → map (λ (e : Name × Kind). (e.1, e.0)) (map by_name es) ≡ es
-        listed_back [] = refl
-        listed_back (x ∷ xs) = ap (λ ys. x ∷ ys) (listed_back xs)
+        swapped : Name × Kind → Kind × Name
+        swapped entry = (entry.1, entry.0)

@@ -31,7 +31,7 @@ none_below image j name path found other finds =
 
 module _ (image : Image) (wf : IsWellFormed image) (i : ℕ) (reached : IsReached image i) (kind : kind_of image i ≡ 2) where
   -- what a name finds
-  pub finds_name : (slot : ℕ) → slot < entry_count image i → inumber_at image i slot ≢ 0 → lookup_in image i (name_at image i slot) ≡ Some (inumber_at image i slot)
+  finds_name : (slot : ℕ) → slot < entry_count image i → inumber_at image i slot ≢ 0 → lookup_in image i (name_at image i slot) ≡ Some (inumber_at image i slot)
   finds_name slot low some =
       let here : EntryNames image i slot (inumber_at image i slot) = record { directory = kind; in_size = low; inumber = refl; not_empty = some } in
       lookup_in-found image i (inumber_at image i slot) (name_at image i slot) (record { slot = slot; entry = here; spelled = refl })

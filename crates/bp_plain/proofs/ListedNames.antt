@@ -141,7 +141,7 @@ module _ {A : Type 0} (of : Kind → A) (here : Path) where
 get_or-next : {A : Type 0} (x : A) (xs : List A) (k : ℕ) (d : A) → get_or (x ∷ xs) (k + 1) d ≡ get_or xs k d
 get_or-next x xs k d = rw add-one refl
 
-pub contains-next : {A : Type 0} (x : A) (xs : List A) (y : A) → Contains xs y → Contains (x ∷ xs) y
+contains-next : {A : Type 0} (x : A) (xs : List A) (y : A) → Contains xs y → Contains (x ∷ xs) y
 contains-next x xs y c = (c.0 + 1, omega (arith, c.1), get_or-next x xs c.0 y ∙ c.2)
 
 less_from : (a b : Name) → is_lt (by_bytes b a) ≡ false → eq_by_cmp by_bytes a b ≡ false → T (is_lt (by_bytes a b))
@@ -157,7 +157,7 @@ module _ {Item A : Type 0} (keyed : Item → Name × A) where
   comes_before x y = is_lt (by_bytes (keyed x).0 (keyed y).0)
 
   -- what is found under a name belongs to an item, and under the name of each item is what belongs to it
-  pub find-item : (items : List Item) (name : Name) (value : A) → find by_bytes name (map keyed items) ≡ Some value →
+  find-item : (items : List Item) (name : Name) (value : A) → find by_bytes name (map keyed items) ≡ Some value →
       (x : Item) × Contains items x × (keyed x ≡ (name, value))
   find-item [] name value e = absurd (cc)
   find-item (x ∷ xs) name value e = go (λ r. find-item xs name value r) (eq_by_cmp by_bytes name (keyed x).0) refl

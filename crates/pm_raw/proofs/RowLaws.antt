@@ -1,7 +1,7 @@
 -- The events of a row, among those of a log, and a log whose end is unwound row by row.
-use Rattle.std.proofs.Common.{◌≡◌, ℕ, zero, suc, ◌+◌, ◌-◌, ◌<◌, ◌≤◌, ◌⊎◌, inl, inr, List, [], ◌∷◌, ◌++◌, length, take, drop, get_or, set, refl, sym, ◌∙◌, ap, arith, subst}
+use Rattle.std.proofs.Common.{◌≡◌, ℕ, zero, suc, ◌+◌, ◌-◌, ◌<◌, ◌≤◌, List, [], ◌∷◌, ◌++◌, length, take, drop, get_or, refl, sym, ◌∙◌, ap, arith, subst}
 use Rattle.std.specs.List.{range_with_len}
-use Rattle.std.proofs.lemmas.List.{drop-drop, drop-set-lt, drop_all, drop_at, drop_more, drop-take, length-drop, length-take-le, take-append-drop, take-append-le, take-set-le, take-take, take_at}
+use Rattle.std.proofs.lemmas.List.{drop-drop, drop_all, drop_at, drop-take, length-drop, length-take-le, take-append-drop, take-append-le, take-take, take_at}
 use Rattle.pm_epochs.specs.declared.event.Event.{Event}
 use Rattle.pm_epochs.specs.declared.event.Event.TheVariants.{Store, Barrier, Mark}
 use Rattle.pm_epochs.proofs.MayLaws.{StoresMay-take}
@@ -10,7 +10,7 @@ use Rattle.pm_raw.specs.Entries.{no_word, signal_of, events_of}
 use Rattle.pm_raw.specs.Unwound.{base_from, erased, erased_event, events_from}
 use Rattle.pm_raw.proofs.EntryLaws.{events_of-append, events_of-drop, events_of-take, row_signal, row_stores}
 use Rattle.pm_raw.proofs.KindLaws.{erased-events, within-kinds}
-use Rattle.pm_raw.proofs.UnwoundLaws.{base-append, base-signal, events-append, length-base}
+use Rattle.pm_raw.proofs.UnwoundLaws.{base-append, events-append, length-base}
 
 within-drop : (count n : ℕ) (events : List Event) → AreWithin count events → AreWithin count (drop n events)
 within-drop count zero events within = within
@@ -189,86 +189,6 @@ module _ (now words : List ℕ) (undos log : List Event) (end : ℕ) (fits : end
         ∙ ap (λ es. take from undos ++ (events_from words row ++ es)) rest-same
         ∙ ap (λ ws. take from undos ++ (events_from ws row ++ rest)) words_are
         ∙ ap (λ es. take from undos ++ es) (sym (events-append now row (drop end undos)) ∙ ap (events_from now) together)
-
--- ## Words in a row that are told
-
-drop-set-in : (first i : ℕ) (words : List ℕ) (value : ℕ) → drop first (set words (first + i) value) ≡ set (drop first words) i value
-drop-set-in zero i words value = let is : 0 + i ≡ i = omega arith in ap (λ k. set words k value) is
-drop-set-in (suc first) i [] value = refl
-drop-set-in (suc first) i (word ∷ words) value =
-    let is : suc first + i ≡ suc (first + i) = omega arith in
-    ap (λ k. drop (suc first) (set (word ∷ words) k value)) is ∙ drop-set-in first i words value
-
-take-set-in : (n i : ℕ) (words : List ℕ) (value : ℕ) → take n (set words i value) ≡ set (take n words) i value
-take-set-in zero i words value = refl
-take-set-in (suc n) i [] value = refl
-take-set-in (suc n) zero (word ∷ words) value = refl
-take-set-in (suc n) (suc i) (word ∷ words) value = ap (λ ws. word ∷ ws) (take-set-in n i words value)
-
--- a word among them is set
-pub told-inside : (told words : List ℕ) (first word value : ℕ) → told ≡ take (length told) (drop first words) → first ≤ word
-    → set told (word - first) value ≡ take (length told) (drop first (set words word value))
-told-inside told words first word value are low =
-    let is : word ≡ first + (word - first) = omega (arith, low) in
-    ap (λ ws. set ws (word - first) value) are
-    ∙ sym (take-set-in (length told) (word - first) (drop first words) value)
-    ∙ sym (ap (take (length told)) (drop-set-in first (word - first) words value))
-    ∙ sym (ap (λ k. take (length told) (drop first (set words k value))) is)
-
--- a word that is none of them
-pub told-below : (told words : List ℕ) (first word value : ℕ) → told ≡ take (length told) (drop first words) → word < first
-    → told ≡ take (length told) (drop first (set words word value))
-told-below told words first word value are low = are ∙ sym (ap (take (length told)) (drop-set-lt first words word value low))
-
-pub told-above : (told words : List ℕ) (first word value : ℕ) → told ≡ take (length told) (drop first words) → first ≤ word → length told ≤ word - first
-    → told ≡ take (length told) (drop first (set words word value))
-told-above told words first word value are low past =
-    let is : word ≡ first + (word - first) = omega (arith, low) in
-    are
-    ∙ sym (take-set-le (length told) (drop first words) (word - first) value past)
-    ∙ sym (ap (take (length told)) (drop-set-in first (word - first) words value))
-    ∙ sym (ap (λ k. take (length told) (drop first (set words k value))) is)
-
--- stores to words in a row of which none is told
-pub told-apart : (told words : List ℕ) (first word : ℕ) (saved : List ℕ) → told ≡ take (length told) (drop first words) → (word + length saved ≤ first) ⊎ (first + length told ≤ word)
-    → told ≡ take (length told) (drop first (base_from words (stores_from word saved)))
-told-apart told words first word [] are apart = are
-told-apart told words first word (old ∷ saved) are (inl before) =
-    told-below told (base_from words (stores_from (word + 1) saved)) first word old (told-apart told words first (word + 1) saved are (inl (omega (arith, before)))) (omega (arith, before))
-told-apart told words first word (old ∷ saved) are (inr behind) =
-    told-above told (base_from words (stores_from (word + 1) saved)) first word old (told-apart told words first (word + 1) saved are (inr (omega (arith, behind)))) (omega (arith, behind)) (omega (arith, behind))
-
--- the stores of a run from one on
-pub stores-at : (first : ℕ) (held : List ℕ) (left : ℕ) → left < length held → stores_from (first + left) (drop left held) ≡ Store (first + left) (get_or held left 0) ∷ stores_from (first + (left + 1)) (drop (left + 1) held)
-stores-at first held left low =
-    let there : (first + left) + 1 ≡ first + (left + 1) = omega arith in
-    ap (stores_from (first + left)) (drop_more held left 0 low)
-    ∙ ap (λ w. Store (first + left) (get_or held left 0) ∷ stores_from w (drop (left + 1) held)) there
-
--- what is behind an event of a row
-pub base-further : (now : List ℕ) (undos : List Event) (from n end : ℕ) → from + n ≡ end → base_from now (drop from undos) ≡ base_from (base_from now (drop end undos)) (take n (drop from undos))
-base-further now undos from n end is =
-    sym (ap (base_from now) (rest-split from n end undos is)) ∙ base-append now (take n (drop from undos)) (drop end undos)
-
-module _ (now words saved : List ℕ) (each : length saved ≡ length words) (first from end : ℕ) (at : IsRow words first from end) where
-  abbrev log : List Event
-  log = events_of words saved
-
-  -- the words before a row of stores are those behind it with its stores undone
-  pub base-stored : first < no_word
-      → base_from now (drop from (events_of words saved))
-      ≡ base_from (base_from now (drop end (events_of words saved))) (stores_from first (take (end - from) (drop from saved)))
-  base-stored less =
-      base-further now log from (end - from) end at.up
-      ∙ ap (base_from (base_from now (drop end log))) (row-stored words saved each from (end - from) first at.fits at.are (at.stores less))
-
-  -- what is no store leaves them as they are
-  pub base-signalled : first ≡ no_word → base_from now (drop from (events_of words saved)) ≡ base_from now (drop end (events_of words saved))
-  base-signalled is =
-      let behind = base_from now (drop end log) in
-      base-further now log from (end - from) end at.up
-      ∙ ap (base_from behind) (row-signalled words saved each from (end - from) first at.fits at.are is (at.signal is))
-      ∙ base-signal behind _
 
 -- nothing is unwound yet
 pub words-whole : (now : List ℕ) (undos : List Event) (end : ℕ) → length undos ≤ end → now ≡ base_from now (drop end undos)

@@ -8,7 +8,7 @@ ghost use Rattle.pm_raw.specs.Unwound.{base_from, events_from};
 
 use super::log::{BARRIER, Log, NO_WORD};
 use super::runs::{Runs, WordRow};
-use super::unwind::{tell_words, unwind};
+use super::unwind::unwind;
 use pm_epochs::EventKind;
 use pm_region::Row;
 use std::alloc::{AllocError, Global};
@@ -123,18 +123,6 @@ impl Entries {
             kind: read_kind(first, self.saved[i]),
             len: len.min(stores.max(1)),
         }
-    }
-
-    /// Tells words in a row, from `first` on and as many as there is room for in `told`, as they were behind the first `moment`
-    /// events. These are the words now.
-    pub fn tell_words(&self, words: &[u64], moment: usize, first: usize, told: &mut [u64])
-        requires each { length self.now.saved ≡ length self.now.words }
-        requires moment { moment ≤ length self.now.words }
-        requires in_range { first + length told.old ≤ length words.now }
-        ensures { told.new ≡ take (length told.old)
-            (drop first (base_from words.now (drop moment (events_of self.now.words self.now.saved)))) }
-    {
-        tell_words(words, &self.words, &self.saved, moment, first, told);
     }
 
     /// Unwinds the events from the last one to that with the number `start`: the words are then those before it, and the numbers

@@ -1,7 +1,6 @@
 //! A region over raw memory.
 
-ghost use Rattle.std.specs.Prelude.{◌≡◌, ◌+◌, ◌^◌, ◌<◌, [], ◌∷◌, ◌++◌, ◌≤◌, IfOk, length, replicate, slice_range, take};
-ghost use Rattle.pm_epochs.specs.Log.{words_after};
+ghost use Rattle.std.specs.Prelude.{◌≡◌, ◌+◌, ◌^◌, ◌<◌, [], ◌∷◌, ◌++◌, ◌≤◌, IfOk, length, replicate};
 ghost use Rattle.pm_region.specs.Memory.{with_values};
 ghost use Rattle.pm_raw.specs.Entries.{signal_of};
 ghost use Rattle.pm_raw.specs.Places.{is_barrier, is_mark, places_where};
@@ -103,19 +102,6 @@ impl RawRegion {
         ensures { self.new ≡ record self.old { base = words } }
     {
         self.current = words;
-    }
-
-    /// Copies words in a row, from `first` on and as many as there is room for in `told`, as they were behind the first `moment`
-    /// events of the log. It takes time for the events behind those. The values of stores to words in a row are these words
-    /// behind them.
-    pub fn words_at(&self, moment: usize, first: u32, told: &mut [u64])
-        requires moment { moment ≤ length self.now.events }
-        requires in_range { first + length told.old ≤ length self.now.base }
-        ensures { told.new ≡ slice_range (words_after self.now.base (take moment self.now.events)) first
-            (first + length told.old) }
-    {
-        self.entries
-            .tell_words(self.current.as_slice(), moment, first as usize, told);
     }
 
     /// Puts an event that is no store at the end of the log, by its value.

@@ -1,6 +1,6 @@
 //! Words as they were before the last events of a log, by its undo log.
 
-ghost use Rattle.std.specs.Prelude.{◌≡◌, ℕ, List, ◌+◌, ◌-◌, ◌^◌, ◌<◌, ◌≤◌, ◌++◌, true, false, drop, length, slice_index, slice_set, take};
+ghost use Rattle.std.specs.Prelude.{◌≡◌, ◌+◌, ◌-◌, ◌<◌, ◌≤◌, ◌++◌, true, false, drop, length, slice_index, take};
 ghost use Rattle.pm_region.specs.Memory.{AreWithin, stores_from};
 ghost use Rattle.pm_raw.specs.Entries.{events_of};
 ghost use Rattle.pm_raw.specs.Unwound.{base_from, events_from};
@@ -98,63 +98,5 @@ pub fn unwind(words: &mut [u64], places: &Runs, saved: &mut [u64], start: usize)
     let mut end = saved.len();
     while end > start {
         end = unwind_row(words, places, saved, start, end);
-    }
-}
-
-/// Puts a value in place of a word, where it is among those that are told: as many as there are here, from `first` on.
-fn put_told(told: &mut [u64], first: usize, word: usize, value: u64)
-    ensures each { length told.new ≡ length told.old }
-    ensures told { (words : List ℕ) → told.old ≡ take (length told.old) (drop first words) →
-        told.new ≡ take (length told.old) (drop first (slice_set words word value)) }
-{
-    if first <= word && word - first < told.len() {
-        told[word - first] = value;
-    }
-}
-
-/// Puts what stores to words in a row, from `word` on, replaced in place of those of them that are told, from `first` on.
-fn tell_row(told: &mut [u64], first: usize, word: u32, saved: &[u64])
-    requires { word + length saved.now ≤ 2 ^ 32 }
-    ensures each { length told.new ≡ length told.old }
-    ensures told { (words : List ℕ) → told.old ≡ take (length told.old) (drop first words) →
-        told.new ≡ take (length told.old) (drop first (base_from words (stores_from word saved.now))) }
-{
-    // Most rows have none of these words.
-    if word as usize + saved.len() <= first || first.saturating_add(told.len()) <= word as usize {
-        return;
-    }
-    let mut left = saved.len();
-    while left > 0 {
-        left -= 1;
-        put_told(told, first, word as usize + left, saved[left]);
-    }
-}
-
-/// Tells words in a row, from `first` on and as many as there is room for here, as they were behind the first `moment` events of a
-/// log.
-pub fn tell_words(
-    words: &[u64],
-    places: &Runs,
-    saved: &[u64],
-    moment: usize,
-    first: usize,
-    told: &mut [u64],
-)
-    requires each { length saved.now ≡ length places.now.words }
-    requires moment { moment ≤ length saved.now }
-    requires in_range { first + length told.old ≤ length words.now }
-    ensures each { length told.new ≡ length told.old }
-    ensures told { told.new ≡
-        take (length told.old) (drop first (base_from words.now (drop moment (events_of places.now.words saved.now)))) }
-{
-    told.copy_from_slice(&words[first..first + told.len()]);
-    let mut end = saved.len();
-    while end > moment {
-        let WordRow { first: word, len } = places.row_before(moment, end);
-        let from = end - len;
-        if word != NO_WORD {
-            tell_row(told, first, word, &saved[from..end]);
-        }
-        end = from;
     }
 }

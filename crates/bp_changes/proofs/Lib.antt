@@ -4,9 +4,10 @@ pub mod Frame
 pub mod Stores
 pub mod Separation
 pub mod ContentStore
+pub mod GainsEntry
+pub mod EntryAdded
 pub mod AddsNames
 pub mod LinksName
-pub mod GainsEntry
 pub mod Link
 pub mod KeepsDirectories
 pub mod ChangesFile

@@ -19,8 +19,11 @@ use Rattle.bp_changes.proofs.SameMeaning as meaning
 use Rattle.bp_changes.proofs.KeepsDirectories as directories
 use Rattle.bp_changes.specs.KeepsDirectories.{KeepsDirectories}
 use Rattle.bp_changes.proofs.ReachedOn.{reached_on}
-use Rattle.bp_changes.proofs.AddsNames as adding
-use Rattle.bp_changes.proofs.LinksName as linking
+use Rattle.bp_changes.proofs.AddsNames.{adds_takes}
+use Rattle.bp_changes.proofs.EntryAdded as added
+use Rattle.bp_changes.proofs.EntryAdded.{TakesName}
+use Rattle.bp_changes.proofs.GainsEntry.{GainsEntry, adds_gain, links_gain}
+use Rattle.bp_changes.proofs.LinksName.{links_takes}
 use Rattle.bp_changes.proofs.Unlink as unlink
 use Rattle.bp_changes.proofs.Carry as carry
 use Rattle.bp_changes.proofs.Move as move
@@ -185,66 +188,48 @@ pub counts_same : (old new : Image) (counts : List ℕ) → AreCounts old counts
     ((k : ℕ) (e : ℕ × ℕ) → IsNamed new k e → IsNamed old k e) → ((k : ℕ) (e : ℕ × ℕ) → IsNamed old k e → IsNamed new k e) → AreCounts new counts
 counts_same old new counts are back on = record { each = λ k low. names_same old new k (slice_index counts k) (are.each k low) (back k) (on k) }
 
--- ---- a new name of a file
+-- ---- a name more
 
-module _ (old new : Image) (wf : IsWellFormed old) (i s j : ℕ) (adds : LinksName old new i s j) (counts : List ℕ) (are : AreCounts old counts) (low : j < length counts) where
-  linked_back : (k : ℕ) (e : ℕ × ℕ) → IsNamed new k e → ((k ≡ j) × (e ≡ (i, s))) ⊎ IsNamed old k e
-  linked_back k e n = go (adds.back e.0 e.1 k was n.names)
+module _ (old new : Image) (wf : IsWellFormed old) (i s j : ℕ) (gains : GainsEntry old new i s j) (takes : TakesName old new j)
+    (counts : List ℕ) (are : AreCounts old counts) where
+  -- the new entry names the inode, and each other entry names what it did
+  gained_back : (k : ℕ) (e : ℕ × ℕ) → IsNamed new k e → ((k ≡ j) × (e ≡ (i, s))) ⊎ IsNamed old k e
+  gained_back k e n = go (added.entry_cases old new wf i s j gains takes e.0 e.1 k n.reached n.names)
     where
-      was : IsReached old e.0
-      was = linking.reached_back old new wf i s j adds e.0 n.reached
-
-      go : IsNewEntry i s j e.0 e.1 k ⊎ EntryNames old e.0 e.1 k → ((k ≡ j) × (e ≡ (i, s))) ⊎ IsNamed old k e
+      go : IsNewEntry i s j e.0 e.1 k ⊎ (IsReached old e.0 × EntryNames old e.0 e.1 k) → ((k ≡ j) × (e ≡ (i, s))) ⊎ IsNamed old k e
       go (inl fresh) = inl (fresh.inode, λ l. (fresh.directory l, fresh.slot l))
-      go (inr before) = inr (record { reached = was; names = before })
+      go (inr before) = inr (record { reached = before.0; names = before.1 })
 
-  linked_on : (k : ℕ) (e : ℕ × ℕ) → IsNamed old k e → IsNamed new k e
-  linked_on k e n = record { reached = linking.reached_stays old new wf i s j adds e.0 n.reached; names = adds.stay e.0 e.1 k n.reached n.names }
+  -- no entry goes
+  gained_on : (k : ℕ) (e : ℕ × ℕ) → IsNamed old k e → IsNamed new k e
+  gained_on k e n = record { reached = added.reached_stays old new wf i s j gains takes e.0 n.reached; names = gains.stay e.0 e.1 k n.reached n.names }
 
+  -- the inode that the new entry names has one name more
+  gained_counts : (count : ℕ) → HasNames old j count → AreCounts new (set counts j (count + 1))
+  gained_counts count has = counts_set old new counts j (count + 1) are
+      (names_more old new j count has (i, s) (λ n. gains.new_name s j n.names (sym (gains.same_names i s j n.reached n.names)))
+      (record { reached = added.reached_stays old new wf i s j gains takes i gains.reached; names = gains.entry })
+      (λ e n. own e (gained_back j e n)) (gained_on j))
+      (λ k other e n. elim (gained_back k e n) [ inl fresh ↦ absurd (other fresh.0) | inr before ↦ before ]) (λ k other. gained_on k)
+    where
+      own : (e : ℕ × ℕ) → ((j ≡ j) × (e ≡ (i, s))) ⊎ IsNamed old j e → (e ≡ (i, s)) ⊎ IsNamed old j e
+      own e (inl fresh) = inl fresh.1
+      own e (inr before) = inr before
+
+-- which is a file that had one
+module _ (old new : Image) (wf : IsWellFormed old) (i s j : ℕ) (adds : LinksName old new i s j)
+    (counts : List ℕ) (are : AreCounts old counts) (low : j < length counts) where
   pub linked_counts : AreCounts new (set counts j (slice_index counts j + 1))
-  linked_counts = counts_set old new counts j (slice_index counts j + 1) are
-      (names_more old new j (slice_index counts j) (are.each j low) (i, s)
-      (λ n. adds.new_name s j n.names (sym (adds.same_names i s j n.reached n.names)))
-      (record { reached = linking.reached_stays old new wf i s j adds i adds.reached; names = adds.entry })
-      (λ e n. own e (linked_back j e n)) (linked_on j))
-      (λ k other e n. elim (linked_back k e n) [ inl fresh ↦ absurd (other fresh.0) | inr before ↦ before ]) (λ k other. linked_on k)
-    where
-      own : (e : ℕ × ℕ) → ((j ≡ j) × (e ≡ (i, s))) ⊎ IsNamed old j e → (e ≡ (i, s)) ⊎ IsNamed old j e
-      own e (inl fresh) = inl fresh.1
-      own e (inr before) = inr before
+  linked_counts =
+      gained_counts old new wf i s j (links_gain old new i s j adds) (links_takes old new wf i s j adds) counts are
+      (slice_index counts j) (are.each j low)
 
--- ---- the first name of an inode
-
+-- or had none
 module _ (old new : Image) (wf : IsWellFormed old) (i s j : ℕ) (adds : AddsNames old new i s j) (counts : List ℕ) (are : AreCounts old counts) where
-  added_back : (k : ℕ) (e : ℕ × ℕ) → IsNamed new k e → ((k ≡ j) × (e ≡ (i, s))) ⊎ IsNamed old k e
-  added_back k e n = at (adding.reached_cases old new wf i s j adds e.0 n.reached)
-    where
-      at : (e.0 ≡ j) ⊎ IsReached old e.0 → ((k ≡ j) × (e ≡ (i, s))) ⊎ IsNamed old k e
-      at (inl same) =
-          let in_size : e.1 < size_of new e.0 / 256 = n.names.in_size in
-          absurd (omega (arith, in_size, ap (size_of new) same ∙ adds.new_size))
-      at (inr was) = go (adds.back e.0 e.1 k was n.names)
-        where
-          go : IsNewEntry i s j e.0 e.1 k ⊎ EntryNames old e.0 e.1 k → ((k ≡ j) × (e ≡ (i, s))) ⊎ IsNamed old k e
-          go (inl fresh) = inl (fresh.inode, λ l. (fresh.directory l, fresh.slot l))
-          go (inr before) = inr (record { reached = was; names = before })
-
-  added_on : (k : ℕ) (e : ℕ × ℕ) → IsNamed old k e → IsNamed new k e
-  added_on k e n = record { reached = adding.reached_stays old new wf i s j adds e.0 n.reached; names = adds.stay e.0 e.1 k n.reached n.names }
-
-  nobody : (e : ℕ × ℕ) → IsNamed old j e → ⊥
-  nobody e n = adds.fresh (named e.1 n.reached n.names)
-
   pub added_counts : AreCounts new (set counts j 1)
-  added_counts = counts_set old new counts j 1 are
-      (names_more old new j 0 (none_named old j nobody) (i, s) (nobody (i, s))
-      (record { reached = adding.reached_stays old new wf i s j adds i adds.reached; names = adds.entry })
-      (λ e n. own e (added_back j e n)) (added_on j))
-      (λ k other e n. elim (added_back k e n) [ inl fresh ↦ absurd (other fresh.0) | inr before ↦ before ]) (λ k other. added_on k)
-    where
-      own : (e : ℕ × ℕ) → ((j ≡ j) × (e ≡ (i, s))) ⊎ IsNamed old j e → (e ≡ (i, s)) ⊎ IsNamed old j e
-      own e (inl fresh) = inl fresh.1
-      own e (inr before) = inr before
+  added_counts =
+      gained_counts old new wf i s j (adds_gain old new i s j adds) (adds_takes old new i s j adds) counts are
+      0 (none_named old j (λ e n. adds.fresh (named e.1 n.reached n.names)))
 
 -- ---- a name goes
 

@@ -9,10 +9,13 @@ use Rattle.bp_layout.proofs.HintLaws.{IsEntryFor, entry_of_slot, slot_of_entry}
 use Rattle.bp_changes.specs.Effects.{AddsNames, CanMoveEntry, CanUnlink, CarriesEntry, IsAtOrBelow, LinksName, MovesEntry, RemovesEntry, RespellsEntry}
 use Rattle.bp_changes.specs.KeepsDirectories.{KeepsDirectories}
 use Rattle.bp_changes.specs.KeepsSlots.{KeepsSlots, KeepsOther, KeepsOthers}
-use Rattle.bp_changes.proofs.AddsNames as added
+use Rattle.bp_changes.proofs.AddsNames.{adds_takes}
 use Rattle.bp_changes.proofs.Carry as carry
+use Rattle.bp_changes.proofs.EntryAdded as added
+use Rattle.bp_changes.proofs.EntryAdded.{TakesName}
 use Rattle.bp_changes.proofs.KeepsDirectories as directories
-use Rattle.bp_changes.proofs.LinksName as linking
+use Rattle.bp_changes.proofs.GainsEntry.{GainsEntry, adds_gain, links_gain}
+use Rattle.bp_changes.proofs.LinksName.{links_takes}
 use Rattle.bp_changes.proofs.Move as move
 use Rattle.bp_changes.proofs.MoveReach.{carried_on, moved_on, respelled_on}
 use Rattle.bp_changes.proofs.Respell as respell
@@ -28,21 +31,21 @@ other_entry : (image : Image) (name : NameIn) (slot i s : ℕ) → IsEntryFor im
 other_entry image name slot i s was differs here there =
     differs (ap₂ (λ d n. (d, n)) here (sym was.spelled ∙ ap₂ (λ d r. name_at image d r) here there))
 
--- one name more
-pub adds_keeps : (old new : Image) → IsWellFormed old → (i s j : ℕ) → AddsNames old new i s j → KeepsSlots old new
-adds_keeps old new wf i s j adds name slot of =
+-- one name more, whichever inode has it
+gains_keep : (old new : Image) → IsWellFormed old → (i s j : ℕ) → GainsEntry old new i s j → TakesName old new j → KeepsSlots old new
+gains_keep old new wf i s j gains takes name slot of =
     let was : IsEntryFor old name slot = entry_of_slot old name slot of in
-    stays old new (added.linked_well_formed old new wf i s j adds) name slot was (added.reached_stays old new wf i s j adds name.0 of.reached)
-    (adds.stay name.0 slot (inumber_at old name.0 slot) of.reached was.entry)
-    (adds.same_names name.0 slot (inumber_at old name.0 slot) of.reached was.entry)
+    stays old new (added.linked_well_formed old new wf i s j gains takes) name slot was (added.reached_stays old new wf i s j gains takes name.0 of.reached)
+    (gains.stay name.0 slot (inumber_at old name.0 slot) of.reached was.entry)
+    (gains.same_names name.0 slot (inumber_at old name.0 slot) of.reached was.entry)
 
--- and one more of a file
+-- an inode that nobody named
+pub adds_keeps : (old new : Image) → IsWellFormed old → (i s j : ℕ) → AddsNames old new i s j → KeepsSlots old new
+adds_keeps old new wf i s j adds = gains_keep old new wf i s j (adds_gain old new i s j adds) (adds_takes old new i s j adds)
+
+-- a file that has a name
 pub links_keeps : (old new : Image) → IsWellFormed old → (i s j : ℕ) → LinksName old new i s j → KeepsSlots old new
-links_keeps old new wf i s j links name slot of =
-    let was : IsEntryFor old name slot = entry_of_slot old name slot of in
-    stays old new (linking.linked_well_formed old new wf i s j links) name slot was (linking.reached_stays old new wf i s j links name.0 of.reached)
-    (links.stay name.0 slot (inumber_at old name.0 slot) of.reached was.entry)
-    (links.same_names name.0 slot (inumber_at old name.0 slot) of.reached was.entry)
+links_keeps old new wf i s j links = gains_keep old new wf i s j (links_gain old new i s j links) (links_takes old new wf i s j links)
 
 -- the bytes of files
 pub files_keep : (old new : Image) → IsWellFormed old → KeepsDirectories old new → KeepsSlots old new

@@ -1,20 +1,19 @@
 -- A name comes to another directory under a new name: what a rename across directories, onto no name, makes of an image.
-use Rattle.std.proofs.Common.{◌≡◌, ◌≢◌, ◌⊎◌, ℕ, suc, ◌%◌, ◌<◌, Bool, true, false, ◌==◌, Option, None, Some, refl, sym, ◌∙◌, ap, ap₂, subst, arith, inl, inr}
-use Rattle.std.proofs.lemmas.Bool.{cases_eq, eqb-true}
+use Rattle.std.proofs.Common.{◌≡◌, ◌≢◌, ◌⊎◌, ℕ, suc, ◌%◌, ◌<◌, Option, None, Some, refl, sym, ◌∙◌, ap₂, subst, arith, inl, inr}
+use Rattle.std.proofs.lemmas.Bool.{cases_eq}
 use Rattle.bp_layout.specs.Words.{Image}
 use Rattle.bp_layout.specs.Inode.{kind_of, size_of, inode_count}
 use Rattle.bp_layout.specs.Directory.{Name, EntryNames, IsName, name_at, lookup_in}
 use Rattle.bp_layout.specs.Reached.{IsReached}
 use Rattle.bp_layout.specs.Reached.IsReached.{inode_file, root_directory, named}
 use Rattle.bp_layout.specs.Lookup.{node_of}
-use Rattle.bp_layout.specs.Lookup.Node.{file}
 use Rattle.bp_layout.specs.WellFormed.{IsWellFormed}
 use Rattle.bp_changes.specs.Effects.{CarriesEntry, IsNewEntry, IsOldEntry}
-use Rattle.bp_layout.proofs.Finding.{map-same}
 use Rattle.bp_layout.proofs.Reached.{reached-in_file}
 use Rattle.bp_layout.proofs.LookupLaws.{Shows, lookup_in-shows, lookup_in-found, lookup_in-none}
 use Rattle.bp_changes.proofs.MoveName.{MovesName}
 use Rattle.bp_changes.proofs.Formatted.{stays_formatted}
+use Rattle.bp_changes.proofs.SameShown.{node_by_bytes}
 
 module _ (old new : Image) (wf : IsWellFormed old) (i s k r j : ℕ) (carries : CarriesEntry old new i s k r j) where
   -- an entry of the new image: the target, or one of the old image but the source
@@ -169,16 +168,11 @@ module _ (old new : Image) (wf : IsWellFormed old) (i s k r j : ℕ) (carries : 
           ∙ sym e
 
   node_stays : (u : ℕ) → IsReached old u → node_of new u ≡ node_of old u
-  node_stays u reached = go (kind_of old u == 1) refl
+  node_stays u reached =
+      node_by_bytes old new u (carries.kind u reached) (λ kind. carries.size u reached (other kind)) (λ o kind. carries.bytes u o reached kind)
     where
-      go : (b : Bool) → (kind_of old u == 1) ≡ b → node_of new u ≡ node_of old u
-      go true e =
-          let kind : kind_of old u ≡ 1 = eqb-true _ _ e in
-          let other : u ≢ k = λ f. let two : kind_of new u ≡ 2 = subst (λ a. kind_of new a ≡ 2) (sym f) two_there in
-          omega (arith, kind, two, carries.kind u reached) in
-          rw (carries.kind u reached, e, carries.size u reached other)
-          (ap file (map-same _ _ 0 (size_of old u) (λ o low high. carries.bytes u o reached kind (omega (arith, high)))))
-      go false e = rw (carries.kind u reached, e) refl
+      other : kind_of old u ≡ 1 → u ≢ k
+      other kind f = let two : kind_of new u ≡ 2 = subst (λ a. kind_of new a ≡ 2) (sym f) two_there in omega (arith, kind, two, carries.kind u reached)
 
   pub carry_moves : MovesName old new i (name_at old i s) k (name_at new k r) j
   carry_moves = record {

@@ -1,5 +1,5 @@
 -- Two images that differ in the bytes of one file: what the second shows.
-use Rattle.std.proofs.Common.{◌≡◌, ◌≢◌, ◌==◌, Bool, true, false, Option, None, Some, ℕ, refl, ◌∙◌, ap, arith}
+use Rattle.std.proofs.Common.{◌≡◌, ◌≢◌, Option, None, Some, ℕ, refl, ◌∙◌, ap, arith}
 use Rattle.bp_layout.specs.Words.{Image}
 use Rattle.bp_layout.specs.Tree.{content}
 use Rattle.bp_layout.specs.Inode.{kind_of, root_of, size_of}
@@ -10,12 +10,11 @@ use Rattle.bp_layout.specs.WellFormed.{IsWellFormed}
 use Rattle.bp_layout.specs.Lookup.{Path, lookup, node_of, shown}
 use Rattle.bp_layout.specs.Lookup.Node.{file}
 use Rattle.std.specs.Option.{option_map}
-use Rattle.std.proofs.lemmas.Bool.{eqb-true}
 use Rattle.bp_changes.specs.Effects.{ChangesFile}
 use Rattle.bp_changes.specs.KeepsDirectories.{KeepsDirectories}
-use Rattle.bp_layout.proofs.Finding.{map-same}
 use Rattle.bp_layout.proofs.View.{SameDirectories, lookup_from-reached}
 use Rattle.bp_changes.proofs.KeepsDirectories as directories
+use Rattle.bp_changes.proofs.SameShown.{node_by_bytes}
 
 module _ (old new : Image) (x : ℕ) (wf : IsWellFormed old) (same : ChangesFile old new x) where
   pub not_zero : 0 ≢ x
@@ -56,12 +55,8 @@ module _ (old new : Image) (x : ℕ) (wf : IsWellFormed old) (same : ChangesFile
   lookup-same = directories.lookup-same old new wf keeps
 
   node_of_other : (u : ℕ) → IsReached old u → u ≢ x → node_of new u ≡ node_of old u
-  node_of_other u reached other = go (kind_of old u == 1) refl
-    where
-      go : (b : Bool) → (kind_of old u == 1) ≡ b → node_of new u ≡ node_of old u
-      go true e =
-          rw (same.kind u reached, e, same.size u reached other) (ap file (map-same _ _ 0 (size_of old u) (λ o low high. same.bytes u o reached other (eqb-true _ _ e) (omega (arith, high)))))
-      go false e = rw (same.kind u reached, e) refl
+  node_of_other u reached other =
+      node_by_bytes old new u (same.kind u reached) (λ kind. same.size u reached other) (λ o kind. same.bytes u o reached other kind)
 
   pub node_of_file : node_of new x ≡ file (content new (root_of new x) (size_of new x))
   node_of_file = rw (same.kind x same.reached, same.is_file) refl

@@ -1,9 +1,6 @@
 -- What a commit makes of an image: a name moved, a name spelled anew, the bytes of one file or of several. It may give any values to words that nobody reads.
-use Rattle.std.proofs.Common.{◌≡◌, ◌≢◌, ◌⊎◌, ℕ, zero, suc, ◌+◌, ◌*◌, ◌/◌, ◌%◌, ◌<◌, ◌≤◌, List, length, refl, sym, ◌∙◌, ap, ap₂, subst, arith, inl, inr}
+use Rattle.std.proofs.Common.{◌≡◌, ◌≢◌, ◌⊎◌, ℕ, zero, suc, ◌+◌, ◌*◌, ◌/◌, ◌%◌, ◌<◌, ◌≤◌, List, refl, sym, ◌∙◌, ap, ap₂, subst, arith, inl, inr}
 use Rattle.std.proofs.lemmas.Bool.{cases_eq}
-use Rattle.std.proofs.lemmas.List.FromFn.{length-map-range_with_len}
-use Rattle.bp_limits.specs.Limits.{max_name}
-use Rattle.bp_layout.proofs.Finding.{map-same}
 use Rattle.bp_layout.specs.Words.{Image, byte_of}
 use Rattle.bp_layout.specs.Tree.{content_word, byte}
 use Rattle.bp_layout.specs.Inode.{inode_word, kind_of, root_of, size_of, inode_count}
@@ -16,6 +13,7 @@ use Rattle.bp_changes.specs.Commits.{Changes, changed_word, CommitsOnly}
 use Rattle.bp_changes.specs.Effects.{CanMoveEntry, MovesEntry, CarriesEntry, IsNewEntry, IsOldEntry, RespellsEntry, ChangesFile}
 use Rattle.bp_changes.specs.Overwrites.{OverwritesFiles, Patch, patched}
 use Rattle.bp_changes.specs.SameContent.{IsReadByWords}
+use Rattle.bp_changes.proofs.SameShown.{name_by_words}
 
 no_directory : (image : Image) (t : ℕ) → kind_of image t ≡ 2 → t ≢ 0
 no_directory image t two e = let zero_kind : kind_of image 0 ≡ 2 = subst (λ x. kind_of image x ≡ 2) e two in omega (arith, zero_kind)
@@ -131,20 +129,13 @@ module _ (old new : Image) (changes : Changes) (i s k j : ℕ) (wf : IsWellForme
       (let room : 8 * (32 * entry_count old k + f) + 8 ≤ size_of new k = omega (arith, few, size_here, whole_entries) in omega (arith, room)) (λ e. absurd (no_directory old k directory e))
       ∙ behind f few
 
-  name_stays : (u x : ℕ) → length (name_at old u x) ≤ max_name → ((f : ℕ) → 1 ≤ f → f < 32 → entry_word new u x f ≡ entry_word old u x f) → name_at new u x ≡ name_at old u x
-  name_stays u x few same =
-      let short : entry_word old u x 1 ≤ max_name = (rw length-map-range_with_len at few) in
-      let byte_stays : (o : ℕ) → o < max_name → byte new (root_of new u) (256 * x + 16 + o) ≡ byte old (root_of old u) (256 * x + 16 + o) =
-      λ o small.
-      let number : (256 * x + 16 + o) / 8 ≡ 32 * x + (2 + o / 8) = omega arith in
-      rw number (ap (λ w. byte_of w ((256 * x + 16 + o) % 8)) (same (2 + o / 8) (omega arith) (omega (arith, small)))) in
-      rw (same 1 (omega arith) (omega arith)) (map-same _ _ 0 (entry_word old u x 1) (λ o low high. byte_stays o (omega (arith, high, short))))
-
   name_here : name_at new k (entry_count old k) ≡ name_at old k (entry_count old k)
-  name_here = name_stays k (entry_count old k) name.short (λ f some few. words_here f few)
+  name_here = name_by_words old new k (entry_count old k) name.short (λ f some few. words_here f few)
 
   name_of_old : (u x l : ℕ) → IsReached old u → EntryNames old u x l → name_at new u x ≡ name_at old u x
-  name_of_old u x l also n = name_stays u x (wf.names u x l also n).short (λ f some few. words_stay u x f also n.directory n.in_size few (λ a b c. omega (arith, some, c)))
+  name_of_old u x l also n =
+      name_by_words old new u x (wf.names u x l also n).short
+      (λ f some few. words_stay u x f also n.directory n.in_size few (λ a b c. omega (arith, some, c)))
 
   new_entry : EntryNames new k (entry_count old k) j
   new_entry = record {

@@ -1,16 +1,12 @@
 -- Entries stay through each change, but those that it touches.
-use Rattle.std.proofs.Common.{◌≡◌, ◌≢◌, ◌⊎◌, ℕ, ◌+◌, ◌*◌, ◌/◌, ◌%◌, ◌<◌, ◌≤◌, refl, sym, ◌∙◌, ap, subst, arith, inl, inr}
+use Rattle.std.proofs.Common.{◌≡◌, ◌≢◌, ◌⊎◌, ℕ, ◌/◌, ◌<◌, refl, sym, ◌∙◌, ap, subst, arith, inl, inr}
 use Rattle.std.proofs.lemmas.Bool.{cases_eq}
-use Rattle.std.proofs.lemmas.List.FromFn.{length-map-range_with_len}
-use Rattle.bp_limits.specs.Limits.{max_name}
-use Rattle.bp_layout.specs.Words.{Image, byte_of}
-use Rattle.bp_layout.specs.Tree.{byte}
-use Rattle.bp_layout.specs.Inode.{IsDirectory, inode_count, kind_of, root_of, size_of}
-use Rattle.bp_layout.specs.Directory.{EntryNames, IsName, entry_count, entry_word, inumber_at, name_at}
+use Rattle.bp_layout.specs.Words.{Image}
+use Rattle.bp_layout.specs.Inode.{IsDirectory, inode_count, kind_of, size_of}
+use Rattle.bp_layout.specs.Directory.{EntryNames, entry_count, entry_word, inumber_at, name_at}
 use Rattle.bp_layout.specs.Reached.{IsReached}
 use Rattle.bp_layout.specs.Reached.IsReached.{inode_file, root_directory, named}
 use Rattle.bp_layout.specs.WellFormed.{IsWellFormed}
-use Rattle.bp_layout.proofs.Finding.{map-same}
 use Rattle.bp_layout.proofs.Reached.{reached-in_file}
 use Rattle.bp_layout.proofs.View.{SameDirectories}
 use Rattle.bp_changes.specs.Effects.{AddsNames, CanMoveEntry, CanUnlink, CarriesEntry, IsNewEntry, IsOldEntry, LinksName, MovesEntry, RemovesEntry, RespellsEntry, SetsInumber}
@@ -26,6 +22,7 @@ use Rattle.bp_changes.proofs.Move as move
 use Rattle.bp_changes.proofs.Respell as respell
 use Rattle.bp_changes.proofs.SameMeaning as meaning
 use Rattle.bp_changes.proofs.Unlink as unlink
+use Rattle.bp_changes.proofs.SameShown.{name_by_words}
 
 -- ---- one entry that both images have
 
@@ -45,17 +42,8 @@ module _ (old new : Image) (u r : ℕ) (reached : IsReached old u) (directory : 
   -- so are its words
   by_words : IsWellFormed old → inumber_at new u r ≡ inumber_at old u r →
       ((f : ℕ) → EntryNames old u r (inumber_at old u r) → f < 32 → entry_word new u r f ≡ entry_word old u r f) → WasEntry old new u r
-  by_words wf inumber words = was_entry inumber name
-    where
-      name : EntryNames old u r (inumber_at old u r) → name_at new u r ≡ name_at old u r
-      name n =
-          let form : IsName (name_at old u r) = wf.names u r (inumber_at old u r) reached n in
-          let short : entry_word old u r 1 ≤ max_name = (rw length-map-range_with_len at form.short) in
-          let byte_stays : (o : ℕ) → o < max_name → byte new (root_of new u) (256 * r + 16 + o) ≡ byte old (root_of old u) (256 * r + 16 + o) =
-          λ o small.
-          let number : (256 * r + 16 + o) / 8 ≡ 32 * r + (2 + o / 8) = omega arith in
-          rw number (ap (λ w. byte_of w ((256 * r + 16 + o) % 8)) (words (2 + o / 8) n (omega (arith, small)))) in
-          rw (words 1 n (omega arith)) (map-same _ _ 0 (entry_word old u r 1) (λ o first high. byte_stays o (omega (arith, high, short))))
+  by_words wf inumber words =
+      was_entry inumber (λ n. name_by_words old new u r (wf.names u r (inumber_at old u r) reached n).short (λ f some few. words f n few))
 
   -- in both images it names the same inodes: so where it is empty in one, it is in the other
   module _ (now : IsDirectory new u) (high : r < entry_count new u) (stay : (k : ℕ) → EntryNames old u r k → EntryNames new u r k) (back : (k : ℕ) → EntryNames new u r k → EntryNames old u r k) where

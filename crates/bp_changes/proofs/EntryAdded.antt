@@ -1,7 +1,6 @@
 -- One more entry in one directory, whichever inode it names: the name shows the inode, and all other names stay.
-use Rattle.std.proofs.Common.{◌≡◌, ◌≢◌, ◌⊎◌, ℕ, suc, ◌%◌, ◌<◌, ◌≤◌, Bool, true, false, ◌==◌, Option, None, Some, inl, inr}
+use Rattle.std.proofs.Common.{◌≡◌, ◌≢◌, ◌⊎◌, ℕ, suc, ◌%◌, ◌<◌, ◌≤◌, Option, None, Some, inl, inr}
 use Rattle.std.proofs.Common.{refl, sym, ◌∙◌, ap, ap₂, subst, subst₂, arith, le_trans}
-use Rattle.std.proofs.lemmas.Bool.{eqb-true}
 use Rattle.bp_limits.specs.Limits.{block_size, greatest_height}
 use Rattle.bp_layout.specs.Formatted.{version_of}
 use Rattle.bp_layout.specs.Words.{Image, height_of}
@@ -11,15 +10,13 @@ use Rattle.bp_layout.specs.Directory.{Name, EntryNames, IsName, name_at, lookup_
 use Rattle.bp_layout.specs.Reached.{IsReached}
 use Rattle.bp_layout.specs.Reached.IsReached.{inode_file, root_directory, named}
 use Rattle.bp_layout.specs.WellFormed.{IsWellFormed}
-use Rattle.bp_layout.specs.Lookup.{node_of}
-use Rattle.bp_layout.specs.Lookup.Node.{file}
-use Rattle.bp_layout.proofs.Finding.{map-same}
 use Rattle.bp_layout.proofs.LookupLaws.{Shows, lookup_in-shows, lookup_in-found, lookup_in-none}
 use Rattle.bp_layout.proofs.Paths.{AddsName}
 use Rattle.bp_layout.proofs.SmallTrees.{none_live, empty_sound, empty_has_none}
 use Rattle.bp_changes.specs.Effects.{IsNewEntry}
 use Rattle.bp_changes.proofs.Formatted.{stays_formatted}
 use Rattle.bp_changes.proofs.GainsEntry.{GainsEntry}
+use Rattle.bp_changes.proofs.SameShown.{node_by_bytes}
 
 -- What more is known of the inode: it has no entry, no bytes if nobody named it, and only one name if it is a directory. The inode file may have grown.
 pub record TakesName (old new : Image) (j : ℕ) : Type 0 where
@@ -202,17 +199,6 @@ module _ (old new : Image) (wf : IsWellFormed old) (i s j : ℕ) (gains : GainsE
           (λ r l n same. linked_well_formed.names_once u r before.slot l k (reached_stays u reached) n entry (same ∙ sym spelled))
           ∙ sym e
 
-  -- each inode that was reached is the file or the directory that it was
-  node_stays : (u : ℕ) → IsReached old u → node_of new u ≡ node_of old u
-  node_stays u reached = go (kind_of old u == 1) refl
-    where
-      go : (b : Bool) → (kind_of old u == 1) ≡ b → node_of new u ≡ node_of old u
-      go true e =
-          let kind : kind_of old u ≡ 1 = eqb-true _ _ e in
-          rw (gains.kind u reached, e, gains.file_size u reached kind)
-          (ap file (map-same _ _ 0 (size_of old u) (λ o low high. gains.bytes u o reached kind (omega (arith, high)))))
-      go false e = rw (gains.kind u reached, e) refl
-
   -- the tree gains the name
   pub names_added : AddsName old new i (name_at new i s) j
   names_added = record {
@@ -222,5 +208,5 @@ module _ (old new : Image) (wf : IsWellFormed old) (i s j : ℕ) (gains : GainsE
     added = lookup_linked;
     alone = λ name. lookup_in-none new j name (λ k shows. takes.no_entry shows.slot k shows.entry);
     others = lookup_stays;
-    nodes = node_stays;
+    nodes = λ u r. node_by_bytes old new u (gains.kind u r) (gains.file_size u r) (λ o kind. gains.bytes u o r kind);
   }

@@ -1,33 +1,22 @@
 -- Two images that differ in the bytes of files: the theorem behind every write, truncate and batch.
-use Rattle.std.proofs.Common.{◌≡◌, ℕ, suc, ◌+◌, ◌*◌, ◌/◌, ◌%◌, ◌<◌, ◌≤◌, sym, ◌∙◌, ap, arith}
-use Rattle.std.proofs.lemmas.List.FromFn.{length-map-range_with_len}
-use Rattle.bp_limits.specs.Limits.{max_name}
-use Rattle.bp_layout.specs.Words.{Image, byte_of}
-use Rattle.bp_layout.specs.Tree.{byte}
-use Rattle.bp_layout.specs.Inode.{kind_of, root_of}
-use Rattle.bp_layout.specs.Directory.{EntryNames, IsName, name_at, entry_word, entry_count}
+use Rattle.std.proofs.Common.{◌≡◌, ℕ, suc, ◌/◌, ◌<◌, sym, ◌∙◌, ap}
+use Rattle.bp_layout.specs.Words.{Image}
+use Rattle.bp_layout.specs.Inode.{kind_of}
+use Rattle.bp_layout.specs.Directory.{EntryNames, name_at, entry_count}
 use Rattle.bp_layout.specs.Reached.{IsReached}
 use Rattle.bp_layout.specs.Reached.IsReached.{inode_file, root_directory, named}
 use Rattle.bp_layout.specs.WellFormed.{IsWellFormed}
 use Rattle.bp_layout.specs.Lookup.{Path, lookup}
 use Rattle.bp_changes.specs.KeepsDirectories.{KeepsDirectories}
-use Rattle.bp_layout.proofs.Finding.{map-same}
 use Rattle.bp_layout.proofs.View.{SameDirectories, lookup_from-same}
 use Rattle.bp_changes.proofs.Formatted.{stays_formatted}
+use Rattle.bp_changes.proofs.SameShown.{name_by_words}
 
 module _ (old new : Image) (wf : IsWellFormed old) (same : KeepsDirectories old new) where
-  name_byte-same : (i slot j o : ℕ) → IsReached old i → EntryNames old i slot j → o < max_name →
-      byte new (root_of new i) (256 * slot + 16 + o) ≡ byte old (root_of old i) (256 * slot + 16 + o)
-  name_byte-same i slot j o reached names low =
-      let number : (256 * slot + 16 + o) / 8 ≡ 32 * slot + (2 + o / 8) = omega arith in
-      rw number (ap (λ w. byte_of w ((256 * slot + 16 + o) % 8)) (same.entry i slot j (2 + o / 8) reached names (omega (arith, low))))
-
+  -- each entry keeps its name
   pub name-same : (i slot j : ℕ) → IsReached old i → EntryNames old i slot j → name_at new i slot ≡ name_at old i slot
   name-same i slot j reached names =
-      let form : IsName (name_at old i slot) = wf.names i slot j reached names in
-      let short : entry_word old i slot 1 ≤ max_name = (rw length-map-range_with_len at form.short) in
-      rw (same.entry i slot j 1 reached names (omega arith))
-      (map-same _ _ 0 (entry_word old i slot 1) (λ o low high. name_byte-same i slot j o reached names (omega (arith, high, short))))
+      name_by_words old new i slot (wf.names i slot j reached names).short (λ f some few. same.entry i slot j f reached names few)
 
   pub directories-same : SameDirectories old new
   directories-same = record {

@@ -1,4 +1,5 @@
 pub mod Formatted
+pub mod SameShown
 pub mod SameMeaning
 pub mod Frame
 pub mod Stores

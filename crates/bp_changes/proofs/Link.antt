@@ -1,20 +1,18 @@
 -- A store of an inumber into an empty entry adds that name to its directory, and changes nothing else. The inode that the
 -- entry names was free, or it is a file that has a name.
-use Rattle.std.proofs.Common.{◌≡◌, ◌≢◌, ◌⊎◌, ℕ, ◌+◌, ◌*◌, ◌/◌, ◌%◌, ◌<◌, ◌≤◌, length, sym, ◌∙◌, ap, subst₂, arith, inl, inr}
+use Rattle.std.proofs.Common.{◌≡◌, ◌≢◌, ◌⊎◌, ℕ, ◌+◌, ◌*◌, ◌/◌, ◌<◌, ◌≤◌, length, sym, ◌∙◌, ap, subst₂, arith, inl, inr}
 use Rattle.std.proofs.lemmas.Bool.{cases_eq}
-use Rattle.std.proofs.lemmas.List.FromFn.{length-map-range_with_len}
 use Rattle.bp_limits.specs.Limits.{max_name}
-use Rattle.bp_layout.specs.Words.{Image, byte_of}
-use Rattle.bp_layout.specs.Tree.{byte}
-use Rattle.bp_layout.specs.Inode.{kind_of, root_of, size_of, inode_count}
+use Rattle.bp_layout.specs.Words.{Image}
+use Rattle.bp_layout.specs.Inode.{kind_of, size_of, inode_count}
 use Rattle.bp_layout.specs.Directory.{EntryNames, IsName, name_at, inumber_at, entry_word, entry_count}
 use Rattle.bp_layout.specs.Reached.{IsReached}
 use Rattle.bp_layout.specs.Reached.IsReached.{inode_file}
 use Rattle.bp_layout.specs.WellFormed.{IsWellFormed}
 use Rattle.bp_changes.specs.Effects.{SetsInumber, AddsNames, LinksName, IsNewEntry}
 use Rattle.bp_changes.proofs.GainsEntry.{CanTake, GainsEntry, gains_adds, gains_links, takes_inode}
-use Rattle.bp_layout.proofs.Finding.{map-same}
 use Rattle.bp_layout.proofs.Reached.{reached-in_file}
+use Rattle.bp_changes.proofs.SameShown.{name_by_words}
 
 -- An empty entry of a directory, whose name is new there: its inumber is what it lacks.
 pub record AwaitsInumber (old : Image) (i s : ℕ) : Type 0 where
@@ -47,13 +45,7 @@ module _ (old new : Image) (wf : IsWellFormed old) (i s j : ℕ) (can : AwaitsIn
 
   name_stays : (u r : ℕ) → IsReached old u → kind_of old u ≡ 2 → r < entry_count old u → length (name_at old u r) ≤ max_name → name_at new u r ≡ name_at old u r
   name_stays u r reached kind in_size few =
-      let short : entry_word old u r 1 ≤ max_name = (rw length-map-range_with_len at few) in
-      let byte_stays : (o : ℕ) → o < max_name → byte new (root_of new u) (256 * r + 16 + o) ≡ byte old (root_of old u) (256 * r + 16 + o) =
-      λ o low.
-      let number : (256 * r + 16 + o) / 8 ≡ 32 * r + (2 + o / 8) = omega arith in
-      rw number (ap (λ w. byte_of w ((256 * r + 16 + o) % 8)) (entry_word_stays u r (2 + o / 8) reached kind in_size (omega (arith, low)) (λ e same. omega (arith, same, low)))) in
-      rw (entry_word_stays u r 1 reached kind in_size (omega arith) (λ e same. omega (arith, same)))
-      (map-same _ _ 0 (entry_word old u r 1) (λ o low high. byte_stays o (omega (arith, high, short))))
+      name_by_words old new u r few (λ f some low. entry_word_stays u r f reached kind in_size low (λ e same. omega (arith, same, some, low)))
 
   count_stays : (u : ℕ) → u < inode_count old → entry_count new u ≡ entry_count old u
   count_stays u in_file = ap (λ n. n / 256) (sizes_stay u in_file)

@@ -1,23 +1,20 @@
 -- An inumber leaves one entry and comes into another: what a rename onto a target, or into another directory, makes of an image.
-use Rattle.std.proofs.Common.{◌≡◌, ◌⊎◌, ℕ, suc, ◌+◌, ◌*◌, ◌/◌, ◌%◌, ◌<◌, ◌≤◌, Bool, true, false, ◌==◌, length, Option, None, Some, refl, sym, ◌∙◌, ap, subst, subst₂, arith, inl, inr}
-use Rattle.std.proofs.lemmas.Bool.{cases_eq, eqb-true}
-use Rattle.std.proofs.lemmas.List.FromFn.{length-map-range_with_len}
+use Rattle.std.proofs.Common.{◌≡◌, ◌⊎◌, ℕ, suc, ◌/◌, ◌<◌, ◌≤◌, length, Option, None, Some, refl, sym, ◌∙◌, ap, subst, subst₂, arith, inl, inr}
+use Rattle.std.proofs.lemmas.Bool.{cases_eq}
 use Rattle.bp_limits.specs.Limits.{max_name}
-use Rattle.bp_layout.specs.Words.{Image, byte_of}
-use Rattle.bp_layout.specs.Tree.{byte}
-use Rattle.bp_layout.specs.Inode.{kind_of, root_of, size_of, inode_count}
-use Rattle.bp_layout.specs.Directory.{Name, EntryNames, IsName, name_at, inumber_at, entry_word, entry_count, lookup_in}
+use Rattle.bp_layout.specs.Words.{Image}
+use Rattle.bp_layout.specs.Inode.{kind_of, size_of, inode_count}
+use Rattle.bp_layout.specs.Directory.{Name, EntryNames, IsName, name_at, inumber_at, entry_count, lookup_in}
 use Rattle.bp_layout.specs.Reached.{IsReached}
 use Rattle.bp_layout.specs.Reached.IsReached.{inode_file, root_directory, named}
 use Rattle.bp_layout.specs.Lookup.{node_of}
-use Rattle.bp_layout.specs.Lookup.Node.{file}
 use Rattle.bp_layout.specs.WellFormed.{IsWellFormed}
 use Rattle.bp_changes.specs.Effects.{CanMoveEntry, MovesEntry, CarriesEntry, IsNewEntry, IsOldEntry}
-use Rattle.bp_layout.proofs.Finding.{map-same}
 use Rattle.bp_layout.proofs.Reached.{reached-in_file}
 use Rattle.bp_layout.proofs.LookupLaws.{Shows, lookup_in-shows, lookup_in-found, lookup_in-none}
 use Rattle.bp_changes.proofs.MoveName.{MovesName}
 use Rattle.bp_changes.proofs.Formatted.{stays_formatted}
+use Rattle.bp_changes.proofs.SameShown.{name_by_words, node_by_bytes}
 
 module _ (old new : Image) (wf : IsWellFormed old) (i s k r j : ℕ) (can : CanMoveEntry old i s k r j) (moves : MovesEntry old new i s k r j) where
   in_inodes : (t : ℕ) → IsReached old t → t < inode_count old
@@ -35,14 +32,8 @@ module _ (old new : Image) (wf : IsWellFormed old) (i s k r j : ℕ) (can : CanM
 
   name_stays : (u x : ℕ) → IsReached old u → kind_of old u ≡ 2 → x < entry_count old u → length (name_at old u x) ≤ max_name → name_at new u x ≡ name_at old u x
   name_stays u x reached kind low few =
-      let short : entry_word old u x 1 ≤ max_name = (rw length-map-range_with_len at few) in
-      let byte_stays : (o : ℕ) → o < max_name → byte new (root_of new u) (256 * x + 16 + o) ≡ byte old (root_of old u) (256 * x + 16 + o) =
-      λ o small.
-      let number : (256 * x + 16 + o) / 8 ≡ 32 * x + (2 + o / 8) = omega arith in
-      rw number (ap (λ w. byte_of w ((256 * x + 16 + o) % 8))
-      (moves.entry u x (2 + o / 8) reached kind low (omega (arith, small)) (λ e same. omega (arith, same, small)) (λ e same. omega (arith, same, small)))) in
-      rw (moves.entry u x 1 reached kind low (omega arith) (λ e same. omega (arith, same)) (λ e same. omega (arith, same)))
-      (map-same _ _ 0 (entry_word old u x 1) (λ o low high. byte_stays o (omega (arith, high, short))))
+      name_by_words old new u x few
+      (λ f some small. moves.entry u x f reached kind low small (λ e same. omega (arith, same, some, small)) (λ e same. omega (arith, same, some, small)))
 
   pub name_of_old : (u x l : ℕ) → IsReached old u → EntryNames old u x l → name_at new u x ≡ name_at old u x
   name_of_old u x l reached n = name_stays u x reached n.directory n.in_size (wf.names u x l reached n).short
@@ -213,12 +204,8 @@ module _ (old new : Image) (wf : IsWellFormed old) (i s k r j : ℕ) (can : CanM
       can.apart e (can.new_name s j (subst (λ a. EntryNames old a s j) e can.entry) (subst (λ a. name_at old a s ≡ name_at old k r) e same))
 
   node_stays : (u : ℕ) → IsReached old u → node_of new u ≡ node_of old u
-  node_stays u reached = go (kind_of old u == 1) refl
-    where
-      go : (b : Bool) → (kind_of old u == 1) ≡ b → node_of new u ≡ node_of old u
-      go true e =
-          rw (moves.kind u (in_inodes u reached), e, moves.size u (in_inodes u reached)) (ap file (map-same _ _ 0 (size_of old u) (λ o low high. moves.bytes u o reached (eqb-true _ _ e) (omega (arith, high)))))
-      go false e = rw (moves.kind u (in_inodes u reached), e) refl
+  node_stays u reached =
+      node_by_bytes old new u (moves.kind u (in_inodes u reached)) (λ kind. moves.size u (in_inodes u reached)) (λ o kind. moves.bytes u o reached kind)
 
   pub entry_moves : MovesName old new i (name_at old i s) k (name_at old k r) j
   entry_moves = record {

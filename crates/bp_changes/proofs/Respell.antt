@@ -1,23 +1,19 @@
 -- An entry is spelled anew in place: what a rename within one directory makes of an image.
-use Rattle.std.proofs.Common.{◌≡◌, ◌⊎◌, ℕ, suc, ◌+◌, ◌*◌, ◌/◌, ◌%◌, ◌<◌, ◌≤◌, Bool, true, false, ◌==◌, Option, None, Some, refl, sym, ◌∙◌, ap, ap₂, subst, arith, inl, inr}
-use Rattle.std.proofs.lemmas.Bool.{cases_eq, eqb-true}
-use Rattle.std.proofs.lemmas.List.FromFn.{length-map-range_with_len}
-use Rattle.bp_limits.specs.Limits.{max_name}
-use Rattle.bp_layout.specs.Words.{Image, byte_of}
-use Rattle.bp_layout.specs.Tree.{byte}
-use Rattle.bp_layout.specs.Inode.{kind_of, root_of, size_of, inode_count}
-use Rattle.bp_layout.specs.Directory.{Name, EntryNames, IsName, name_at, entry_word, entry_count, lookup_in}
+use Rattle.std.proofs.Common.{◌≡◌, ◌⊎◌, ℕ, suc, ◌/◌, ◌<◌, Option, None, Some, refl, sym, ◌∙◌, ap, ap₂, subst, inl, inr}
+use Rattle.std.proofs.lemmas.Bool.{cases_eq}
+use Rattle.bp_layout.specs.Words.{Image}
+use Rattle.bp_layout.specs.Inode.{kind_of, size_of, inode_count}
+use Rattle.bp_layout.specs.Directory.{Name, EntryNames, IsName, name_at, entry_count, lookup_in}
 use Rattle.bp_layout.specs.Reached.{IsReached}
 use Rattle.bp_layout.specs.Reached.IsReached.{inode_file, root_directory, named}
 use Rattle.bp_layout.specs.Lookup.{node_of}
-use Rattle.bp_layout.specs.Lookup.Node.{file}
 use Rattle.bp_layout.specs.WellFormed.{IsWellFormed}
 use Rattle.bp_changes.specs.Effects.{RespellsEntry}
-use Rattle.bp_layout.proofs.Finding.{map-same}
 use Rattle.bp_layout.proofs.Reached.{reached-in_file}
 use Rattle.bp_layout.proofs.LookupLaws.{Shows, lookup_in-shows, lookup_in-found, lookup_in-none}
 use Rattle.bp_changes.proofs.MoveName.{MovesName}
 use Rattle.bp_changes.proofs.Formatted.{stays_formatted}
+use Rattle.bp_changes.proofs.SameShown.{name_by_words, node_by_bytes}
 
 module _ (old new : Image) (wf : IsWellFormed old) (i s j : ℕ) (spells : RespellsEntry old new i s j) where
   in_inodes : (t : ℕ) → IsReached old t → t < inode_count old
@@ -47,14 +43,7 @@ module _ (old new : Image) (wf : IsWellFormed old) (i s j : ℕ) (spells : Respe
 
   pub name_stays : (u x l : ℕ) → IsReached old u → EntryNames old u x l → ((u ≡ i) → (x ≡ s) → ⊥) → name_at new u x ≡ name_at old u x
   name_stays u x l reached n other =
-      let form : IsName (name_at old u x) = wf.names u x l reached n in
-      let short : entry_word old u x 1 ≤ max_name = (rw length-map-range_with_len at form.short) in
-      let byte_stays : (o : ℕ) → o < max_name → byte new (root_of new u) (256 * x + 16 + o) ≡ byte old (root_of old u) (256 * x + 16 + o) =
-      λ o small.
-      let number : (256 * x + 16 + o) / 8 ≡ 32 * x + (2 + o / 8) = omega arith in
-      rw number (ap (λ w. byte_of w ((256 * x + 16 + o) % 8)) (spells.entry u x l (2 + o / 8) reached n (omega (arith, small)) other)) in
-      rw (spells.entry u x l 1 reached n (omega arith) other)
-      (map-same _ _ 0 (entry_word old u x 1) (λ o low high. byte_stays o (omega (arith, high, short))))
+      name_by_words old new u x (wf.names u x l reached n).short (λ f some few. spells.entry u x l f reached n few other)
 
   here_or : (u x : ℕ) → ((u ≡ i) × (x ≡ s)) ⊎ ((u ≡ i) → (x ≡ s) → ⊥)
   here_or u x = go (cases_eq u i) (cases_eq x s)
@@ -112,12 +101,8 @@ module _ (old new : Image) (wf : IsWellFormed old) (i s j : ℕ) (spells : Respe
   -- ---- names
 
   node_stays : (u : ℕ) → IsReached old u → node_of new u ≡ node_of old u
-  node_stays u reached = go (kind_of old u == 1) refl
-    where
-      go : (b : Bool) → (kind_of old u == 1) ≡ b → node_of new u ≡ node_of old u
-      go true e =
-          rw (spells.kind u (in_inodes u reached), e, spells.size u (in_inodes u reached)) (ap file (map-same _ _ 0 (size_of old u) (λ o low high. spells.bytes u o reached (eqb-true _ _ e) (omega (arith, high)))))
-      go false e = rw (spells.kind u (in_inodes u reached), e) refl
+  node_stays u reached =
+      node_by_bytes old new u (spells.kind u (in_inodes u reached)) (λ kind. spells.size u (in_inodes u reached)) (λ o kind. spells.bytes u o reached kind)
 
   now_shown : lookup_in new i (name_at new i s) ≡ Some j
   now_shown =

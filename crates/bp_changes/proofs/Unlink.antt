@@ -1,25 +1,22 @@
 -- An inumber that becomes 0 takes that name from its directory, and changes nothing else.
-use Rattle.std.proofs.Common.{◌≡◌, ◌⊎◌, ℕ, suc, ◌+◌, ◌*◌, ◌/◌, ◌%◌, ◌<◌, ◌≤◌, [], ◌∷◌, ◌++◌, Bool, true, false, ◌==◌, length, Option, None, Some, refl, sym, ◌∙◌, ap, subst, subst₂, arith, inl, inr, length-append}
+use Rattle.std.proofs.Common.{◌≡◌, ◌⊎◌, ℕ, suc, ◌/◌, ◌<◌, [], ◌∷◌, ◌++◌, length, Option, None, Some, inl, inr}
+use Rattle.std.proofs.Common.{refl, sym, ◌∙◌, ap, subst, subst₂, arith, length-append}
 use Rattle.std.specs.Option.{option_map}
-use Rattle.std.proofs.lemmas.Bool.{cases_eq, eqb-true}
-use Rattle.std.proofs.lemmas.List.FromFn.{length-map-range_with_len}
-use Rattle.bp_limits.specs.Limits.{max_name}
-use Rattle.bp_layout.specs.Words.{Image, byte_of}
-use Rattle.bp_layout.specs.Tree.{byte}
-use Rattle.bp_layout.specs.Inode.{kind_of, root_of, size_of, inode_count}
-use Rattle.bp_layout.specs.Directory.{Name, EntryNames, IsName, name_at, inumber_at, entry_word, entry_count, lookup_in}
+use Rattle.std.proofs.lemmas.Bool.{cases_eq}
+use Rattle.bp_layout.specs.Words.{Image}
+use Rattle.bp_layout.specs.Inode.{kind_of, size_of, inode_count}
+use Rattle.bp_layout.specs.Directory.{Name, EntryNames, name_at, inumber_at, entry_count, lookup_in}
 use Rattle.bp_layout.specs.Reached.{IsReached}
 use Rattle.bp_layout.specs.Reached.IsReached.{inode_file, root_directory, named}
 use Rattle.bp_layout.specs.Lookup.{Path, lookup_from, lookup, node_of, shown}
-use Rattle.bp_layout.specs.Lookup.Node.{file}
 use Rattle.bp_layout.specs.WellFormed.{IsWellFormed}
 use Rattle.bp_changes.specs.Effects.{CanUnlink, RemovesEntry}
-use Rattle.bp_layout.proofs.Finding.{map-same}
 use Rattle.bp_layout.proofs.Reached.{reached-in_file}
 use Rattle.bp_layout.proofs.View.{lookup_in-reached, lookup_from-reached}
 use Rattle.bp_layout.proofs.LookupLaws.{Shows, lookup_in-shows, lookup_in-found, lookup_in-none}
 use Rattle.bp_layout.proofs.Paths.{lookup_from-append, path_once, same_name}
 use Rattle.bp_changes.proofs.Formatted.{stays_formatted}
+use Rattle.bp_changes.proofs.SameShown.{name_by_words, node_by_bytes}
 
 module _ (old new : Image) (wf : IsWellFormed old) (i s j : ℕ) (can : CanUnlink old i s j) (removes : RemovesEntry old new i s) where
   in_inodes : (t : ℕ) → IsReached old t → t < inode_count old
@@ -33,14 +30,8 @@ module _ (old new : Image) (wf : IsWellFormed old) (i s j : ℕ) (can : CanUnlin
 
   pub name_stays : (u r k : ℕ) → IsReached old u → EntryNames old u r k → name_at new u r ≡ name_at old u r
   name_stays u r k reached n =
-      let form : IsName (name_at old u r) = wf.names u r k reached n in
-      let short : entry_word old u r 1 ≤ max_name = (rw length-map-range_with_len at form.short) in
-      let byte_stays : (o : ℕ) → o < max_name → byte new (root_of new u) (256 * r + 16 + o) ≡ byte old (root_of old u) (256 * r + 16 + o) =
-      λ o low.
-      let number : (256 * r + 16 + o) / 8 ≡ 32 * r + (2 + o / 8) = omega arith in
-      rw number (ap (λ w. byte_of w ((256 * r + 16 + o) % 8)) (removes.entry u r (2 + o / 8) reached n.directory n.in_size (omega (arith, low)) (λ e same. omega (arith, same, low)))) in
-      rw (removes.entry u r 1 reached n.directory n.in_size (omega arith) (λ e same. omega (arith, same)))
-      (map-same _ _ 0 (entry_word old u r 1) (λ o low high. byte_stays o (omega (arith, high, short))))
+      name_by_words old new u r (wf.names u r k reached n).short
+      (λ f some few. removes.entry u r f reached n.directory n.in_size few (λ e same. omega (arith, same, some, few)))
 
   -- an entry of the new image is one of the old image, but not the emptied one
   pub record IsKept (u r k : ℕ) : Type 0 where
@@ -197,12 +188,8 @@ module _ (old new : Image) (wf : IsWellFormed old) (i s j : ℕ) (can : CanUnlin
       go rest (inr e) f = elsewhere rest (lookup_stays u first reached (λ x y. e x)) (lookup_in old u first) refl
 
   node_stays : (u : ℕ) → IsReached old u → node_of new u ≡ node_of old u
-  node_stays u reached = go (kind_of old u == 1) refl
-    where
-      go : (b : Bool) → (kind_of old u == 1) ≡ b → node_of new u ≡ node_of old u
-      go true e =
-          rw (removes.kind u (in_inodes u reached), e, removes.size u (in_inodes u reached)) (ap file (map-same _ _ 0 (size_of old u) (λ o low high. removes.bytes u o reached (eqb-true _ _ e) (omega (arith, high)))))
-      go false e = rw (removes.kind u (in_inodes u reached), e) refl
+  node_stays u reached =
+      node_by_bytes old new u (removes.kind u (in_inodes u reached)) (λ kind. removes.size u (in_inodes u reached)) (λ o kind. removes.bytes u o reached kind)
 
   module _ (parent : Path) (at : lookup old parent ≡ Some i) where
     pub lookup_elsewhere : (path : Path) → (path ≡ parent ++ name_at old i s ∷ [] → ⊥) → lookup new path ≡ lookup old path

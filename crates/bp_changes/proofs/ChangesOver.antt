@@ -6,26 +6,13 @@ use Rattle.bp_layout.specs.Inode.{size_of}
 use Rattle.bp_layout.specs.Reached.{IsReached}
 use Rattle.bp_layout.specs.WellFormed.{IsWellFormed}
 use Rattle.bp_changes.specs.Effects.{ChangesFile, CarriesEntry, IsNewEntry, IsOldEntry}
-use Rattle.bp_changes.specs.KeepsTrees.{KeepsTrees}
 use Rattle.bp_changes.specs.SameMeaning.{SameMeaning}
-use Rattle.bp_changes.proofs.ReachedOn.{names_on, reached_on}
+use Rattle.bp_changes.proofs.ReachedOn.{names_on, reached_on, trees_over}
 use Rattle.bp_changes.proofs.SameMeaning.{reached-back, names-back, name-same}
 
 module _ (old mid new : Image) (same : SameMeaning old mid) where
   on : (t : ℕ) → IsReached old t → IsReached mid t
   on = reached_on old mid same
-
-  trees_over : KeepsTrees mid new → KeepsTrees old new
-  trees_over trees = record {
-    whole = trees.whole ∙ same.trees.whole;
-    marked = trees.marked ∙ same.trees.marked;
-    counted = trees.counted ∙ same.trees.counted;
-    low = λ t r. trees.low t (on t r);
-    sound = λ t r. trees.sound t (on t r);
-    apart = λ t u b r q. trees.apart t u b (on t r) (on u q);
-    full_inode_file = trees.full_inode_file;
-    full_directories = λ i r kind. trees.full_directories i (on i r) (same.kind i r ∙ kind);
-  }
 
 module _ (old mid new : Image) (x : ℕ) (wf : IsWellFormed old) (same : SameMeaning old mid) (sizes : (u : ℕ) → IsReached old u → size_of mid u ≡ size_of old u) where
   pub changes_over : ChangesFile mid new x → ChangesFile old new x

@@ -5,7 +5,6 @@ use Rattle.bp_layout.specs.Words.{Image}
 use Rattle.bp_layout.specs.Inode.{IsDirectory, inode_count, kind_of, size_of}
 use Rattle.bp_layout.specs.Directory.{EntryNames, entry_count, entry_word, inumber_at, name_at}
 use Rattle.bp_layout.specs.Reached.{IsReached}
-use Rattle.bp_layout.specs.Reached.IsReached.{inode_file, root_directory, named}
 use Rattle.bp_layout.specs.WellFormed.{IsWellFormed}
 use Rattle.bp_layout.proofs.Reached.{reached-in_file}
 use Rattle.bp_layout.proofs.View.{SameDirectories}
@@ -22,6 +21,7 @@ use Rattle.bp_changes.proofs.Move as move
 use Rattle.bp_changes.proofs.Respell as respell
 use Rattle.bp_changes.proofs.SameMeaning as meaning
 use Rattle.bp_changes.proofs.Unlink as unlink
+use Rattle.bp_changes.proofs.SameEntries.{reached_back}
 use Rattle.bp_changes.proofs.SameShown.{name_by_words}
 
 -- ---- one entry that both images have
@@ -66,20 +66,12 @@ module _ (old new : Image) (same : SameDirectories old new) where
   slot_back : (u r : ℕ) → IsReached old u → IsDirectory new u → r < entry_count new u → r < entry_count old u
   slot_back u r reached now low = subst (λ n. r < n) (same.count u reached (directory_back u reached now)) low
 
-  entry_back : (u r j : ℕ) → IsReached old u → EntryNames new u r j → EntryNames old u r j
-  entry_back u r j reached n =
-      let kind : kind_of old u ≡ 2 = directory_back u reached n.directory in
-      let low : r < entry_count old u = slot_back u r reached n.directory n.in_size in
-      record { directory = kind; in_size = low; inumber = sym (same.inumber u r reached kind low) ∙ n.inumber; not_empty = n.not_empty }
-
-  reached_back : (t : ℕ) → IsReached new t → IsReached old t
-  reached_back _ inode_file = inode_file
-  reached_back _ root_directory = root_directory
-  reached_back _ (named {i = u} {j = j} r from n) = named r (reached_back u from) (entry_back u r j (reached_back u from) n)
+  was_reached : (t : ℕ) → IsReached new t → IsReached old t
+  was_reached = reached_back old new (record { kind = same.kind; count = same.count; inumber = same.inumber })
 
   pub directories_keep_entries : KeepsEntries old new NoSlot
   directories_keep_entries u r now directory low apart =
-      let was : IsReached old u = reached_back u now in
+      let was : IsReached old u = was_reached u now in
       let kind : kind_of old u ≡ 2 = directory_back u was directory in
       let small : r < entry_count old u = slot_back u r was directory low in
       was_entry old new u r was kind small (same.inumber u r was kind small) (λ n. same.name u r (inumber_at old u r) was n)

@@ -1,5 +1,6 @@
 pub mod Formatted
 pub mod SameShown
+pub mod SameEntries
 pub mod SameMeaning
 pub mod Frame
 pub mod Stores

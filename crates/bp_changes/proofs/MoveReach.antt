@@ -18,6 +18,7 @@ use Rattle.bp_changes.proofs.Move as move
 use Rattle.bp_changes.proofs.Move.Entry.{is_target, is_old}
 use Rattle.bp_changes.proofs.MoveName.{lookup_from-join}
 use Rattle.bp_changes.proofs.Respell as respell
+use Rattle.bp_changes.proofs.SameEntries.{reached_on}
 
 -- ---- below an inode
 
@@ -163,7 +164,4 @@ module _ (old new : Image) (wf : IsWellFormed old) (i s k r j : ℕ) (can : CanM
 
 -- an entry is spelled anew
 pub respelled_on : (old new : Image) → IsWellFormed old → (i s j : ℕ) → RespellsEntry old new i s j → (t : ℕ) → IsReached old t → IsReached new t
-respelled_on old new wf i s j spells _ inode_file = inode_file
-respelled_on old new wf i s j spells _ root_directory = root_directory
-respelled_on old new wf i s j spells _ (reaches {i = u} {j = l} x from n) =
-    reaches x (respelled_on old new wf i s j spells u from) (respell.names_stay old new wf i s j spells u x l from n)
+respelled_on old new wf i s j spells = reached_on old new (respell.same_inumbers old new wf i s j spells)

@@ -1,5 +1,6 @@
 -- How many names inodes have after a change of one entry.
-use Rattle.std.proofs.Common.{◌≡◌, ◌≢◌, ◌⊎◌, ℕ, zero, suc, ◌+◌, ◌/◌, ◌<◌, ◌≤◌, List, [], ◌∷◌, length, filter, Bool, true, false, true≢false, not, ◌&&◌, ◌==◌, set, refl, sym, ◌∙◌, ap, subst, subst₂, arith, inl, inr, get_or-set_same, get_or-set_other}
+use Rattle.std.proofs.Common.{◌≡◌, ◌≢◌, ◌⊎◌, ℕ, ◌+◌, ◌/◌, ◌<◌, ◌≤◌, List, [], ◌∷◌, length, filter, Bool, true, false, not, ◌&&◌, ◌==◌, set, inl, inr}
+use Rattle.std.proofs.Common.{refl, sym, ◌∙◌, ap, subst, subst₂, arith, true≢false, get_or-set_same, get_or-set_other}
 use Rattle.std.proofs.lemmas.Bool.{cases_eq, eqb-true, eqb-false}
 use Rattle.std.proofs.lemmas.List.{length-set}
 use Rattle.std.specs.List.{slice_index}
@@ -18,7 +19,7 @@ use Rattle.bp_changes.specs.SameMeaning.{SameMeaning}
 use Rattle.bp_changes.proofs.SameMeaning as meaning
 use Rattle.bp_changes.proofs.KeepsDirectories as directories
 use Rattle.bp_changes.specs.KeepsDirectories.{KeepsDirectories}
-use Rattle.bp_changes.proofs.ReachedOn.{reached_on}
+use Rattle.bp_changes.proofs.SameEntries.{SameInumbers, names_back, names_on, reached_back, reached_on}
 use Rattle.bp_changes.proofs.AddsNames.{adds_takes}
 use Rattle.bp_changes.proofs.EntryAdded as added
 use Rattle.bp_changes.proofs.EntryAdded.{TakesName}
@@ -29,7 +30,7 @@ use Rattle.bp_changes.proofs.Carry as carry
 use Rattle.bp_changes.proofs.Move as move
 use Rattle.bp_changes.proofs.Move.Entry.{is_target, is_old}
 use Rattle.bp_changes.proofs.Respell as respell
-use Rattle.bp_changes.proofs.MoveReach.{carried_on, moved_on, respelled_on}
+use Rattle.bp_changes.proofs.MoveReach.{carried_on, moved_on}
 
 -- ---- entries
 
@@ -416,38 +417,20 @@ module _ (old new : Image) (wf : IsWellFormed old) (i s k r j : ℕ) (can : CanM
 
 -- ---- no name changes
 
+inumbers_counts : (old new : Image) → SameInumbers old new → (counts : List ℕ) → AreCounts old counts → AreCounts new counts
+inumbers_counts old new same counts are = counts_same old new counts are
+    (λ k e n. let was : IsReached old e.0 = reached_back old new same e.0 n.reached in
+    record { reached = was; names = names_back old new same e.0 e.1 k was n.names })
+    (λ k e n. record { reached = reached_on old new same e.0 n.reached; names = names_on old new same e.0 e.1 k n.reached n.names })
+
+-- where an entry is spelled anew
 pub respelled_counts : (old new : Image) (wf : IsWellFormed old) (i s j : ℕ) (spells : RespellsEntry old new i s j) (counts : List ℕ) → AreCounts old counts → AreCounts new counts
-respelled_counts old new wf i s j spells counts are = counts_same old new counts are
-    (λ k e n. let was : IsReached old e.0 = respell.reached_back old new wf i s j spells e.0 n.reached in
-    record {
-      reached = was;
-      names =
-          let in_file : e.0 < size_of old 0 / 64 = reached-in_file old wf e.0 was in
-          let kind : kind_of old e.0 ≡ 2 = sym (spells.kind e.0 in_file) ∙ n.names.directory in
-          let small : e.1 < entry_count old e.0 = subst (λ z. e.1 < z / 256) (spells.size e.0 in_file) n.names.in_size in
-          record { directory = kind; in_size = small; inumber = sym (spells.inumber e.0 e.1 was kind small) ∙ n.names.inumber; not_empty = n.names.not_empty };
-    })
-    (λ k e n. record { reached = respelled_on old new wf i s j spells e.0 n.reached; names = respell.names_stay old new wf i s j spells e.0 e.1 k n.reached n.names })
+respelled_counts old new wf i s j spells = inumbers_counts old new (respell.same_inumbers old new wf i s j spells)
 
 -- nor where the image means the same, as after a preparation
 pub meaning_counts : (old new : Image) (wf : IsWellFormed old) (same : SameMeaning old new) (counts : List ℕ) → AreCounts old counts → AreCounts new counts
-meaning_counts old new wf same counts are = counts_same old new counts are
-    (λ k e n. let was : IsReached old e.0 = meaning.reached-back old new wf same e.0 n.reached in
-    record { reached = was; names = meaning.names-back old new wf same e.0 e.1 k was n.names })
-    (λ k e n. record { reached = reached_on old new same e.0 n.reached; names = on k e.0 e.1 n.reached n.names })
-  where
-    on : (k u r : ℕ) → IsReached old u → EntryNames old u r k → EntryNames new u r k
-    on k zero r reached n = let two : kind_of old 0 ≡ 2 = n.directory in absurd (omega (arith, two))
-    on k (suc u) r reached n = record {
-      directory = same.kind (suc u) reached ∙ n.directory;
-      in_size = subst (λ z. r < z / 256) (sym (same.size u reached)) n.in_size;
-      inumber = same.inumber (suc u) r reached n.directory n.in_size ∙ n.inumber;
-      not_empty = n.not_empty;
-    }
+meaning_counts old new wf same = inumbers_counts old new (meaning.same_inumbers old new same)
 
 -- nor where the bytes of files do
 pub changed_counts : (old new : Image) (wf : IsWellFormed old) (keeps : KeepsDirectories old new) (counts : List ℕ) → AreCounts old counts → AreCounts new counts
-changed_counts old new wf keeps counts are = counts_same old new counts are
-    (λ k e n. let was : IsReached old e.0 = directories.reached-back old new wf keeps e.0 n.reached in
-    record { reached = was; names = directories.names-back old new wf keeps e.0 e.1 k was n.names })
-    (λ k e n. record { reached = directories.reached-on old new wf keeps e.0 n.reached; names = directories.names-on old new wf keeps e.0 e.1 k n.reached n.names })
+changed_counts old new wf keeps = inumbers_counts old new (directories.same_inumbers old new wf keeps)

@@ -2,8 +2,8 @@
 use Rattle.std.proofs.Common.{◌≡◌, ◌⊎◌, ℕ, suc, ◌/◌, ◌<◌, Option, None, Some, refl, sym, ◌∙◌, ap, ap₂, subst, inl, inr}
 use Rattle.std.proofs.lemmas.Bool.{cases_eq}
 use Rattle.bp_layout.specs.Words.{Image}
-use Rattle.bp_layout.specs.Inode.{kind_of, size_of, inode_count}
-use Rattle.bp_layout.specs.Directory.{Name, EntryNames, IsName, name_at, entry_count, lookup_in}
+use Rattle.bp_layout.specs.Inode.{size_of, inode_count}
+use Rattle.bp_layout.specs.Directory.{Name, EntryNames, IsName, name_at, lookup_in}
 use Rattle.bp_layout.specs.Reached.{IsReached}
 use Rattle.bp_layout.specs.Reached.IsReached.{inode_file, root_directory, named}
 use Rattle.bp_layout.specs.Lookup.{node_of}
@@ -13,34 +13,32 @@ use Rattle.bp_layout.proofs.Reached.{reached-in_file}
 use Rattle.bp_layout.proofs.LookupLaws.{Shows, lookup_in-shows, lookup_in-found, lookup_in-none}
 use Rattle.bp_changes.proofs.MoveName.{MovesName}
 use Rattle.bp_changes.proofs.Formatted.{stays_formatted}
+use Rattle.bp_changes.proofs.SameEntries as entries
+use Rattle.bp_changes.proofs.SameEntries.{SameInumbers}
 use Rattle.bp_changes.proofs.SameShown.{name_by_words, node_by_bytes}
 
 module _ (old new : Image) (wf : IsWellFormed old) (i s j : ℕ) (spells : RespellsEntry old new i s j) where
   in_inodes : (t : ℕ) → IsReached old t → t < inode_count old
   in_inodes = reached-in_file old wf
 
-  count_stays : (u : ℕ) → IsReached old u → entry_count new u ≡ entry_count old u
-  count_stays u reached = ap (λ n. n / 256) (spells.size u (in_inodes u reached))
-
-  names_back : (u x l : ℕ) → IsReached old u → EntryNames new u x l → EntryNames old u x l
-  names_back u x l reached n =
-      let kind : kind_of old u ≡ 2 = sym (spells.kind u (in_inodes u reached)) ∙ n.directory in
-      let low : x < entry_count old u = rw (count_stays u reached) at n.in_size in
-      record { directory = kind; in_size = low; inumber = sym (spells.inumber u x reached kind low) ∙ n.inumber; not_empty = n.not_empty }
-
-  pub names_stay : (u x l : ℕ) → IsReached old u → EntryNames old u x l → EntryNames new u x l
-  names_stay u x l reached n = record {
-    directory = spells.kind u (in_inodes u reached) ∙ n.directory;
-    in_size = rw (count_stays u reached) n.in_size;
-    inumber = spells.inumber u x reached n.directory n.in_size ∙ n.inumber;
-    not_empty = n.not_empty;
+  -- all entries have the inumbers that they had
+  pub same_inumbers : SameInumbers old new
+  same_inumbers = record {
+    kind = λ u reached. spells.kind u (in_inodes u reached);
+    count = λ u reached kind. ap (λ n. n / 256) (spells.size u (in_inodes u reached));
+    inumber = spells.inumber;
   }
 
-  pub reached_back : (t : ℕ) → IsReached new t → IsReached old t
-  reached_back _ inode_file = inode_file
-  reached_back _ root_directory = root_directory
-  reached_back _ (named {i = u} {j = l} x from n) = named x (reached_back u from) (names_back u x l (reached_back u from) n)
+  names_back : (u x l : ℕ) → IsReached old u → EntryNames new u x l → EntryNames old u x l
+  names_back = entries.names_back old new same_inumbers
 
+  pub names_stay : (u x l : ℕ) → IsReached old u → EntryNames old u x l → EntryNames new u x l
+  names_stay = entries.names_on old new same_inumbers
+
+  pub reached_back : (t : ℕ) → IsReached new t → IsReached old t
+  reached_back = entries.reached_back old new same_inumbers
+
+  -- and all but this one their names
   pub name_stays : (u x l : ℕ) → IsReached old u → EntryNames old u x l → ((u ≡ i) → (x ≡ s) → ⊥) → name_at new u x ≡ name_at old u x
   name_stays u x l reached n other =
       name_by_words old new u x (wf.names u x l reached n).short (λ f some few. spells.entry u x l f reached n few other)

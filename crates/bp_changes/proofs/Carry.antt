@@ -1,5 +1,5 @@
 -- A name comes to another directory under a new name: what a rename across directories, onto no name, makes of an image.
-use Rattle.std.proofs.Common.{◌≡◌, ◌≢◌, ◌⊎◌, ℕ, suc, ◌%◌, ◌<◌, Option, None, Some, refl, sym, ◌∙◌, ap₂, subst, arith, inl, inr}
+use Rattle.std.proofs.Common.{◌≡◌, ◌≢◌, ◌⊎◌, ℕ, suc, ◌%◌, ◌<◌, None, Some, refl, sym, ◌∙◌, ap₂, subst, arith, inl, inr}
 use Rattle.std.proofs.lemmas.Bool.{cases_eq}
 use Rattle.bp_layout.specs.Words.{Image}
 use Rattle.bp_layout.specs.Inode.{kind_of, size_of, inode_count}
@@ -13,7 +13,7 @@ use Rattle.bp_layout.proofs.Reached.{reached-in_file}
 use Rattle.bp_layout.proofs.LookupLaws.{Shows, lookup_in-shows, lookup_in-found, lookup_in-none}
 use Rattle.bp_changes.proofs.MoveName.{MovesName}
 use Rattle.bp_changes.proofs.Formatted.{stays_formatted}
-use Rattle.bp_changes.proofs.SameShown.{node_by_bytes}
+use Rattle.bp_changes.proofs.SameShown.{IsKeptIn, entry_found, lookup_kept, node_by_bytes}
 
 module _ (old new : Image) (wf : IsWellFormed old) (i s k r j : ℕ) (carries : CarriesEntry old new i s k r j) where
   -- an entry of the new image: the target, or one of the old image but the source
@@ -134,38 +134,18 @@ module _ (old new : Image) (wf : IsWellFormed old) (i s k r j : ℕ) (carries : 
 
   lookup_other : (u : ℕ) (name : Name) → IsReached old u → ((u ≡ i) → (name ≡ name_at old i s) → ⊥) →
       ((u ≡ k) → (name ≡ name_at new k r) → ⊥) → lookup_in new u name ≡ lookup_in old u name
-  lookup_other u name reached no_source no_target = go (lookup_in old u name) refl
+  lookup_other u name reached no_source no_target =
+      lookup_kept old new wf u name reached (λ l shows. back l shows (carries.back u shows.slot l reached shows.entry)) (λ l was. record {
+        entry = carries.stay u was.slot l reached was.entry (other l was);
+        name = carries.same_names u was.slot l reached was.entry (other l was);
+      })
     where
-      kept : (l : ℕ) → (shows : Shows new u name l) → Entry u shows.slot l → IsOldEntry old i s u shows.slot l
-      kept l shows (inl e) = absurd (no_target e.directory (sym shows.spelled ∙ name_there u shows.slot l e))
-      kept l shows (inr e) = e
+      back : (l : ℕ) → (shows : Shows new u name l) → Entry u shows.slot l → IsKeptIn old new u shows.slot l
+      back l shows (inl e) = absurd (no_target e.directory (sym shows.spelled ∙ name_there u shows.slot l e))
+      back l shows (inr e) = record { entry = e.before; name = sym (name_kept u shows.slot l reached e) }
 
-      before : (l : ℕ) → Shows new u name l → Shows old u name l
-      before l shows =
-          let one : IsOldEntry old i s u shows.slot l = kept l shows (carries.back u shows.slot l reached shows.entry) in
-          record { slot = shows.slot; entry = one.before; spelled = sym (name_kept u shows.slot l reached one) ∙ shows.spelled }
-
-      found_before : (l : ℕ) → Shows old u name l → lookup_in old u name ≡ Some l
-      found_before l shows =
-          lookup_in-found old u l name shows (λ x m n same. wf.names_once u x shows.slot m l reached n shows.entry (same ∙ sym shows.spelled))
-
-      go : (found : Option ℕ) → lookup_in old u name ≡ found → lookup_in new u name ≡ lookup_in old u name
-      go None e =
-          lookup_in-none new u name (λ l shows. let found : lookup_in old u name ≡ Some l = found_before l (before l shows) in cc) ∙ sym e
-      go (Some l) e =
-          let was : Shows old u name l = lookup_in-shows old u l name e in
-          let other : (u ≡ i) → (was.slot ≡ s) → ⊥ = λ a b. no_source a (sym was.spelled ∙ ap₂ (λ x y. name_at old x y) a b) in
-          lookup_in-found new u l name
-          (record {
-            slot = was.slot;
-            entry = carries.stay u was.slot l reached was.entry other;
-            spelled = carries.same_names u was.slot l reached was.entry other ∙ was.spelled;
-          })
-          (λ x m n same.
-          let shows : Shows new u name m = record { slot = x; entry = n; spelled = same } in
-          let again : Shows old u name m = before m shows in
-          wf.names_once u x was.slot m l reached again.entry was.entry (again.spelled ∙ sym was.spelled))
-          ∙ sym e
+      other : (l : ℕ) → (was : Shows old u name l) → (u ≡ i) → (was.slot ≡ s) → ⊥
+      other l was a b = no_source a (sym was.spelled ∙ ap₂ (name_at old) a b)
 
   node_stays : (u : ℕ) → IsReached old u → node_of new u ≡ node_of old u
   node_stays u reached =
@@ -178,9 +158,7 @@ module _ (old new : Image) (wf : IsWellFormed old) (i s k r j : ℕ) (carries : 
   carry_moves = record {
     well_formed = wf;
     apart = names_differ;
-    source =
-        lookup_in-found old i j (name_at old i s) (record { slot = s; entry = carries.names; spelled = refl })
-        (λ x l n e. wf.names_once i x s l j carries.reached n carries.names e);
+    source = entry_found old wf i s j carries.reached carries.names;
     directory = sym (carries.kind k carries.target) ∙ carries.entry.directory;
     gone = lookup_source;
     target = lookup_target;

@@ -1,5 +1,5 @@
 -- One more entry in one directory, whichever inode it names: the name shows the inode, and all other names stay.
-use Rattle.std.proofs.Common.{◌≡◌, ◌≢◌, ◌⊎◌, ℕ, suc, ◌%◌, ◌<◌, ◌≤◌, Option, None, Some, inl, inr}
+use Rattle.std.proofs.Common.{◌≡◌, ◌≢◌, ◌⊎◌, ℕ, suc, ◌%◌, ◌<◌, ◌≤◌, Some, inl, inr}
 use Rattle.std.proofs.Common.{refl, sym, ◌∙◌, ap, ap₂, subst, subst₂, arith, le_trans}
 use Rattle.bp_limits.specs.Limits.{block_size, greatest_height}
 use Rattle.bp_layout.specs.Formatted.{version_of}
@@ -10,13 +10,13 @@ use Rattle.bp_layout.specs.Directory.{Name, EntryNames, IsName, name_at, lookup_
 use Rattle.bp_layout.specs.Reached.{IsReached}
 use Rattle.bp_layout.specs.Reached.IsReached.{inode_file, root_directory, named}
 use Rattle.bp_layout.specs.WellFormed.{IsWellFormed}
-use Rattle.bp_layout.proofs.LookupLaws.{Shows, lookup_in-shows, lookup_in-found, lookup_in-none}
+use Rattle.bp_layout.proofs.LookupLaws.{Shows, lookup_in-none}
 use Rattle.bp_layout.proofs.Paths.{AddsName}
 use Rattle.bp_layout.proofs.SmallTrees.{none_live, empty_sound, empty_has_none}
 use Rattle.bp_changes.specs.Effects.{IsNewEntry}
 use Rattle.bp_changes.proofs.Formatted.{stays_formatted}
 use Rattle.bp_changes.proofs.GainsEntry.{GainsEntry}
-use Rattle.bp_changes.proofs.SameShown.{node_by_bytes}
+use Rattle.bp_changes.proofs.SameShown.{IsKeptIn, entry_found, lookup_kept, node_by_bytes}
 
 -- What more is known of the inode: it has no entry, no bytes if nobody named it, and only one name if it is a directory. The inode file may have grown.
 pub record TakesName (old new : Image) (j : ℕ) : Type 0 where
@@ -172,32 +172,19 @@ module _ (old new : Image) (wf : IsWellFormed old) (i s j : ℕ) (gains : GainsE
 
   -- the new name shows the inode
   lookup_linked : lookup_in new i (name_at new i s) ≡ Some j
-  lookup_linked =
-      lookup_in-found new i j (name_at new i s) (record { slot = s; entry = gains.entry; spelled = refl })
-      (λ r k n same. linked_well_formed.names_once i r s k j (reached_stays i gains.reached) n gains.entry same)
+  lookup_linked = entry_found new linked_well_formed i s j (reached_stays i gains.reached) gains.entry
 
   -- any other name shows what it did
   lookup_stays : (u : ℕ) (name : Name) → IsReached old u → ((u ≡ i) → (name ≡ name_at new i s) → ⊥) → lookup_in new u name ≡ lookup_in old u name
-  lookup_stays u name reached other = go (lookup_in old u name) refl
+  lookup_stays u name reached other =
+      lookup_kept old new wf u name reached (λ k shows. back k shows (gains.back u shows.slot k reached shows.entry)) (λ k was. record {
+        entry = gains.stay u was.slot k reached was.entry;
+        name = gains.same_names u was.slot k reached was.entry;
+      })
     where
-      shown_before : (k : ℕ) → (shows : Shows new u name k) → IsNewEntry i s j u shows.slot k ⊎ EntryNames old u shows.slot k → Shows old u name k
-      shown_before k shows (inl e) = absurd (other e.directory (sym shows.spelled ∙ ap₂ (name_at new) e.directory e.slot))
-      shown_before k shows (inr n) = record { slot = shows.slot; entry = n; spelled = sym (gains.same_names u shows.slot k reached n) ∙ shows.spelled }
-
-      go : (found : Option ℕ) → lookup_in old u name ≡ found → lookup_in new u name ≡ lookup_in old u name
-      go None e =
-          lookup_in-none new u name (λ k shows.
-          let before : Shows old u name k = shown_before k shows (gains.back u shows.slot k reached shows.entry) in
-          let found : lookup_in old u name ≡ Some k =
-          lookup_in-found old u k name before (λ r l n same. wf.names_once u r before.slot l k reached n before.entry (same ∙ sym before.spelled)) in
-          cc) ∙ sym e
-      go (Some k) e =
-          let before : Shows old u name k = lookup_in-shows old u k name e in
-          let entry : EntryNames new u before.slot k = gains.stay u before.slot k reached before.entry in
-          let spelled : name_at new u before.slot ≡ name = gains.same_names u before.slot k reached before.entry ∙ before.spelled in
-          lookup_in-found new u k name (record { slot = before.slot; entry = entry; spelled = spelled })
-          (λ r l n same. linked_well_formed.names_once u r before.slot l k (reached_stays u reached) n entry (same ∙ sym spelled))
-          ∙ sym e
+      back : (k : ℕ) → (shows : Shows new u name k) → IsNewEntry i s j u shows.slot k ⊎ EntryNames old u shows.slot k → IsKeptIn old new u shows.slot k
+      back k shows (inl e) = absurd (other e.directory (sym shows.spelled ∙ ap₂ (name_at new) e.directory e.slot))
+      back k shows (inr n) = record { entry = n; name = sym (gains.same_names u shows.slot k reached n) }
 
   -- the tree gains the name
   pub names_added : AddsName old new i (name_at new i s) j

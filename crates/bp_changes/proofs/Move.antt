@@ -1,5 +1,5 @@
 -- An inumber leaves one entry and comes into another: what a rename onto a target, or into another directory, makes of an image.
-use Rattle.std.proofs.Common.{◌≡◌, ◌⊎◌, ℕ, suc, ◌/◌, ◌<◌, ◌≤◌, length, Option, None, Some, refl, sym, ◌∙◌, ap, subst, subst₂, arith, inl, inr}
+use Rattle.std.proofs.Common.{◌≡◌, ◌⊎◌, ℕ, suc, ◌/◌, ◌<◌, ◌≤◌, length, None, Some, refl, sym, ◌∙◌, ap, ap₂, subst, subst₂, arith, inl, inr}
 use Rattle.std.proofs.lemmas.Bool.{cases_eq}
 use Rattle.bp_limits.specs.Limits.{max_name}
 use Rattle.bp_layout.specs.Words.{Image}
@@ -14,7 +14,7 @@ use Rattle.bp_layout.proofs.Reached.{reached-in_file}
 use Rattle.bp_layout.proofs.LookupLaws.{Shows, lookup_in-shows, lookup_in-found, lookup_in-none}
 use Rattle.bp_changes.proofs.MoveName.{MovesName}
 use Rattle.bp_changes.proofs.Formatted.{stays_formatted}
-use Rattle.bp_changes.proofs.SameShown.{name_by_words, node_by_bytes}
+use Rattle.bp_changes.proofs.SameShown.{IsKeptIn, entry_found, lookup_kept, name_by_words, node_by_bytes}
 
 module _ (old new : Image) (wf : IsWellFormed old) (i s k r j : ℕ) (can : CanMoveEntry old i s k r j) (moves : MovesEntry old new i s k r j) where
   in_inodes : (t : ℕ) → IsReached old t → t < inode_count old
@@ -160,35 +160,16 @@ module _ (old new : Image) (wf : IsWellFormed old) (i s k r j : ℕ) (can : CanM
       which x l (is_old n one two) same = can.new_name x l n (sym (name_of_old k x l can.target n) ∙ same)
 
   pub lookup_other : (u : ℕ) (name : Name) → IsReached old u → ((u ≡ i) → (name ≡ name_at old i s) → ⊥) → ((u ≡ k) → (name ≡ name_at old k r) → ⊥) → lookup_in new u name ≡ lookup_in old u name
-  lookup_other u name reached no_source no_target = go (lookup_in old u name) refl
+  lookup_other u name reached no_source no_target =
+      lookup_kept old new wf u name reached (λ l shows. back l shows (entry_of u shows.slot l reached shows.entry)) (λ l was. record {
+        entry = names_stay u was.slot l reached was.entry
+            (λ a b. no_source a (sym was.spelled ∙ ap₂ (name_at old) a b)) (λ a b. no_target a (sym was.spelled ∙ ap₂ (name_at old) a b));
+        name = name_of_old u was.slot l reached was.entry;
+      })
     where
-      before : (l : ℕ) → (shows : Shows new u name l) → Entry u shows.slot l → Shows old u name l
-      before l shows (is_target e f g) =
-          absurd (no_target e (sym shows.spelled ∙ subst₂ (λ a b. name_at new a b ≡ name_at old k r) (sym e) (sym f) name_of_target))
-      before l shows (is_old n one two) = record { slot = shows.slot; entry = n; spelled = sym (name_of_old u shows.slot l reached n) ∙ shows.spelled }
-
-      found_before : (l : ℕ) → Shows old u name l → lookup_in old u name ≡ Some l
-      found_before l shows = lookup_in-found old u l name shows (λ x m n same. wf.names_once u x shows.slot m l reached n shows.entry (same ∙ sym shows.spelled))
-
-      go : (found : Option ℕ) → lookup_in old u name ≡ found → lookup_in new u name ≡ lookup_in old u name
-      go None e =
-          lookup_in-none new u name (λ l shows.
-          let found : lookup_in old u name ≡ Some l = found_before l (before l shows (entry_of u shows.slot l reached shows.entry)) in cc) ∙ sym e
-      go (Some l) e =
-          let was : Shows old u name l = lookup_in-shows old u l name e in
-          let not_source : (u ≡ i) → (was.slot ≡ s) → ⊥ = λ a b. no_source a (sym was.spelled ∙ subst₂ (λ x y. name_at old x y ≡ name_at old i s) (sym a) (sym b) refl) in
-          let not_target : (u ≡ k) → (was.slot ≡ r) → ⊥ = λ a b. no_target a (sym was.spelled ∙ subst₂ (λ x y. name_at old x y ≡ name_at old k r) (sym a) (sym b) refl) in
-          lookup_in-found new u l name
-          (record { slot = was.slot; entry = names_stay u was.slot l reached was.entry not_source not_target; spelled = name_of_old u was.slot l reached was.entry ∙ was.spelled })
-          (λ x m n same.
-          let old_one : Shows old u name m = before m (record { slot = x; entry = n; spelled = same }) (entry_of u x m reached n) in
-          same_slot x m was (before m (record { slot = x; entry = n; spelled = same }) (entry_of u x m reached n)) (entry_of u x m reached n) same)
-          ∙ sym e
-        where
-          same_slot : (x m : ℕ) → (was : Shows old u name l) → Shows old u name m → Entry u x m → name_at new u x ≡ name → x ≡ was.slot
-          same_slot x m was also (is_target a b c) same =
-              absurd (no_target a (sym same ∙ subst₂ (λ p q. name_at new p q ≡ name_at old k r) (sym a) (sym b) name_of_target))
-          same_slot x m was also (is_old n one two) same = wf.names_once u x was.slot m l reached n was.entry (sym (name_of_old u x m reached n) ∙ same ∙ sym was.spelled)
+      back : (l : ℕ) → (shows : Shows new u name l) → Entry u shows.slot l → IsKeptIn old new u shows.slot l
+      back l shows (is_target e f g) = absurd (no_target e (sym shows.spelled ∙ ap₂ (name_at new) e f ∙ name_of_target))
+      back l shows (is_old n one two) = record { entry = n; name = sym (name_of_old u shows.slot l reached n) }
 
   -- the source's name is gone, but where it is the target's
   pub lookup_source : ((i ≡ k) → (name_at old i s ≡ name_at old k r) → ⊥) → lookup_in new i (name_at old i s) ≡ None
@@ -211,7 +192,7 @@ module _ (old new : Image) (wf : IsWellFormed old) (i s k r j : ℕ) (can : CanM
   entry_moves = record {
     well_formed = wf;
     apart = names_differ;
-    source = lookup_in-found old i j (name_at old i s) (record { slot = s; entry = can.entry; spelled = refl }) (λ x l n e. wf.names_once i x s l j can.reached n can.entry e);
+    source = entry_found old wf i s j can.reached can.entry;
     directory = can.directory;
     gone = lookup_source names_differ;
     target = lookup_target;

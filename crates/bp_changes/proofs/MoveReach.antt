@@ -10,7 +10,6 @@ use Rattle.bp_layout.specs.Reached.{IsReached}
 use Rattle.bp_layout.specs.Reached.IsReached.{inode_file, root_directory, named as reaches}
 use Rattle.bp_layout.specs.WellFormed.{IsWellFormed}
 use Rattle.bp_layout.proofs.Below.{rest_below-append}
-use Rattle.bp_layout.proofs.LookupLaws.{lookup_in-found}
 use Rattle.bp_layout.proofs.Paths.{lookup_from-append, path_once}
 use Rattle.bp_changes.specs.Effects.{IsAtOrBelow, CarriesEntry, CanMoveEntry, MovesEntry, RespellsEntry}
 use Rattle.bp_changes.specs.Effects.IsAtOrBelow.{itself, named}
@@ -19,6 +18,7 @@ use Rattle.bp_changes.proofs.Move.Entry.{is_target, is_old}
 use Rattle.bp_changes.proofs.MoveName.{lookup_from-join}
 use Rattle.bp_changes.proofs.Respell as respell
 use Rattle.bp_changes.proofs.SameEntries.{reached_on}
+use Rattle.bp_changes.proofs.SameShown.{entry_found}
 
 -- ---- below an inode
 
@@ -32,8 +32,7 @@ path_below image wf j reached t (itself e) = ([], ap Some (sym e))
 path_below image wf j reached t (named {i = u} x below n) = on (path_below image wf j reached u below)
   where
     found : lookup_in image u (name_at image u x) ≡ Some t
-    found = lookup_in-found image u t (name_at image u x) (record { slot = x; entry = n; spelled = refl })
-        (λ y l m same. wf.names_once u y x l t (below_reached image j reached u below) m n same)
+    found = entry_found image wf u x t (below_reached image j reached u below) n
 
     on : (rest : Path) × (lookup_from image j rest ≡ Some u) → (rest : Path) × (lookup_from image j rest ≡ Some t)
     on above = (above.0 ++ name_at image u x ∷ [], lookup_from-append image j above.0 (name_at image u x) ∙ rw above.1 found)
@@ -45,9 +44,7 @@ outside_by_paths image wf i s j k reached names from to from_is to_is directory 
   where
     here : lookup image (from ++ name_at image i s ∷ []) ≡ Some j
     here =
-        lookup_from-append image 1 from (name_at image i s)
-        ∙ rw from_is (lookup_in-found image i j (name_at image i s) (record { slot = s; entry = names; spelled = refl })
-        (λ y l m same. wf.names_once i y s l j reached m names same))
+        lookup_from-append image 1 from (name_at image i s) ∙ rw from_is (entry_found image wf i s j reached names)
 
     go : (rest : Path) × (lookup_from image j rest ≡ Some k) → ⊥
     go found =

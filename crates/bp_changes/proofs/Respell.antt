@@ -1,5 +1,5 @@
 -- An entry is spelled anew in place: what a rename within one directory makes of an image.
-use Rattle.std.proofs.Common.{◌≡◌, ◌⊎◌, ℕ, suc, ◌/◌, ◌<◌, Option, None, Some, refl, sym, ◌∙◌, ap, ap₂, subst, inl, inr}
+use Rattle.std.proofs.Common.{◌≡◌, ◌⊎◌, ℕ, suc, ◌/◌, ◌<◌, None, Some, refl, sym, ◌∙◌, ap, ap₂, subst, inl, inr}
 use Rattle.std.proofs.lemmas.Bool.{cases_eq}
 use Rattle.bp_layout.specs.Words.{Image}
 use Rattle.bp_layout.specs.Inode.{size_of, inode_count}
@@ -15,7 +15,7 @@ use Rattle.bp_changes.proofs.MoveName.{MovesName}
 use Rattle.bp_changes.proofs.Formatted.{stays_formatted}
 use Rattle.bp_changes.proofs.SameEntries as entries
 use Rattle.bp_changes.proofs.SameEntries.{SameInumbers}
-use Rattle.bp_changes.proofs.SameShown.{name_by_words, node_by_bytes}
+use Rattle.bp_changes.proofs.SameShown.{IsKeptIn, entry_found, lookup_kept, name_by_words, node_by_bytes}
 
 module _ (old new : Image) (wf : IsWellFormed old) (i s j : ℕ) (spells : RespellsEntry old new i s j) where
   in_inodes : (t : ℕ) → IsReached old t → t < inode_count old
@@ -118,37 +118,22 @@ module _ (old new : Image) (wf : IsWellFormed old) (i s j : ℕ) (spells : Respe
       none l shows n (inr other) = other refl (wf.names_once i shows.slot s l j spells.reached n spells.names (sym (name_stays i shows.slot l spells.reached n other) ∙ shows.spelled))
 
   others_same : (u : ℕ) (name : Name) → IsReached old u → ((u ≡ i) → (name ≡ name_at old i s) → ⊥) → ((u ≡ i) → (name ≡ name_at new i s) → ⊥) → lookup_in new u name ≡ lookup_in old u name
-  others_same u name reached no_was no_now = go (lookup_in old u name) refl
+  others_same u name reached no_was no_now =
+      lookup_kept old new wf u name reached (λ l shows. back l shows (names_back u shows.slot l reached shows.entry) (here_or u shows.slot)) (λ l was. record {
+        entry = names_stay u was.slot l reached was.entry;
+        name = name_stays u was.slot l reached was.entry (λ a b. no_was a (sym was.spelled ∙ ap₂ (name_at old) a b));
+      })
     where
-      before : (l : ℕ) → (shows : Shows new u name l) → EntryNames old u shows.slot l → ((u ≡ i) × (shows.slot ≡ s)) ⊎ ((u ≡ i) → (shows.slot ≡ s) → ⊥) → Shows old u name l
-      before l shows n (inl e) = absurd (no_now e.0 (sym shows.spelled ∙ at_entry u shows.slot e.0 e.1))
-      before l shows n (inr other) = record { slot = shows.slot; entry = n; spelled = sym (name_stays u shows.slot l reached n other) ∙ shows.spelled }
-
-      go : (found : Option ℕ) → lookup_in old u name ≡ found → lookup_in new u name ≡ lookup_in old u name
-      go None e =
-          lookup_in-none new u name (λ l shows.
-          let was : Shows old u name l = before l shows (names_back u shows.slot l reached shows.entry) (here_or u shows.slot) in
-          let found : lookup_in old u name ≡ Some l = lookup_in-found old u l name was (λ x m n same. wf.names_once u x was.slot m l reached n was.entry (same ∙ sym was.spelled)) in
-          cc) ∙ sym e
-      go (Some l) e =
-          let was : Shows old u name l = lookup_in-shows old u l name e in
-          let other : (u ≡ i) → (was.slot ≡ s) → ⊥ = λ a b. no_was a (sym was.spelled ∙ ap₂ (λ x y. name_at old x y) a b) in
-          let entry : EntryNames new u was.slot l = names_stay u was.slot l reached was.entry in
-          let spelled : name_at new u was.slot ≡ name = name_stays u was.slot l reached was.entry other ∙ was.spelled in
-          lookup_in-found new u l name (record { slot = was.slot; entry = entry; spelled = spelled }) (λ x m n same.
-          let back : EntryNames old u x m = names_back u x m reached n in
-          let again : Shows old u name m = before m (record { slot = x; entry = n; spelled = same }) back (here_or u x) in
-          same_slot x m was again back (here_or u x) same) ∙ sym e
-        where
-          same_slot : (x m : ℕ) → (was : Shows old u name l) → Shows old u name m → EntryNames old u x m → ((u ≡ i) × (x ≡ s)) ⊎ ((u ≡ i) → (x ≡ s) → ⊥) → name_at new u x ≡ name → x ≡ was.slot
-          same_slot x m was again n (inl at) same = absurd (no_now at.0 (sym same ∙ at_entry u x at.0 at.1))
-          same_slot x m was again n (inr apart) same = wf.names_once u x was.slot m l reached n was.entry (sym (name_stays u x m reached n apart) ∙ same ∙ sym was.spelled)
+      back : (l : ℕ) → (shows : Shows new u name l) → EntryNames old u shows.slot l →
+          ((u ≡ i) × (shows.slot ≡ s)) ⊎ ((u ≡ i) → (shows.slot ≡ s) → ⊥) → IsKeptIn old new u shows.slot l
+      back l shows n (inl e) = absurd (no_now e.0 (sym shows.spelled ∙ at_entry u shows.slot e.0 e.1))
+      back l shows n (inr other) = record { entry = n; name = sym (name_stays u shows.slot l reached n other) }
 
   pub respell_moves : MovesName old new i (name_at old i s) i (name_at new i s) j
   respell_moves = record {
     well_formed = wf;
     apart = λ e same. spells.changed same;
-    source = lookup_in-found old i j (name_at old i s) (record { slot = s; entry = spells.names; spelled = refl }) (λ x l n e. wf.names_once i x s l j spells.reached n spells.names e);
+    source = entry_found old wf i s j spells.reached spells.names;
     directory = spells.names.directory;
     gone = was_gone;
     target = now_shown;

@@ -1,6 +1,6 @@
 -- An inumber that becomes 0 takes that name from its directory, and changes nothing else.
 use Rattle.std.proofs.Common.{◌≡◌, ◌⊎◌, ℕ, suc, ◌/◌, ◌<◌, [], ◌∷◌, ◌++◌, length, Option, None, Some, inl, inr}
-use Rattle.std.proofs.Common.{refl, sym, ◌∙◌, ap, subst, subst₂, arith, length-append}
+use Rattle.std.proofs.Common.{refl, sym, ◌∙◌, ap, ap₂, subst, subst₂, arith, length-append}
 use Rattle.std.specs.Option.{option_map}
 use Rattle.std.proofs.lemmas.Bool.{cases_eq}
 use Rattle.bp_layout.specs.Words.{Image}
@@ -13,10 +13,10 @@ use Rattle.bp_layout.specs.WellFormed.{IsWellFormed}
 use Rattle.bp_changes.specs.Effects.{CanUnlink, RemovesEntry}
 use Rattle.bp_layout.proofs.Reached.{reached-in_file}
 use Rattle.bp_layout.proofs.View.{lookup_in-reached, lookup_from-reached}
-use Rattle.bp_layout.proofs.LookupLaws.{Shows, lookup_in-shows, lookup_in-found, lookup_in-none}
+use Rattle.bp_layout.proofs.LookupLaws.{Shows, lookup_in-none}
 use Rattle.bp_layout.proofs.Paths.{lookup_from-append, path_once, same_name}
 use Rattle.bp_changes.proofs.Formatted.{stays_formatted}
-use Rattle.bp_changes.proofs.SameShown.{name_by_words, node_by_bytes}
+use Rattle.bp_changes.proofs.SameShown.{IsKeptIn, entry_found, lookup_kept, name_by_words, node_by_bytes}
 
 module _ (old new : Image) (wf : IsWellFormed old) (i s j : ℕ) (can : CanUnlink old i s j) (removes : RemovesEntry old new i s) where
   in_inodes : (t : ℕ) → IsReached old t → t < inode_count old
@@ -127,24 +127,14 @@ module _ (old new : Image) (wf : IsWellFormed old) (i s j : ℕ) (can : CanUnlin
       kept.other refl (wf.names_once i shows.slot s k j can.reached kept.before can.entry (sym (name_stays i shows.slot k can.reached kept.before) ∙ shows.spelled)))
 
   pub lookup_stays : (u : ℕ) (other : Name) → IsReached old u → ((u ≡ i) → (other ≡ name_at old i s) → ⊥) → lookup_in new u other ≡ lookup_in old u other
-  lookup_stays u other reached apart = go (lookup_in old u other) refl
+  lookup_stays u other reached apart =
+      lookup_kept old new wf u other reached (λ k shows. back k shows (names_back u shows.slot k reached shows.entry)) (λ k was. record {
+        entry = names_stay u was.slot k reached was.entry (λ f g. apart f (sym was.spelled ∙ ap₂ (name_at old) f g));
+        name = name_stays u was.slot k reached was.entry;
+      })
     where
-      go : (found : Option ℕ) → lookup_in old u other ≡ found → lookup_in new u other ≡ lookup_in old u other
-      go None e =
-          lookup_in-none new u other (λ k shows.
-          let kept : IsKept u shows.slot k = names_back u shows.slot k reached shows.entry in
-          let before : Shows old u other k = record { slot = shows.slot; entry = kept.before; spelled = sym (name_stays u shows.slot k reached kept.before) ∙ shows.spelled } in
-          let found : lookup_in old u other ≡ Some k = lookup_in-found old u k other before (λ r l n same. wf.names_once u r before.slot l k reached n before.entry (same ∙ sym before.spelled)) in
-          cc) ∙ sym e
-      go (Some k) e =
-          let before : Shows old u other k = lookup_in-shows old u k other e in
-          let not_it : (u ≡ i) → (before.slot ≡ s) → ⊥ = λ f g. apart f (sym before.spelled ∙ subst₂ (λ x y. name_at old x y ≡ name_at old i s) (sym f) (sym g) refl) in
-          lookup_in-found new u k other
-          (record { slot = before.slot; entry = names_stay u before.slot k reached before.entry not_it; spelled = name_stays u before.slot k reached before.entry ∙ before.spelled })
-          (λ r l n same.
-          let kept : IsKept u r l = names_back u r l reached n in
-          wf.names_once u r before.slot l k reached kept.before before.entry (sym (name_stays u r l reached kept.before) ∙ same ∙ sym before.spelled))
-          ∙ sym e
+      back : (k : ℕ) → (shows : Shows new u other k) → IsKept u shows.slot k → IsKeptIn old new u shows.slot k
+      back k shows kept = record { entry = kept.before; name = sym (name_stays u shows.slot k reached kept.before) }
 
   -- ---- paths
 
@@ -152,8 +142,7 @@ module _ (old new : Image) (wf : IsWellFormed old) (i s j : ℕ) (can : CanUnlin
   alone other = lookup_in-none old j other (λ k shows. can.alone shows.slot k shows.entry)
 
   there : lookup_in old i (name_at old i s) ≡ Some j
-  there = lookup_in-found old i j (name_at old i s) (record { slot = s; entry = can.entry; spelled = refl })
-      (λ r k n same. wf.names_once i r s k j can.reached n can.entry same)
+  there = entry_found old wf i s j can.reached can.entry
 
   -- a path at which the name ended
   pub record EndedThere (u : ℕ) (path : Path) : Type 0 where

@@ -13,7 +13,7 @@ use Rattle.bp_changes.specs.Commits.{Changes, changed_word, CommitsOnly}
 use Rattle.bp_changes.specs.Effects.{CanMoveEntry, MovesEntry, CarriesEntry, IsNewEntry, IsOldEntry, RespellsEntry, ChangesFile}
 use Rattle.bp_changes.specs.Overwrites.{OverwritesFiles, Patch, patched}
 use Rattle.bp_changes.specs.SameContent.{IsReadByWords}
-use Rattle.bp_changes.proofs.SameShown.{name_by_words}
+use Rattle.bp_changes.proofs.SameShown.{name_by_words, this_or}
 
 no_directory : (image : Image) (t : ℕ) → kind_of image t ≡ 2 → t ≢ 0
 no_directory image t two e = let zero_kind : kind_of image 0 ≡ 2 = subst (λ x. kind_of image x ≡ 2) e two in omega (arith, zero_kind)
@@ -161,7 +161,7 @@ module _ (old new : Image) (changes : Changes) (i s k j : ℕ) (wf : IsWellForme
       go (inr apart) = rw (sizes_stay u also apart) at low
 
   entry_cases : (u x l : ℕ) → IsReached old u → EntryNames new u x l → IsNewEntry k (entry_count old k) j u x l ⊎ IsOldEntry old i s u x l
-  entry_cases u x l also n = go (cases_eq u k) (cases_eq x (entry_count old k))
+  entry_cases u x l also n = go (this_or u x k (entry_count old k))
     where
       kind : kind_of old u ≡ 2
       kind = sym (kinds_stay u also) ∙ n.directory
@@ -177,10 +177,10 @@ module _ (old new : Image) (changes : Changes) (i s k j : ℕ) (wf : IsWellForme
             other = not_source;
           }
 
-      go : (u ≡ k) ⊎ (u ≡ k → ⊥) → (x ≡ entry_count old k) ⊎ (x ≡ entry_count old k → ⊥) → IsNewEntry k (entry_count old k) j u x l ⊎ IsOldEntry old i s u x l
-      go (inl e) (inl f) = inl (record { directory = e; slot = f; inode = sym n.inumber ∙ ap₂ (λ a b. inumber_at new a b) e f ∙ new_entry.inumber })
-      go (inl e) (inr f) = inr (before (λ a b. f b))
-      go (inr e) f = inr (before (λ a b. e a))
+      go : ((u ≡ k) × (x ≡ entry_count old k)) ⊎ ((u ≡ k) → (x ≡ entry_count old k) → ⊥) →
+          IsNewEntry k (entry_count old k) j u x l ⊎ IsOldEntry old i s u x l
+      go (inl at) = inl (record { directory = at.0; slot = at.1; inode = sym n.inumber ∙ ap₂ (inumber_at new) at.0 at.1 ∙ new_entry.inumber })
+      go (inr apart) = inr (before apart)
 
   names_stay : (u x l : ℕ) → IsReached old u → EntryNames old u x l → ((u ≡ i) → (x ≡ s) → ⊥) → EntryNames new u x l
   names_stay u x l also n other = record {

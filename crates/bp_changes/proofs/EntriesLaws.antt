@@ -57,6 +57,22 @@ module _ (old new : Image) (u r : ℕ) (reached : IsReached old u) (directory : 
     by_names : (EntryNames old u r (inumber_at old u r) → name_at new u r ≡ name_at old u r) → WasEntry old new u r
     by_names name = was_entry (inumber_stays (cases_eq (inumber_at new u r) 0) (cases_eq (inumber_at old u r) 0)) name
 
+-- so where all inodes keep their kinds and their sizes
+by_sizes : (old new : Image) → IsWellFormed old → ((t : ℕ) → t < inode_count old → kind_of new t ≡ kind_of old t) →
+    ((t : ℕ) → t < inode_count old → size_of new t ≡ size_of old t) → (u r : ℕ) → IsReached old u → IsDirectory new u → r < entry_count new u →
+    (IsDirectory old u → r < entry_count old u → inumber_at new u r ≡ inumber_at old u r) →
+    ((f : ℕ) → EntryNames old u r (inumber_at old u r) → f < 32 → entry_word new u r f ≡ entry_word old u r f) → WasEntry old new u r
+by_sizes old new wf kinds sizes u r was now low inumber words = by_words old new u r was directory in_old wf (inumber directory in_old) words
+  where
+    in_file : u < inode_count old
+    in_file = reached-in_file old wf u was
+
+    directory : kind_of old u ≡ 2
+    directory = sym (kinds u in_file) ∙ now
+
+    in_old : r < entry_count old u
+    in_old = subst (λ z. r < z / 256) (sizes u in_file) low
+
 -- ---- no entry changes
 
 module _ (old new : Image) (same : SameDirectories old new) where
@@ -121,20 +137,12 @@ links_keeps_entries old new wf i s j links u r reached now low apart =
 -- of which nothing new is reached
 pub sets_keeps_entries : (old new : Image) → IsWellFormed old → (i s value : ℕ) → SetsInumber old new i s value → ((u : ℕ) → IsReached new u → IsReached old u) → KeepsEntries old new (OneSlot i s)
 sets_keeps_entries old new wf i s value sets before u r reached now low apart =
-    by_words old new u r was directory in_old wf (sets.entry u r 0 was directory in_old (omega arith) (λ e same. apart (sym e, omega (arith, same))))
-    (λ f n few. sets.entry u r f was directory in_old few (λ e same. apart (sym e, omega (arith, same, few))))
+    by_sizes old new wf sets.kind sets.size u r was now low
+    (λ kind small. sets.entry u r 0 was kind small (omega arith) (λ e same. apart (sym e, omega (arith, same))))
+    (λ f n few. sets.entry u r f was n.directory n.in_size few (λ e same. apart (sym e, omega (arith, same, few))))
   where
     was : IsReached old u
     was = before u reached
-
-    in_file : u < inode_count old
-    in_file = reached-in_file old wf u was
-
-    directory : kind_of old u ≡ 2
-    directory = sym (sets.kind u in_file) ∙ now
-
-    in_old : r < entry_count old u
-    in_old = subst (λ z. r < z / 256) (sets.size u in_file) low
 
 -- a name fewer: other names of a file stay
 pub removes_keeps_entries : (old new : Image) → IsWellFormed old → (i s j : ℕ) → CanUnlink old i s j → RemovesEntry old new i s → KeepsEntries old new (OneSlot i s)
@@ -144,37 +152,22 @@ removes_keeps_entries old new wf i s j can removes = sets_keeps_entries old new 
 
 pub moves_keeps_entries : (old new : Image) → IsWellFormed old → (i s k r j : ℕ) → CanMoveEntry old i s k r j → MovesEntry old new i s k r j → KeepsEntries old new (TwoSlots i s k r)
 moves_keeps_entries old new wf i s k r j can moves u x reached now low apart =
-    by_words old new u x was directory in_old wf
-    (moves.entry u x 0 was directory in_old (omega arith) (λ e same. apart (inl (sym e, omega (arith, same)))) (λ e same. apart (inr (sym e, omega (arith, same)))))
-    (λ f n few. moves.entry u x f was directory in_old few (λ e same. apart (inl (sym e, omega (arith, same, few)))) (λ e same. apart (inr (sym e, omega (arith, same, few)))))
+    by_sizes old new wf moves.kind moves.size u x was now low
+    (λ kind small. moves.entry u x 0 was kind small (omega arith)
+    (λ e same. apart (inl (sym e, omega (arith, same)))) (λ e same. apart (inr (sym e, omega (arith, same)))))
+    (λ f n few. moves.entry u x f was n.directory n.in_size few
+    (λ e same. apart (inl (sym e, omega (arith, same, few)))) (λ e same. apart (inr (sym e, omega (arith, same, few)))))
   where
     was : IsReached old u
     was = move.reached_back old new wf i s k r j can moves u reached
 
-    in_file : u < inode_count old
-    in_file = reached-in_file old wf u was
-
-    directory : kind_of old u ≡ 2
-    directory = sym (moves.kind u in_file) ∙ now
-
-    in_old : x < entry_count old u
-    in_old = subst (λ z. x < z / 256) (moves.size u in_file) low
-
 pub respells_keeps_entries : (old new : Image) → IsWellFormed old → (i s j : ℕ) → RespellsEntry old new i s j → KeepsEntries old new (OneSlot i s)
 respells_keeps_entries old new wf i s j spells u r reached now low apart =
-    by_words old new u r was directory in_old wf (spells.inumber u r was directory in_old) (λ f n few. spells.entry u r (inumber_at old u r) f was n few (λ e same. apart (e, same)))
+    by_sizes old new wf spells.kind spells.size u r was now low (spells.inumber u r was)
+    (λ f n few. spells.entry u r (inumber_at old u r) f was n few (λ e same. apart (e, same)))
   where
     was : IsReached old u
     was = respell.reached_back old new wf i s j spells u reached
-
-    in_file : u < inode_count old
-    in_file = reached-in_file old wf u was
-
-    directory : kind_of old u ≡ 2
-    directory = sym (spells.kind u in_file) ∙ now
-
-    in_old : r < entry_count old u
-    in_old = subst (λ z. r < z / 256) (spells.size u in_file) low
 
 pub carries_keeps_entries : (old new : Image) → IsWellFormed old → (i s k r j : ℕ) → CarriesEntry old new i s k r j → KeepsEntries old new (TwoSlots i s k r)
 carries_keeps_entries old new wf i s k r j carries u x reached now low apart =

@@ -1,7 +1,6 @@
 -- A store of an inumber into an empty entry adds that name to its directory, and changes nothing else. The inode that the
 -- entry names was free, or it is a file that has a name.
-use Rattle.std.proofs.Common.{◌≡◌, ◌≢◌, ◌⊎◌, ℕ, ◌+◌, ◌*◌, ◌/◌, ◌<◌, ◌≤◌, length, sym, ◌∙◌, ap, subst₂, arith, inl, inr}
-use Rattle.std.proofs.lemmas.Bool.{cases_eq}
+use Rattle.std.proofs.Common.{◌≡◌, ◌≢◌, ◌⊎◌, ℕ, ◌+◌, ◌*◌, ◌/◌, ◌<◌, ◌≤◌, length, sym, ◌∙◌, ap, ap₂, subst₂, arith, inl, inr}
 use Rattle.bp_limits.specs.Limits.{max_name}
 use Rattle.bp_layout.specs.Words.{Image}
 use Rattle.bp_layout.specs.Inode.{kind_of, size_of, inode_count}
@@ -12,7 +11,7 @@ use Rattle.bp_layout.specs.WellFormed.{IsWellFormed}
 use Rattle.bp_changes.specs.Effects.{SetsInumber, AddsNames, LinksName, IsNewEntry}
 use Rattle.bp_changes.proofs.GainsEntry.{CanTake, GainsEntry, gains_adds, gains_links, takes_inode}
 use Rattle.bp_layout.proofs.Reached.{reached-in_file}
-use Rattle.bp_changes.proofs.SameShown.{name_by_words}
+use Rattle.bp_changes.proofs.SameShown.{name_by_words, this_or}
 
 -- An empty entry of a directory, whose name is new there: its inumber is what it lacks.
 pub record AwaitsInumber (old : Image) (i s : ℕ) : Type 0 where
@@ -51,7 +50,7 @@ module _ (old new : Image) (wf : IsWellFormed old) (i s j : ℕ) (can : AwaitsIn
   count_stays u in_file = ap (λ n. n / 256) (sizes_stay u in_file)
 
   names_cases : (u r k : ℕ) → IsReached old u → EntryNames new u r k → IsNewEntry i s j u r k ⊎ EntryNames old u r k
-  names_cases u r k reached n = go (cases_eq u i) (cases_eq r s)
+  names_cases u r k reached n = go (this_or u r i s)
     where
       in_old : r < entry_count old u
       in_old = rw (count_stays u (in_inodes u reached)) at n.in_size
@@ -62,10 +61,9 @@ module _ (old new : Image) (wf : IsWellFormed old) (i s j : ℕ) (can : AwaitsIn
       other : ((i ≡ u) → (s ≡ r) → ⊥) → EntryNames old u r k
       other apart = record { directory = is_directory; in_size = in_old; inumber = sym (inumber_stays u r reached is_directory in_old apart) ∙ n.inumber; not_empty = n.not_empty }
 
-      go : (u ≡ i) ⊎ (u ≡ i → ⊥) → (r ≡ s) ⊎ (r ≡ s → ⊥) → IsNewEntry i s j u r k ⊎ EntryNames old u r k
-      go (inl e) (inl f) = inl (record { directory = e; slot = f; inode = sym n.inumber ∙ subst₂ (λ x y. inumber_at new x y ≡ j) (sym e) (sym f) inumber_here })
-      go (inl e) (inr f) = inr (other (λ x y. f (sym y)))
-      go (inr e) f = inr (other (λ x y. e (sym x)))
+      go : ((u ≡ i) × (r ≡ s)) ⊎ ((u ≡ i) → (r ≡ s) → ⊥) → IsNewEntry i s j u r k ⊎ EntryNames old u r k
+      go (inl at) = inl (record { directory = at.0; slot = at.1; inode = sym n.inumber ∙ ap₂ (inumber_at new) at.0 at.1 ∙ inumber_here })
+      go (inr apart) = inr (other (λ x y. apart (sym x) (sym y)))
 
   new_names : EntryNames new i s j
   new_names = record {

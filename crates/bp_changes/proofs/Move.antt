@@ -1,6 +1,5 @@
 -- An inumber leaves one entry and comes into another: what a rename onto a target, or into another directory, makes of an image.
 use Rattle.std.proofs.Common.{◌≡◌, ◌⊎◌, ℕ, suc, ◌/◌, ◌<◌, ◌≤◌, length, None, Some, refl, sym, ◌∙◌, ap, ap₂, subst, subst₂, arith, inl, inr}
-use Rattle.std.proofs.lemmas.Bool.{cases_eq}
 use Rattle.bp_limits.specs.Limits.{max_name}
 use Rattle.bp_layout.specs.Words.{Image}
 use Rattle.bp_layout.specs.Inode.{kind_of, size_of, inode_count}
@@ -14,7 +13,7 @@ use Rattle.bp_layout.proofs.Reached.{reached-in_file}
 use Rattle.bp_layout.proofs.LookupLaws.{Shows, lookup_in-shows, lookup_in-found, lookup_in-none}
 use Rattle.bp_changes.proofs.MoveName.{MovesName}
 use Rattle.bp_changes.proofs.Formatted.{stays_formatted}
-use Rattle.bp_changes.proofs.SameShown.{IsKeptIn, entry_found, lookup_kept, name_by_words, node_by_bytes}
+use Rattle.bp_changes.proofs.SameShown.{IsKeptIn, entry_found, lookup_kept, name_by_words, node_by_bytes, this_or}
 
 module _ (old new : Image) (wf : IsWellFormed old) (i s k r j : ℕ) (can : CanMoveEntry old i s k r j) (moves : MovesEntry old new i s k r j) where
   in_inodes : (t : ℕ) → IsReached old t → t < inode_count old
@@ -47,7 +46,7 @@ module _ (old new : Image) (wf : IsWellFormed old) (i s k r j : ℕ) (can : CanM
     is_old : EntryNames old u x l → ((u ≡ i) → (x ≡ s) → ⊥) → ((u ≡ k) → (x ≡ r) → ⊥) → Entry u x l
 
   pub entry_of : (u x l : ℕ) → IsReached old u → EntryNames new u x l → Entry u x l
-  entry_of u x l reached n = go (cases_eq u k) (cases_eq x r)
+  entry_of u x l reached n = go (this_or u x k r)
     where
       kind : kind_of old u ≡ 2
       kind = sym (moves.kind u (in_inodes u reached)) ∙ n.directory
@@ -62,10 +61,9 @@ module _ (old new : Image) (wf : IsWellFormed old) (i s k r j : ℕ) (can : CanM
       other not_target =
           is_old (record { directory = kind; in_size = low; inumber = sym (inumber_stays u x reached kind low not_source not_target) ∙ n.inumber; not_empty = n.not_empty }) not_source not_target
 
-      go : (u ≡ k) ⊎ (u ≡ k → ⊥) → (x ≡ r) ⊎ (x ≡ r → ⊥) → Entry u x l
-      go (inl e) (inl f) = is_target e f (sym n.inumber ∙ subst₂ (λ a b. inumber_at new a b ≡ j) (sym e) (sym f) moves.entered)
-      go (inl e) (inr f) = other (λ a b. f b)
-      go (inr e) f = other (λ a b. e a)
+      go : ((u ≡ k) × (x ≡ r)) ⊎ ((u ≡ k) → (x ≡ r) → ⊥) → Entry u x l
+      go (inl at) = is_target at.0 at.1 (sym n.inumber ∙ ap₂ (inumber_at new) at.0 at.1 ∙ moves.entered)
+      go (inr apart) = other apart
 
   pub names_stay : (u x l : ℕ) → IsReached old u → EntryNames old u x l → ((u ≡ i) → (x ≡ s) → ⊥) → ((u ≡ k) → (x ≡ r) → ⊥) → EntryNames new u x l
   names_stay u x l reached n one two = record {

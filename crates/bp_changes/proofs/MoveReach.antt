@@ -1,6 +1,5 @@
 -- What is reached after a name moved: all that was, where the directory to which it came is not below the moved inode.
 use Rattle.std.proofs.Common.{◌≡◌, ◌≢◌, ◌⊎◌, ℕ, [], ◌∷◌, ◌++◌, Option, None, Some, refl, sym, ◌∙◌, ap, subst, ap₂, inl, inr}
-use Rattle.std.proofs.lemmas.Bool.{cases_eq}
 use Rattle.bp_layout.specs.Words.{Image}
 use Rattle.bp_layout.specs.Below.{rest_below}
 use Rattle.bp_layout.specs.Directory.{EntryNames, name_at, inumber_at, lookup_in}
@@ -18,7 +17,7 @@ use Rattle.bp_changes.proofs.Move.Entry.{is_target, is_old}
 use Rattle.bp_changes.proofs.MoveName.{lookup_from-join}
 use Rattle.bp_changes.proofs.Respell as respell
 use Rattle.bp_changes.proofs.SameEntries.{reached_on}
-use Rattle.bp_changes.proofs.SameShown.{entry_found}
+use Rattle.bp_changes.proofs.SameShown.{entry_found, this_or}
 
 -- ---- below an inode
 
@@ -63,21 +62,13 @@ module _ (old new : Image) (i s k r j : ℕ) (Gone : ℕ → Type 0) (reached : 
     (alone : (u x l : ℕ) → Gone u → EntryNames old u x l → ⊥) (here : Gone k → ⊥)
     (stay : (u x l : ℕ) → IsReached old u → EntryNames old u x l → ((u ≡ i) → (x ≡ s) → ⊥) → (Gone l → ⊥) → EntryNames new u x l)
     (outside : IsAtOrBelow old j k → ⊥) where
-  source_or : (u x : ℕ) → ((u ≡ i) × (x ≡ s)) ⊎ ((u ≡ i) → (x ≡ s) → ⊥)
-  source_or u x = go (cases_eq u i) (cases_eq x s)
-    where
-      go : (u ≡ i) ⊎ (u ≡ i → ⊥) → (x ≡ s) ⊎ (x ≡ s → ⊥) → ((u ≡ i) × (x ≡ s)) ⊎ ((u ≡ i) → (x ≡ s) → ⊥)
-      go (inl e) (inl f) = inl (e, f)
-      go (inl e) (inr f) = inr (λ a b. f b)
-      go (inr e) f = inr (λ a b. e a)
-
   source_names : (u x l : ℕ) → (u ≡ i) × (x ≡ s) → EntryNames old u x l → l ≡ j
   source_names u x l at n = sym n.inumber ∙ ap₂ (λ a b. inumber_at old a b) at.0 at.1 ∙ names.inumber
 
   stays_or_below : (t : ℕ) → IsReached old t → (Gone t → ⊥) → IsReached new t ⊎ IsAtOrBelow old j t
   stays_or_below _ inode_file kept = inl inode_file
   stays_or_below _ root_directory kept = inl root_directory
-  stays_or_below _ (reaches {i = u} {j = l} x from n) kept = go (stays_or_below u from (λ gone. alone u x l gone n)) (source_or u x)
+  stays_or_below _ (reaches {i = u} {j = l} x from n) kept = go (stays_or_below u from (λ gone. alone u x l gone n)) (this_or u x i s)
     where
       go : IsReached new u ⊎ IsAtOrBelow old j u → ((u ≡ i) × (x ≡ s)) ⊎ ((u ≡ i) → (x ≡ s) → ⊥) → IsReached new l ⊎ IsAtOrBelow old j l
       go (inr below) at = inr (named x below n)
@@ -96,7 +87,7 @@ module _ (old new : Image) (i s k r j : ℕ) (Gone : ℕ → Type 0) (reached : 
 
   below_stays : (t : ℕ) → IsAtOrBelow old j t → (Gone t → ⊥) → IsReached new t
   below_stays t (itself e) kept = subst (IsReached new) (sym e) moved_stays
-  below_stays t (named {i = u} x below n) kept = go (below_stays u below (λ gone. alone u x t gone n)) (source_or u x)
+  below_stays t (named {i = u} x below n) kept = go (below_stays u below (λ gone. alone u x t gone n)) (this_or u x i s)
     where
       go : IsReached new u → ((u ≡ i) × (x ≡ s)) ⊎ ((u ≡ i) → (x ≡ s) → ⊥) → IsReached new t
       go there (inl at) = subst (IsReached new) (sym (source_names u x t at n)) moved_stays

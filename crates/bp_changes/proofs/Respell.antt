@@ -15,7 +15,7 @@ use Rattle.bp_changes.proofs.MoveName.{MovesName}
 use Rattle.bp_changes.proofs.Formatted.{stays_formatted}
 use Rattle.bp_changes.proofs.SameEntries as entries
 use Rattle.bp_changes.proofs.SameEntries.{SameInumbers}
-use Rattle.bp_changes.proofs.SameShown.{IsKeptIn, entry_found, lookup_kept, name_by_words, node_by_bytes}
+use Rattle.bp_changes.proofs.SameShown.{IsKeptIn, entry_found, lookup_kept, name_by_words, node_by_bytes, this_or}
 
 module _ (old new : Image) (wf : IsWellFormed old) (i s j : ℕ) (spells : RespellsEntry old new i s j) where
   in_inodes : (t : ℕ) → IsReached old t → t < inode_count old
@@ -44,12 +44,7 @@ module _ (old new : Image) (wf : IsWellFormed old) (i s j : ℕ) (spells : Respe
       name_by_words old new u x (wf.names u x l reached n).short (λ f some few. spells.entry u x l f reached n few other)
 
   here_or : (u x : ℕ) → ((u ≡ i) × (x ≡ s)) ⊎ ((u ≡ i) → (x ≡ s) → ⊥)
-  here_or u x = go (cases_eq u i) (cases_eq x s)
-    where
-      go : (u ≡ i) ⊎ (u ≡ i → ⊥) → (x ≡ s) ⊎ (x ≡ s → ⊥) → ((u ≡ i) × (x ≡ s)) ⊎ ((u ≡ i) → (x ≡ s) → ⊥)
-      go (inl e) (inl f) = inl (e, f)
-      go (inl e) (inr f) = inr (λ a b. f b)
-      go (inr e) f = inr (λ a b. e a)
+  here_or u x = this_or u x i s
 
   at_entry : (u x : ℕ) → u ≡ i → x ≡ s → name_at new u x ≡ name_at new i s
   at_entry u x e f = ap₂ (λ a b. name_at new a b) e f

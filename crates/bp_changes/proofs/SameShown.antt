@@ -1,6 +1,7 @@
 -- What an entry, an inode and a directory show stays where what stands in them does.
-use Rattle.std.proofs.Common.{◌≡◌, ℕ, ◌+◌, ◌*◌, ◌/◌, ◌%◌, ◌<◌, ◌≤◌, Bool, true, false, ◌==◌, Option, None, Some, length, refl, sym, ◌∙◌, ap, arith}
-use Rattle.std.proofs.lemmas.Bool.{eqb-true}
+use Rattle.std.proofs.Common.{◌≡◌, ◌⊎◌, ℕ, ◌+◌, ◌*◌, ◌/◌, ◌%◌, ◌<◌, ◌≤◌, Bool, true, false, ◌==◌, Option, None, Some, length, inl, inr}
+use Rattle.std.proofs.Common.{refl, sym, ◌∙◌, ap, arith}
+use Rattle.std.proofs.lemmas.Bool.{cases_eq, eqb-true}
 use Rattle.std.proofs.lemmas.List.FromFn.{length-map-range_with_len}
 use Rattle.bp_limits.specs.Limits.{max_name}
 use Rattle.bp_layout.specs.Words.{Image, byte_of}
@@ -13,6 +14,15 @@ use Rattle.bp_layout.specs.Lookup.{node_of}
 use Rattle.bp_layout.specs.Lookup.Node.{file}
 use Rattle.bp_layout.proofs.Finding.{map-same}
 use Rattle.bp_layout.proofs.LookupLaws.{Shows, lookup_in-found, lookup_in-none, lookup_in-shows}
+
+-- an entry is this one or another
+pub this_or : (u x i s : ℕ) → ((u ≡ i) × (x ≡ s)) ⊎ ((u ≡ i) → (x ≡ s) → ⊥)
+this_or u x i s = go (cases_eq u i) (cases_eq x s)
+  where
+    go : (u ≡ i) ⊎ (u ≡ i → ⊥) → (x ≡ s) ⊎ (x ≡ s → ⊥) → ((u ≡ i) × (x ≡ s)) ⊎ ((u ≡ i) → (x ≡ s) → ⊥)
+    go (inl e) (inl f) = inl (e, f)
+    go (inl e) (inr f) = inr (λ a b. f b)
+    go (inr e) f = inr (λ a b. e a)
 
 -- an entry whose words behind the inumber stay keeps its name
 pub name_by_words : (old new : Image) (u x : ℕ) → length (name_at old u x) ≤ max_name →

@@ -1,19 +1,17 @@
 -- How many names inodes have after a change of one entry.
-use Rattle.std.proofs.Common.{◌≡◌, ◌≢◌, ◌⊎◌, ℕ, ◌+◌, ◌/◌, ◌<◌, ◌≤◌, List, [], ◌∷◌, length, filter, Bool, true, false, not, ◌&&◌, ◌==◌, set, inl, inr}
-use Rattle.std.proofs.Common.{refl, sym, ◌∙◌, ap, subst, subst₂, arith, true≢false, get_or-set_same, get_or-set_other}
+use Rattle.std.proofs.Common.{◌≡◌, ◌≢◌, ◌⊎◌, ℕ, ◌+◌, ◌<◌, ◌≤◌, List, [], ◌∷◌, length, filter, Bool, true, false, not, ◌&&◌, ◌==◌, set, inl, inr}
+use Rattle.std.proofs.Common.{refl, sym, ◌∙◌, ap, subst, arith, true≢false, get_or-set_same, get_or-set_other}
 use Rattle.std.proofs.lemmas.Bool.{cases_eq, eqb-true, eqb-false}
 use Rattle.std.proofs.lemmas.List.{length-set}
 use Rattle.std.specs.List.{slice_index}
 use Rattle.bp_layout.specs.Words.{Image}
-use Rattle.bp_layout.specs.Directory.{EntryNames, entry_count, inumber_at}
-use Rattle.bp_layout.specs.Inode.{kind_of, size_of}
+use Rattle.bp_layout.specs.Directory.{EntryNames, inumber_at}
 use Rattle.bp_layout.specs.Members.{AreApart, Has}
 use Rattle.bp_layout.specs.Names.{AreCounts, HasNames, IsNamed}
 use Rattle.bp_layout.specs.Reached.{IsReached}
 use Rattle.bp_layout.specs.Reached.IsReached.{named}
 use Rattle.bp_layout.specs.WellFormed.{IsWellFormed}
 use Rattle.bp_layout.proofs.MemberLaws.{apart-filter, apart-more, apart-within, each-as, each-has, each-of, filter-has, has-filter}
-use Rattle.bp_layout.proofs.Reached.{reached-in_file}
 use Rattle.bp_changes.specs.Effects.{AddsNames, CanMoveEntry, CanUnlink, CarriesEntry, IsAtOrBelow, IsNewEntry, IsOldEntry, LinksName, MovesEntry, RemovesEntry, RespellsEntry}
 use Rattle.bp_changes.specs.SameMeaning.{SameMeaning}
 use Rattle.bp_changes.proofs.SameMeaning as meaning
@@ -235,42 +233,21 @@ module _ (old new : Image) (wf : IsWellFormed old) (i s j : ℕ) (adds : AddsNam
 -- ---- a name goes
 
 module _ (old new : Image) (wf : IsWellFormed old) (i s j : ℕ) (can : CanUnlink old i s j) (removes : RemovesEntry old new i s) (counts : List ℕ) (are : AreCounts old counts) (low : j < length counts) where
-  in_inodes : (t : ℕ) → IsReached old t → t < size_of old 0 / 64
-  in_inodes = reached-in_file old wf
-
-  stays_at : (u r : ℕ) → IsReached old u → kind_of old u ≡ 2 → r < entry_count old u → ((u ≡ i) → (r ≡ s) → ⊥) → inumber_at new u r ≡ inumber_at old u r
-  stays_at u r reached kind small other = removes.entry u r 0 reached kind small (omega arith) (λ e same. other (sym e) (omega (arith, same)))
-
+  -- each entry names what it did, and it is not the one that was emptied
   removed_back : (k : ℕ) (e : ℕ × ℕ) → IsNamed new k e → IsNamed old k e × (e ≢ (i, s))
-  removed_back k e n = (
-    record {
-      reached = was;
-      names = record { directory = kind; in_size = small; inumber = sym (stays_at e.0 e.1 was kind small other) ∙ n.names.inumber; not_empty = n.names.not_empty };
-    },
-    λ same. other (ap (λ x. x.0) same) (ap (λ x. x.1) same),
-  )
+  removed_back k e n = (record { reached = was; names = kept.before }, λ same. kept.other (ap (λ x. x.0) same) (ap (λ x. x.1) same))
     where
       was : IsReached old e.0
       was = unlink.reached_back old new wf i s j can removes e.0 n.reached
 
-      kind : kind_of old e.0 ≡ 2
-      kind = sym (removes.kind e.0 (in_inodes e.0 was)) ∙ n.names.directory
+      kept : unlink.IsKept old new wf i s j can removes e.0 e.1 k
+      kept = unlink.names_back old new wf i s j can removes e.0 e.1 k was n.names
 
-      small : e.1 < entry_count old e.0
-      small = subst (λ z. e.1 < z / 256) (removes.size e.0 (in_inodes e.0 was)) n.names.in_size
-
-      other : (e.0 ≡ i) → (e.1 ≡ s) → ⊥
-      other f g = n.names.not_empty (sym n.names.inumber ∙ subst₂ (λ x y. inumber_at new x y ≡ 0) (sym f) (sym g) removes.inumber)
-
+  -- all others stay
   removed_on : (k : ℕ) (e : ℕ × ℕ) → IsNamed old k e → e ≢ (i, s) → IsNamed new k e
   removed_on k e n other = record {
     reached = unlink.reached_stays old new wf i s j can removes e.0 n.reached (λ same. can.alone e.1 k (subst (λ u. EntryNames old u e.1 k) same n.names));
-    names = record {
-      directory = removes.kind e.0 (in_inodes e.0 n.reached) ∙ n.names.directory;
-      in_size = subst (λ z. e.1 < z / 256) (sym (removes.size e.0 (in_inodes e.0 n.reached))) n.names.in_size;
-      inumber = stays_at e.0 e.1 n.reached n.names.directory n.names.in_size (λ f g. other (λ l. (f l, g l))) ∙ n.names.inumber;
-      not_empty = n.names.not_empty;
-    };
+    names = unlink.names_stay old new wf i s j can removes e.0 e.1 k n.reached n.names (λ f g. other (λ l. (f l, g l)));
   }
 
   pub removed_counts : (rest : ℕ) → slice_index counts j ≡ rest + 1 → AreCounts new (set counts j rest)
@@ -417,6 +394,7 @@ module _ (old new : Image) (wf : IsWellFormed old) (i s k r j : ℕ) (can : CanM
 
 -- ---- no name changes
 
+-- each entry has the inumber that it had
 inumbers_counts : (old new : Image) → SameInumbers old new → (counts : List ℕ) → AreCounts old counts → AreCounts new counts
 inumbers_counts old new same counts are = counts_same old new counts are
     (λ k e n. let was : IsReached old e.0 = reached_back old new same e.0 n.reached in

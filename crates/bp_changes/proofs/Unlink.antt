@@ -38,7 +38,7 @@ module _ (old new : Image) (wf : IsWellFormed old) (i s j : ℕ) (can : CanUnlin
     pub before : EntryNames old u r k
     pub other : (u ≡ i) → (r ≡ s) → ⊥
 
-  names_back : (u r k : ℕ) → IsReached old u → EntryNames new u r k → IsKept u r k
+  pub names_back : (u r k : ℕ) → IsReached old u → EntryNames new u r k → IsKept u r k
   names_back u r k reached n = record {
     before = record { directory = kind; in_size = low; inumber = sym (inumber_stays u r reached kind low (λ e f. other (sym e) (sym f))) ∙ n.inumber; not_empty = n.not_empty };
     other = other;

@@ -43,33 +43,31 @@ pub has_grown : {kept : ℕ → Bool} {first new : Memory} {free_old free_new : 
     0 < size_of (current_words first) t → 1 ≤ block_of (root_of (current_words first) t) → HasGrown kept first new free_old free_new t place from to path raw
 has_grown can at grows some present = record { can = can; at = at; grows = grows; some = some; present = present }
 
+-- what the lemmas about such a tree speak of
+pub record Views : Type 0 where
+  -- the words before it, and before the links
+  pub old : Image
+  pub middle : Image
+  -- its root word and its size before it
+  pub root : ℕ
+  pub size : ℕ
+  -- the blocks that it took
+  pub taken : List ℕ
+
 module _ {kept : ℕ → Bool} {first new : Memory} {free_old free_new : List ℕ} {t place from to : ℕ} {path raw : List ℕ}
     (ready : HasGrown kept first new free_old free_new t place from to path raw) where
-  abbrev can : CanPrepare kept first free_old t path from to
-  can = ready.can
+  open ready use {can, at, grows}
 
-  abbrev at : RootPlace (current_words first) t place
-  at = ready.at
+  abbrev pub views : Views
+  views = record {
+    old = current_words first;
+    middle = current_words grows.between;
+    root = root_of (current_words first) t;
+    size = size_of (current_words first) t;
+    taken = grows.visited ++ grows.raised;
+  }
 
-  abbrev grows : Grows first new free_old free_new place (root_of (current_words first) t) (size_of (current_words first) t) from to raw
-  grows = ready.grows
-
-  -- the words before it, and before the links
-  abbrev old : Image
-  old = current_words first
-
-  abbrev middle : Image
-  middle = current_words grows.between
-
-  -- its root word and its size before it, and the blocks that it took
-  abbrev root : ℕ
-  root = root_of (current_words first) t
-
-  abbrev size : ℕ
-  size = size_of (current_words first) t
-
-  abbrev taken : List ℕ
-  taken = grows.visited ++ grows.raised
+  open views use {old, middle, root, size, taken}
 
   pub order : size_of old t ≤ to
   order = le_trans can.behind can.order

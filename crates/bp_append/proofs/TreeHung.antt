@@ -1,10 +1,10 @@
 -- A tree with blocks that has grown: its root, with a pointer that waited and with none.
-use Rattle.std.proofs.Common.{◌≡◌, ◌≢◌, ℕ, suc, ◌+◌, ◌-◌, ◌*◌, ◌/◌, ◌<◌, ◌≤◌, List, [], ◌∷◌, ◌++◌, Bool, false, min, set, sym, ◌∙◌, ap, subst, arith, lt_of_lt_of_le}
+use Rattle.std.proofs.Common.{◌≡◌, ◌≢◌, ℕ, suc, ◌+◌, ◌-◌, ◌*◌, ◌/◌, ◌<◌, ◌≤◌, List, [], ◌∷◌, Bool, false, min, set, sym, ◌∙◌, ap, subst, arith, lt_of_lt_of_le}
 use Rattle.bp_layout.proofs.MemberLaws.{each-of, has-front}
 use Rattle.bp_limits.specs.Limits.{max_height}
 use Rattle.bp_layout.specs.Words.{Image, block_of, height_of}
 use Rattle.bp_layout.specs.Tree.{node, span, IsLivePointer}
-use Rattle.bp_layout.specs.Inode.{root_of, size_of, RootPlace, StandsAt}
+use Rattle.bp_layout.specs.Inode.{root_of, size_of, StandsAt}
 use Rattle.bp_layout.specs.Reached.{IsLiveBlock}
 use Rattle.bp_layout.specs.Same.{Same}
 use Rattle.bp_changes.specs.SameContent.{IsReadByWords, ReadsAs}
@@ -23,40 +23,16 @@ use Rattle.bp_append.proofs.FillLaws.{apart_left, apart_parts}
 use Rattle.bp_shapes.proofs.Chain.{chain_reads}
 use Rattle.bp_append.specs.Given.{given_at}
 use Rattle.bp_append.specs.Visited.{Hangs}
-use Rattle.bp_append.specs.Grown.{Grows}
-use Rattle.bp_append.specs.Prepared.{CanPrepare}
 use Rattle.bp_append.proofs.HangBuilt.{hang_built, in_below}
 use Rattle.bp_append.proofs.ReadyLaws.{HasRootReady}
 use Rattle.bp_append.proofs.TwoLinks as two
 use Rattle.bp_append.proofs.EndWays.{slot_within}
-use Rattle.bp_append.proofs.TreeGrown.{HasGrown, order, agrees, sizes, roots_stay, roots, meaning, well, there, place_there, free_there, chain_there, fresh}
+use Rattle.bp_append.proofs.TreeGrown.{HasGrown, views, order, agrees, sizes, roots_stay, roots, meaning, well, there, place_there, free_there, chain_there, fresh}
 
 module _ {kept : ℕ → Bool} {first new : Memory} {free_old free_new : List ℕ} {t place from to : ℕ} {path raw : List ℕ}
     (ready : HasGrown kept first new free_old free_new t place from to path raw) where
-  abbrev can : CanPrepare kept first free_old t path from to
-  can = ready.can
-
-  abbrev at : RootPlace (current_words first) t place
-  at = ready.at
-
-  abbrev grows : Grows first new free_old free_new place (root_of (current_words first) t) (size_of (current_words first) t) from to raw
-  grows = ready.grows
-
-  abbrev old : Image
-  old = current_words first
-
-  abbrev middle : Image
-  middle = current_words grows.between
-
-  -- its root word and its size before it, and the blocks that it took
-  abbrev root : ℕ
-  root = root_of (current_words first) t
-
-  abbrev size : ℕ
-  size = size_of (current_words first) t
-
-  abbrev taken : List ℕ
-  taken = grows.visited ++ grows.raised
+  open ready use {can, at, grows}
+  open (views ready) use {old, middle, root, size, taken}
 
   -- ---- with no pointer that waited
 

@@ -3,7 +3,7 @@ use Rattle.std.proofs.Common.{◌≡◌, ◌≢◌, ◌⊎◌, ℕ, zero, suc, �
 use Rattle.bp_layout.proofs.MemberLaws.{each-has}
 use Rattle.bp_layout.specs.Words.{Image, block_of, height_of, slot_word}
 use Rattle.bp_layout.specs.Tree.{node, IsLivePointer, HasBlock, IsFull}
-use Rattle.bp_layout.specs.Inode.{root_of, size_of, RootPlace}
+use Rattle.bp_layout.specs.Inode.{root_of, size_of}
 use Rattle.bp_layout.specs.Reached.{IsReached, IsLiveBlock}
 use Rattle.bp_layout.specs.Same.{Same}
 use Rattle.bp_changes.specs.SameContent.{IsReadByWords}
@@ -29,42 +29,19 @@ use Rattle.bp_append.proofs.OldNodes.{lead_kept, node-raised_by}
 use Rattle.bp_append.specs.Given.{given}
 use Rattle.bp_append.specs.Visited.{extended, Hangs, AreHung}
 use Rattle.bp_append.specs.Visited.AreHung.{no_link, one_link}
-use Rattle.bp_append.specs.Grown.{Grows}
-use Rattle.bp_append.specs.Prepared.{CanPrepare, PreparesWith, need_for}
+use Rattle.bp_append.specs.Prepared.{PreparesWith, need_for}
 use Rattle.bp_append.proofs.VisitDone.{extended_old, extended_new}
 use Rattle.bp_append.proofs.NeedLaws.{tall_low}
 use Rattle.bp_append.proofs.PrepLaws.{after_append, words_new, epochs_taking}
 use Rattle.bp_append.proofs.ReadyLaws.{HasRootReady, prepared}
 use Rattle.bp_append.proofs.NullPrepared.{full_by_words}
-use Rattle.bp_append.proofs.TreeGrown.{HasGrown, order, taken_are, taken_free, open_place, usable, May, harmless, agrees, behind_block, opens, roots, well, there, place_there, in_taken_chain}
+use Rattle.bp_append.proofs.TreeGrown.{HasGrown, views, order, taken_are, taken_free, open_place, usable, May, harmless, agrees, behind_block, opens, roots, well, there, place_there, in_taken_chain}
 use Rattle.bp_append.proofs.TreeHung.{reads_alone, ready_alone, hung_loose, pointer_is, any_both, ready_hung}
 
 module _ {kept : ℕ → Bool} {first new : Memory} {free_old free_new : List ℕ} {t place from to : ℕ} {path raw : List ℕ}
     (ready : HasGrown kept first new free_old free_new t place from to path raw) where
-  abbrev can : CanPrepare kept first free_old t path from to
-  can = ready.can
-
-  abbrev at : RootPlace (current_words first) t place
-  at = ready.at
-
-  abbrev grows : Grows first new free_old free_new place (root_of (current_words first) t) (size_of (current_words first) t) from to raw
-  grows = ready.grows
-
-  abbrev old : Image
-  old = current_words first
-
-  abbrev middle : Image
-  middle = current_words grows.between
-
-  -- its root word and its size before it, and the blocks that it took
-  abbrev root : ℕ
-  root = root_of (current_words first) t
-
-  abbrev size : ℕ
-  size = size_of (current_words first) t
-
-  abbrev taken : List ℕ
-  taken = grows.visited ++ grows.raised
+  open ready use {can, at, grows}
+  open (views ready) use {old, middle, root, size, taken}
 
   -- the new root word, and the words once what waited is stored
   abbrev top : ℕ

@@ -27,51 +27,41 @@ pub record GoesOn (old middle new : Memory) (free_old free_middle free_new : Lis
   pub visits : VisitsSlot old middle free_old free_middle root size below start block slot from to raw links
   pub fills : FillsFrom middle new free_middle free_new block (suc below) start (start + slot * span below + span below) from to (given_at from raw start)
 
+-- what the lemmas about it speak of
+pub record Views : Type 0 where
+  -- the words before it, between the two, and after it
+  pub was : Image
+  pub halfway : Image
+  pub later : Image
+  -- the node, and what its slot has
+  pub top : ℕ
+  pub kid : ℕ
+  -- where the slot begins, and where the ones behind it do
+  pub begin : ℕ
+  pub low : ℕ
+  -- the blocks that going down took, and those that the filling took
+  pub down : List ℕ
+  pub behind : List ℕ
+
 module _ {old middle new : Memory} {free_old free_middle free_new : List ℕ} {root size below start block slot from to : ℕ} {raw : List ℕ}
     {links : List (ℕ × ℕ)}
     (goes : GoesOn old middle new free_old free_middle free_new root size below start block slot from to raw links) where
-  abbrev can : CanVisit old free_old root size (suc below) start block from to
-  can = goes.can
+  open goes use {can, last, visits, fills}
 
-  abbrev last : IsLast size below start slot
-  last = goes.last
+  abbrev pub views : Views
+  views = record {
+    was = current_words old;
+    halfway = current_words middle;
+    later = current_words new;
+    top = 4096 * block + suc below;
+    kid = child (current_words old) block below slot;
+    begin = start + slot * span below;
+    low = start + slot * span below + span below;
+    down = visits.taken;
+    behind = fills.taken;
+  }
 
-  abbrev visits : VisitsSlot old middle free_old free_middle root size below start block slot from to raw links
-  visits = goes.visits
-
-  abbrev fills : FillsFrom middle new free_middle free_new block (suc below) start (start + slot * span below + span below) from to (given_at from raw start)
-  fills = goes.fills
-
-  -- the words before it, between the two, and after it
-  abbrev was : Image
-  was = current_words old
-
-  abbrev halfway : Image
-  halfway = current_words middle
-
-  abbrev later : Image
-  later = current_words new
-
-  -- the node, and what its slot has
-  abbrev top : ℕ
-  top = 4096 * block + suc below
-
-  abbrev kid : ℕ
-  kid = child (current_words old) block below slot
-
-  -- where the slot begins, and where the ones behind it do
-  abbrev begin : ℕ
-  begin = start + slot * span below
-
-  abbrev low : ℕ
-  low = start + slot * span below + span below
-
-  -- the blocks that going down took, and those that the filling took
-  abbrev down : List ℕ
-  down = goes.visits.taken
-
-  abbrev behind : List ℕ
-  behind = goes.fills.taken
+  open views use {was, halfway, later, top, kid, begin, low, down, behind}
 
   -- the blocks of the node before it, and those of the part in the slot
   abbrev pub Has_old : ℕ → Type 0

@@ -7,64 +7,23 @@ use Rattle.bp_layout.specs.Members.{Has}
 use Rattle.bp_layout.specs.Pieces.{piece, child}
 use Rattle.bp_layout.specs.Stores.{after_stores}
 use Rattle.bp_layout.proofs.Pieces.{joined_byte, sound_shape}
-use Rattle.pm_region.specs.Memory.{Memory, current_words}
+use Rattle.pm_region.specs.Memory.{Memory}
 use Rattle.bp_append.specs.Given.{given, given_at}
 use Rattle.bp_append.specs.Built.{IsBuilt, InSlot, Children}
-use Rattle.bp_append.specs.Filled.{FillsFrom}
-use Rattle.bp_append.specs.Visited.{extended, CanVisit, IsLast, VisitsSlot}
+use Rattle.bp_append.specs.Visited.{extended}
 use Rattle.bp_append.proofs.TallyLaws.{span-suc, span-positive}
 use Rattle.bp_append.proofs.SlotLaws.{slot_ends}
 use Rattle.bp_append.proofs.ChildrenLaws.{built_kept, built_as, children_one, children_as, children_kept, children_bytes}
 use Rattle.bp_append.proofs.FillLaws.{slot_framed}
 use Rattle.bp_append.proofs.VisitLaws.{whole_links, alike, inside_slot, piece_is, kid_full, top_block}
 use Rattle.bp_append.proofs.VisitDone.{extended_old, extended_new}
-use Rattle.bp_append.proofs.GoesOn.{GoesOn, Has_kid, early, length_to, now, sound_before, not_free, in_first, in_second, apart_taken, block_free, kid_in, own, behind_slot, same_second, same_links, whole_second, now_length, from_old}
+use Rattle.bp_append.proofs.GoesOn.{GoesOn, views, Has_kid, early, length_to, now, sound_before, not_free, in_first, in_second, apart_taken, block_free, kid_in, own, behind_slot, same_second, same_links, whole_second, now_length, from_old}
 
 module _ {old middle new : Memory} {free_old free_middle free_new : List ℕ} {root size below start block slot from to : ℕ} {raw : List ℕ}
     {links : List (ℕ × ℕ)}
     (goes : GoesOn old middle new free_old free_middle free_new root size below start block slot from to raw links) where
-  abbrev can : CanVisit old free_old root size (suc below) start block from to
-  can = goes.can
-
-  abbrev last : IsLast size below start slot
-  last = goes.last
-
-  abbrev visits : VisitsSlot old middle free_old free_middle root size below start block slot from to raw links
-  visits = goes.visits
-
-  abbrev fills : FillsFrom middle new free_middle free_new block (suc below) start (start + slot * span below + span below) from to (given_at from raw start)
-  fills = goes.fills
-
-  -- the words before it, between the two, and after it
-  abbrev was : Image
-  was = current_words old
-
-  abbrev halfway : Image
-  halfway = current_words middle
-
-  abbrev later : Image
-  later = current_words new
-
-  -- the node, and what its slot has
-  abbrev top : ℕ
-  top = 4096 * block + suc below
-
-  abbrev kid : ℕ
-  kid = child (current_words old) block below slot
-
-  -- where the slot begins, and where the ones behind it do
-  abbrev begin : ℕ
-  begin = start + slot * span below
-
-  abbrev low : ℕ
-  low = start + slot * span below + span below
-
-  -- the blocks that going down took, and those that the filling took
-  abbrev down : List ℕ
-  down = goes.visits.taken
-
-  abbrev behind : List ℕ
-  behind = goes.fills.taken
+  open goes use {can, last, visits, fills}
+  open (views goes) use {was, halfway, later, top, kid, begin, low, down, behind}
 
   abbrev linked : Image
   linked = after_stores halfway links

@@ -1,68 +1,23 @@
 -- What is stored at a node whose last slot was gone through and that is filled behind it.
 use Rattle.std.proofs.Common.{◌≡◌, ◌⊎◌, ℕ, suc, ◌+◌, ◌-◌, ◌*◌, ◌/◌, ◌%◌, ◌<◌, List, ◌++◌, refl, sym, ◌∙◌, ap, subst, arith, inl, inr}
 use Rattle.bp_layout.proofs.MemberLaws.{has-behind, has-front}
-use Rattle.bp_layout.specs.Words.{Image, slot_word}
+use Rattle.bp_layout.specs.Words.{slot_word}
 use Rattle.bp_layout.specs.Tree.{span}
 use Rattle.bp_layout.specs.Members.{Has}
-use Rattle.bp_layout.specs.Pieces.{child}
-use Rattle.pm_region.specs.Memory.{Memory, current_words}
-use Rattle.bp_append.specs.Given.{given_at}
+use Rattle.pm_region.specs.Memory.{Memory}
 use Rattle.bp_append.specs.Built.{InBlocks}
-use Rattle.bp_append.specs.Filled.{FillsIn, FillsFrom}
-use Rattle.bp_append.specs.Visited.{IsBehindPart, CanVisit, IsLast, VisitsSlot}
+use Rattle.bp_append.specs.Filled.{FillsIn}
+use Rattle.bp_append.specs.Visited.{IsBehindPart}
 use Rattle.bp_append.proofs.TallyLaws.{span-suc}
 use Rattle.bp_append.proofs.FillLaws.{slot_framed, block_row}
 use Rattle.bp_append.proofs.VisitLaws.{top_block}
-use Rattle.bp_append.proofs.GoesOn.{GoesOn, Has_kid, Has_old, in_first, apart_taken, block_free, kid_in, same_second}
+use Rattle.bp_append.proofs.GoesOn.{GoesOn, views, Has_kid, Has_old, in_first, apart_taken, block_free, kid_in, same_second}
 
 module _ {old middle new : Memory} {free_old free_middle free_new : List ℕ} {root size below start block slot from to : ℕ} {raw : List ℕ}
     {links : List (ℕ × ℕ)}
     (goes : GoesOn old middle new free_old free_middle free_new root size below start block slot from to raw links) where
-  abbrev can : CanVisit old free_old root size (suc below) start block from to
-  can = goes.can
-
-  abbrev last : IsLast size below start slot
-  last = goes.last
-
-  abbrev visits : VisitsSlot old middle free_old free_middle root size below start block slot from to raw links
-  visits = goes.visits
-
-  abbrev fills : FillsFrom middle new free_middle free_new block (suc below) start (start + slot * span below + span below) from to (given_at from raw start)
-  fills = goes.fills
-
-  -- the words before it, between the two, and after it
-  abbrev was : Image
-  was = current_words old
-
-  abbrev halfway : Image
-  halfway = current_words middle
-
-  abbrev later : Image
-  later = current_words new
-
-  -- the node, and what its slot has
-  abbrev top : ℕ
-  top = 4096 * block + suc below
-
-  abbrev kid : ℕ
-  kid = child (current_words old) block below slot
-
-  -- where the slot begins, and where the ones behind it do
-  abbrev begin : ℕ
-  begin = start + slot * span below
-
-  abbrev low : ℕ
-  low = start + slot * span below + span below
-
-  -- the blocks that going down took, and those that the filling took
-  abbrev down : List ℕ
-  down = goes.visits.taken
-
-  abbrev behind : List ℕ
-  behind = goes.fills.taken
-
-  wide : span (suc below) ≡ 512 * span below
-  wide = span-suc below
+  open goes use {can, last}
+  open (views goes) use {was, halfway, later, top, kid, begin, low, down, behind}
 
   node_behind : (place value : ℕ) → FillsIn halfway block (suc below) start low place value → IsBehindPart was root size top (size - start) place value
   node_behind place value filled =
@@ -71,7 +26,7 @@ module _ {old middle new : Memory} {free_old free_middle free_new : List ℕ} {r
       let column : slot_number % 512 ≡ filled.slot = omega (arith, filled.few) in
       let inside : place / 512 ≡ block = omega (arith, filled.at, filled.few) in
       let over = filled.node below refl in
-      let aligned : start ≡ can.index * (512 * span below) = can.aligned ∙ ap (λ n. can.index * n) wide in
+      let aligned : start ≡ can.index * (512 * span below) = can.aligned ∙ ap (λ n. can.index * n) (span-suc below) in
       let number : slot_number * span below ≡ start + filled.slot * span below = numbers can.index filled.slot (span below) aligned in
       record {
         behind = record {

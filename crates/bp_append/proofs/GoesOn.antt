@@ -17,7 +17,7 @@ use Rattle.bp_append.specs.Visited.{CanVisit, IsLast, VisitsSlot}
 use Rattle.bp_append.proofs.TallyLaws.{span-positive}
 use Rattle.bp_append.proofs.ChildrenLaws.{children_before}
 use Rattle.bp_append.proofs.FillLaws.{may_length, apart_parts, block_row}
-use Rattle.bp_append.proofs.VisitLaws.{beside, whole_links, inside_slot, piece_is, kid_block, kid_own, block_taken}
+use Rattle.bp_append.proofs.VisitLaws.{slot_views, beside, whole_links, inside_slot, piece_is, kid_block, kid_own, block_taken}
 
 -- Going down through the last slot of a node, and filling it behind the slot: what each asks for and gives.
 pub record GoesOn (old middle new : Memory) (free_old free_middle free_new : List ℕ) (root size below start block slot from to : ℕ) (raw : List ℕ)
@@ -29,16 +29,9 @@ pub record GoesOn (old middle new : Memory) (free_old free_middle free_new : Lis
 
 -- what the lemmas about it speak of
 pub record Views : Type 0 where
-  -- the words before it, between the two, and after it
-  pub was : Image
+  -- the words between the two, and after both
   pub halfway : Image
   pub later : Image
-  -- the node, and what its slot has
-  pub top : ℕ
-  pub kid : ℕ
-  -- where the slot begins, and where the ones behind it do
-  pub begin : ℕ
-  pub low : ℕ
   -- the blocks that going down took, and those that the filling took
   pub down : List ℕ
   pub behind : List ℕ
@@ -47,21 +40,12 @@ module _ {old middle new : Memory} {free_old free_middle free_new : List ℕ} {r
     {links : List (ℕ × ℕ)}
     (goes : GoesOn old middle new free_old free_middle free_new root size below start block slot from to raw links) where
   open goes use {can, last, visits, fills}
+  open (slot_views can last) use {was, top, begin, low, kid}
 
   abbrev pub views : Views
-  views = record {
-    was = current_words old;
-    halfway = current_words middle;
-    later = current_words new;
-    top = 4096 * block + suc below;
-    kid = child (current_words old) block below slot;
-    begin = start + slot * span below;
-    low = start + slot * span below + span below;
-    down = visits.taken;
-    behind = fills.taken;
-  }
+  views = record { halfway = current_words middle; later = current_words new; down = visits.taken; behind = fills.taken }
 
-  open views use {was, halfway, later, top, kid, begin, low, down, behind}
+  open views use {halfway, later, down, behind}
 
   -- the blocks of the node before it, and those of the part in the slot
   abbrev pub Has_old : ℕ → Type 0

@@ -11,21 +11,13 @@ use Rattle.bp_append.specs.Filled.{CanFill}
 use Rattle.bp_append.specs.Visited.{CanVisit, IsLast, VisitsSlot}
 use Rattle.bp_append.proofs.StoresLaws.{room_behind_next}
 use Rattle.bp_append.proofs.TallyLaws.{span-suc}
-use Rattle.bp_append.proofs.SlotLaws.{slot_ends}
 use Rattle.bp_append.proofs.FillLaws.{usable_rest, may_base}
-use Rattle.bp_append.proofs.VisitLaws.{block_taken, counts}
+use Rattle.bp_append.proofs.VisitLaws.{slot_views, ends, block_taken, counts}
 
 module _ {old middle : Memory} {free_old free_middle : List ℕ} {root size below start block slot from to : ℕ}
     (can : CanVisit old free_old root size (suc below) start block from to) (last : IsLast size below start slot) {raw : List ℕ} {links : List (ℕ × ℕ)}
     (visits : VisitsSlot old middle free_old free_middle root size below start block slot from to raw links) where
-  abbrev low : ℕ
-  low = start + slot * span below + span below
-
-  ends : slot * span below + span below ≤ 512 * span below
-  ends = slot_ends slot (span below) last.few
-
-  wide : span (suc below) ≡ 512 * span below
-  wide = span-suc below
+  open (slot_views can last) use {low}
 
   base : length middle.base ≡ length old.base
   base = may_base _ 0 _ old middle visits.stores.part
@@ -42,7 +34,7 @@ module _ {old middle : Memory} {free_old free_middle : List ℕ} {root size belo
         index = can.index;
         aligned = can.aligned;
         order = omega arith;
-        inside = omega (arith, ends, wide);
+        inside = omega (arith, ends can last, span-suc below);
         leaf = λ e. absurd (omega (arith, e));
         first = slot + 1;
         node = λ other e. let same : below ≡ other = omega (arith, e) in subst (λ l. low ≡ start + (slot + 1) * span l) same (next (span below));

@@ -1,5 +1,5 @@
 -- The slots of a node whose last slot was gone through and that is filled behind it.
-use Rattle.std.proofs.Common.{◌≡◌, ◌≢◌, ◌⊎◌, ℕ, suc, ◌+◌, ◌-◌, ◌*◌, ◌<◌, ◌≤◌, min, List, refl, sym, ◌∙◌, ap, subst, subst₂, arith, inl, inr, mul-le-mul_right, lt_of_mul-lt-mul_right}
+use Rattle.std.proofs.Common.{◌≡◌, ◌≢◌, ◌⊎◌, ℕ, ◌+◌, ◌-◌, ◌*◌, ◌<◌, ◌≤◌, min, List, refl, sym, ◌∙◌, ap, subst, subst₂, arith, inl, inr, mul-le-mul_right, lt_of_mul-lt-mul_right}
 use Rattle.std.proofs.lemmas.Bool.{cases_lt}
 use Rattle.bp_layout.specs.Words.{Image, block_of, slot_word}
 use Rattle.bp_layout.specs.Tree.{byte, span, IsFull}
@@ -12,10 +12,9 @@ use Rattle.bp_append.specs.Given.{given, given_at}
 use Rattle.bp_append.specs.Built.{IsBuilt, InSlot, Children}
 use Rattle.bp_append.specs.Visited.{extended}
 use Rattle.bp_append.proofs.TallyLaws.{span-suc, span-positive}
-use Rattle.bp_append.proofs.SlotLaws.{slot_ends}
 use Rattle.bp_append.proofs.ChildrenLaws.{built_kept, built_as, children_one, children_as, children_kept, children_bytes}
 use Rattle.bp_append.proofs.FillLaws.{slot_framed}
-use Rattle.bp_append.proofs.VisitLaws.{whole_links, alike, inside_slot, piece_is, kid_full, top_block}
+use Rattle.bp_append.proofs.VisitLaws.{slot_views, ends, whole_links, alike, inside_slot, piece_is, kid_full, top_block}
 use Rattle.bp_append.proofs.VisitDone.{extended_old, extended_new}
 use Rattle.bp_append.proofs.GoesOn.{GoesOn, views, Has_kid, early, length_to, now, sound_before, not_free, in_first, in_second, apart_taken, block_free, kid_in, own, behind_slot, same_second, same_links, whole_second, now_length, from_old}
 
@@ -23,19 +22,14 @@ module _ {old middle new : Memory} {free_old free_middle free_new : List ℕ} {r
     {links : List (ℕ × ℕ)}
     (goes : GoesOn old middle new free_old free_middle free_new root size below start block slot from to raw links) where
   open goes use {can, last, visits, fills}
-  open (views goes) use {was, halfway, later, top, kid, begin, low, down, behind}
+  open (slot_views can last) use {was, top, begin, low, kid}
+  open (views goes) use {halfway, later, down, behind}
 
   abbrev linked : Image
   linked = after_stores halfway links
 
   abbrev new_kid : ℕ
   new_kid = child linked block below slot
-
-  ends : slot * span below + span below ≤ 512 * span below
-  ends = slot_ends slot (span below) last.few
-
-  wide : span (suc below) ≡ 512 * span below
-  wide = span-suc below
 
   -- the slots that begin before this one, this one, and those that begin behind it
   abbrev pub Early_slots : ℕ → Type 0
@@ -114,10 +108,10 @@ module _ {old middle new : Memory} {free_old free_middle free_new : List ℕ} {r
       (subst₂ (λ w z. IsBuilt (now goes) (w + below) z (λ i. now_bytes (slot * span below + i)) Members Full) (sym now_slot) sizes built)
     where
       inside : slot * span below < length_to goes
-      inside = omega (arith, last.begun, can.order, ends, wide, span-positive below)
+      inside = omega (arith, last.begun, can.order, ends can last, span-suc below, span-positive below)
 
       sizes : min (to - begin) (span below) ≡ piece (length_to goes) below slot
-      sizes = omega (arith, ends, wide)
+      sizes = omega (arith, ends can last, span-suc below)
 
       same_byte : (i : ℕ) → (begin + i < size) ⊎ (size ≤ begin + i) → extended was kid size from raw begin i ≡ now_bytes (slot * span below + i)
       same_byte i (inl low) =
@@ -156,7 +150,7 @@ module _ {old middle new : Memory} {free_old free_middle free_new : List ℕ} {r
       (λ c in_size at. at) (λ x m. m) (λ x m. m) (λ full. omega (arith, full.1, last.ends)) kept
     where
       slot_few : (c : ℕ) → c * span below < length_to goes → c < 512
-      slot_few c in_size = let less : c * span below < 512 * span below = omega (arith, in_size, wide) in lt_of_mul-lt-mul_right (span below) less
+      slot_few c in_size = let less : c * span below < 512 * span below = omega (arith, in_size, span-suc below) in lt_of_mul-lt-mul_right (span below) less
 
       no_link : (x k : ℕ) → k < 512 → (Has_kid goes x → ⊥) → (x ≡ block → k ≢ slot) → slot_word (now goes) x k ≡ slot_word later x k
       no_link x k few beyond other = slot_framed later (now goes) x k (same_links goes later x k few beyond other)

@@ -10,14 +10,15 @@ use Rattle.bp_append.specs.Filled.{FillsIn}
 use Rattle.bp_append.specs.Visited.{IsBehindPart}
 use Rattle.bp_append.proofs.TallyLaws.{span-suc}
 use Rattle.bp_append.proofs.FillLaws.{slot_framed, block_row}
-use Rattle.bp_append.proofs.VisitLaws.{top_block}
+use Rattle.bp_append.proofs.VisitLaws.{slot_views, top_block}
 use Rattle.bp_append.proofs.GoesOn.{GoesOn, views, Has_kid, Has_old, in_first, apart_taken, block_free, kid_in, same_second}
 
 module _ {old middle new : Memory} {free_old free_middle free_new : List ℕ} {root size below start block slot from to : ℕ} {raw : List ℕ}
     {links : List (ℕ × ℕ)}
     (goes : GoesOn old middle new free_old free_middle free_new root size below start block slot from to raw links) where
   open goes use {can, last}
-  open (views goes) use {was, halfway, later, top, kid, begin, low, down, behind}
+  open (slot_views can last) use {was, top, begin, low, kid}
+  open (views goes) use {halfway, later, down, behind}
 
   node_behind : (place value : ℕ) → FillsIn halfway block (suc below) start low place value → IsBehindPart was root size top (size - start) place value
   node_behind place value filled =

@@ -24,6 +24,10 @@ use Rattle.bp_append.proofs.EdgeCounts.{idles_none, idles_more}
 use Rattle.bp_append.proofs.SpineLaws.{absent, spine_idle, spine_at_idle, dead_node, null_node}
 
 module _ (image : Image) (root size from to : ℕ) (behind : size ≤ from) where
+  -- the height of the tree with the bytes in it
+  abbrev tall : ℕ
+  tall = height_with root size to
+
   abbrev Lacks : TreeNode → Bool
   Lacks n = not (is_present image root size n)
 
@@ -156,22 +160,19 @@ module _ (image : Image) (root size from to : ℕ) (behind : size ≤ from) wher
 
   -- ---- all of them
 
-  abbrev tall : ℕ
-  tall = height_with root size to
-
   -- the nodes that raise it, where it is raised
-  raised_are : 0 < size → block_of root ≢ 0 → raised_nodes root size to ≡ map (λ level. record { level = level; index = 0 }) (range_with_len (suc (height_of root)) (height_with root size to - height_of root))
+  raised_are : 0 < size → block_of root ≢ 0 → raised_nodes root size to ≡ map (λ level. record { level = level; index = 0 }) (range_with_len (suc (height_of root)) (tall - height_of root))
   raised_are some present = rw (lt-ltb 0 size some, ne_eqb (block_of root) 0 present) refl
 
   raised_are_none : (size ≡ 0) ⊎ (block_of root ≡ 0) → raised_nodes root size to ≡ []
   raised_are_none (inl e) = rw e refl
   raised_are_none (inr e) = rw e (go (nat_lt 0 size))
     where
-      go : (b : Bool) → ◌≡◌ {A = List TreeNode} (if b && false then map (λ level. record { level = level; index = 0 }) (range_with_len (suc (height_of root)) (height_with root size to - height_of root)) else []) []
+      go : (b : Bool) → ◌≡◌ {A = List TreeNode} (if b && false then map (λ level. record { level = level; index = 0 }) (range_with_len (suc (height_of root)) (tall - height_of root)) else []) []
       go true = refl
       go false = refl
 
-  nodes_some : from < to → nodes_for image root size from to ≡ filter Lacks (flat_map (nodes_over from to) (range_with_len 0 (suc (height_with root size to)))) ++ filter (λ (m : TreeNode). nat_le (span m.level) from) (raised_nodes root size to)
+  nodes_some : from < to → nodes_for image root size from to ≡ filter Lacks (flat_map (nodes_over from to) (range_with_len 0 (suc tall))) ++ filter (λ (m : TreeNode). nat_le (span m.level) from) (raised_nodes root size to)
   nodes_some some = rw (lt-ltb from to some) refl
 
   nodes_none : to ≤ from → nodes_for image root size from to ≡ raised_nodes root size to
@@ -180,44 +181,44 @@ module _ (image : Image) (root size from to : ℕ) (behind : size ≤ from) wher
   sums : (nodes first second spine_part tally_part raised need : ℕ) → nodes ≡ first + second → first + spine_part ≡ tally_part → second ≡ raised → need + spine_part ≡ tally_part + raised → nodes ≡ need
   sums nodes first second spine_part tally_part raised need a b c d = omega (arith, a, b, c, d)
 
-  up_to : height_of root ≤ height_with root size to → height_of root + (height_with root size to - height_of root) ≡ height_with root size to
+  up_to : height_of root ≤ tall → height_of root + (tall - height_of root) ≡ tall
   up_to order = omega (arith, order)
 
-  law_present : 0 < size → block_of root ≢ 0 → height_of root ≤ height_with root size to → length (nodes_for image root size from to) ≡ needs image root size from to (suc (height_with root size to))
+  law_present : 0 < size → block_of root ≢ 0 → height_of root ≤ tall → length (nodes_for image root size from to) ≡ needs image root size from to (suc tall)
   law_present some present order = go (cases_lt from to)
     where
-      raised_is : raised_sum (suc (height_with root size to)) ≡ idles from to (height_of root) (height_with root size to)
-      raised_is = raised_some some present (height_with root size to)
+      raised_is : raised_sum (suc tall) ≡ idles from to (height_of root) tall
+      raised_is = raised_some some present tall
 
-      go : (from < to) ⊎ (to ≤ from) → length (nodes_for image root size from to) ≡ needs image root size from to (suc (height_with root size to))
+      go : (from < to) ⊎ (to ≤ from) → length (nodes_for image root size from to) ≡ needs image root size from to (suc tall)
       go (inl wanted) =
-          let met_is = above_met wanted (height_with root size to - height_of root) in
-          let second : length (filter (λ (m : TreeNode). nat_le (span m.level) from) (raised_nodes root size to)) ≡ raised_sum (suc (height_with root size to)) =
+          let met_is = above_met wanted (tall - height_of root) in
+          let second : length (filter (λ (m : TreeNode). nat_le (span m.level) from) (raised_nodes root size to)) ≡ raised_sum (suc tall) =
           ap (λ ns. length (filter (λ (m : TreeNode). nat_le (span m.level) from) ns)) (raised_are some present) ∙ met_is ∙ ap (idles from to (height_of root)) (up_to order) ∙ sym raised_is in
-          sums _ _ _ _ _ _ _ (ap length (nodes_some wanted) ∙ length-append _ _) (at_levels (suc (height_with root size to)) wanted) second (needs_are (suc (height_with root size to)))
+          sums _ _ _ _ _ _ _ (ap length (nodes_some wanted) ∙ length-append _ _) (at_levels (suc tall) wanted) second (needs_are (suc tall))
       go (inr none) =
-          let second : length (nodes_for image root size from to) ≡ raised_sum (suc (height_with root size to)) =
-          ap length (nodes_none none ∙ raised_are some present) ∙ length-map-range_with_len (λ level. record { level = level; index = 0 }) (suc (height_of root)) (height_with root size to - height_of root)
-          ∙ sym (above_idle none (height_with root size to - height_of root)) ∙ ap (idles from to (height_of root)) (up_to order) ∙ sym raised_is in
-          idle_sums _ _ _ _ _ second (needs_are (suc (height_with root size to))) (spine_idle image root size from to (suc (height_with root size to)) none) (tally_none (suc (height_with root size to)) from to none)
+          let second : length (nodes_for image root size from to) ≡ raised_sum (suc tall) =
+          ap length (nodes_none none ∙ raised_are some present) ∙ length-map-range_with_len (λ level. record { level = level; index = 0 }) (suc (height_of root)) (tall - height_of root)
+          ∙ sym (above_idle none (tall - height_of root)) ∙ ap (idles from to (height_of root)) (up_to order) ∙ sym raised_is in
+          idle_sums _ _ _ _ _ second (needs_are (suc tall)) (spine_idle image root size from to (suc tall) none) (tally_none (suc tall) from to none)
         where
           idle_sums : (nodes raised need tally_part spine_part : ℕ) → nodes ≡ raised → need + spine_part ≡ tally_part + raised → spine_part ≡ 0 → tally_part ≡ 0 → nodes ≡ need
           idle_sums nodes raised need tally_part spine_part a b c d = omega (arith, a, b, c, d)
 
-  law_null : (size ≡ 0) ⊎ (block_of root ≡ 0) → length (nodes_for image root size from to) ≡ needs image root size from to (suc (height_with root size to))
+  law_null : (size ≡ 0) ⊎ (block_of root ≡ 0) → length (nodes_for image root size from to) ≡ needs image root size from to (suc tall)
   law_null null = go (cases_lt from to)
     where
-      raised_is : raised_sum (suc (height_with root size to)) ≡ 0
-      raised_is = raised_none null (suc (height_with root size to))
+      raised_is : raised_sum (suc tall) ≡ 0
+      raised_is = raised_none null (suc tall)
 
-      go : (from < to) ⊎ (to ≤ from) → length (nodes_for image root size from to) ≡ needs image root size from to (suc (height_with root size to))
+      go : (from < to) ⊎ (to ≤ from) → length (nodes_for image root size from to) ≡ needs image root size from to (suc tall)
       go (inl wanted) =
-          let second : length (filter (λ (m : TreeNode). nat_le (span m.level) from) (raised_nodes root size to)) ≡ raised_sum (suc (height_with root size to)) =
+          let second : length (filter (λ (m : TreeNode). nat_le (span m.level) from) (raised_nodes root size to)) ≡ raised_sum (suc tall) =
           ap (λ ns. length (filter (λ (m : TreeNode). nat_le (span m.level) from) ns)) (raised_are_none null) ∙ sym raised_is in
-          sums _ _ _ _ _ _ _ (ap length (nodes_some wanted) ∙ length-append _ _) (at_levels (suc (height_with root size to)) wanted) second (needs_are (suc (height_with root size to)))
+          sums _ _ _ _ _ _ _ (ap length (nodes_some wanted) ∙ length-append _ _) (at_levels (suc tall) wanted) second (needs_are (suc tall))
       go (inr none) =
-          let second : length (nodes_for image root size from to) ≡ raised_sum (suc (height_with root size to)) = ap length (nodes_none none ∙ raised_are_none null) ∙ sym raised_is in
-          idle_sums _ _ _ _ _ second (needs_are (suc (height_with root size to))) (spine_idle image root size from to (suc (height_with root size to)) none) (tally_none (suc (height_with root size to)) from to none)
+          let second : length (nodes_for image root size from to) ≡ raised_sum (suc tall) = ap length (nodes_none none ∙ raised_are_none null) ∙ sym raised_is in
+          idle_sums _ _ _ _ _ second (needs_are (suc tall)) (spine_idle image root size from to (suc tall) none) (tally_none (suc tall) from to none)
         where
           idle_sums : (nodes raised need tally_part spine_part : ℕ) → nodes ≡ raised → need + spine_part ≡ tally_part + raised → spine_part ≡ 0 → tally_part ≡ 0 → nodes ≡ need
           idle_sums nodes raised need tally_part spine_part a b c d = omega (arith, a, b, c, d)
@@ -237,27 +238,27 @@ module _ (image : Image) (root size from to : ℕ) (behind : size ≤ from) wher
       too_high : (a b : Bool) → (nat_le (suc (height_of root) + more) (height_of root) && a && b) ≡ false
       too_high a b = rw (lt-leb (suc (height_of root) + more) (height_of root) (omega arith)) refl
 
-  pub taken_present : 0 < size → block_of root ≢ 0 → height_of root ≤ height_with root size to → to ≤ span (height_with root size to) →
-      length (nodes_for image root size from to) + spine image root size from to (suc (height_of root)) ≡ edge from to (height_with root size to) + idles from to (height_of root) (height_with root size to)
+  pub taken_present : 0 < size → block_of root ≢ 0 → height_of root ≤ tall → to ≤ span tall →
+      length (nodes_for image root size from to) + spine image root size from to (suc (height_of root)) ≡ edge from to tall + idles from to (height_of root) tall
   taken_present some present order fits =
       let law = law_present some present order in
-      let are = needs_are (suc (height_with root size to)) in
-      let raised_is = raised_some some present (height_with root size to) in
-      let e : suc (height_of root) + (height_with root size to - height_of root) ≡ suc (height_with root size to) = omega (arith, order) in
-      let above = sym (ap (spine image root size from to) e) ∙ spine_above (height_with root size to - height_of root) in
-      let high : min to (span (height_with root size to)) ≡ to = omega (arith, fits) in
+      let are = needs_are (suc tall) in
+      let raised_is = raised_some some present tall in
+      let e : suc (height_of root) + (tall - height_of root) ≡ suc tall = omega (arith, order) in
+      let above = sym (ap (spine image root size from to) e) ∙ spine_above (tall - height_of root) in
+      let high : min to (span tall) ≡ to = omega (arith, fits) in
       rw high (all_sums _ _ _ _ _ _ _ law are raised_is above)
     where
       all_sums : (nodes need spine_all tally_all raised idle_all spine_low : ℕ) → nodes ≡ need → need + spine_all ≡ tally_all + raised → raised ≡ idle_all → spine_all ≡ spine_low → nodes + spine_low ≡ tally_all + idle_all
       all_sums nodes need spine_all tally_all raised idle_all spine_low a b c d = omega (arith, a, b, c, d)
 
-  pub taken_null : (size ≡ 0) ⊎ (block_of root ≡ 0) → to ≤ span (height_with root size to) → length (nodes_for image root size from to) ≡ edge from to (height_with root size to)
+  pub taken_null : (size ≡ 0) ⊎ (block_of root ≡ 0) → to ≤ span tall → length (nodes_for image root size from to) ≡ edge from to tall
   taken_null null fits =
       let law = law_null null in
-      let are = needs_are (suc (height_with root size to)) in
-      let raised_is = raised_none null (suc (height_with root size to)) in
-      let high : min to (span (height_with root size to)) ≡ to = omega (arith, fits) in
-      rw high (all_sums _ _ _ _ _ law are raised_is (no_spine null (suc (height_with root size to))))
+      let are = needs_are (suc tall) in
+      let raised_is = raised_none null (suc tall) in
+      let high : min to (span tall) ≡ to = omega (arith, fits) in
+      rw high (all_sums _ _ _ _ _ law are raised_is (no_spine null (suc tall)))
     where
       no_spine : (size ≡ 0) ⊎ (block_of root ≡ 0) → (levels : ℕ) → spine image root size from to levels ≡ 0
       no_spine null zero = refl

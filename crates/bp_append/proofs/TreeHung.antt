@@ -60,22 +60,22 @@ module _ {kept : ℕ → Bool} {first new : Memory} {free_old free_new : List �
     level = hangs.live.level
 
     abbrev begins : ℕ
-    begins = hangs.index * span hangs.live.level
+    begins = hangs.index * span level
 
     abbrev part : ℕ
-    part = min (to - hangs.index * span hangs.live.level) (span hangs.live.level)
+    part = min (to - begins) (span level)
 
     abbrev made : ℕ → ℕ
-    made = given_at from raw (hangs.index * span hangs.live.level)
+    made = given_at from raw begins
 
     abbrev Late : Type 0
-    Late = from ≤ hangs.index * span hangs.live.level
+    Late = from ≤ begins
 
     abbrev block : ℕ
     block = block_of pointer
 
     abbrev root_now : ℕ
-    root_now = root_of (current_words grows.between) t
+    root_now = root_of middle t
 
     -- the node gets a pointer to bytes that are wanted, so it has the byte at the size
     pub hung_loose : kept (hung_place / 512) ≡ false
@@ -91,7 +91,7 @@ module _ {kept : ℕ → Bool} {first new : Memory} {free_old free_new : List �
         let row : node old root hangs.depth (hangs.index / 512) ≡ hung_place / 512 = omega (arith, hangs.at) in
         subst (λ b. kept b ≡ false) row (can.loose.nodes hangs.depth (hangs.index / 512) parent hangs.present high)
 
-    pub pointer_is : 4096 * block_of pointer ≡ pointer
+    pub pointer_is : 4096 * block ≡ pointer
     pointer_is = omega (arith, hangs.bits)
 
     nodes_same : (d k : ℕ) → IsLivePointer root size d k → node middle root_now d k ≡ node old root d k
@@ -104,7 +104,7 @@ module _ {kept : ℕ → Bool} {first new : Memory} {free_old free_new : List �
     low_level : level ≤ max_height
     low_level = let low = (can.well.sound t can.reached).low ready.some in omega (arith, hangs.live.height, low)
 
-    built_there : IsBuilt middle (4096 * block_of pointer + level) part made (Has hangs.below) Late
+    built_there : IsBuilt middle (4096 * block + level) part made (Has hangs.below) Late
     built_there = subst (λ p. IsBuilt middle (p + level) part made (Has hangs.below) Late) (sym pointer_is) hangs.built
 
     below_free : Each (λ b. IsLiveBlock middle b → ⊥) hangs.below
@@ -145,9 +145,9 @@ module _ {kept : ℕ → Bool} {first new : Memory} {free_old free_new : List �
         each-of _ grows.chain (λ c m e. apart_parts grows.visited grows.raised b apart mine (subst (Has grows.raised) e (grows.inside c m)))
 
     abbrev hung_image : Image
-    hung_image = set middle hung_place (4096 * block_of pointer)
+    hung_image = set middle hung_place (4096 * block)
 
-    pub any_both : AnyOf Same middle middle ((hung_place, 4096 * block_of pointer) ∷ (place, raised_by root_now grows.chain) ∷ [])
+    pub any_both : AnyOf Same middle middle ((hung_place, 4096 * block) ∷ (place, raised_by root_now grows.chain) ∷ [])
     any_both = two.any_two_links middle (well ready) t hangs.depth hangs.index hung_place block hang grows.chain (chain_there ready) not_chain place (place_there ready)
 
     pub ready_hung : HasRootReady old hung_image t place (raised_by root_now grows.chain)

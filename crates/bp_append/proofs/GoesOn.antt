@@ -5,9 +5,9 @@ use Rattle.bp_layout.proofs.MemberLaws.{has-behind, has-front}
 use Rattle.bp_layout.specs.Words.{Image, block_of}
 use Rattle.bp_layout.specs.Tree.{byte, span, HasBlock, IsFull}
 use Rattle.bp_layout.specs.Members.{Has}
-use Rattle.bp_layout.specs.Pieces.{piece, child, HasChildren, Joins}
+use Rattle.bp_layout.specs.Pieces.{piece, child}
 use Rattle.bp_layout.specs.Stores.{after_stores}
-use Rattle.bp_layout.proofs.Pieces.{child_block, splits, sound_shape}
+use Rattle.bp_layout.proofs.Pieces.{child_block}
 use Rattle.pm_region.specs.Memory.{Memory, current_words}
 use Rattle.pm_region.proofs.MayLaws.{may_frame}
 use Rattle.bp_append.specs.Given.{given_at}
@@ -17,7 +17,7 @@ use Rattle.bp_append.specs.Visited.{CanVisit, IsLast, VisitsSlot}
 use Rattle.bp_append.proofs.TallyLaws.{span-positive}
 use Rattle.bp_append.proofs.ChildrenLaws.{children_before}
 use Rattle.bp_append.proofs.FillLaws.{may_length, apart_parts, block_row}
-use Rattle.bp_append.proofs.VisitLaws.{slot_views, beside, whole_links, inside_slot, piece_is, kid_block, kid_own, block_taken}
+use Rattle.bp_append.proofs.VisitLaws.{slot_views, top_number, shape, present, parts, beside, whole_links, inside_slot, piece_is, kid_block, kid_own, block_taken}
 
 -- Going down through the last slot of a node, and filling it behind the slot: what each asks for and gives.
 pub record GoesOn (old middle new : Memory) (free_old free_middle free_new : List ℕ) (root size below start block slot from to : ℕ) (raw : List ℕ)
@@ -131,21 +131,6 @@ module _ {old middle new : Memory} {free_old free_middle free_new : List ℕ} {r
 
   -- ---- the slots before it
 
-  top_number : block_of top ≡ block
-  top_number = omega (arith, can.low)
-
-  some_size : 0 < size - start
-  some_size = omega (arith, can.begun)
-
-  inside : slot * span below < size - start
-  inside = inside_slot can last
-
-  shape : HasChildren was top (size - start) below
-  shape = sound_shape was top (size - start) below can.sound some_size (omega (arith, can.low))
-
-  present : block_of top ≢ 0
-  present e = omega (arith, e, top_number, can.some_block)
-
   abbrev EarlyChildren : ℕ → Type 0
   EarlyChildren b =
       Children was b below length_to (λ c. c < slot) (byte was top) (InSlot was b below (size - start) (λ c. c < slot)) (IsFull was top (size - start))
@@ -153,7 +138,8 @@ module _ {old middle new : Memory} {free_old free_middle free_new : List ℕ} {r
   pub sound_before : EarlyChildren block
   sound_before =
       let fits : size - start ≤ length_to = omega (arith, can.order, can.inside) in
-      subst EarlyChildren top_number (children_before was top (size - start) below slot length_to can.sound (omega (arith, can.low)) present inside fits)
+      subst EarlyChildren (top_number can last)
+      (children_before was top (size - start) below slot length_to can.sound (omega (arith, can.low)) (present can last) (inside_slot can last) fits)
 
   -- the blocks in a slot
   abbrev In_slot : ℕ → ℕ → Type 0
@@ -167,19 +153,16 @@ module _ {old middle new : Memory} {free_old free_middle free_new : List ℕ} {r
 
   pub early : (x : ℕ) → InSlot was block below (size - start) (λ c. c < slot) x → Early x
   early x found = record {
-    old_block = child_block was top (size - start) below shape found.slot x found.below has_found;
-    not_top = λ e. parts.own found.slot found.below (subst (In_slot found.slot) (e ∙ sym top_number) has_found);
+    old_block = child_block was top (size - start) below (shape can last) found.slot x found.below has_found;
+    not_top = λ e. (parts can last).own found.slot found.below (subst (In_slot found.slot) (e ∙ sym (top_number can last)) has_found);
     not_kid = λ has.
-        let in_slot = subst₂ (λ b z. HasBlock was (child was b below slot) z x) (sym top_number) (sym (piece_is can last)) has in
-        let same : found.slot ≡ slot = parts.apart found.slot slot x found.below inside has_found in_slot in
+        let in_slot = subst₂ (λ b z. HasBlock was (child was b below slot) z x) (sym (top_number can last)) (sym (piece_is can last)) has in
+        let same : found.slot ≡ slot = (parts can last).apart found.slot slot x found.below (inside_slot can last) has_found in_slot in
         omega (arith, same, found.at);
   }
     where
-      parts : Joins was top (size - start) below
-      parts = splits was top (size - start) below shape can.sound some_size present
-
       has_found : In_slot found.slot x
-      has_found = rw (← top_number) at found.has
+      has_found = rw (← top_number can last) at found.has
 
   pub now_length : length now ≡ length was
   now_length = whole_links links later ∙ whole_second ∙ whole_first

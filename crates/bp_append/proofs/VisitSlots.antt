@@ -1,12 +1,12 @@
 -- The slots of a node whose last slot was gone through and that is filled behind it.
 use Rattle.std.proofs.Common.{◌≡◌, ◌≢◌, ◌⊎◌, ℕ, ◌+◌, ◌-◌, ◌*◌, ◌<◌, ◌≤◌, min, List, refl, sym, ◌∙◌, ap, subst, subst₂, arith, inl, inr, mul-le-mul_right, lt_of_mul-lt-mul_right}
 use Rattle.std.proofs.lemmas.Bool.{cases_lt}
-use Rattle.bp_layout.specs.Words.{Image, block_of, slot_word}
+use Rattle.bp_layout.specs.Words.{Image, slot_word}
 use Rattle.bp_layout.specs.Tree.{byte, span, IsFull}
 use Rattle.bp_layout.specs.Members.{Has}
 use Rattle.bp_layout.specs.Pieces.{piece, child}
 use Rattle.bp_layout.specs.Stores.{after_stores}
-use Rattle.bp_layout.proofs.Pieces.{joined_byte, sound_shape}
+use Rattle.bp_layout.proofs.Pieces.{joined_byte}
 use Rattle.pm_region.specs.Memory.{Memory}
 use Rattle.bp_append.specs.Given.{given, given_at}
 use Rattle.bp_append.specs.Built.{IsBuilt, InSlot, Children}
@@ -14,7 +14,7 @@ use Rattle.bp_append.specs.Visited.{extended}
 use Rattle.bp_append.proofs.TallyLaws.{span-suc, span-positive}
 use Rattle.bp_append.proofs.ChildrenLaws.{built_kept, built_as, children_one, children_as, children_kept, children_bytes}
 use Rattle.bp_append.proofs.FillLaws.{slot_framed}
-use Rattle.bp_append.proofs.VisitLaws.{slot_views, ends, whole_links, alike, inside_slot, piece_is, kid_full, top_block}
+use Rattle.bp_append.proofs.VisitLaws.{slot_views, top_number, shape, ends, whole_links, alike, inside_slot, piece_is, kid_full, top_block}
 use Rattle.bp_append.proofs.VisitDone.{extended_old, extended_new}
 use Rattle.bp_append.proofs.GoesOn.{GoesOn, views, Has_kid, early, length_to, now, sound_before, not_free, in_first, in_second, apart_taken, block_free, kid_in, own, behind_slot, same_second, same_links, whole_second, now_length, from_old}
 
@@ -115,11 +115,9 @@ module _ {old middle new : Memory} {free_old free_middle free_new : List ℕ} {r
 
       same_byte : (i : ℕ) → (begin + i < size) ⊎ (size ≤ begin + i) → extended was kid size from raw begin i ≡ now_bytes (slot * span below + i)
       same_byte i (inl low) =
-          let top_number : block_of top ≡ block = omega (arith, can.low) in
-          let shape = sound_shape was top (size - start) below can.sound (omega (arith, can.begun)) (omega (arith, can.low)) in
-          let joined = joined_byte was top (size - start) below shape slot i (inside_slot can last) (rw (piece_is can last) (omega (arith, low))) in
+          let joined = joined_byte was top (size - start) below (shape can last) slot i (inside_slot can last) (rw (piece_is can last) (omega (arith, low))) in
           extended_old was kid size from raw begin i low
-          ∙ ap (λ b. byte was (child was b below slot) i) (sym top_number)
+          ∙ ap (λ b. byte was (child was b below slot) i) (sym (top_number can last))
           ∙ sym joined
           ∙ old_bytes (slot * span below + i) (omega (arith, low))
       same_byte i (inr over) =

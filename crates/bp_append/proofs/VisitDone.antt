@@ -53,6 +53,9 @@ module _ {old : Memory} {free_old : List ℕ} {root size below start block slot 
     (can : CanVisit old free_old root size (suc below) start block from to) (last : IsLast size below start slot) (raw : List ℕ) where
   open (slot_views can last) use {was, begin, low, number, kid}
 
+  place_block : (512 * block + slot) / 512 ≡ block
+  place_block = block_row block slot last.few
+
   -- ---- down through a pointer
 
   pub slot_of_visit : (new : Memory) (free_new : List ℕ) (links : List (ℕ × ℕ)) → Visits old new free_old free_new root size below begin number from to raw links →
@@ -80,9 +83,6 @@ module _ {old : Memory} {free_old : List ℕ} {root size below start block slot 
       block_free : Has free_old block → ⊥
       block_free = block_taken can last
 
-      place_block : (512 * block + slot) / 512 ≡ block
-      place_block = block_row block slot last.few
-
       not_part : HasBlock was (4096 * number + below) (size - begin) ((512 * block + slot) / 512) → ⊥
       not_part has = kid_own can last (in_kid block (subst (HasBlock was (4096 * number + below) (size - begin)) place_block has))
 
@@ -94,10 +94,14 @@ module _ {old : Memory} {free_old : List ℕ} {root size below start block slot 
 
   -- ---- at a null
 
+  -- no pointer is made, or one to given bytes waits
+  abbrev Waits : ℕ → List (ℕ × ℕ) → Type 0
+  Waits pointer links = ((pointer ≡ 0) × (links ≡ [])) ⊎ ((links ≡ (512 * block + slot, pointer) ∷ []) × (from < low))
+
   pub slot_of_make : (new : Memory) (free_new : List ℕ) (pointer : ℕ) (links : List (ℕ × ℕ)) → number ≡ 0 →
       Builds old new free_old free_new pointer below (min (to - begin) (span below)) (given_at from raw begin) (from ≤ begin)
       (tally (suc below) (max from begin) (min to low)) →
-      (((pointer ≡ 0) × (links ≡ [])) ⊎ ((links ≡ (512 * block + slot, pointer) ∷ []) × (from < low))) → VisitsSlot old new free_old free_new root size below start block slot from to raw links
+      Waits pointer links → VisitsSlot old new free_old free_new root size below start block slot from to raw links
   slot_of_make new free_new pointer links null built which = record {
     taken = built.taken;
     takes = built.takes;
@@ -126,10 +130,7 @@ module _ {old : Memory} {free_old : List ℕ} {root size below start block slot 
       word_null : slot_word was block slot ≡ 0
       word_null = let bits = word_bits can last in omega (arith, bits, null)
 
-      place_block : (512 * block + slot) / 512 ≡ block
-      place_block = block_row block slot last.few
-
-      other : (((pointer ≡ 0) × (links ≡ [])) ⊎ ((links ≡ (512 * block + slot, pointer) ∷ []) × (from < low))) → (p : ℕ) → p ≢ 512 * block + slot → get_or (after_stores (current_words new) links) p 0 ≡ get_or (current_words new) p 0
+      other : Waits pointer links → (p : ℕ) → p ≢ 512 * block + slot → get_or (after_stores (current_words new) links) p 0 ≡ get_or (current_words new) p 0
       other (inl both) p out = rw both.1 refl
       other (inr link) p out = rw link.0 (get_or-set_other (current_words new) (512 * block + slot) p pointer 0 out)
 
@@ -142,7 +143,7 @@ module _ {old : Memory} {free_old : List ℕ} {root size below start block slot 
       here : slot_word (after_stores (current_words new) links) block slot ≡ pointer
       here = slot_word-at (after_stores (current_words new) links) block slot (λ e. omega (arith, e, can.some_block)) ∙ go which
         where
-          go : (((pointer ≡ 0) × (links ≡ [])) ⊎ ((links ≡ (512 * block + slot, pointer) ∷ []) × (from < low))) → get_or (after_stores (current_words new) links) (512 * block + slot) 0 ≡ pointer
+          go : Waits pointer links → get_or (after_stores (current_words new) links) (512 * block + slot) 0 ≡ pointer
           go (inl both) = rw both.1
               (may_frame _ 0 _ old new built.stores.part (512 * block + slot) (λ v m. not_block block (subst (Has built.taken) place_block m) refl)
               ∙ sym (slot_word-at was block slot (λ e. omega (arith, e, can.some_block))) ∙ word_null ∙ sym both.0)
@@ -185,7 +186,7 @@ module _ {old : Memory} {free_old : List ℕ} {root size below start block slot 
             built = subst (λ o. IsBuilt (current_words new) (pointer + below) (min (to - o) (span below)) (given_at from raw o) (Has built.taken) (from ≤ o)) aligned built.tree;
           }
 
-      hung : (((pointer ≡ 0) × (links ≡ [])) ⊎ ((links ≡ (512 * block + slot, pointer) ∷ []) × (from < low))) → AreHung was (current_words new) root size from to raw built.taken
+      hung : Waits pointer links → AreHung was (current_words new) root size from to raw built.taken
           (λ place. HasBlock was kid (size - begin) (place / 512) ⊎ (place ≡ 512 * block + slot)) links
       hung (inl both) = no_link both.1
       hung (inr link) = one_link (512 * block + slot) pointer link.0 (hangs link.1) (inr refl)

@@ -16,7 +16,7 @@ use Rattle.bp_changes.proofs.ReachedOn.{reached_on, meaning_on}
 use Rattle.bp_shapes.proofs.Reshape as reshape
 use Rattle.bp_shapes.proofs.NullLink as null_link
 use Rattle.pm_epochs.specs.May.{AnyOf}
-use Rattle.pm_region.specs.Memory.{Memory, current_words}
+use Rattle.pm_region.specs.Memory.{Memory}
 use Rattle.bp_append.specs.Built.{IsBuilt}
 use Rattle.bp_append.proofs.LaidLaws.{given-before}
 use Rattle.bp_append.proofs.FillLaws.{apart_left, apart_parts}

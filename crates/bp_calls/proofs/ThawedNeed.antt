@@ -1,9 +1,12 @@
--- What a change that takes blocks of its own has behind its thaw: the blocks and the room that it needs, told of the image then.
-use Rattle.std.proofs.Common.{◌≡◌, ◌+◌, ◌≤◌, ℕ, List, length, sym, ◌∙◌, subst, arith}
+-- A change before which kept blocks are thawed: what is known of it then, and the blocks and the room that it has behind the thaw.
+use Rattle.std.proofs.Common.{◌≡◌, ℕ, ◌+◌, ◌<◌, ◌≤◌, List, length, refl, sym, ◌∙◌, subst, arith}
 use Rattle.bp_calls.specs.Mounted.{IsMounted}
 use Rattle.bp_calls.specs.Space.{HasRoomThawed, HasRoomWhereFree, LacksBlocks, LacksSpace}
-use Rattle.bp_calls.specs.ThawsFor.{ThawsFor, thaw_count}
-use Rattle.bp_calls.proofs.ThawedRoom.{enough_left, lacks_all, nothing, room_left, room_unthawed, unthawed}
+use Rattle.bp_calls.specs.ThawedFor.{AreThawedFor}
+use Rattle.bp_calls.specs.ThawsFor.{HasRoomToThaw, LacksBlocksToThaw, ThawsBefore, ThawsFor, thaw_count}
+use Rattle.bp_calls.proofs.FreeCounts.{free_members}
+use Rattle.bp_calls.proofs.ThawedParts.{thawed_clear}
+use Rattle.bp_calls.proofs.ThawedRoom.{enough_left, lacks_all, nothing, room_left, room_to_thaw, room_unthawed, unthawed}
 use Rattle.bp_changes.proofs.ShapeLaws.{IsOfReached, need-shape}
 use Rattle.bp_commit.specs.Performs.{room_for}
 use Rattle.bp_free.specs.Set.{members}
@@ -18,41 +21,107 @@ use Rattle.bp_shapes.specs.Sets.{kept_of}
 use Rattle.bp_thaw.specs.Fronts.{IsWayIn}
 use Rattle.pm_region.specs.Memory.{Memory, current_words, room_in}
 
-module _ {R : Type 0} (memory : R → Memory) (change : Change) (more : ℕ) (old : Parts R) (needs : need (current_words (memory old.region)) change ≡ more) (room : HasRoomWhereFree (memory old.region) (kept_of old) old.blocks change)
-    (mounted : IsMounted (current_words (memory old.region)) old) (of : IsOfReached (current_words (memory old.region)) change) where
+module _ {R : Type 0} (memory : R → Memory) (change : Change) (more : ℕ) (old : Parts R) (needs : need (current_words (memory old.region)) change ≡ more)
+    (room : HasRoomWhereFree (memory old.region) (kept_of old) old.blocks change) (mounted : IsMounted (current_words (memory old.region)) old)
+    (of : IsOfReached (current_words (memory old.region)) change) (new : Parts R) (done : ThawsBefore memory old new change)
+    (enough : thaw_count memory (targets (current_words (memory old.region)) change) old + more ≤ length (members old.blocks)) where
+  -- the change takes as many blocks as before the thaw
+  same_need : need (current_words (memory new.region)) change ≡ more
+  same_need = need-shape (current_words (memory old.region)) (current_words (memory new.region)) mounted.well_formed done.thaws.shape change of ∙ needs
+
+  -- the log has room for it
+  pub has_room : HasRoomThawed (memory new.region) new.blocks change
+  has_room _ =
+      subst (λ n. room_for n ≤ room_in (memory new.region) + 2) (sym same_need) (room_left memory change more old needs room mounted of new done enough)
+
+  -- and enough blocks are free
+  pub has_enough : need (current_words (memory new.region)) change ≤ length (members new.blocks)
+  has_enough = subst (λ n. n ≤ length (members new.blocks)) (sym same_need) (enough_left memory change more old needs room mounted of new done enough)
+
+-- the change may be made over these parts, and takes `more` blocks besides those that are thawed
+pub record IsPlanned {R : Type 0} (memory : R → Memory) (change : Change) (more : ℕ) (old : Parts R) : Type 0 where
+  pub mounted : IsMounted (current_words (memory old.region)) old
+  pub reached : IsOfReached (current_words (memory old.region)) change
+  pub leads : (path : WordPath) → Has (targets (current_words (memory old.region)) change) path → IsWayIn (current_words (memory old.region)) path
+  pub needs : need (current_words (memory old.region)) change ≡ more
+  pub room : HasRoomWhereFree (memory old.region) (kept_of old) old.blocks change
+
+module _ {R : Type 0} {memory : R → Memory} {change : Change} {more : ℕ} {old : Parts R} (plan : IsPlanned memory change more old) where
   abbrev image : Image
   image = current_words (memory old.region)
 
-  abbrev ways : List WordPath
-  ways = targets image change
+  -- ## Over ways that are those to its targets
 
-  module _ (new : Parts R) (done : ThawsFor memory (targets (current_words (memory old.region)) change) old new) (enough : thaw_count memory (targets (current_words (memory old.region)) change) old + more ≤ length (members old.blocks)) where
-    same : need (current_words (memory new.region)) change ≡ more
-    same = need-shape image (current_words (memory new.region)) mounted.well_formed done.thaws.shape change of ∙ needs
+  module _ {ways : List WordPath} (are : ways ≡ targets image change) where
+    -- each of them leads in
+    pub leads_in : (path : WordPath) → Has ways path → IsWayIn image path
+    leads_in path found = plan.leads path (subst (λ (ps : List WordPath). Has ps path) are found)
 
-    pub has_room : HasRoomThawed (memory new.region) new.blocks change
-    has_room _ = subst (λ n. room_for n ≤ room_in (memory new.region) + 2) (sym same) (room_left memory change more old needs room mounted of new done enough)
+    -- the log has room for the thaw and the change
+    pub room_for_both : HasRoomToThaw memory ways old more
+    room_for_both =
+        subst (λ (ps : List WordPath). HasRoomToThaw memory ps old more) (sym are) (room_to_thaw memory change more old plan.needs plan.room)
 
-    pub has_enough : need (current_words (memory new.region)) change ≤ length (members new.blocks)
-    has_enough = subst (λ n. n ≤ length (members new.blocks)) (sym same) (enough_left memory change more old needs room mounted of new done enough)
+    -- where both take more blocks than are free, the change lacks space
+    pub lacks_both : (lacks : NoSpace) → LacksBlocksToThaw memory ways old more lacks → LacksSpace image (kept_of old) change lacks
+    lacks_both lacks has =
+        lacks_all memory change more old plan.needs plan.room lacks
+        (subst (λ (ps : List WordPath). LacksBlocksToThaw memory ps old more lacks) are has)
 
-  -- where nothing is kept
+    module _ {new : Parts R} (thaws : ThawsFor memory ways old new) where
+      -- the thaw is the change's
+      pub thaws_before : ThawsBefore memory old new change
+      thaws_before = subst (λ (ps : List WordPath). ThawsFor memory ps old new) are thaws
+
+      module _ (enough : thaw_count memory ways old + more ≤ length (members old.blocks)) where
+        -- as many blocks were free as both take
+        free_for_both : thaw_count memory (targets image change) old + more ≤ length (members old.blocks)
+        free_for_both = subst (λ (ps : List WordPath). thaw_count memory ps old + more ≤ length (members old.blocks)) are enough
+
+        -- so the log has room for the change
+        pub room_behind : room_for more ≤ room_in (memory new.region) + 2
+        room_behind = room_left memory change more old plan.needs plan.room plan.mounted plan.reached new thaws_before free_for_both
+
+        -- enough blocks are free for it
+        pub enough_behind : more ≤ length (members new.blocks)
+        enough_behind = enough_left memory change more old plan.needs plan.room plan.mounted plan.reached new thaws_before free_for_both
+
+        -- and nothing is left to thaw
+        pub ready_behind : AreThawedFor memory new change
+        ready_behind =
+            let enough = has_enough memory change more old plan.needs plan.room plan.mounted plan.reached new thaws_before free_for_both in
+            record {
+              clear = thawed_clear memory change old new plan.mounted plan.reached thaws_before;
+              enough = enough;
+              room = has_room memory change more old plan.needs plan.room plan.mounted plan.reached new thaws_before free_for_both enough;
+            }
+
+  -- ## Where no block is kept
+
   module _ (none : length (members old.frozen) ≡ 0) where
-    pub unthawed_room : more ≤ length (members old.blocks) → HasRoomThawed (memory old.region) old.blocks change
-    unthawed_room enough = λ _.
-        let some = room_unthawed memory change more old needs room mounted of none enough in
-        subst (λ n. room_for n ≤ room_in (memory old.region) + 2) (sym needs) (omega (arith, some))
+    nothing_thawed : thaw_count memory (targets image change) old ≡ 0
+    nothing_thawed = nothing memory change more old plan.needs plan.room plan.mounted plan.reached none
 
-    pub unthawed_enough : more ≤ length (members old.blocks) → need (current_words (memory old.region)) change ≤ length (members old.blocks)
-    unthawed_enough enough = subst (λ n. n ≤ length (members old.blocks)) (sym needs) enough
+    -- the change lacks space where it takes more blocks than are free
+    pub lacks_unthawed : (lacks : NoSpace) → LacksBlocks image (kept_of old) more lacks → LacksSpace image (kept_of old) change lacks
+    lacks_unthawed lacks has = lacks_both refl lacks (record { needed = omega (arith, nothing_thawed, has.needed); free = has.free; fewer = has.fewer })
 
-    pub unthawed_ways : ((path : WordPath) → Has (targets (current_words (memory old.region)) change) path → IsWayIn (current_words (memory old.region)) path) → more ≤ length (members old.blocks) →
-        ThawsFor memory (targets (current_words (memory old.region)) change) old old
-    unthawed_ways are enough =
-        let some = room_unthawed memory change more old needs room mounted of none enough in
-        unthawed memory change more old needs room mounted of none are (omega (arith, some))
+    -- the same of a number of free blocks
+    pub few_unthawed : (free : ℕ) → free ≡ length (members old.blocks) → free < more
+        → LacksSpace image (kept_of old) change (record { need = more; free = free })
+    few_unthawed free is fewer =
+        let sets = plan.mounted.exact.sets in
+        lacks_unthawed (record { need = more; free = free })
+        (record { needed = refl; free = rw is (free_members image (kept_of old) old.blocks sets.free_blocks sets.block_room); fewer = fewer })
 
-    pub lacks_unthawed : (lacks : NoSpace) → LacksBlocks (current_words (memory old.region)) (kept_of old) more lacks → LacksSpace (current_words (memory old.region)) (kept_of old) change lacks
-    lacks_unthawed lacks has =
-        let all : more ≡ thaw_count memory ways old + more = omega (arith, nothing memory change more old needs room mounted of none) in
-        lacks_all memory change more old needs room lacks (subst (λ n. LacksBlocks image (kept_of old) n lacks) all has)
+    module _ (enough : more ≤ length (members old.blocks)) where
+      -- and else the log has room for it
+      pub room_unkept : room_for more ≤ room_in (memory old.region)
+      room_unkept = room_unthawed memory change more old plan.needs plan.room plan.mounted plan.reached none enough
+
+      -- nothing has to be thawed before it
+      pub thaws_unthawed : ThawsBefore memory old old change
+      thaws_unthawed = unthawed memory change more old plan.needs plan.room plan.mounted plan.reached none plan.leads (omega (arith, room_unkept))
+
+      pub ready_unthawed : AreThawedFor memory old change
+      ready_unthawed = ready_behind refl thaws_unthawed (omega (arith, nothing_thawed, enough))

@@ -1,67 +1,52 @@
-use Rattle.std.proofs.Common.{◌≡◌, ◌+◌, ◌≤◌, List, length, sym, ◌∙◌, subst, arith}
+use Rattle.std.proofs.Common.{sym, ◌∙◌, arith}
 use Rattle.bp_layout.specs.Directory.{inumber_at}
-use Rattle.bp_layout.specs.Members.{Has}
-use Rattle.bp_layout.specs.Need.{need}
 use Rattle.bp_layout.specs.Need.Change.{leaves}
-use Rattle.bp_layout.specs.WordPaths.{WordPath}
-use Rattle.bp_free.specs.Set.{members}
-use Rattle.bp_shapes.specs.Sets.{kept_of}
-use Rattle.bp_calls.specs.Space.{LacksBlocks}
-use Rattle.bp_calls.specs.ThawsFor.{HasRoomToThaw, ThawsFor, thaw_count}
 use Rattle.pm_region.specs.Memory.{current_words}
 use Rattle.bp_calls.proofs.CommitResults.{by_one, ok_both}
 use Rattle.bp_calls.proofs.Leaving.{none_leaving}
 use Rattle.bp_calls.proofs.TargetPaths.{leaving_ways}
-use Rattle.bp_calls.proofs.ThawedRoom.{lacks_all, room_left, room_to_thaw, room_unthawed, unthawed}
+use Rattle.bp_calls.proofs.ThawedNeed.{IsPlanned, lacks_both, leads_in, room_behind, room_for_both, room_unkept, thaws_unthawed}
+use Rattle.bp_calls.proofs.removing.thaw_entry.Given.{Over}
+use Rattle.bp_calls.proofs.removing.thaw_entry.Goals.{Start}
 use Rattle.bp_calls.proofs.removing.thaw_entry.Goals as goal
+
+-- the name may leave, and takes no block
+plan : (g : Over) (c : Start g) → IsPlanned g.R.Region.memory (leaves c.args.dir c.args.slot) 0 c.args.parts.now
+plan g c =
+    let image = current_words (g.R.Region.memory c.args.parts.now.region) in
+    let named = inumber_at image c.args.dir c.args.slot in
+    let can = c.requires.can in
+    record {
+      mounted = c.requires.mounted;
+      reached = can.reached;
+      leads = leaving_ways image c.requires.mounted.well_formed c.args.dir c.args.slot named can;
+      needs = none_leaving image c.requires.mounted.well_formed c.args.dir c.args.slot named can.reached can.entry;
+      room = c.requires.room;
+    }
 
 pub returns-then-count-eq0-clause-thaws : goal.returns-then-count-eq0-clause-thaws
 returns-then-count-eq0-clause-thaws g c =
-    let image = current_words (g.R.Region.memory c.args.parts.now.region) in
-    let change = leaves c.args.dir c.args.slot in
-    let needs : need image change ≡ 0 = none_leaving image c.requires.mounted.well_formed c.args.dir c.args.slot (inumber_at image c.args.dir c.args.slot) c.requires.can.reached c.requires.can.entry in
-    let none = sym c.count.ensures ∙ c.if-count-eq0.true in
-    let some = room_unthawed g.R.Region.memory change 0 c.args.parts.now needs c.requires.room c.requires.mounted c.requires.can.reached none (omega arith) in
-    unthawed g.R.Region.memory change 0 c.args.parts.now needs c.requires.room c.requires.mounted c.requires.can.reached none
-    (leaving_ways image c.requires.mounted.well_formed c.args.dir c.args.slot (inumber_at image c.args.dir c.args.slot) c.requires.can) (omega (arith, some))
+    thaws_unthawed (plan g (goal.at.returns-then-count-eq0-clause-thaws g c).Start) (sym c.count.ensures ∙ c.if-count-eq0.true) (omega arith)
 
 pub returns-then-count-eq0-clause-room : goal.returns-then-count-eq0-clause-room
 returns-then-count-eq0-clause-room g c =
-    let image = current_words (g.R.Region.memory c.args.parts.now.region) in
-    let change = leaves c.args.dir c.args.slot in
-    let needs : need image change ≡ 0 = none_leaving image c.requires.mounted.well_formed c.args.dir c.args.slot (inumber_at image c.args.dir c.args.slot) c.requires.can.reached c.requires.can.entry in
-    let some = room_unthawed g.R.Region.memory change 0 c.args.parts.now needs c.requires.room c.requires.mounted c.requires.can.reached (sym c.count.ensures ∙ c.if-count-eq0.true) (omega arith) in
-    omega (arith, some)
+    let planned = plan g (goal.at.returns-then-count-eq0-clause-room g c).Start in
+    let room = room_unkept planned (sym c.count.ensures ∙ c.if-count-eq0.true) (omega arith) in
+    omega (arith, room)
 
 pub thaw_before-requires-clause-ways : goal.thaw_before-requires-clause-ways
-thaw_before-requires-clause-ways g c =
-    let image = current_words (g.R.Region.memory c.args.parts.now.region) in
-    λ path has. leaving_ways image c.requires.mounted.well_formed c.args.dir c.args.slot (inumber_at image c.args.dir c.args.slot) c.requires.can path (subst (λ (ps : List WordPath). Has ps path) c.leaving-targets.ensures has)
+thaw_before-requires-clause-ways g c = leads_in (plan g (goal.at.thaw_before-requires-clause-ways g c).Start) c.leaving-targets.ensures
 
 pub thaw_before-requires-clause-room : goal.thaw_before-requires-clause-room
-thaw_before-requires-clause-room g c =
-    let image = current_words (g.R.Region.memory c.args.parts.now.region) in
-    let change = leaves c.args.dir c.args.slot in
-    let needs : need image change ≡ 0 = none_leaving image c.requires.mounted.well_formed c.args.dir c.args.slot (inumber_at image c.args.dir c.args.slot) c.requires.can.reached c.requires.can.entry in
-    subst (λ (ps : List WordPath). HasRoomToThaw g.R.Region.memory ps c.args.parts.now 0) (sym c.leaving-targets.ensures)
-    (room_to_thaw g.R.Region.memory change 0 c.args.parts.now needs c.requires.room)
+thaw_before-requires-clause-room g c = room_for_both (plan g (goal.at.thaw_before-requires-clause-room g c).Start) c.leaving-targets.ensures
 
 pub returns-clause-room : goal.returns-clause-room
 returns-clause-room g c =
-    let image = current_words (g.R.Region.memory c.args.parts.now.region) in
-    let change = leaves c.args.dir c.args.slot in
-    let needs : need image change ≡ 0 = none_leaving image c.requires.mounted.well_formed c.args.dir c.args.slot (inumber_at image c.args.dir c.args.slot) c.requires.can.reached c.requires.can.entry in
+    let planned = plan g (goal.at.returns-clause-room g c).Start in
     ok_both c.thaw_before.result c.thaw_before.ensures.thaws c.thaw_before.ensures.enough
-    (λ thaws enough. let left = room_left g.R.Region.memory change 0 c.args.parts.now needs c.requires.room c.requires.mounted c.requires.can.reached c.thaw_before.new.parts
-    (subst (λ (ps : List WordPath). ThawsFor g.R.Region.memory ps c.args.parts.now c.thaw_before.new.parts) c.leaving-targets.ensures thaws)
-    (subst (λ (ps : List WordPath). thaw_count g.R.Region.memory ps c.args.parts.now + 0 ≤ length (members c.args.parts.now.blocks)) c.leaving-targets.ensures enough) in
-    omega (arith, left))
+    (λ thaws enough. let room = room_behind planned c.leaving-targets.ensures thaws enough in omega (arith, room))
 
 pub returns-clause-refused : goal.returns-clause-refused
 returns-clause-refused g c =
-    let image = current_words (g.R.Region.memory c.args.parts.now.region) in
-    let change = leaves c.args.dir c.args.slot in
-    let needs : need image change ≡ 0 = none_leaving image c.requires.mounted.well_formed c.args.dir c.args.slot (inumber_at image c.args.dir c.args.slot) c.requires.can.reached c.requires.can.entry in
-    by_one c.thaw_before.result c.thaw_before.ensures.refused
-    (λ lacks has. lacks_all g.R.Region.memory change 0 c.args.parts.now needs c.requires.room lacks
-    (subst (λ (ps : List WordPath). LacksBlocks image (kept_of c.args.parts.now) (thaw_count g.R.Region.memory ps c.args.parts.now + 0) lacks) c.leaving-targets.ensures has))
+    let planned = plan g (goal.at.returns-clause-refused g c).Start in
+    by_one c.thaw_before.result c.thaw_before.ensures.refused (lacks_both planned c.leaving-targets.ensures)

@@ -42,7 +42,7 @@ use Rattle.bp_calls.proofs.NothingKept.{clear_at_once, room_at_once}
 use Rattle.bp_calls.proofs.ThawedParts.{thawed_clear}
 use Rattle.bp_calls.proofs.FreeCounts.{free_members}
 use Rattle.bp_calls.proofs.PatchPaths.{patches_cover, patches_need, patches_way}
-use Rattle.bp_calls.proofs.PatchRuns.{IsInFile, leaves_few, no_words, runs_few, patches_can, patches_shape, run_at, some_run}
+use Rattle.bp_calls.proofs.PatchRuns.{IsInFile, leaves_few, runs_few, patches_can, patches_shape, run_at, some_run}
 use Rattle.bp_calls.proofs.PatchWords.{patches_overwrite, sizes_stay}
 use Rattle.bp_calls.proofs.RunCommits.{commit_exact, run_loose, run_open}
 
@@ -61,7 +61,17 @@ overwrites_now image stretches =
 
 -- ---- what they touch, whether it is thawed or not
 
-module _ (image : Image) (wf : IsWellFormed image) (patches : List Patch) (touched : Touched) (asks : CanOverwrite image patches) (are : AreRuns image patches touched.runs.now) (none : touched.words.now ≡ []) (bare : touched.trees.now ≡ []) where
+-- the patches may be written, and just those that have bytes are touched
+pub record TouchesPatches (image : Image) (patches : List Patch) (touched : Touched) : Type 0 where
+  pub well_formed : IsWellFormed image
+  pub can : CanOverwrite image patches
+  pub runs : AreRuns image patches touched.runs.now
+  pub no_words : touched.words.now ≡ []
+  pub no_trees : touched.trees.now ≡ []
+
+module _ {image : Image} {patches : List Patch} {touched : Touched} (touches : TouchesPatches image patches touched) where
+  open touches use {well_formed as wf, can as asks, runs as are, no_words as none, no_trees as bare}
+
   pub overwrite_shape : IsTouched touched
   overwrite_shape = patches_shape image wf patches touched are none bare asks.few asks.each asks.some asks.short
 
@@ -99,7 +109,7 @@ module _ (image : Image) (wf : IsWellFormed image) (patches : List Patch) (touch
     pub touched_few : copied_count image touched ≤ 400
     touched_few =
         let copies = runs_copies image touched overwrite_shape touched_apart in
-        let none_there : length touched.words.now ≡ 0 = no_words image wf patches touched are none bare asks.few asks.each asks.some asks.short in
+        let none_there : length touched.words.now ≡ 0 = ap length none in
         omega (arith, copies, none_there, leaves_few image patches touched.runs.now are, runs_few image patches touched.runs.now are, asks.short, asks.few)
 
 -- the trees that they change are reached
@@ -121,7 +131,8 @@ patches_on image after shape (patch ∷ patches) each = (one, patches_on image a
 
 -- ---- where nothing is left to thaw
 
-module _ {kept : ℕ → Bool} (old : Memory) (blocks inodes : Set) (patches : List Patch) (touched : Touched) (asks : CanOverwriteThawed kept old blocks inodes patches) (are : AreRuns (current_words old) patches touched.runs.now) (none : touched.words.now ≡ []) (bare : touched.trees.now ≡ []) where
+module _ {kept : ℕ → Bool} {old : Memory} {blocks inodes : Set} {patches : List Patch} {touched : Touched}
+    (asks : CanOverwriteThawed kept old blocks inodes patches) (touches : TouchesPatches (current_words old) patches touched) where
   abbrev image : Image
   image = current_words old
 
@@ -135,25 +146,25 @@ module _ {kept : ℕ → Bool} (old : Memory) (blocks inodes : Set) (patches : L
   asked = asks.can
 
   no_word : length touched.words.now ≡ 0
-  no_word = no_words image wf patches touched are none bare asked.few asked.each asked.some asked.short
+  no_word = ap length touches.no_words
 
   shape : IsTouched touched
-  shape = overwrite_shape image wf patches touched asked are none bare
+  shape = overwrite_shape touches
 
   at : (run : Run) → Has touched.runs.now run → IsInFile image run
-  at = at_run image wf patches touched asked are none bare
+  at = at_run touches
 
   pub overwrite_can : CanCommit (current_words old) (size_of (current_words old)) kept touched (has blocks)
-  overwrite_can = touched_can image wf patches touched asked are none bare (has blocks) asks.exact.free_blocks
+  overwrite_can = touched_can touches (has blocks) asks.exact.free_blocks
 
   first : (run : Run) × Has touched.runs.now run
-  first = first_run image wf patches touched asked are none bare
+  first = first_run touches
 
   need_is : copied_count image touched ≡ need image change
-  need_is = overwrite_need image wf patches touched asked are none bare
+  need_is = overwrite_need touches
 
   cover_is : commit_cover image touched ≡ cover image change
-  cover_is = overwrite_cover image wf patches touched asked are none bare
+  cover_is = overwrite_cover touches
 
   pub overwrite_room : copied_count (current_words old) touched ≤ length (members blocks) → HasRoom old touched
   overwrite_room enough =
@@ -177,11 +188,11 @@ module _ {kept : ℕ → Bool} (old : Memory) (blocks inodes : Set) (patches : L
   module _ (new : Memory) (after : Set) (done : CommitsTouched (size_of (current_words old)) kept touched old new blocks after) where
     pub overwrites_files : OverwritesFiles patches (current_words old) (current_words new)
     overwrites_files =
-        patches_overwrite image (current_words new) wf touched (has blocks) overwrite_can no_word at (IsTurned (job_of touched) (length (commit_cover image touched))) done.words patches are asked.each
+        patches_overwrite image (current_words new) wf touched (has blocks) overwrite_can no_word at (IsTurned (job_of touched) (length (commit_cover image touched))) done.words patches touches.runs asked.each
 
     -- the leaves of so many bytes in so few runs are few
     leaves : leaves_of touched.runs.now ≤ 47
-    leaves = omega (arith, leaves_few image patches touched.runs.now are, asked.short, asked.few)
+    leaves = omega (arith, leaves_few image patches touched.runs.now touches.runs, asked.short, asked.few)
 
     open_cover : IsOpen image kept done.taken (cover_word image touched)
     open_cover = let file = at first.0 first.1 in run_open image wf file.inode file.reached first.0 file.of kept touched shape first.1 overwrite_loose done.taken

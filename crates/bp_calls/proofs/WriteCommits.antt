@@ -1,13 +1,13 @@
 -- What a commit of bytes below the sizes of files makes of the parts of the file system.
-use Rattle.std.specs.Prelude.{◌≡◌, ◌<◌, ℕ, List, [], Err, Ok, Result, length, slice_index}
+use Rattle.std.specs.Prelude.{◌≡◌, ◌<◌, ℕ, List, Err, Ok, Result, length, slice_index}
 use Rattle.std.proofs.Common.{sym, subst}
 use Rattle.bp_calls.specs.Commits.{CommitsOrLacksBlocks}
 use Rattle.bp_calls.specs.CommitsTouched.{CommitsTouchedOrLacks}
-use Rattle.bp_calls.specs.Overwritten.{AreRuns, CanOverwriteThawed, stretches_of}
+use Rattle.bp_calls.specs.Overwritten.{CanOverwriteThawed, stretches_of}
 use Rattle.bp_calls.specs.TouchedBelow.{WritesBelow}
 use Rattle.bp_calls.specs.WritesFile.{WritesFile}
 use Rattle.bp_calls.proofs.CountLaws.{exact_file, exact_files}
-use Rattle.bp_calls.proofs.PatchCommits.{overwrite_exact, overwrite_lacks, overwrite_performs, overwrites_files}
+use Rattle.bp_calls.proofs.PatchCommits.{TouchesPatches, overwrite_exact, overwrite_lacks, overwrite_performs, overwrites_files}
 use Rattle.bp_calls.proofs.WriteBelow.{write_exact, write_lacks, write_performs}
 use Rattle.bp_changes.specs.Overwrites.{OverwritesFiles, Patch}
 use Rattle.bp_changes.proofs.Overwrites.{keeps}
@@ -45,18 +45,18 @@ module _ {R T : Type 0} (memory : R → Memory) (old new : Parts R) (i off : ℕ
 
 -- the same of several files
 module _ {R T : Type 0} (memory : R → Memory) (old new : Parts R) (patches : List Patch) (touched : Touched) (exact : IsExact (current_words (memory old.region)) old)
-    (can : CanOverwriteThawed (kept_of old) (memory old.region) old.blocks old.inodes patches) (are : AreRuns (current_words (memory old.region)) patches touched.runs.now)
-    (no_words : touched.words.now ≡ []) (no_trees : touched.trees.now ≡ []) where
+    (can : CanOverwriteThawed (kept_of old) (memory old.region) old.blocks old.inodes patches)
+    (touches : TouchesPatches (current_words (memory old.region)) patches touched) where
   pub overwrite_commits : (result : Result T NoSpace) → CommitsTouchedOrLacks memory old new result touched →
       CommitsOrLacksBlocks memory old new result (overwrites (stretches_of patches)) (OverwritesFiles patches)
   overwrite_commits (Ok x) done = record {
-    performs = overwrite_performs (memory old.region) old.blocks old.inodes patches touched can are no_words no_trees (memory new.region) new.blocks done.commits;
+    performs = overwrite_performs can touches (memory new.region) new.blocks done.commits;
     frozen = done.frozen;
     exact = exact_files (current_words (memory old.region)) (current_words (memory new.region)) old new exact
-        (rw done.inodes (overwrite_exact (memory old.region) old.blocks old.inodes patches touched can are no_words no_trees (memory new.region) new.blocks done.commits done.size))
+        (rw done.inodes (overwrite_exact can touches (memory new.region) new.blocks done.commits done.size))
         done.frozen done.counts can.well_formed
         (keeps (current_words (memory old.region)) (current_words (memory new.region)) patches
-        (overwrites_files (memory old.region) old.blocks old.inodes patches touched can are no_words no_trees (memory new.region) new.blocks done.commits));
+        (overwrites_files can touches (memory new.region) new.blocks done.commits));
     refused = tt;
     free = tt;
     same = tt;
@@ -65,7 +65,7 @@ module _ {R T : Type 0} (memory : R → Memory) (old new : Parts R) (patches : L
     performs = tt;
     frozen = done.frozen;
     exact = subst (λ (parts : Parts R). IsExact (current_words (memory parts.region)) parts) (sym done.same) exact;
-    refused = overwrite_lacks (memory old.region) old.blocks old.inodes patches touched can are no_words no_trees lacks.need lacks.free done.need done.free done.fewer;
+    refused = overwrite_lacks can touches lacks.need lacks.free done.need done.free done.fewer;
     free = done.free;
     same = done.same;
   }

@@ -34,7 +34,7 @@ use Rattle.bp_calls.specs.CanWrite.{CanWriteInto}
 use Rattle.bp_calls.specs.Space.{HasRoomThawed, LacksBlocks}
 use Rattle.bp_calls.proofs.FreeCounts.{free_members}
 use Rattle.bp_layout.specs.Free.{HasFree}
-use Rattle.bp_calls.specs.TouchedBelow.{WritesBelow}
+use Rattle.bp_calls.specs.TouchedBelow.{IsRunFor, WritesBelow}
 use Rattle.bp_calls.specs.WritesFile.{WritesFile}
 use Rattle.bp_calls.proofs.RunCommits.{IsRunOf, run_loose, commit_exact, commit_writes_file, few_leaves, run_in, run_is, run_open}
 use Rattle.bp_layout.specs.Thaw.{cover_now, is_there_now, targets, thawed}
@@ -197,19 +197,22 @@ module _ {kept : ℕ → Bool} (old : Memory) (blocks inodes : Set) (touched : T
 
 -- ---- by what is touched
 
-module _ {kept : ℕ → Bool} (old : Memory) (blocks inodes : Set) (i off : ℕ) (bytes : List ℕ) (touched : Touched) (write : WritesBelow kept old blocks inodes i off bytes touched) where
+module _ {image : Image} {i off : ℕ} {bytes : List ℕ} {run : Run} (is : IsRunFor image i off bytes run) where
+  -- what holds of the offset and the bytes holds of the run's
+  pub of_run : (P : ℕ → List ℕ → Type 0) → P off bytes → P run.off run.bytes.now
+  of_run P here = subst (λ o. P o run.bytes.now) (sym is.from) (subst (λ (bs : List ℕ). P off bs) (sym is.bytes_are) here)
+
+  -- and back
+  pub from_run : (P : ℕ → List ℕ → Type 0) → P run.off run.bytes.now → P off bytes
+  from_run P there = subst (λ o. P o bytes) is.from (subst (λ (bs : List ℕ). P run.off bs) is.bytes_are there)
+
+module _ {kept : ℕ → Bool} {old : Memory} {blocks inodes : Set} {i off : ℕ} {bytes : List ℕ} {touched : Touched}
+    (write : WritesBelow kept old blocks inodes i off bytes touched) where
   abbrev run : Run
   run = write.touches.run
 
-  -- what holds of the offset and the bytes holds of the run's, and back
-  of_run : (P : ℕ → List ℕ → Type 0) → P off bytes → P run.off run.bytes.now
-  of_run P here = subst (λ o. P o run.bytes.now) (sym write.touches.is.from) (subst (λ (bs : List ℕ). P off bs) (sym write.touches.is.bytes_are) here)
-
-  from_run : (P : ℕ → List ℕ → Type 0) → P run.off run.bytes.now → P off bytes
-  from_run P there = subst (λ o. P o bytes) write.touches.is.from (subst (λ (bs : List ℕ). P run.off bs) write.touches.is.bytes_are there)
-
   asks : CanWriteInto kept (current_words old) blocks inodes i run.off run.bytes.now
-  asks = of_run (CanWriteInto kept (current_words old) blocks inodes i) write.into
+  asks = of_run write.touches.is (CanWriteInto kept (current_words old) blocks inodes i) write.into
 
   alone : IsRunAlone (current_words old) i touched run
   alone = record {
@@ -221,7 +224,7 @@ module _ {kept : ℕ → Bool} (old : Memory) (blocks inodes : Set) (i off : ℕ
       height = write.touches.is.height;
       some = omega (arith, asks.can.some);
       few = asks.can.short;
-      below = of_run (λ o bs. o + length bs ≤ size_of (current_words old) i) write.below;
+      below = of_run write.touches.is (λ o bs. o + length bs ≤ size_of (current_words old) i) write.below;
       counts = omega (arith, write.touches.is.size);
     };
   }
@@ -240,19 +243,21 @@ module _ {kept : ℕ → Bool} (old : Memory) (blocks inodes : Set) (i off : ℕ
 
   -- so many blocks it takes, and near its cover it stores
   pub write_needs : copied_count (current_words old) touched ≡ need (current_words old) (writes i off (length bytes))
-  write_needs = from_run (λ o bs. copied_count (current_words old) touched ≡ need (current_words old) (writes i o (length bs))) ready.need_is
+  write_needs =
+      from_run write.touches.is (λ o bs. copied_count (current_words old) touched ≡ need (current_words old) (writes i o (length bs))) ready.need_is
 
   pub write_few : copied_count (current_words old) touched ≤ 320
   write_few = ready.few
 
   pub write_cover : commit_cover (current_words old) touched ≡ cover_now (current_words old) (writes i off (length bytes))
-  write_cover = from_run (λ o bs. commit_cover (current_words old) touched ≡ cover_now (current_words old) (writes i o (length bs))) ready.cover_is
+  write_cover =
+      from_run write.touches.is (λ o bs. commit_cover (current_words old) touched ≡ cover_now (current_words old) (writes i o (length bs))) ready.cover_is
 
   pub write_room : HasRoomThawed old blocks (writes i off (length bytes)) → copied_count (current_words old) touched ≤ length (members blocks) → HasRoom old touched
-  write_room asked = ready.room (of_run (λ o bs. HasRoomThawed old blocks (writes i o (length bs))) asked)
+  write_room asked = ready.room (of_run write.touches.is (λ o bs. HasRoomThawed old blocks (writes i o (length bs))) asked)
 
   pub write_loose : thawed (current_words old) kept (writes i off (length bytes)) ≡ [] → HasLooseCover (current_words old) kept touched
-  write_loose clear = ready.loose (of_run (λ o bs. thawed (current_words old) kept (writes i o (length bs)) ≡ []) clear)
+  write_loose clear = ready.loose (of_run write.touches.is (λ o bs. thawed (current_words old) kept (writes i o (length bs)) ≡ []) clear)
 
   pub write_lacks : (copies free : ℕ) → copies ≡ copied_count (current_words old) touched → free ≡ length (members blocks) → free < copies →
       LacksBlocks (current_words old) kept (need (current_words old) (writes i off (length bytes))) (record { need = copies; free = free })
@@ -264,10 +269,12 @@ module _ {kept : ℕ → Bool} (old : Memory) (blocks inodes : Set) (i off : ℕ
 
   module _ (new : Memory) (after : Set) (small : (k : ℕ) → slice_index bytes k < 256) (done : CommitsTouched (size_of (current_words old)) kept touched old new blocks after) where
     run_small : (k : ℕ) → slice_index run.bytes.now k < 256
-    run_small = of_run (λ o bs. (k : ℕ) → slice_index bs k < 256) small
+    run_small = of_run write.touches.is (λ o bs. (k : ℕ) → slice_index bs k < 256) small
 
     pub write_performs : PerformsThawed kept old new (writes i off (length bytes)) (WritesFile i off bytes)
-    write_performs = from_run (λ o bs. PerformsThawed kept old new (writes i o (length bs)) (WritesFile i o bs)) (performs_at old blocks inodes touched run new after run_small done i alone asks)
+    write_performs =
+        from_run write.touches.is (λ o bs. PerformsThawed kept old new (writes i o (length bs)) (WritesFile i o bs))
+        (performs_at old blocks inodes touched run new after run_small done i alone asks)
 
     pub write_exact : length after ≡ length blocks → AreExact (current_words new) kept after inodes
     write_exact = exact_at old blocks inodes touched run new after run_small done i alone asks

@@ -23,12 +23,12 @@ module _ {R T : Type 0} (memory : R → Memory) (old new : Parts R) (i off : ℕ
     (write : WritesBelow (kept_of old) (memory old.region) old.blocks old.inodes i off bytes touched) (small : (k : ℕ) → slice_index bytes k < 256) where
   pub write_commits : (result : Result T NoSpace) → CommitsTouchedOrLacks memory old new result touched → CommitsOrLacksBlocks memory old new result (writes i off (length bytes)) (WritesFile i off bytes)
   write_commits (Ok x) done =
-      let performs = write_performs (memory old.region) old.blocks old.inodes i off bytes touched write (memory new.region) new.blocks small done.commits in
+      let performs = write_performs write (memory new.region) new.blocks small done.commits in
       record {
         performs = performs;
         frozen = done.frozen;
         exact = exact_file (current_words (memory old.region)) (current_words (memory new.region)) old new exact
-            (rw done.inodes (write_exact (memory old.region) old.blocks old.inodes i off bytes touched write (memory new.region) new.blocks small done.commits done.size))
+            (rw done.inodes (write_exact write (memory new.region) new.blocks small done.commits done.size))
             done.frozen done.counts i write.into.well_formed performs.effect.changes;
         refused = tt;
         free = tt;
@@ -38,7 +38,7 @@ module _ {R T : Type 0} (memory : R → Memory) (old new : Parts R) (i off : ℕ
     performs = tt;
     frozen = done.frozen;
     exact = subst (λ (parts : Parts R). IsExact (current_words (memory parts.region)) parts) (sym done.same) exact;
-    refused = write_lacks (memory old.region) old.blocks old.inodes i off bytes touched write lacks.need lacks.free done.need done.free done.fewer;
+    refused = write_lacks write lacks.need lacks.free done.need done.free done.fewer;
     free = done.free;
     same = done.same;
   }

@@ -7,37 +7,35 @@ use Rattle.bp_calls.proofs.WriteBelow.{write_can, write_cover, write_inside}
 use Rattle.bp_calls.proofs.WriteTargets.{below_at, file_some}
 use Rattle.bp_shapes.specs.Sets.{kept_of}
 use Rattle.pm_region.specs.Memory.{current_words}
+use Rattle.bp_calls.proofs.targets.covering.Given.{Over}
+use Rattle.bp_calls.proofs.targets.covering.Goals.{After-touched_by}
 use Rattle.bp_calls.proofs.targets.covering.Goals as goal
 
-pub cover-requires-clause-touched : goal.cover-requires-clause-touched
-cover-requires-clause-touched g c =
-    let memory = g.R.Region.memory in
-    let write : WritesBelow (kept_of c.args.parts.now) (memory c.args.parts.now.region) c.args.parts.now.blocks c.args.parts.now.inodes c.args.i c.args.off c.args.bytes.now c.touched_by.result = record {
-      into = write_mounted (current_words (memory c.args.parts.now.region)) c.args.parts.now c.args.i c.args.off c.args.bytes.now c.requires.mounted c.requires.can;
+-- the run of the bytes is all that is touched
+write : (g : Over) (c : After-touched_by g) → WritesBelow (kept_of c.args.parts.now) (g.R.Region.memory c.args.parts.now.region)
+    c.args.parts.now.blocks c.args.parts.now.inodes c.args.i c.args.off c.args.bytes.now c.touched_by.result
+write g c =
+    let parts = c.args.parts.now in
+    let is = c.touched_by.ensures in
+    record {
+      into = write_mounted (current_words (g.R.Region.memory parts.region)) parts c.args.i c.args.off c.args.bytes.now c.requires.mounted c.requires.can;
       below = c.requires.below;
-      touches = record { run = c.run_for.result; one = c.touched_by.ensures.runs; no_words = c.touched_by.ensures.words; no_trees = c.touched_by.ensures.trees; is = c.run_for.ensures };
-    } in
-    (write_can (memory c.args.parts.now.region) c.args.parts.now.blocks c.args.parts.now.inodes c.args.i c.args.off c.args.bytes.now c.touched_by.result write).shape
+      touches = record { run = c.run_for.result; one = is.runs; no_words = is.words; no_trees = is.trees; is = c.run_for.ensures };
+    }
+
+pub cover-requires-clause-touched : goal.cover-requires-clause-touched
+cover-requires-clause-touched g c = (write_can (write g (goal.at.cover-requires-clause-touched g c).After-touched_by)).shape
 
 pub cover-requires-clause-in_range : goal.cover-requires-clause-in_range
-cover-requires-clause-in_range g c =
-    let memory = g.R.Region.memory in
-    let write : WritesBelow (kept_of c.args.parts.now) (memory c.args.parts.now.region) c.args.parts.now.blocks c.args.parts.now.inodes c.args.i c.args.off c.args.bytes.now c.touched_by.result = record {
-      into = write_mounted (current_words (memory c.args.parts.now.region)) c.args.parts.now c.args.i c.args.off c.args.bytes.now c.requires.mounted c.requires.can;
-      below = c.requires.below;
-      touches = record { run = c.run_for.result; one = c.touched_by.ensures.runs; no_words = c.touched_by.ensures.words; no_trees = c.touched_by.ensures.trees; is = c.run_for.ensures };
-    } in
-    write_inside (memory c.args.parts.now.region) c.args.parts.now.blocks c.args.parts.now.inodes c.args.i c.args.off c.args.bytes.now c.touched_by.result write
+cover-requires-clause-in_range g c = write_inside (write g (goal.at.cover-requires-clause-in_range g c).After-touched_by)
 
 pub returns : goal.returns
 returns g c =
-    let memory = g.R.Region.memory in
-    let image = current_words (memory c.args.parts.now.region) in
-    let write : WritesBelow (kept_of c.args.parts.now) (memory c.args.parts.now.region) c.args.parts.now.blocks c.args.parts.now.inodes c.args.i c.args.off c.args.bytes.now c.touched_by.result = record {
-      into = write_mounted (current_words (memory c.args.parts.now.region)) c.args.parts.now c.args.i c.args.off c.args.bytes.now c.requires.mounted c.requires.can;
-      below = c.requires.below;
-      touches = record { run = c.run_for.result; one = c.touched_by.ensures.runs; no_words = c.touched_by.ensures.words; no_trees = c.touched_by.ensures.trees; is = c.run_for.ensures };
-    } in
-    ap (λ (xs : List (ArrayVec ℕ)). map (λ path. path.items) xs) (c.push.ensures.items ∙ ap (λ (xs : List (ArrayVec ℕ)). xs ++ c.cover.result ∷ []) c.new-targets.ensures)
-    ∙ ap (λ (p : WordPath). p ∷ []) (c.cover.ensures ∙ write_cover (memory c.args.parts.now.region) c.args.parts.now.blocks c.args.parts.now.inodes c.args.i c.args.off c.args.bytes.now c.touched_by.result write)
-    ∙ sym (below_at image c.requires.mounted.well_formed c.args.i c.args.off (length c.args.bytes.now) (file_some image c.args.i c.requires.can.file) c.requires.can.reached c.requires.below)
+    let image = current_words (g.R.Region.memory c.args.parts.now.region) in
+    let can = c.requires.can in
+    let is = write_cover (write g (goal.at.returns g c).After-touched_by) in
+    ap (λ (xs : List (ArrayVec ℕ)). map (λ path. path.items) xs)
+    (c.push.ensures.items ∙ ap (λ (xs : List (ArrayVec ℕ)). xs ++ c.cover.result ∷ []) c.new-targets.ensures)
+    ∙ ap (λ (p : WordPath). p ∷ []) (c.cover.ensures ∙ is)
+    ∙ sym (below_at image c.requires.mounted.well_formed c.args.i c.args.off (length c.args.bytes.now) (file_some image c.args.i can.file) can.reached
+    c.requires.below)

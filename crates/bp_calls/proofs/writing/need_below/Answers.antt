@@ -4,54 +4,33 @@ use Rattle.bp_calls.proofs.SameWrites.{write_mounted}
 use Rattle.bp_calls.proofs.WriteBelow.{write_apart, write_can, write_few, write_inside, write_needs}
 use Rattle.bp_shapes.specs.Sets.{kept_of}
 use Rattle.pm_region.specs.Memory.{current_words}
+use Rattle.bp_calls.proofs.writing.need_below.Given.{Over}
+use Rattle.bp_calls.proofs.writing.need_below.Goals.{After-touched_by}
 use Rattle.bp_calls.proofs.writing.need_below.Goals as goal
 
-pub need_cover-requires-clause-touched : goal.need_cover-requires-clause-touched
-need_cover-requires-clause-touched g c =
-    let memory = g.R.Region.memory in
-    let write : WritesBelow (kept_of c.args.parts.now) (memory c.args.parts.now.region) c.args.parts.now.blocks c.args.parts.now.inodes c.args.i c.args.off c.args.bytes.now c.touched_by.result = record {
-      into = write_mounted (current_words (memory c.args.parts.now.region)) c.args.parts.now c.args.i c.args.off c.args.bytes.now c.requires.mounted c.requires.can;
+-- the run of the bytes is all that is touched
+write : (g : Over) (c : After-touched_by g) → WritesBelow (kept_of c.args.parts.now) (g.R.Region.memory c.args.parts.now.region)
+    c.args.parts.now.blocks c.args.parts.now.inodes c.args.i c.args.off c.args.bytes.now c.touched_by.result
+write g c =
+    let parts = c.args.parts.now in
+    let is = c.touched_by.ensures in
+    record {
+      into = write_mounted (current_words (g.R.Region.memory parts.region)) parts c.args.i c.args.off c.args.bytes.now c.requires.mounted c.requires.can;
       below = c.requires.below;
-      touches = record { run = c.run_for.result; one = c.touched_by.ensures.runs; no_words = c.touched_by.ensures.words; no_trees = c.touched_by.ensures.trees; is = c.run_for.ensures };
-    } in
-    (write_can (memory c.args.parts.now.region) c.args.parts.now.blocks c.args.parts.now.inodes c.args.i c.args.off c.args.bytes.now c.touched_by.result write).shape
+      touches = record { run = c.run_for.result; one = is.runs; no_words = is.words; no_trees = is.trees; is = c.run_for.ensures };
+    }
+
+pub need_cover-requires-clause-touched : goal.need_cover-requires-clause-touched
+need_cover-requires-clause-touched g c = (write_can (write g (goal.at.need_cover-requires-clause-touched g c).After-touched_by)).shape
 
 pub need_cover-requires-clause-in_range : goal.need_cover-requires-clause-in_range
-need_cover-requires-clause-in_range g c =
-    let memory = g.R.Region.memory in
-    let write : WritesBelow (kept_of c.args.parts.now) (memory c.args.parts.now.region) c.args.parts.now.blocks c.args.parts.now.inodes c.args.i c.args.off c.args.bytes.now c.touched_by.result = record {
-      into = write_mounted (current_words (memory c.args.parts.now.region)) c.args.parts.now c.args.i c.args.off c.args.bytes.now c.requires.mounted c.requires.can;
-      below = c.requires.below;
-      touches = record { run = c.run_for.result; one = c.touched_by.ensures.runs; no_words = c.touched_by.ensures.words; no_trees = c.touched_by.ensures.trees; is = c.run_for.ensures };
-    } in
-    write_inside (memory c.args.parts.now.region) c.args.parts.now.blocks c.args.parts.now.inodes c.args.i c.args.off c.args.bytes.now c.touched_by.result write
+need_cover-requires-clause-in_range g c = write_inside (write g (goal.at.need_cover-requires-clause-in_range g c).After-touched_by)
 
 pub need_cover-requires-clause-apart : goal.need_cover-requires-clause-apart
-need_cover-requires-clause-apart g c =
-    let memory = g.R.Region.memory in
-    let write : WritesBelow (kept_of c.args.parts.now) (memory c.args.parts.now.region) c.args.parts.now.blocks c.args.parts.now.inodes c.args.i c.args.off c.args.bytes.now c.touched_by.result = record {
-      into = write_mounted (current_words (memory c.args.parts.now.region)) c.args.parts.now c.args.i c.args.off c.args.bytes.now c.requires.mounted c.requires.can;
-      below = c.requires.below;
-      touches = record { run = c.run_for.result; one = c.touched_by.ensures.runs; no_words = c.touched_by.ensures.words; no_trees = c.touched_by.ensures.trees; is = c.run_for.ensures };
-    } in
-    write_apart (memory c.args.parts.now.region) c.args.parts.now.blocks c.args.parts.now.inodes c.args.i c.args.off c.args.bytes.now c.touched_by.result write
+need_cover-requires-clause-apart g c = write_apart (write g (goal.at.need_cover-requires-clause-apart g c).After-touched_by)
 
 pub returns-clause-need : goal.returns-clause-need
-returns-clause-need g c =
-    let memory = g.R.Region.memory in
-    let write : WritesBelow (kept_of c.args.parts.now) (memory c.args.parts.now.region) c.args.parts.now.blocks c.args.parts.now.inodes c.args.i c.args.off c.args.bytes.now c.touched_by.result = record {
-      into = write_mounted (current_words (memory c.args.parts.now.region)) c.args.parts.now c.args.i c.args.off c.args.bytes.now c.requires.mounted c.requires.can;
-      below = c.requires.below;
-      touches = record { run = c.run_for.result; one = c.touched_by.ensures.runs; no_words = c.touched_by.ensures.words; no_trees = c.touched_by.ensures.trees; is = c.run_for.ensures };
-    } in
-    c.need_cover.ensures ∙ write_needs (memory c.args.parts.now.region) c.args.parts.now.blocks c.args.parts.now.inodes c.args.i c.args.off c.args.bytes.now c.touched_by.result write
+returns-clause-need g c = c.need_cover.ensures ∙ write_needs (write g (goal.at.returns-clause-need g c).After-touched_by)
 
 pub returns-clause-few : goal.returns-clause-few
-returns-clause-few g c =
-    let memory = g.R.Region.memory in
-    let write : WritesBelow (kept_of c.args.parts.now) (memory c.args.parts.now.region) c.args.parts.now.blocks c.args.parts.now.inodes c.args.i c.args.off c.args.bytes.now c.touched_by.result = record {
-      into = write_mounted (current_words (memory c.args.parts.now.region)) c.args.parts.now c.args.i c.args.off c.args.bytes.now c.requires.mounted c.requires.can;
-      below = c.requires.below;
-      touches = record { run = c.run_for.result; one = c.touched_by.ensures.runs; no_words = c.touched_by.ensures.words; no_trees = c.touched_by.ensures.trees; is = c.run_for.ensures };
-    } in
-    omega (arith, c.need_cover.ensures, write_few (memory c.args.parts.now.region) c.args.parts.now.blocks c.args.parts.now.inodes c.args.i c.args.off c.args.bytes.now c.touched_by.result write)
+returns-clause-few g c = omega (arith, c.need_cover.ensures, write_few (write g (goal.at.returns-clause-few g c).After-touched_by))

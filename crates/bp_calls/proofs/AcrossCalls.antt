@@ -54,12 +54,26 @@ pub sized_word : (image : Image) (i end : ℕ) (path : ArrayVec ℕ) → path.it
 sized_word image i end path is = record { path = ap (λ (p : List ℕ). p ∷ []) is; value = refl }
 
 -- a plan has the inode, the offset and the bytes of its write
-module _ (image : Image) (i off : ℕ) (bytes : List ℕ) (plan : Plan) (is : IsPlanFor image i off bytes plan) where
+module _ {image : Image} {i off : ℕ} {bytes : List ℕ} {plan : Plan} (is : IsPlanFor image i off bytes plan) where
   pub of_plan : (P : ℕ → ℕ → List ℕ → Type 0) → P i off bytes → P plan.inode plan.off plan.bytes.now
-  of_plan P here = subst (λ j. P j plan.off plan.bytes.now) (sym is.inode) (subst (λ o. P i o plan.bytes.now) (sym is.from) (subst (P i off) (sym is.bytes_are) here))
+  of_plan P here =
+      subst (λ j. P j plan.off plan.bytes.now) (sym is.inode)
+      (subst (λ o. P i o plan.bytes.now) (sym is.from) (subst (P i off) (sym is.bytes_are) here))
 
   pub from_plan : (P : ℕ → ℕ → List ℕ → Type 0) → P plan.inode plan.off plan.bytes.now → P i off bytes
   from_plan P here = subst (P i off) is.bytes_are (subst (λ o. P i o plan.bytes.now) is.from (subst (λ j. P j plan.off plan.bytes.now) is.inode here))
+
+  -- and the file's tree
+  pub root_planned : plan.tree.root ≡ root_of image plan.inode
+  root_planned = is.root ∙ ap (root_of image) (sym is.inode)
+
+  pub size_planned : plan.tree.size ≡ size_of image plan.inode
+  size_planned = is.size ∙ ap (size_of image) (sym is.inode)
+
+  -- what is touched for the write is touched for the plan
+  pub across_planned : {kept : ℕ → Bool} {old : Memory} {blocks inodes : Set} {touched : Touched}
+      → WritesAcross kept old blocks inodes i off bytes touched → WritesAcross kept old blocks inodes plan.inode plan.off plan.bytes.now touched
+  across_planned {kept} {old} {blocks} {inodes} {touched} = of_plan (λ j o (bs : List ℕ). WritesAcross kept old blocks inodes j o bs touched)
 
 -- the nodes that are made, by the root word and the size that were read
 abbrev made_for : Image → ℕ → ℕ → ℕ → ℕ
@@ -68,7 +82,17 @@ made_for image end root size = length (nodes_for image root size size end)
 made_is : (image : Image) (end i root size : ℕ) → root ≡ root_of image i → size ≡ size_of image i → made_for image end root size ≡ need_for image i (size_of image i) end
 made_is image end i root size one two = ap (λ r. made_for image end r size) one ∙ ap (made_for image end (root_of image i)) two
 
-module _ {kept : ℕ → Bool} (old : Memory) (blocks inodes : Set) (off : ℕ) (bytes : List ℕ) (touched : Touched) where
+-- the preparation, told at the size of the file
+pub at_prepared : {kept : ℕ → Bool} {old middle : Memory} (blocks after : Set) {i size : ℕ} (off : ℕ) (bytes : List ℕ) {beyond : List ℕ}
+    → PreparesWith kept old middle (members blocks) (members after) i size (off + length bytes) beyond
+    → size ≡ size_of (current_words old) i → beyond ≡ drop (size - off) bytes
+    → PreparesWith kept old middle (members blocks) (members after) i (size_of (current_words old) i) (off + length bytes)
+    (drop (size_of (current_words old) i - off) bytes)
+at_prepared {kept} {old} {middle} blocks after {i} off bytes prepared is split =
+    subst₂ (λ s bs. PreparesWith kept old middle (members blocks) (members after) i s (off + length bytes) bs) is
+    (split ∙ ap (λ s. drop (s - off) bytes) is) prepared
+
+module _ {kept : ℕ → Bool} {old : Memory} {blocks inodes : Set} {off : ℕ} {bytes : List ℕ} {touched : Touched} where
   not_inodes : (P : Type 0) → WritesAcross kept old blocks inodes 0 off bytes touched → P
   not_inodes P across = absurd (omega (arith, across.into.can.file))
 
@@ -146,12 +170,6 @@ module _ {kept : ℕ → Bool} (old : Memory) (blocks inodes : Set) (off : ℕ) 
       subst (λ s. CanPrepare kept old (members blocks) (suc n) path s (off + length bytes)) (sym two) can
 
   module _ (middle : Memory) (after : Set) where
-    -- the preparation, told at the size of the file
-    pub at_prepared : (i size : ℕ) (beyond : List ℕ) → PreparesWith kept old middle (members blocks) (members after) i size (off + length bytes) beyond → size ≡ size_of (current_words old) i → beyond ≡ drop (size - off) bytes →
-        PreparesWith kept old middle (members blocks) (members after) i (size_of (current_words old) i) (off + length bytes) (drop (size_of (current_words old) i - off) bytes)
-    at_prepared i size beyond prepared is split =
-        subst₂ (λ s bs. PreparesWith kept old middle (members blocks) (members after) i s (off + length bytes) bs) is (split ∙ ap (λ s. drop (s - off) bytes) is) prepared
-
     pub at_commit : (i : ℕ) → WritesAcross kept old blocks inodes i off bytes touched → thawed (current_words old) kept (writes i off (length bytes)) ≡ [] → HasRoomThawed old blocks (writes i off (length bytes)) →
         need (current_words old) (writes i off (length bytes)) ≤ length (members blocks) →
         PreparesWith kept old middle (members blocks) (members after) i (size_of (current_words old) i) (off + length bytes) (drop (size_of (current_words old) i - off) bytes) → length after ≡ length blocks →

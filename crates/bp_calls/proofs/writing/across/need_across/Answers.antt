@@ -1,60 +1,44 @@
-use Rattle.std.proofs.Common.{◌≡◌, ℕ, List, length, sym, ◌∙◌, ap}
+use Rattle.std.proofs.Common.{◌≡◌, ℕ, List, length}
 use Rattle.bp_calls.specs.TouchedAcross.{WritesAcross}
-use Rattle.bp_calls.proofs.AcrossCalls.{at_inside, at_shape, from_plan, of_plan, planned_across}
+use Rattle.bp_calls.proofs.AcrossCalls.{across_planned, at_inside, at_shape, from_plan, planned_across, root_planned, size_planned}
 use Rattle.bp_calls.proofs.SameWrites.{write_mounted}
-use Rattle.bp_layout.specs.Inode.{root_of, size_of}
 use Rattle.bp_layout.specs.Need.{need}
 use Rattle.bp_layout.specs.Need.Change.{writes}
 use Rattle.bp_shapes.specs.Sets.{kept_of}
 use Rattle.pm_region.specs.Memory.{current_words}
+use Rattle.bp_calls.proofs.writing.across.need_across.Given.{Over}
+use Rattle.bp_calls.proofs.writing.across.need_across.Goals.{After-touched_across-touched}
 use Rattle.bp_calls.proofs.writing.across.need_across.Goals as goal
+
+-- what is touched is that of the write
+across : (g : Over) (c : After-touched_across-touched g) → WritesAcross (kept_of c.args.parts.now) (g.R.Region.memory c.args.parts.now.region)
+    c.args.parts.now.blocks c.args.parts.now.inodes c.args.i c.args.off c.args.bytes.now c.touched_across-touched.result
+across g c =
+    let parts = c.args.parts.now in
+    let touches = c.touched_across-touched.ensures in
+    planned_across c.args.i c.plan_write-plan.result c.plan_write-plan.ensures
+    (write_mounted (current_words (g.R.Region.memory parts.region)) parts c.args.i c.args.off c.args.bytes.now c.requires.mounted c.requires.can)
+    c.requires.below c.requires.past touches.words touches.runs touches.trees
 
 pub find_ways-found-requires-clause-touched : goal.find_ways-found-requires-clause-touched
 find_ways-found-requires-clause-touched g c =
-    let memory = g.R.Region.memory in
-    let plan = c.plan_write-plan.result in
-    let planned = c.plan_write-plan.ensures in
-    let across : WritesAcross (kept_of c.args.parts.now) (memory c.args.parts.now.region) c.args.parts.now.blocks c.args.parts.now.inodes c.args.i c.args.off c.args.bytes.now c.touched_across-touched.result =
-    planned_across (memory c.args.parts.now.region) c.args.parts.now.blocks c.args.parts.now.inodes c.args.off c.args.bytes.now c.touched_across-touched.result c.args.i plan planned
-    (write_mounted (current_words (memory c.args.parts.now.region)) c.args.parts.now c.args.i c.args.off c.args.bytes.now c.requires.mounted c.requires.can) c.requires.below c.requires.past
-    c.touched_across-touched.ensures.words c.touched_across-touched.ensures.runs c.touched_across-touched.ensures.trees in
-    at_shape (memory c.args.parts.now.region) c.args.parts.now.blocks c.args.parts.now.inodes c.args.off c.args.bytes.now c.touched_across-touched.result c.args.i across
+    at_shape c.args.i (across g (goal.at.find_ways-found-requires-clause-touched g c).After-touched_across-touched)
 
 pub find_ways-found-requires-clause-in_range : goal.find_ways-found-requires-clause-in_range
 find_ways-found-requires-clause-in_range g c =
-    let memory = g.R.Region.memory in
-    let plan = c.plan_write-plan.result in
-    let planned = c.plan_write-plan.ensures in
-    let across : WritesAcross (kept_of c.args.parts.now) (memory c.args.parts.now.region) c.args.parts.now.blocks c.args.parts.now.inodes c.args.i c.args.off c.args.bytes.now c.touched_across-touched.result =
-    planned_across (memory c.args.parts.now.region) c.args.parts.now.blocks c.args.parts.now.inodes c.args.off c.args.bytes.now c.touched_across-touched.result c.args.i plan planned
-    (write_mounted (current_words (memory c.args.parts.now.region)) c.args.parts.now c.args.i c.args.off c.args.bytes.now c.requires.mounted c.requires.can) c.requires.below c.requires.past
-    c.touched_across-touched.ensures.words c.touched_across-touched.ensures.runs c.touched_across-touched.ensures.trees in
-    at_inside (memory c.args.parts.now.region) c.args.parts.now.blocks c.args.parts.now.inodes c.args.off c.args.bytes.now c.touched_across-touched.result c.args.i across
+    at_inside c.args.i (across g (goal.at.find_ways-found-requires-clause-in_range g c).After-touched_across-touched)
 
 pub need_found-requires-clause-across : goal.need_found-requires-clause-across
 need_found-requires-clause-across g c =
-    let memory = g.R.Region.memory in
-    let plan = c.plan_write-plan.result in
-    let planned = c.plan_write-plan.ensures in
-    let across : WritesAcross (kept_of c.args.parts.now) (memory c.args.parts.now.region) c.args.parts.now.blocks c.args.parts.now.inodes c.args.i c.args.off c.args.bytes.now c.touched_across-touched.result =
-    planned_across (memory c.args.parts.now.region) c.args.parts.now.blocks c.args.parts.now.inodes c.args.off c.args.bytes.now c.touched_across-touched.result c.args.i plan planned
-    (write_mounted (current_words (memory c.args.parts.now.region)) c.args.parts.now c.args.i c.args.off c.args.bytes.now c.requires.mounted c.requires.can) c.requires.below c.requires.past
-    c.touched_across-touched.ensures.words c.touched_across-touched.ensures.runs c.touched_across-touched.ensures.trees in
-    of_plan (current_words (memory c.args.parts.now.region)) c.args.i c.args.off c.args.bytes.now plan planned
-    (λ i off (bytes : List ℕ). WritesAcross (kept_of c.args.parts.now) (memory c.args.parts.now.region) c.args.parts.now.blocks c.args.parts.now.inodes i off bytes c.touched_across-touched.result) across
+    across_planned c.plan_write-plan.ensures (across g (goal.at.need_found-requires-clause-across g c).After-touched_across-touched)
 
 pub need_found-requires-clause-root : goal.need_found-requires-clause-root
-need_found-requires-clause-root g c =
-    let planned = c.plan_write-plan.ensures in
-    planned.root ∙ ap (root_of (current_words (g.R.Region.memory c.args.parts.now.region))) (sym planned.inode)
+need_found-requires-clause-root g c = root_planned c.plan_write-plan.ensures
 
 pub need_found-requires-clause-size : goal.need_found-requires-clause-size
-need_found-requires-clause-size g c =
-    let planned = c.plan_write-plan.ensures in
-    planned.size ∙ ap (size_of (current_words (g.R.Region.memory c.args.parts.now.region))) (sym planned.inode)
+need_found-requires-clause-size g c = size_planned c.plan_write-plan.ensures
 
 pub returns-clause-need : goal.returns-clause-need
 returns-clause-need g c =
     let image = current_words (g.R.Region.memory c.args.parts.now.region) in
-    from_plan image c.args.i c.args.off c.args.bytes.now c.plan_write-plan.result c.plan_write-plan.ensures
-    (λ i off (bytes : List ℕ). c.need_found.result ≡ need image (writes i off (length bytes))) c.need_found.ensures.need
+    from_plan c.plan_write-plan.ensures (λ i off (bytes : List ℕ). c.need_found.result ≡ need image (writes i off (length bytes))) c.need_found.ensures.need

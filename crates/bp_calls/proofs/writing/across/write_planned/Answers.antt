@@ -9,35 +9,35 @@ use Rattle.bp_calls.proofs.writing.across.write_planned.Goals as goal
 
 pub prep-requires : goal.prep-requires
 prep-requires g c =
-    let memory = g.R.Region.memory in
     let plan = c.args.plan.now in
     record {
       can = (
         plan.inode,
-        at_prepare (memory c.args.parts.now.region) c.args.parts.now.blocks c.args.parts.now.inodes plan.off plan.bytes.now c.args.touched.now plan.inode plan.tree.size plan.run.root.items
-            c.requires.across c.requires.clear c.requires.room c.requires.enough c.requires.size c.requires.root,
+        at_prepare plan.inode plan.tree.size plan.run.root.items c.requires.across c.requires.clear c.requires.room c.requires.enough
+            c.requires.size c.requires.root,
       );
     }
 
 pub commit_at-requires : goal.commit_at-requires
 commit_at-requires g c κs within =
-    let memory = g.R.Region.memory in
+    let middle = g.R.Region.memory c.prep.new.parts.region in
+    let after = c.prep.new.parts.blocks in
     let plan = c.args.plan.now in
-    let ready = at_prepare (memory c.args.parts.now.region) c.args.parts.now.blocks c.args.parts.now.inodes plan.off plan.bytes.now c.args.touched.now plan.inode plan.tree.size plan.run.root.items
-    c.requires.across c.requires.clear c.requires.room c.requires.enough c.requires.size c.requires.root in
-    let prepared = at_prepared (memory c.args.parts.now.region) c.args.parts.now.blocks c.args.parts.now.inodes plan.off plan.bytes.now c.args.touched.now (memory c.prep.new.parts.region) c.prep.new.parts.blocks
-    plan.inode _ _ (c.prep.ensures.prepares plan.inode ready) c.requires.size c.split_at.ensures.back in
-    let bound = sizes_with (current_words (memory c.prep.new.parts.region)) c.args.touched.now in (
+    let ready = at_prepare plan.inode plan.tree.size plan.run.root.items c.requires.across c.requires.clear c.requires.room c.requires.enough
+    c.requires.size c.requires.root in
+    let prepared = at_prepared c.args.parts.now.blocks after plan.off plan.bytes.now (c.prep.ensures.prepares plan.inode ready)
+    c.requires.size c.split_at.ensures.back in
+    let bound = sizes_with (current_words middle) c.args.touched.now in (
       within,
       (
-        subst (λ (frozen : Set). CanCommitIn bound (has frozen) (memory c.prep.new.parts.region) c.args.touched.now c.prep.new.parts.blocks) (sym c.prep.ensures.frozen)
-            (at_commit (memory c.args.parts.now.region) c.args.parts.now.blocks c.args.parts.now.inodes plan.off plan.bytes.now c.args.touched.now (memory c.prep.new.parts.region) c.prep.new.parts.blocks
-            plan.inode c.requires.across c.requires.clear c.requires.room c.requires.enough prepared c.prep.ensures.room),
+        subst (λ (frozen : Set). CanCommitIn bound (has frozen) middle c.args.touched.now after) (sym c.prep.ensures.frozen)
+            (at_commit middle after plan.inode c.requires.across c.requires.clear c.requires.room c.requires.enough prepared c.prep.ensures.room),
         (
-          at_ways (memory c.args.parts.now.region) c.args.parts.now.blocks c.args.parts.now.inodes plan.off plan.bytes.now c.args.touched.now (memory c.prep.new.parts.region) c.prep.new.parts.blocks
-              plan.inode c.requires.across prepared c.args.found.now c.requires.found,
+          at_ways middle after plan.inode c.requires.across prepared c.args.found.now c.requires.found,
           record {
-            room = let whole = ap (λ words. words / 512) prepared.ready.meaning.trees.whole in omega (arith, whole, c.requires.exact.frozen_room, ap (λ (set : Set). length set) c.prep.ensures.frozen);
+            room =
+                let whole = ap (λ words. words / 512) prepared.ready.meaning.trees.whole in
+                omega (arith, whole, c.requires.exact.frozen_room, ap (λ (set : Set). length set) c.prep.ensures.frozen);
             same = λ b. refl;
           },
         ),
@@ -47,18 +47,23 @@ commit_at-requires g c κs within =
 pub returns : goal.returns
 returns g c =
     let memory = g.R.Region.memory in
+    let middle = memory c.prep.new.parts.region in
+    let after = c.prep.new.parts.blocks in
+    let new = c.commit_at.new.parts in
     let plan = c.args.plan.now in
-    let ready = at_prepare (memory c.args.parts.now.region) c.args.parts.now.blocks c.args.parts.now.inodes plan.off plan.bytes.now c.args.touched.now plan.inode plan.tree.size plan.run.root.items
-    c.requires.across c.requires.clear c.requires.room c.requires.enough c.requires.size c.requires.root in
-    let prepared = at_prepared (memory c.args.parts.now.region) c.args.parts.now.blocks c.args.parts.now.inodes plan.off plan.bytes.now c.args.touched.now (memory c.prep.new.parts.region) c.prep.new.parts.blocks
-    plan.inode _ _ (c.prep.ensures.prepares plan.inode ready) c.requires.size c.split_at.ensures.back in
-    let bound = sizes_with (current_words (memory c.prep.new.parts.region)) c.args.touched.now in
-    let commits = subst (λ (frozen : Set). CommitsTouched bound (has frozen) c.args.touched.now (memory c.prep.new.parts.region) (memory c.commit_at.new.parts.region) c.prep.new.parts.blocks c.commit_at.new.parts.blocks) c.prep.ensures.frozen c.commit_at.ensures.commits in
-    let done = at_done (memory c.args.parts.now.region) c.args.parts.now.blocks c.args.parts.now.inodes plan.off plan.bytes.now c.args.touched.now (memory c.prep.new.parts.region) c.prep.new.parts.blocks
-    (memory c.commit_at.new.parts.region) c.commit_at.new.parts.blocks plan.inode c.requires.across prepared c.requires.small commits c.commit_at.ensures.size c.prep.ensures.room in
+    let ready = at_prepare plan.inode plan.tree.size plan.run.root.items c.requires.across c.requires.clear c.requires.room c.requires.enough
+    c.requires.size c.requires.root in
+    let prepared = at_prepared c.args.parts.now.blocks after plan.off plan.bytes.now (c.prep.ensures.prepares plan.inode ready)
+    c.requires.size c.split_at.ensures.back in
+    let bound = sizes_with (current_words middle) c.args.touched.now in
+    let commits = subst (λ (frozen : Set). CommitsTouched bound (has frozen) c.args.touched.now middle (memory new.region) after new.blocks)
+    c.prep.ensures.frozen c.commit_at.ensures.commits in
+    let done = at_done middle after (memory new.region) new.blocks plan.inode c.requires.across prepared c.requires.small commits
+    c.commit_at.ensures.size c.prep.ensures.room in
     record {
       performs = done.0;
       frozen = c.commit_at.ensures.frozen ∙ c.prep.ensures.frozen;
       exact = exact_file _ _ c.args.parts.now _ c.requires.exact (rw (c.commit_at.ensures.inodes, c.prep.ensures.inodes) done.1)
-          (c.commit_at.ensures.frozen ∙ c.prep.ensures.frozen) (c.commit_at.ensures.counts ∙ c.prep.ensures.counts) plan.inode c.requires.across.into.well_formed done.0.effect.changes;
+          (c.commit_at.ensures.frozen ∙ c.prep.ensures.frozen) (c.commit_at.ensures.counts ∙ c.prep.ensures.counts) plan.inode
+          c.requires.across.into.well_formed done.0.effect.changes;
     }

@@ -2,7 +2,9 @@
 use Rattle.std.proofs.Common.{◌≡◌, ◌≢◌, ◌⊎◌, ℕ, suc, ◌+◌, ◌*◌, ◌/◌, ◌%◌, ◌<◌, ◌≤◌, List, [], length, set, slice_index, Bool, true, false, ◌-◌, refl, sym, ◌∙◌, ap, ap₂, subst, arith, inl, inr}
 use Rattle.std.proofs.lemmas.Bool.{cases_Bool, cases_eq}
 use Rattle.std.proofs.lemmas.List.{length-set}
+use Rattle.bp_calls.specs.Commits.{CommitsChange}
 use Rattle.bp_calls.specs.GivenBack.{GivesBack}
+use Rattle.bp_calls.proofs.CountLaws.{exact_with}
 use Rattle.bp_calls.proofs.GivenUpLaws.{gives_as}
 use Rattle.bp_calls.proofs.OpenPlaces.{content_address, content_live, root_word_stays, stands_stored}
 use Rattle.bp_calls.proofs.ReadingLaws.{few_inode}
@@ -13,6 +15,7 @@ use Rattle.bp_changes.proofs.LinkInPlace.{store_blocks, store_removes}
 use Rattle.bp_changes.proofs.Named.{removed_counts}
 use Rattle.bp_changes.proofs.Unlink.{reached_back, reached_stays, unlinked_well_formed}
 use Rattle.bp_free.specs.Set.{Set, has, with}
+use Rattle.bp_free.specs.declared.parts.Parts.{Parts}
 use Rattle.bp_free.proofs.Members.{has_with_other, has_with_same}
 use Rattle.bp_layout.proofs.FewLeaves.{few_inodes}
 use Rattle.bp_layout.specs.Directory.{EntryNames, inumber_at, inumber_in}
@@ -31,7 +34,7 @@ use Rattle.bp_layout.proofs.Reached.{reached-in_file}
 use Rattle.bp_layout.proofs.SameLaws.{same_self}
 use Rattle.bp_layout.proofs.TreeLaws.{KeepsPointers, has_block-kept, has_block-stays, sound-kept}
 use Rattle.bp_shapes.specs.Freed.{IsGivenUp}
-use Rattle.bp_shapes.specs.Sets.{AreExact}
+use Rattle.bp_shapes.specs.Sets.{AreExact, IsExact, kept_of}
 use Rattle.bp_shapes.proofs.Freed.{freed_blocks, remove_frees, removed_inode}
 use Rattle.bp_commit.specs.Performs.{PerformsThawed}
 use Rattle.bp_tree.proofs.ExistingPaths.{AllThere, content_path-there, copied-one, cover-one}
@@ -79,7 +82,7 @@ module _ (image : Image) (wf : IsWellFormed image) (i s j : ℕ) (reached : IsRe
 
 -- ---- the store
 
-module _ (image : Image) (i s j place : ℕ) (can : CanLeave image i s j place) where
+module _ {image : Image} {i s j place : ℕ} (can : CanLeave image i s j place) where
   abbrev last : Image
   last = set image place 0
 
@@ -149,7 +152,7 @@ module _ (image : Image) (i s j place : ℕ) (can : CanLeave image i s j place) 
   gone_on b has = record { has = has_block-stays image last root size keeps b has; past = omega arith }
 
   -- where it is the last name of its inode, the blocks and the number come back
-  module _ {kept : ℕ → Bool} (blocks inodes : Set) (exact : AreExact image kept blocks inodes) where
+  module _ {kept : ℕ → Bool} {blocks inodes : Set} (exact : AreExact image kept blocks inodes) where
     can_give_blocks : CanGiveBack last root size blocks
     can_give_blocks = record {
       sound = sound-kept image last root size keeps (length-set image place 0) (wf.sound j named_reached);
@@ -225,7 +228,7 @@ module _ (image : Image) (i s j place : ℕ) (can : CanLeave image i s j place) 
         before : (t : ℕ) → IsReached last t → IsReached image t
         before = reached_back image last wf i s j can.unlink removes
 
-module _ (old new : Memory) (i s j place : ℕ) (can : CanLeave (current_words old) i s j place) (adds : Adds old new (commit place 0)) where
+module _ (old new : Memory) {i s j place : ℕ} (can : CanLeave (current_words old) i s j place) (adds : Adds old new (commit place 0)) where
   stored : current_words new ≡ set (current_words old) place 0
   stored = current_words-adds old new (commit place 0) adds
 
@@ -252,26 +255,43 @@ module _ (old new : Memory) (i s j place : ℕ) (can : CanLeave (current_words o
         piece = IsPiece-commit place 0;
       })
       (takes_none (current_words old) kept)
-      (rw stored (sym (at_cover (current_words old) i s j place can)))
+      (rw stored (sym (at_cover can)))
       (omega arith) (omega arith)
       (sym (none_leaving (current_words old) can.well_formed i s j can.unlink.reached can.unlink.entry))
       (in_live (content_live (current_words old) i (32 * s + 0) place can.unlink.reached (omega (arith, can.unlink.entry.in_size)) can.stands) (leaving_loose kept clear))
-      (rw stored (last_well_formed (current_words old) i s j place can))
-      (rw stored (removes (current_words old) i s j place can))
+      (rw stored (last_well_formed can))
+      (rw stored (removes can))
 
-  module _ {kept : ℕ → Bool} (blocks inodes : Set) (exact : AreExact (current_words old) kept blocks inodes) where
+  module _ {kept : ℕ → Bool} {blocks inodes : Set} (exact : AreExact (current_words old) kept blocks inodes) where
     pub can_give : CanGiveBack (current_words new) (root_of (current_words old) j) (size_of (current_words old) j) blocks
-    can_give = rw stored (can_give_blocks (current_words old) i s j place can blocks inodes exact)
+    can_give = rw stored (can_give_blocks can exact)
 
-    pub leaving_exact : IsLastName (current_words old) i s j → (after : Set) → GivesBack kept (IsGivenUp (current_words new) (root_of (current_words old) j) (size_of (current_words old) j) 0) blocks after → AreExact (current_words new) kept after (with inodes j)
-    leaving_exact last_name after gives = rw stored (exact_last (current_words old) i s j place can blocks inodes exact last_name after (rw stored at gives))
+    pub leaving_exact : IsLastName (current_words old) i s j → (after : Set)
+        → GivesBack kept (IsGivenUp (current_words new) (root_of (current_words old) j) (size_of (current_words old) j) 0) blocks after
+        → AreExact (current_words new) kept after (with inodes j)
+    leaving_exact last_name after gives = rw stored (exact_last can exact last_name after (rw stored at gives))
 
     pub named_exact : HasOtherName (current_words old) i s j → AreExact (current_words new) kept blocks inodes
-    named_exact more = rw stored (exact_named (current_words old) i s j place can more blocks inodes exact)
+    named_exact more = rw stored (exact_named can more _ _ exact)
 
   pub leaving_counts : (counts : List ℕ) → AreCounts (current_words old) counts → j < length counts → (rest : ℕ) → slice_index counts j ≡ rest + 1 → AreCounts (current_words new) (set counts j rest)
   leaving_counts counts are low rest is = rw stored
-      (removed_counts (current_words old) (set (current_words old) place 0) can.well_formed i s j can.unlink (removes (current_words old) i s j place can) counts are low rest is)
+      (removed_counts (current_words old) (set (current_words old) place 0) can.well_formed i s j can.unlink (removes can) counts are low rest is)
 
   pub leaving_whole : length (current_words new) ≡ length (current_words old)
   leaving_whole = rw stored (length-set (current_words old) place 0)
+
+-- a call that stores it has taken the name out, where the sets of its parts are exact then and one name less is counted
+pub leaving_commits : {R : Type 0} (memory : R → Memory) (old new : Parts R) {i s j place : ℕ} (can : CanLeave (current_words (memory old.region)) i s j place)
+    → Adds (memory old.region) (memory new.region) (commit place 0) → IsExact (current_words (memory old.region)) old
+    → thawed (current_words (memory old.region)) (kept_of old) (leaves i s) ≡ []
+    → AreExact (current_words (memory new.region)) (kept_of old) new.blocks new.inodes → new.frozen ≡ old.frozen
+    → j < length old.counts → (rest : ℕ) → slice_index old.counts j ≡ rest + 1 → new.counts ≡ set old.counts j rest
+    → CommitsChange memory old new (leaves i s) (λ image after. RemovesEntry image after i s)
+leaving_commits memory old new {j = j} can adds exact clear sets frozen low rest some counts = record {
+  performs = leaving_performs (memory old.region) (memory new.region) can adds (kept_of old) clear;
+  frozen = frozen;
+  exact = exact_with _ _ old new exact sets frozen (leaving_whole (memory old.region) (memory new.region) can adds)
+      (rw counts (length-set old.counts j rest))
+      (rw counts (leaving_counts (memory old.region) (memory new.region) can adds old.counts exact.counts low rest some));
+}

@@ -1,118 +1,106 @@
-use Rattle.std.proofs.Common.{◌≡◌, ◌-◌, ◌/◌, ◌<◌, length, slice_index, refl, sym, ◌∙◌, ap, subst, arith}
-use Rattle.bp_shapes.specs.Sets.{kept_of}
+use Rattle.std.proofs.Common.{◌≡◌, ◌-◌, ◌/◌, ◌<◌, ◌≤◌, length, slice_index, refl, sym, ◌∙◌, ap, subst, arith}
 use Rattle.pm_region.specs.Memory.{current_words}
 use Rattle.pm_region.proofs.MemoryLaws.{length-current_words}
-use Rattle.bp_calls.proofs.Leaving.{found_leaving, named_few, named_reached, inode_in_room, inode_taken, can_give, leaving_counts, leaving_exact, leaving_performs, leaving_whole, named_exact}
-use Rattle.bp_calls.proofs.removing.take_out.Goals as goal
-use Rattle.std.proofs.lemmas.List.{length-set}
+use Rattle.bp_calls.proofs.CountLaws.{last_name, other_name, some_name}
+use Rattle.bp_calls.proofs.Leaving.{CanLeave, can_give, found_leaving, inode_in_room, inode_taken, leaving_commits, leaving_exact, leaving_whole, named_exact}
+use Rattle.bp_calls.proofs.Leaving.{named_few, named_reached}
 use Rattle.bp_layout.specs.Names.{HasNames}
-use Rattle.bp_calls.proofs.CountLaws.{exact_with, last_name, other_name, some_name}
+use Rattle.bp_calls.proofs.removing.take_out.Given.{Over}
+use Rattle.bp_calls.proofs.removing.take_out.Goals.{After-inumber-inode}
+use Rattle.bp_calls.proofs.removing.take_out.Goals as goal
+
+-- the entry may go, and its inumber stands at the place that was found
+can : (g : Over) (c : After-inumber-inode g)
+    → CanLeave (current_words (g.R.Region.memory c.args.parts.now.region)) c.args.dir c.args.slot c.inumber-inode.result c.entry_place-entry.result
+can g c =
+    let image = current_words (g.R.Region.memory c.args.parts.now.region) in
+    let directory = c.tree_of-directory in
+    let found = c.entry_place-entry.ensures in
+    found_leaving image c.args.dir c.args.slot c.inumber-inode.result c.entry_place-entry.result directory.result.root c.requires.mounted.well_formed
+    c.requires.can directory.ensures.root c.inumber-inode.ensures found.place found.present
+
+-- the names of the inode are counted
+low : (g : Over) (c : After-inumber-inode g) → c.inumber-inode.result < length c.args.parts.now.counts
+low g c =
+    let exact = c.requires.mounted.exact in
+    omega (arith, inode_in_room (can g c) exact.sets, exact.sets.inode_room, exact.count_room)
+
+-- it has as many, and this one is among them
+some : (g : Over) (c : After-inumber-inode g) → 1 ≤ slice_index c.args.parts.now.counts c.inumber-inode.result
+some g c =
+    let unlink = (can g c).unlink in
+    some_name (current_words (g.R.Region.memory c.args.parts.now.region)) c.args.dir c.args.slot c.inumber-inode.result unlink.reached unlink.entry _
+    (c.requires.mounted.exact.counts.each c.inumber-inode.result (low g c))
 
 pub overflow_cast-inode : goal.overflow_cast-inode
-overflow_cast-inode g c =
-    let memory = g.R.Region.memory in
-    let image = current_words (memory c.args.parts.now.region) in
-    let can = found_leaving image c.args.dir c.args.slot c.inumber-inode.result c.entry_place-entry.result c.tree_of-directory.result.root c.requires.mounted.well_formed c.requires.can c.tree_of-directory.ensures.root c.inumber-inode.ensures c.entry_place-entry.ensures.place c.entry_place-entry.ensures.present in
-    let few = named_few image c.args.dir c.args.slot c.inumber-inode.result c.entry_place-entry.result can in omega (arith, few)
+overflow_cast-inode g c = let few = named_few (can g (goal.at.overflow_cast-inode g c).After-inumber-inode) in omega (arith, few)
 
 pub tree_of-tree-requires-clause-reached : goal.tree_of-tree-requires-clause-reached
-tree_of-tree-requires-clause-reached g c =
-    let memory = g.R.Region.memory in
-    let image = current_words (memory c.args.parts.now.region) in
-    let can = found_leaving image c.args.dir c.args.slot c.inumber-inode.result c.entry_place-entry.result c.tree_of-directory.result.root c.requires.mounted.well_formed c.requires.can c.tree_of-directory.ensures.root c.inumber-inode.ensures c.entry_place-entry.ensures.place c.entry_place-entry.ensures.present in
-    named_reached image c.args.dir c.args.slot c.inumber-inode.result c.entry_place-entry.result can
+tree_of-tree-requires-clause-reached g c = named_reached (can g (goal.at.tree_of-tree-requires-clause-reached g c).After-inumber-inode)
 
 pub commit_word-requires-clause-in_range : goal.commit_word-requires-clause-in_range
-commit_word-requires-clause-in_range g c = omega (arith, c.entry_place-entry.ensures.in_range, length-current_words (g.R.Region.memory c.args.parts.now.region))
+commit_word-requires-clause-in_range g c =
+    omega (arith, c.entry_place-entry.ensures.in_range, length-current_words (g.R.Region.memory c.args.parts.now.region))
 
 pub give_back-requires : goal.give_back-requires
 give_back-requires g c =
     let memory = g.R.Region.memory in
-    let image = current_words (memory c.args.parts.now.region) in
-    let can = found_leaving image c.args.dir c.args.slot c.inumber-inode.result c.entry_place-entry.result c.tree_of-directory.result.root c.requires.mounted.well_formed c.requires.can c.tree_of-directory.ensures.root c.inumber-inode.ensures c.entry_place-entry.ensures.place c.entry_place-entry.ensures.present in
-    let gives = can_give (memory c.args.parts.now.region) (memory c.commit_word.new.region) c.args.dir c.args.slot c.inumber-inode.result c.entry_place-entry.result can c.commit_word.ensures c.args.parts.now.blocks c.args.parts.now.inodes c.requires.mounted.exact.sets in
-    rw (c.tree_of-tree.ensures.root, c.tree_of-tree.ensures.size) (record { sound = gives.sound; room = gives.room; known = c.requires.mounted.exact.frozen_room ∙ sym (ap (λ n. n / 512) (leaving_whole (memory c.args.parts.now.region) (memory c.commit_word.new.region) c.args.dir c.args.slot c.inumber-inode.result c.entry_place-entry.result can c.commit_word.ensures)); taken = gives.taken })
+    let leave = can g (goal.at.give_back-requires g c).After-inumber-inode in
+    let exact = c.requires.mounted.exact in
+    let gives = can_give (memory c.args.parts.now.region) (memory c.commit_word.new.region) leave c.commit_word.ensures exact.sets in
+    let whole = leaving_whole (memory c.args.parts.now.region) (memory c.commit_word.new.region) leave c.commit_word.ensures in
+    rw (c.tree_of-tree.ensures.root, c.tree_of-tree.ensures.size)
+    (record { sound = gives.sound; room = gives.room; known = exact.frozen_room ∙ sym (ap (λ n. n / 512) whole); taken = gives.taken })
 
 pub give-requires-clause-in_range : goal.give-requires-clause-in_range
 give-requires-clause-in_range g c =
-    let memory = g.R.Region.memory in
-    let image = current_words (memory c.args.parts.now.region) in
-    let can = found_leaving image c.args.dir c.args.slot c.inumber-inode.result c.entry_place-entry.result c.tree_of-directory.result.root c.requires.mounted.well_formed c.requires.can c.tree_of-directory.ensures.root c.inumber-inode.ensures c.entry_place-entry.ensures.place c.entry_place-entry.ensures.present in
-    inode_in_room image c.args.dir c.args.slot c.inumber-inode.result c.entry_place-entry.result can c.args.parts.now.blocks c.args.parts.now.inodes c.requires.mounted.exact.sets
+    inode_in_room (can g (goal.at.give-requires-clause-in_range g c).After-inumber-inode) c.requires.mounted.exact.sets
 
 pub give-requires-clause-taken : goal.give-requires-clause-taken
-give-requires-clause-taken g c =
-    let memory = g.R.Region.memory in
-    let image = current_words (memory c.args.parts.now.region) in
-    let can = found_leaving image c.args.dir c.args.slot c.inumber-inode.result c.entry_place-entry.result c.tree_of-directory.result.root c.requires.mounted.well_formed c.requires.can c.tree_of-directory.ensures.root c.inumber-inode.ensures c.entry_place-entry.ensures.place c.entry_place-entry.ensures.present in
-    inode_taken image c.args.dir c.args.slot c.inumber-inode.result c.entry_place-entry.result can c.args.parts.now.blocks c.args.parts.now.inodes c.requires.mounted.exact.sets
+give-requires-clause-taken g c = inode_taken (can g (goal.at.give-requires-clause-taken g c).After-inumber-inode) c.requires.mounted.exact.sets
 
--- ---- the count of names
+-- ## The count of names
 
 pub names-names-requires : goal.names-names-requires
-names-names-requires g c =
-    let memory = g.R.Region.memory in
-    let image = current_words (memory c.args.parts.now.region) in
-    let can = found_leaving image c.args.dir c.args.slot c.inumber-inode.result c.entry_place-entry.result c.tree_of-directory.result.root c.requires.mounted.well_formed c.requires.can c.tree_of-directory.ensures.root c.inumber-inode.ensures c.entry_place-entry.ensures.place c.entry_place-entry.ensures.present in
-    let low = inode_in_room image c.args.dir c.args.slot c.inumber-inode.result c.entry_place-entry.result can c.args.parts.now.blocks c.args.parts.now.inodes c.requires.mounted.exact.sets in
-    omega (arith, low, c.requires.mounted.exact.sets.inode_room, c.requires.mounted.exact.count_room)
+names-names-requires g c = low g (goal.at.names-names-requires g c).After-inumber-inode
 
 pub overflow_sub-names : goal.overflow_sub-names
-overflow_sub-names g c =
-    let memory = g.R.Region.memory in
-    let image = current_words (memory c.args.parts.now.region) in
-    let can = found_leaving image c.args.dir c.args.slot c.inumber-inode.result c.entry_place-entry.result c.tree_of-directory.result.root c.requires.mounted.well_formed c.requires.can c.tree_of-directory.ensures.root c.inumber-inode.ensures c.entry_place-entry.ensures.place c.entry_place-entry.ensures.present in
-    let low : c.inumber-inode.result < length c.args.parts.now.counts =
-    omega (arith, inode_in_room image c.args.dir c.args.slot c.inumber-inode.result c.entry_place-entry.result can c.args.parts.now.blocks c.args.parts.now.inodes c.requires.mounted.exact.sets, c.requires.mounted.exact.sets.inode_room, c.requires.mounted.exact.count_room) in
-    let some = some_name image c.args.dir c.args.slot c.inumber-inode.result can.unlink.reached can.unlink.entry _ (c.requires.mounted.exact.counts.each c.inumber-inode.result low) in
-    omega (arith, some, c.names-names.ensures)
+overflow_sub-names g c = omega (arith, some g (goal.at.overflow_sub-names g c).After-inumber-inode, c.names-names.ensures)
 
 pub set-requires : goal.set-requires
-set-requires g c =
-    let memory = g.R.Region.memory in
-    let image = current_words (memory c.args.parts.now.region) in
-    let can = found_leaving image c.args.dir c.args.slot c.inumber-inode.result c.entry_place-entry.result c.tree_of-directory.result.root c.requires.mounted.well_formed c.requires.can c.tree_of-directory.ensures.root c.inumber-inode.ensures c.entry_place-entry.ensures.place c.entry_place-entry.ensures.present in
-    omega (arith, inode_in_room image c.args.dir c.args.slot c.inumber-inode.result c.entry_place-entry.result can c.args.parts.now.blocks c.args.parts.now.inodes c.requires.mounted.exact.sets, c.requires.mounted.exact.sets.inode_room, c.requires.mounted.exact.count_room)
+set-requires g c = low g (goal.at.set-requires g c).After-inumber-inode
 
 -- the inode has another name
 pub returns-then-names-gt0 : goal.returns-then-names-gt0
 returns-then-names-gt0 g c =
     let memory = g.R.Region.memory in
-    let image = current_words (memory c.args.parts.now.region) in
-    let can = found_leaving image c.args.dir c.args.slot c.inumber-inode.result c.entry_place-entry.result c.tree_of-directory.result.root c.requires.mounted.well_formed c.requires.can c.tree_of-directory.ensures.root c.inumber-inode.ensures c.entry_place-entry.ensures.place c.entry_place-entry.ensures.present in
-    let low : c.inumber-inode.result < length c.args.parts.now.counts =
-    omega (arith, inode_in_room image c.args.dir c.args.slot c.inumber-inode.result c.entry_place-entry.result can c.args.parts.now.blocks c.args.parts.now.inodes c.requires.mounted.exact.sets, c.requires.mounted.exact.sets.inode_room, c.requires.mounted.exact.count_room) in
-    let some = some_name image c.args.dir c.args.slot c.inumber-inode.result can.unlink.reached can.unlink.entry _ (c.requires.mounted.exact.counts.each c.inumber-inode.result low) in
-    let more = other_name image c.args.dir c.args.slot c.inumber-inode.result can.unlink.reached can.unlink.entry _ (omega (arith, some, c.names-names.ensures, c.if-names-gt0.true)) (c.requires.mounted.exact.counts.each c.inumber-inode.result low) in
-    record {
-      performs = leaving_performs (memory c.args.parts.now.region) (memory c.commit_word.new.region) c.args.dir c.args.slot c.inumber-inode.result c.entry_place-entry.result can c.commit_word.ensures (kept_of c.args.parts.now) c.requires.clear;
-      frozen = refl;
-      exact = exact_with _ _ c.args.parts.now _ c.requires.mounted.exact
-          (named_exact (memory c.args.parts.now.region) (memory c.commit_word.new.region) c.args.dir c.args.slot c.inumber-inode.result c.entry_place-entry.result can c.commit_word.ensures c.args.parts.now.blocks c.args.parts.now.inodes c.requires.mounted.exact.sets more) refl
-          (leaving_whole (memory c.args.parts.now.region) (memory c.commit_word.new.region) c.args.dir c.args.slot c.inumber-inode.result c.entry_place-entry.result can c.commit_word.ensures)
-          (rw c.set.ensures (length-set c.args.parts.now.counts c.inumber-inode.result (c.names-names.result - 1)))
-          (rw c.set.ensures (leaving_counts (memory c.args.parts.now.region) (memory c.commit_word.new.region) c.args.dir c.args.slot c.inumber-inode.result c.entry_place-entry.result can c.commit_word.ensures c.args.parts.now.counts c.requires.mounted.exact.counts low (c.names-names.result - 1) (omega (arith, some, c.names-names.ensures))));
-    }
+    let parts = c.args.parts.now in
+    let at = (goal.at.returns-then-names-gt0 g c).After-inumber-inode in
+    let leave = can g at in
+    let exact = c.requires.mounted.exact in
+    let inode = c.inumber-inode.result in
+    let one : 1 ≤ slice_index parts.counts inode = some g at in
+    let more = other_name (current_words (memory parts.region)) c.args.dir c.args.slot inode leave.unlink.reached leave.unlink.entry _
+    (omega (arith, one, c.names-names.ensures, c.if-names-gt0.true)) (exact.counts.each inode (low g at)) in
+    leaving_commits memory parts _ leave c.commit_word.ensures exact c.requires.clear
+    (named_exact (memory parts.region) (memory c.commit_word.new.region) leave c.commit_word.ensures exact.sets more) refl (low g at)
+    (c.names-names.result - 1) (omega (arith, one, c.names-names.ensures)) c.set.ensures
 
 -- the name was its last
 pub returns : goal.returns
 returns g c =
     let memory = g.R.Region.memory in
-    let image = current_words (memory c.args.parts.now.region) in
-    let can = found_leaving image c.args.dir c.args.slot c.inumber-inode.result c.entry_place-entry.result c.tree_of-directory.result.root c.requires.mounted.well_formed c.requires.can c.tree_of-directory.ensures.root c.inumber-inode.ensures c.entry_place-entry.ensures.place c.entry_place-entry.ensures.present in
-    let low : c.inumber-inode.result < length c.args.parts.now.counts =
-    omega (arith, inode_in_room image c.args.dir c.args.slot c.inumber-inode.result c.entry_place-entry.result can c.args.parts.now.blocks c.args.parts.now.inodes c.requires.mounted.exact.sets, c.requires.mounted.exact.sets.inode_room, c.requires.mounted.exact.count_room) in
-    let some = some_name image c.args.dir c.args.slot c.inumber-inode.result can.unlink.reached can.unlink.entry _ (c.requires.mounted.exact.counts.each c.inumber-inode.result low) in
-    let alone : slice_index c.args.parts.now.counts c.inumber-inode.result ≡ 1 = omega (arith, some, c.names-names.ensures, c.if-names-gt0.false) in
-    let last = last_name image c.args.dir c.args.slot c.inumber-inode.result can.unlink.reached can.unlink.entry (subst (HasNames image c.inumber-inode.result) alone (c.requires.mounted.exact.counts.each c.inumber-inode.result low)) in
-    record {
-      performs = leaving_performs (memory c.args.parts.now.region) (memory c.commit_word.new.region) c.args.dir c.args.slot c.inumber-inode.result c.entry_place-entry.result can c.commit_word.ensures (kept_of c.args.parts.now) c.requires.clear;
-      frozen = refl;
-      exact = exact_with _ _ c.args.parts.now _ c.requires.mounted.exact
-          (rw c.give.ensures
-          (leaving_exact (memory c.args.parts.now.region) (memory c.commit_word.new.region) c.args.dir c.args.slot c.inumber-inode.result c.entry_place-entry.result can c.commit_word.ensures c.args.parts.now.blocks c.args.parts.now.inodes c.requires.mounted.exact.sets last c.give_back.new.blocks
-          (rw (c.tree_of-tree.ensures.root, c.tree_of-tree.ensures.size) at c.give_back.ensures))) refl
-          (leaving_whole (memory c.args.parts.now.region) (memory c.commit_word.new.region) c.args.dir c.args.slot c.inumber-inode.result c.entry_place-entry.result can c.commit_word.ensures)
-          (rw c.set.ensures (length-set c.args.parts.now.counts c.inumber-inode.result (c.names-names.result - 1)))
-          (rw c.set.ensures (leaving_counts (memory c.args.parts.now.region) (memory c.commit_word.new.region) c.args.dir c.args.slot c.inumber-inode.result c.entry_place-entry.result can c.commit_word.ensures c.args.parts.now.counts c.requires.mounted.exact.counts low (c.names-names.result - 1) (omega (arith, some, c.names-names.ensures))));
-    }
+    let parts = c.args.parts.now in
+    let at = (goal.at.returns g c).After-inumber-inode in
+    let leave = can g at in
+    let exact = c.requires.mounted.exact in
+    let inode = c.inumber-inode.result in
+    let one : 1 ≤ slice_index parts.counts inode = some g at in
+    let alone : slice_index parts.counts inode ≡ 1 = omega (arith, one, c.names-names.ensures, c.if-names-gt0.false) in
+    let last = last_name (current_words (memory parts.region)) c.args.dir c.args.slot inode leave.unlink.reached leave.unlink.entry
+    (subst (HasNames (current_words (memory parts.region)) inode) alone (exact.counts.each inode (low g at))) in
+    leaving_commits memory parts _ leave c.commit_word.ensures exact c.requires.clear
+    (rw c.give.ensures
+    (leaving_exact (memory parts.region) (memory c.commit_word.new.region) leave c.commit_word.ensures exact.sets last c.give_back.new.blocks
+    (rw (c.tree_of-tree.ensures.root, c.tree_of-tree.ensures.size) at c.give_back.ensures))) refl (low g at)
+    (c.names-names.result - 1) (omega (arith, one, c.names-names.ensures)) c.set.ensures

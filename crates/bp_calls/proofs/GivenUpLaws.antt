@@ -117,7 +117,16 @@ module _ (image : Image) (root : ℕ) where
 
 -- ---- a tree that is higher
 
-module _ (image : Image) (root size level shorter : ℕ) (sound : IsSound image root size) (some : shorter < size) (present : block_of root ≢ 0) (height : height_of root ≡ suc level) where
+-- a tree whose top has children, which loses its blocks past a size below its own
+pub record LosesSlots (image : Image) (root size level shorter : ℕ) : Type 0 where
+  pub sound : IsSound image root size
+  pub some : shorter < size
+  pub present : block_of root ≢ 0
+  pub height : height_of root ≡ suc level
+
+module _ {image : Image} {root size level shorter : ℕ} (loses : LosesSlots image root size level shorter) where
+  open loses use {sound, some, present, height}
+
   pub shape : HasChildren image root size level
   shape = sound_shape image root size level sound (omega (arith, some)) height
 

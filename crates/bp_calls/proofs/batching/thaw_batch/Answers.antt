@@ -1,4 +1,4 @@
-use Rattle.std.proofs.Common.{sym, ◌∙◌, arith}
+use Rattle.std.proofs.Common.{sym, ◌∙◌, arith, rules}
 use Rattle.bp_free.specs.Set.{has}
 use Rattle.bp_calls.specs.Overwritten.{batch_change, patches_seen}
 use Rattle.bp_calls.proofs.CommitResults.{by_one, ok_both, ok_one}
@@ -33,75 +33,52 @@ plan g c here = record {
   room = c.requires.room;
 }
 
-pub covering-targets-requires-clause-touched : goal.covering-targets-requires-clause-touched
-covering-targets-requires-clause-touched g c = overwrite_shape (touches g (goal.at.covering-targets-requires-clause-touched g c).After-touched_by-touched)
+pub covering-targets-requires : goal.covering-targets-requires
+covering-targets-requires g c =
+    let here = touches g (goal.at.covering-targets-requires g c).After-touched_by-touched in
+    let leads = touched_leads here (has c.args.parts.now.blocks) c.requires.mounted.exact.sets.free_blocks in
+    record { touched = overwrite_shape here; some = search rules; in_range = leads }
 
-pub covering-targets-requires-clause-in_range : goal.covering-targets-requires-clause-in_range
-covering-targets-requires-clause-in_range g c =
-    let here = touches g (goal.at.covering-targets-requires-clause-in_range g c).After-touched_by-touched in
-    touched_leads here (has c.args.parts.now.blocks) c.requires.mounted.exact.sets.free_blocks
-
-pub need_cover-copies-requires-clause-touched : goal.need_cover-copies-requires-clause-touched
-need_cover-copies-requires-clause-touched g c = overwrite_shape (touches g (goal.at.need_cover-copies-requires-clause-touched g c).After-touched_by-touched)
-
-pub need_cover-copies-requires-clause-in_range : goal.need_cover-copies-requires-clause-in_range
-need_cover-copies-requires-clause-in_range g c =
-    let here = touches g (goal.at.need_cover-copies-requires-clause-in_range g c).After-touched_by-touched in
-    touched_leads here (has c.args.parts.now.blocks) c.requires.mounted.exact.sets.free_blocks
-
-pub need_cover-copies-requires-clause-apart : goal.need_cover-copies-requires-clause-apart
-need_cover-copies-requires-clause-apart g c =
-    let here = touches g (goal.at.need_cover-copies-requires-clause-apart g c).After-touched_by-touched in
-    touched_apart here (has c.args.parts.now.blocks) c.requires.mounted.exact.sets.free_blocks
-
-pub thaw_before-requires-clause-few : goal.thaw_before-requires-clause-few
-thaw_before-requires-clause-few g c =
-    let here = touches g (goal.at.thaw_before-requires-clause-few g c).After-touched_by-touched in
-    let few = touched_few here (has c.args.parts.now.blocks) c.requires.mounted.exact.sets.free_blocks in
-    omega (arith, few, c.need_cover-copies.ensures)
+pub need_cover-copies-requires : goal.need_cover-copies-requires
+need_cover-copies-requires g c =
+    let here = touches g (goal.at.need_cover-copies-requires g c).After-touched_by-touched in
+    let free = c.requires.mounted.exact.sets.free_blocks in
+    record {
+      touched = overwrite_shape here;
+      some = search rules;
+      in_range = touched_leads here (has c.args.parts.now.blocks) free;
+      apart = touched_apart here (has c.args.parts.now.blocks) free;
+    }
 
 -- ## The word that covers the bytes is all that the change is near
 
-pub thaw_before-requires-clause-ways : goal.thaw_before-requires-clause-ways
-thaw_before-requires-clause-ways g c =
-    let at = goal.at.thaw_before-requires-clause-ways g c in
-    let here = touches g at.After-touched_by-touched in
-    leads_in (plan g at.After-need_cover-copies here) (c.covering-targets.ensures ∙ overwrite_targets here)
-
-pub thaw_before-requires-clause-room : goal.thaw_before-requires-clause-room
-thaw_before-requires-clause-room g c =
-    let at = goal.at.thaw_before-requires-clause-room g c in
-    let here = touches g at.After-touched_by-touched in
-    room_for_both (plan g at.After-need_cover-copies here) (c.covering-targets.ensures ∙ overwrite_targets here)
-
-pub returns-clause-thaws : goal.returns-clause-thaws
-returns-clause-thaws g c =
-    let at = goal.at.returns-clause-thaws g c in
-    let here = touches g at.After-touched_by-touched in
-    ok_one c.thaw_before.result c.thaw_before.ensures.thaws
-    (thaws_before (plan g at.After-need_cover-copies here) (c.covering-targets.ensures ∙ overwrite_targets here))
-
-pub returns-clause-room : goal.returns-clause-room
-returns-clause-room g c =
-    let at = goal.at.returns-clause-room g c in
+pub thaw_before-requires : goal.thaw_before-requires
+thaw_before-requires g c =
+    let at = goal.at.thaw_before-requires g c in
     let here = touches g at.After-touched_by-touched in
     let planned = plan g at.After-need_cover-copies here in
     let are = c.covering-targets.ensures ∙ overwrite_targets here in
-    ok_both c.thaw_before.result c.thaw_before.ensures.thaws c.thaw_before.ensures.enough
-    (λ thaws enough. let room = room_behind planned are thaws enough in omega (arith, room, planned.needs))
+    let few = touched_few here (has c.args.parts.now.blocks) c.requires.mounted.exact.sets.free_blocks in
+    record {
+      mounted = c.requires.mounted;
+      ways = leads_in planned are;
+      few = omega (arith, few, c.need_cover-copies.ensures);
+      room = room_for_both planned are;
+    }
 
-pub returns-clause-enough : goal.returns-clause-enough
-returns-clause-enough g c =
-    let at = goal.at.returns-clause-enough g c in
+pub returns : goal.returns
+returns g c =
+    let at = goal.at.returns g c in
     let here = touches g at.After-touched_by-touched in
     let planned = plan g at.After-need_cover-copies here in
     let are = c.covering-targets.ensures ∙ overwrite_targets here in
-    ok_both c.thaw_before.result c.thaw_before.ensures.thaws c.thaw_before.ensures.enough
-    (λ thaws enough. let left = enough_behind planned are thaws enough in omega (arith, left, planned.needs))
-
-pub returns-clause-refused : goal.returns-clause-refused
-returns-clause-refused g c =
-    let at = goal.at.returns-clause-refused g c in
-    let here = touches g at.After-touched_by-touched in
-    by_one c.thaw_before.result c.thaw_before.ensures.refused
-    (lacks_both (plan g at.After-need_cover-copies here) (c.covering-targets.ensures ∙ overwrite_targets here))
+    let thaw = c.thaw_before in
+    record {
+      thaws = ok_one thaw.result thaw.ensures.thaws (thaws_before planned are);
+      room = ok_both thaw.result thaw.ensures.thaws thaw.ensures.enough
+          (λ thaws enough. let room = room_behind planned are thaws enough in omega (arith, room, planned.needs));
+      enough = ok_both thaw.result thaw.ensures.thaws thaw.ensures.enough
+          (λ thaws enough. let left = enough_behind planned are thaws enough in omega (arith, left, planned.needs));
+      refused = by_one thaw.result thaw.ensures.refused (lacks_both planned are);
+      same = thaw.ensures.same;
+    }

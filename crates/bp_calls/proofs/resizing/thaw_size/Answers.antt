@@ -1,11 +1,11 @@
-use Rattle.std.proofs.Common.{◌≤◌, sym, ◌∙◌, arith}
+use Rattle.std.proofs.Common.{◌≤◌, sym, ◌∙◌, arith, rules}
 use Rattle.bp_layout.specs.Inode.{size_of}
 use Rattle.bp_layout.specs.Need.Change.{resizes}
 use Rattle.pm_region.specs.Memory.{current_words}
-use Rattle.bp_calls.proofs.CommitResults.{by_one, ok_both}
+use Rattle.bp_calls.proofs.CommitResults.{by_one, ok_both, ok_one}
 use Rattle.bp_calls.proofs.Shorter.{none_shrinking}
 use Rattle.bp_calls.proofs.TargetPaths.{shrinking_ways}
-use Rattle.bp_calls.proofs.ThawedNeed.{IsPlanned, lacks_both, leads_in, room_behind, room_for_both, room_unkept, thaws_unthawed}
+use Rattle.bp_calls.proofs.ThawedNeed.{IsPlanned, lacks_both, leads_in, room_behind, room_for_both, room_unkept, thaws_before, thaws_unthawed}
 use Rattle.bp_calls.proofs.resizing.thaw_size.Given.{Over}
 use Rattle.bp_calls.proofs.resizing.thaw_size.Goals.{Start}
 use Rattle.bp_calls.proofs.resizing.thaw_size.Goals as goal
@@ -23,33 +23,28 @@ plan g c =
       room = c.requires.room;
     }
 
-pub returns-then-count-eq0-clause-thaws : goal.returns-then-count-eq0-clause-thaws
-returns-then-count-eq0-clause-thaws g c =
-    thaws_unthawed (plan g (goal.at.returns-then-count-eq0-clause-thaws g c).Start) (sym c.count.ensures ∙ c.if-count-eq0.true) (omega arith)
+pub returns-then-count-eq0 : goal.returns-then-count-eq0
+returns-then-count-eq0 g c =
+    let planned = plan g (goal.at.returns-then-count-eq0 g c).Start in
+    let none = sym c.count.ensures ∙ c.if-count-eq0.true in
+    let room = room_unkept planned none (omega arith) in
+    record { thaws = thaws_unthawed planned none (omega arith); room = omega (arith, room); refused = search rules; same = search rules }
 
-pub returns-then-count-eq0-clause-room : goal.returns-then-count-eq0-clause-room
-returns-then-count-eq0-clause-room g c =
-    let planned = plan g (goal.at.returns-then-count-eq0-clause-room g c).Start in
-    let room = room_unkept planned (sym c.count.ensures ∙ c.if-count-eq0.true) (omega arith) in
-    omega (arith, room)
-
-pub thaw_before-requires-clause-ways : goal.thaw_before-requires-clause-ways
-thaw_before-requires-clause-ways g c =
-    leads_in (plan g (goal.at.thaw_before-requires-clause-ways g c).Start) (c.shrinking-targets.ensures c.args.size (omega (arith, c.requires.smaller)))
-
-pub thaw_before-requires-clause-room : goal.thaw_before-requires-clause-room
-thaw_before-requires-clause-room g c =
-    room_for_both (plan g (goal.at.thaw_before-requires-clause-room g c).Start) (c.shrinking-targets.ensures c.args.size (omega (arith, c.requires.smaller)))
-
-pub returns-clause-room : goal.returns-clause-room
-returns-clause-room g c =
-    let planned = plan g (goal.at.returns-clause-room g c).Start in
+pub thaw_before-requires : goal.thaw_before-requires
+thaw_before-requires g c =
+    let planned = plan g (goal.at.thaw_before-requires g c).Start in
     let are = c.shrinking-targets.ensures c.args.size (omega (arith, c.requires.smaller)) in
-    ok_both c.thaw_before.result c.thaw_before.ensures.thaws c.thaw_before.ensures.enough
-    (λ thaws enough. let room = room_behind planned are thaws enough in omega (arith, room))
+    record { mounted = c.requires.mounted; ways = leads_in planned are; few = omega arith; room = room_for_both planned are }
 
-pub returns-clause-refused : goal.returns-clause-refused
-returns-clause-refused g c =
-    let planned = plan g (goal.at.returns-clause-refused g c).Start in
-    by_one c.thaw_before.result c.thaw_before.ensures.refused
-    (lacks_both planned (c.shrinking-targets.ensures c.args.size (omega (arith, c.requires.smaller))))
+pub returns : goal.returns
+returns g c =
+    let planned = plan g (goal.at.returns g c).Start in
+    let are = c.shrinking-targets.ensures c.args.size (omega (arith, c.requires.smaller)) in
+    let thaw = c.thaw_before in
+    record {
+      thaws = ok_one thaw.result thaw.ensures.thaws (thaws_before planned are);
+      room = ok_both thaw.result thaw.ensures.thaws thaw.ensures.enough
+          (λ thaws enough. let room = room_behind planned are thaws enough in omega (arith, room));
+      refused = by_one thaw.result thaw.ensures.refused (lacks_both planned are);
+      same = thaw.ensures.same;
+    }

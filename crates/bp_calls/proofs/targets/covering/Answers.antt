@@ -1,4 +1,4 @@
-use Rattle.std.proofs.Common.{ℕ, List, [], ◌∷◌, ◌++◌, length, map, sym, ◌∙◌, ap}
+use Rattle.std.proofs.Common.{ℕ, List, [], ◌∷◌, ◌++◌, length, map, sym, ◌∙◌, ap, rules}
 use Rattle.arrayvec.specs.ArrayVec.{ArrayVec}
 use Rattle.bp_layout.specs.WordPaths.{WordPath}
 use Rattle.bp_calls.specs.TouchedBelow.{WritesBelow}
@@ -23,11 +23,10 @@ write g c =
       touches = record { run = c.run_for.result; one = is.runs; no_words = is.words; no_trees = is.trees; is = c.run_for.ensures };
     }
 
-pub cover-requires-clause-touched : goal.cover-requires-clause-touched
-cover-requires-clause-touched g c = (write_can (write g (goal.at.cover-requires-clause-touched g c).After-touched_by)).shape
-
-pub cover-requires-clause-in_range : goal.cover-requires-clause-in_range
-cover-requires-clause-in_range g c = write_inside (write g (goal.at.cover-requires-clause-in_range g c).After-touched_by)
+pub cover-requires : goal.cover-requires
+cover-requires g c =
+    let here = write g (goal.at.cover-requires g c).After-touched_by in
+    record { touched = (write_can here).shape; some = search rules; in_range = write_inside here }
 
 pub returns : goal.returns
 returns g c =

@@ -1,4 +1,4 @@
-use Rattle.std.proofs.Common.{◌∙◌, arith}
+use Rattle.std.proofs.Common.{◌∙◌, arith, rules}
 use Rattle.bp_calls.specs.TouchedBelow.{WritesBelow}
 use Rattle.bp_calls.proofs.SameWrites.{write_mounted}
 use Rattle.bp_calls.proofs.WriteBelow.{write_apart, write_can, write_few, write_inside, write_needs}
@@ -20,17 +20,12 @@ write g c =
       touches = record { run = c.run_for.result; one = is.runs; no_words = is.words; no_trees = is.trees; is = c.run_for.ensures };
     }
 
-pub need_cover-requires-clause-touched : goal.need_cover-requires-clause-touched
-need_cover-requires-clause-touched g c = (write_can (write g (goal.at.need_cover-requires-clause-touched g c).After-touched_by)).shape
+pub need_cover-requires : goal.need_cover-requires
+need_cover-requires g c =
+    let here = write g (goal.at.need_cover-requires g c).After-touched_by in
+    record { touched = (write_can here).shape; some = search rules; in_range = write_inside here; apart = write_apart here }
 
-pub need_cover-requires-clause-in_range : goal.need_cover-requires-clause-in_range
-need_cover-requires-clause-in_range g c = write_inside (write g (goal.at.need_cover-requires-clause-in_range g c).After-touched_by)
-
-pub need_cover-requires-clause-apart : goal.need_cover-requires-clause-apart
-need_cover-requires-clause-apart g c = write_apart (write g (goal.at.need_cover-requires-clause-apart g c).After-touched_by)
-
-pub returns-clause-need : goal.returns-clause-need
-returns-clause-need g c = c.need_cover.ensures ∙ write_needs (write g (goal.at.returns-clause-need g c).After-touched_by)
-
-pub returns-clause-few : goal.returns-clause-few
-returns-clause-few g c = omega (arith, c.need_cover.ensures, write_few (write g (goal.at.returns-clause-few g c).After-touched_by))
+pub returns : goal.returns
+returns g c =
+    let here = write g (goal.at.returns g c).After-touched_by in
+    record { need = c.need_cover.ensures ∙ write_needs here; few = omega (arith, c.need_cover.ensures, write_few here) }

@@ -1,4 +1,4 @@
-use Rattle.std.proofs.Common.{◌≡◌, ◌+◌, ◌<◌, ◌≤◌, ℕ, List, [], length, slice_index, ◌∙◌, ap, arith}
+use Rattle.std.proofs.Common.{◌≡◌, ◌+◌, ◌<◌, ◌≤◌, ℕ, List, [], length, slice_index, ◌∙◌, ap, arith, rules}
 use Rattle.pm_region.specs.Memory.{current_words}
 use Rattle.bp_shapes.specs.Sets.{kept_of}
 use Rattle.bp_cow.proofs.CoverOf.{cover_length}
@@ -29,35 +29,25 @@ write g c =
       touches = record { run = c.run_for.result; one = is.runs; no_words = is.words; no_trees = is.trees; is = c.run_for.ensures };
     }
 
--- ## The cover
+pub find_ways-found-requires : goal.find_ways-found-requires
+find_ways-found-requires g c =
+    let below = write g (goal.at.find_ways-found-requires g c).After-touched_by-touched in
+    record { touched = (write_can below).shape; some = search rules; in_range = write_inside below }
 
-pub find_ways-found-requires-clause-touched : goal.find_ways-found-requires-clause-touched
-find_ways-found-requires-clause-touched g c =
-    (write_can (write g (goal.at.find_ways-found-requires-clause-touched g c).After-touched_by-touched)).shape
-
-pub find_ways-found-requires-clause-in_range : goal.find_ways-found-requires-clause-in_range
-find_ways-found-requires-clause-in_range g c =
-    write_inside (write g (goal.at.find_ways-found-requires-clause-in_range g c).After-touched_by-touched)
-
-pub is_clear_below-requires-clause-cover : goal.is_clear_below-requires-clause-cover
-is_clear_below-requires-clause-cover g c =
+pub is_clear_below-requires : goal.is_clear_below-requires
+is_clear_below-requires g c =
     let image = current_words (g.R.Region.memory c.args.parts.now.region) in
-    let below = write g (goal.at.is_clear_below-requires-clause-cover g c).After-touched_by-touched in
+    let here = write g (goal.at.is_clear_below-requires g c).After-touched_by-touched in
     let cover = c.find_ways-found.result.cover.len in
-    of_run c.run_for.ensures (λ o (bs : List ℕ). cover ≡ length (cover_now image (writes c.args.i o (length bs))))
-    (cover_length c.touched_by-touched.result (write_can below).shape image cover c.find_ways-found.ensures.cover.has
-    ∙ ap (λ (p : List ℕ). length p) (write_cover below))
-
-pub is_clear_below-requires-clause-can : goal.is_clear_below-requires-clause-can
-is_clear_below-requires-clause-can g c =
-    of_run c.run_for.ensures (λ o (bs : List ℕ). CanWrite (current_words (g.R.Region.memory c.args.parts.now.region)) c.args.i o bs) c.requires.can
-
-pub is_clear_below-requires-clause-below : goal.is_clear_below-requires-clause-below
-is_clear_below-requires-clause-below g c =
-    let image = current_words (g.R.Region.memory c.args.parts.now.region) in
-    of_run c.run_for.ensures (λ o (bs : List ℕ). o + length bs ≤ size_of image c.args.i) c.requires.below
-
--- ## The commit
+    record {
+      root = c.requires.root;
+      mounted = c.requires.mounted;
+      can = of_run c.run_for.ensures (λ o (bs : List ℕ). CanWrite image c.args.i o bs) c.requires.can;
+      below = of_run c.run_for.ensures (λ o (bs : List ℕ). o + length bs ≤ size_of image c.args.i) c.requires.below;
+      cover = of_run c.run_for.ensures (λ o (bs : List ℕ). cover ≡ length (cover_now image (writes c.args.i o (length bs))))
+          (cover_length c.touched_by-touched.result (write_can here).shape image cover c.find_ways-found.ensures.cover.has
+          ∙ ap (λ (p : List ℕ). length p) (write_cover here));
+    }
 
 -- where the test says so, nothing has to be thawed
 clear : (g : Over) (c : Then-is_clear_below g)
@@ -67,20 +57,22 @@ clear g c =
     from_run c.run_for.ensures (λ o (bs : List ℕ). thawed image (kept_of c.args.parts.now) (writes c.args.i o (length bs)) ≡ [])
     (c.is_clear_below.ensures c.if-is_clear_below.true)
 
-pub commit_found-requires-clause-can : goal.commit_found-requires-clause-can
-commit_found-requires-clause-can g c = write_can (write g (goal.at.commit_found-requires-clause-can g c).After-touched_by-touched)
-
-pub commit_found-requires-clause-loose : goal.commit_found-requires-clause-loose
-commit_found-requires-clause-loose g c =
-    let at = goal.at.commit_found-requires-clause-loose g c in
-    write_loose (write g at.After-touched_by-touched) (clear g at.Then-is_clear_below)
-
-pub commit_found-requires-clause-room : goal.commit_found-requires-clause-room
-commit_found-requires-clause-room g c =
-    let at = goal.at.commit_found-requires-clause-room g c in
-    let room = room_at_once g.R.Region.memory (writes c.args.i c.args.off (length c.args.bytes.now)) c.args.parts.now c.requires.mounted
-    (clear g at.Then-is_clear_below) c.requires.room in
-    write_room (write g at.After-touched_by-touched) room
+pub commit_found-requires : goal.commit_found-requires
+commit_found-requires g c =
+    let at = goal.at.commit_found-requires g c in
+    let here = write g at.After-touched_by-touched in
+    let none = clear g at.Then-is_clear_below in
+    let mounted = c.requires.mounted in
+    let change = writes c.args.i c.args.off (length c.args.bytes.now) in
+    record {
+      well_formed = mounted.well_formed;
+      can = write_can here;
+      loose = write_loose here none;
+      known = omega (arith, mounted.exact.frozen_room);
+      fits = omega (arith, mounted.exact.sets.block_room);
+      room = write_room here (room_at_once g.R.Region.memory change c.args.parts.now mounted none c.requires.room);
+      found = c.find_ways-found.ensures;
+    }
 
 pub returns-then-is_clear_below : goal.returns-then-is_clear_below
 returns-then-is_clear_below g c =

@@ -1,4 +1,4 @@
-use Rattle.std.proofs.Common.{◌≡◌, ℕ, List, length}
+use Rattle.std.proofs.Common.{◌≡◌, ℕ, List, length, rules}
 use Rattle.bp_calls.specs.TouchedAcross.{WritesAcross}
 use Rattle.bp_calls.proofs.AcrossCalls.{across_planned, at_inside, at_shape, from_plan, planned_across, root_planned, size_planned}
 use Rattle.bp_calls.proofs.SameWrites.{write_mounted}
@@ -20,23 +20,16 @@ across g c =
     (write_mounted (current_words (g.R.Region.memory parts.region)) parts c.args.i c.args.off c.args.bytes.now c.requires.mounted c.requires.can)
     c.requires.below c.requires.past touches.words touches.runs touches.trees
 
-pub find_ways-found-requires-clause-touched : goal.find_ways-found-requires-clause-touched
-find_ways-found-requires-clause-touched g c =
-    at_shape c.args.i (across g (goal.at.find_ways-found-requires-clause-touched g c).After-touched_across-touched)
+pub find_ways-found-requires : goal.find_ways-found-requires
+find_ways-found-requires g c =
+    let write = across g (goal.at.find_ways-found-requires g c).After-touched_across-touched in
+    record { touched = at_shape c.args.i write; some = search rules; in_range = at_inside c.args.i write }
 
-pub find_ways-found-requires-clause-in_range : goal.find_ways-found-requires-clause-in_range
-find_ways-found-requires-clause-in_range g c =
-    at_inside c.args.i (across g (goal.at.find_ways-found-requires-clause-in_range g c).After-touched_across-touched)
-
-pub need_found-requires-clause-across : goal.need_found-requires-clause-across
-need_found-requires-clause-across g c =
-    across_planned c.plan_write-plan.ensures (across g (goal.at.need_found-requires-clause-across g c).After-touched_across-touched)
-
-pub need_found-requires-clause-root : goal.need_found-requires-clause-root
-need_found-requires-clause-root g c = root_planned c.plan_write-plan.ensures
-
-pub need_found-requires-clause-size : goal.need_found-requires-clause-size
-need_found-requires-clause-size g c = size_planned c.plan_write-plan.ensures
+pub need_found-requires : goal.need_found-requires
+need_found-requires g c =
+    let planned = c.plan_write-plan.ensures in
+    let write = across g (goal.at.need_found-requires g c).After-touched_across-touched in
+    record { across = across_planned planned write; root = root_planned planned; size = size_planned planned; found = c.find_ways-found.ensures }
 
 pub returns-clause-need : goal.returns-clause-need
 returns-clause-need g c =

@@ -1,4 +1,4 @@
-use Rattle.std.proofs.Common.{◌≡◌, ◌<◌, ◌≤◌, ℕ, [], List, arith, slice_index, length, sym, ◌∙◌, ap, subst}
+use Rattle.std.proofs.Common.{◌≡◌, ◌<◌, ◌≤◌, ℕ, [], List, arith, rules, slice_index, length, sym, ◌∙◌, ap, subst}
 use Rattle.bp_calls.specs.TouchedAcross.{WritesAcross}
 use Rattle.bp_calls.proofs.AcrossCalls.{across_planned, at_inside, at_shape, from_plan, of_plan, planned_across, root_planned, size_planned}
 use Rattle.bp_calls.proofs.CommitLaws.{committed, lacking_blocks}
@@ -26,56 +26,33 @@ across g c =
     planned_across c.args.i c.plan_write-plan.result c.plan_write-plan.ensures c.requires.can.into c.requires.below c.requires.past
     touches.words touches.runs touches.trees
 
-pub find_ways-found-requires-clause-touched : goal.find_ways-found-requires-clause-touched
-find_ways-found-requires-clause-touched g c =
-    at_shape c.args.i (across g (goal.at.find_ways-found-requires-clause-touched g c).After-touched_across-touched)
+pub find_ways-found-requires : goal.find_ways-found-requires
+find_ways-found-requires g c =
+    let write = across g (goal.at.find_ways-found-requires g c).After-touched_across-touched in
+    record { touched = at_shape c.args.i write; some = search rules; in_range = at_inside c.args.i write }
 
-pub find_ways-found-requires-clause-in_range : goal.find_ways-found-requires-clause-in_range
-find_ways-found-requires-clause-in_range g c =
-    at_inside c.args.i (across g (goal.at.find_ways-found-requires-clause-in_range g c).After-touched_across-touched)
-
-pub need_found-need-requires-clause-across : goal.need_found-need-requires-clause-across
-need_found-need-requires-clause-across g c =
-    across_planned c.plan_write-plan.ensures (across g (goal.at.need_found-need-requires-clause-across g c).After-touched_across-touched)
-
-pub need_found-need-requires-clause-root : goal.need_found-need-requires-clause-root
-need_found-need-requires-clause-root g c = root_planned c.plan_write-plan.ensures
-
-pub need_found-need-requires-clause-size : goal.need_found-need-requires-clause-size
-need_found-need-requires-clause-size g c = size_planned c.plan_write-plan.ensures
-
--- ## The write
-
-pub write_planned-requires-clause-across : goal.write_planned-requires-clause-across
-write_planned-requires-clause-across g c =
-    across_planned c.plan_write-plan.ensures (across g (goal.at.write_planned-requires-clause-across g c).After-touched_across-touched)
-
-pub write_planned-requires-clause-size : goal.write_planned-requires-clause-size
-write_planned-requires-clause-size g c = size_planned c.plan_write-plan.ensures
-
-pub write_planned-requires-clause-root : goal.write_planned-requires-clause-root
-write_planned-requires-clause-root g c =
+pub need_found-need-requires : goal.need_found-need-requires
+need_found-need-requires g c =
     let planned = c.plan_write-plan.ensures in
-    planned.run.root ∙ ap (λ j. inode_path (height_of (root_of (current_words (g.R.Region.memory c.args.parts.now.region)) 0)) j 1) (sym planned.inode)
+    let write = across g (goal.at.need_found-need-requires g c).After-touched_across-touched in
+    record { across = across_planned planned write; root = root_planned planned; size = size_planned planned; found = c.find_ways-found.ensures }
 
-pub write_planned-requires-clause-small : goal.write_planned-requires-clause-small
-write_planned-requires-clause-small g c =
-    subst (λ (bs : List ℕ). (k : ℕ) → slice_index bs k < 256) (sym c.plan_write-plan.ensures.bytes_are) (λ k. omega (arith, c.type_inv.bytes k))
-
-pub write_planned-requires-clause-clear : goal.write_planned-requires-clause-clear
-write_planned-requires-clause-clear g c =
-    let image = current_words (g.R.Region.memory c.args.parts.now.region) in
-    of_plan c.plan_write-plan.ensures (λ i off (bytes : List ℕ). thawed image (kept_of c.args.parts.now) (writes i off (length bytes)) ≡ [])
-    c.requires.can.clear
-
-pub write_planned-requires-clause-room : goal.write_planned-requires-clause-room
-write_planned-requires-clause-room g c =
+pub write_planned-requires : goal.write_planned-requires
+write_planned-requires g c =
     let old = g.R.Region.memory c.args.parts.now.region in
-    of_plan c.plan_write-plan.ensures (λ i off (bytes : List ℕ). HasRoomThawed old c.args.parts.now.blocks (writes i off (length bytes))) c.requires.can.room
-
-pub write_planned-requires-clause-enough : goal.write_planned-requires-clause-enough
-write_planned-requires-clause-enough g c =
-    subst (λ n. n ≤ length (members c.args.parts.now.blocks)) c.need_found-need.ensures.need c.in-Ok.ensures.enough
+    let parts = c.args.parts.now in
+    let planned = c.plan_write-plan.ensures in
+    record {
+      exact = c.requires.exact;
+      across = across_planned planned (across g (goal.at.write_planned-requires g c).After-touched_across-touched);
+      size = size_planned planned;
+      root = planned.run.root ∙ ap (λ j. inode_path (height_of (root_of (current_words old) 0)) j 1) (sym planned.inode);
+      small = subst (λ (bs : List ℕ). (k : ℕ) → slice_index bs k < 256) (sym planned.bytes_are) (λ k. omega (arith, c.type_inv.bytes k));
+      clear = of_plan planned (λ i off (bytes : List ℕ). thawed (current_words old) (kept_of parts) (writes i off (length bytes)) ≡ []) c.requires.can.clear;
+      room = of_plan planned (λ i off (bytes : List ℕ). HasRoomThawed old parts.blocks (writes i off (length bytes))) c.requires.can.room;
+      enough = subst (λ n. n ≤ length (members parts.blocks)) c.need_found-need.ensures.need c.in-Ok.ensures.enough;
+      found = c.find_ways-found.ensures;
+    }
 
 pub returns-in-Ok : goal.returns-in-Ok
 returns-in-Ok g c =

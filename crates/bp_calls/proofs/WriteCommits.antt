@@ -1,5 +1,5 @@
 -- What a commit of bytes below the sizes of files makes of the parts of the file system.
-use Rattle.std.specs.Prelude.{◌≡◌, ◌<◌, ℕ, List, Err, Ok, Result, length, slice_index}
+use Rattle.std.specs.Prelude.{◌<◌, ℕ, List, Err, Ok, Result, length, slice_index}
 use Rattle.std.proofs.Common.{sym, subst}
 use Rattle.bp_calls.specs.Commits.{CommitsOrLacksBlocks}
 use Rattle.bp_calls.specs.CommitsTouched.{CommitsTouchedOrLacks}

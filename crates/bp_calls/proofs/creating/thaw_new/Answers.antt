@@ -1,4 +1,5 @@
-use Rattle.std.proofs.Common.{◌+◌, ◌≤◌, ℕ, Option, length, sym, ◌∙◌, subst, arith}
+use Rattle.std.proofs.Common.{◌≡◌, ◌+◌, ◌≤◌, ℕ, Option, length, sym, ◌∙◌, subst, arith, rules}
+use Rattle.std.specs.Prelude.{OnErr}
 use Rattle.bp_layout.specs.Free.{IsLeastFree}
 use Rattle.bp_layout.specs.Need.Change.{enters}
 use Rattle.bp_free.specs.Set.{members}
@@ -36,61 +37,59 @@ returns-then-free-need-clause-refused g c free least =
     let planned = plan g (goal.at.returns-then-free-need-clause-refused g c).After-new_need-need free least in
     few_unthawed planned (sym c.count.ensures ∙ c.if-count-eq0.true) c.count-free.result c.count-free.ensures c.if-free-need.true
 
-pub returns-then-count-eq0-clause-thaws : goal.returns-then-count-eq0-clause-thaws
-returns-then-count-eq0-clause-thaws g c free least =
-    let planned = plan g (goal.at.returns-then-count-eq0-clause-thaws g c).After-new_need-need free least in
-    thaws_unthawed planned (sym c.count.ensures ∙ c.if-count-eq0.true) (omega (arith, c.count-free.ensures, c.if-free-need.false))
-
-pub returns-then-count-eq0-clause-thawed : goal.returns-then-count-eq0-clause-thawed
-returns-then-count-eq0-clause-thawed g c free least =
-    let planned = plan g (goal.at.returns-then-count-eq0-clause-thawed g c).After-new_need-need free least in
-    ready_unthawed planned (sym c.count.ensures ∙ c.if-count-eq0.true) (omega (arith, c.count-free.ensures, c.if-free-need.false))
+pub returns-then-count-eq0 : goal.returns-then-count-eq0
+returns-then-count-eq0 g c =
+    let planned = plan g (goal.at.returns-then-count-eq0 g c).After-new_need-need in
+    let none = sym c.count.ensures ∙ c.if-count-eq0.true in
+    let enough : c.new_need-need.result ≤ length (members c.args.parts.now.blocks) = omega (arith, c.count-free.ensures, c.if-free-need.false) in
+    record {
+      thaws = λ free least. thaws_unthawed (planned free least) none enough;
+      thawed = λ free least. ready_unthawed (planned free least) none enough;
+      refused = search rules;
+      same = search rules;
+    }
 
 -- ## The ways were found by a call that leaves the parts as they were
 
+-- some inode is the least free one, or none is free
+told : (g : Over) (c : After-new_need-need g) → (free : Option ℕ) × IsLeastFree (current_words (g.R.Region.memory c.args.parts.now.region)) free
+told g c =
+    let parts = c.args.parts.now in
+    let mounted = c.requires.mounted in
+    is_told (current_words (g.R.Region.memory parts.region)) mounted.well_formed parts.blocks parts.inodes mounted.exact.sets c.args.dir
+    c.requires.reached c.requires.directory
+
 pub thaw_before-requires-clause-ways : goal.thaw_before-requires-clause-ways
 thaw_before-requires-clause-ways g c =
-    let parts = c.args.parts.now in
+    let at = (goal.at.thaw_before-requires-clause-ways g c).After-new_need-need in
     let found = c.entering_new-targets.ensures in
-    let sets = c.requires.mounted.exact.sets in
-    let told = is_told (current_words (g.R.Region.memory parts.region)) c.requires.mounted.well_formed parts.blocks parts.inodes sets c.args.dir
-    c.requires.reached c.requires.directory in
-    let planned = plan g (goal.at.thaw_before-requires-clause-ways g c).After-new_need-need told.0 told.1 in
+    let least = told g at in
     λ path has. subst (λ p. IsWayIn (current_words (g.R.Region.memory p.region)) path) (sym found.same)
-    (leads_in planned (found.paths told.0 told.1) path has)
+    (leads_in (plan g at least.0 least.1) (found.paths least.0 least.1) path has)
 
 pub thaw_before-requires-clause-room : goal.thaw_before-requires-clause-room
 thaw_before-requires-clause-room g c =
-    let parts = c.args.parts.now in
+    let at = (goal.at.thaw_before-requires-clause-room g c).After-new_need-need in
     let found = c.entering_new-targets.ensures in
-    let sets = c.requires.mounted.exact.sets in
-    let told = is_told (current_words (g.R.Region.memory parts.region)) c.requires.mounted.well_formed parts.blocks parts.inodes sets c.args.dir
-    c.requires.reached c.requires.directory in
-    let planned = plan g (goal.at.thaw_before-requires-clause-room g c).After-new_need-need told.0 told.1 in
+    let least = told g at in
     subst (λ p. HasRoomToThaw g.R.Region.memory (paths_in c.entering_new-targets.result) p c.new_need-need.result) (sym found.same)
-    (room_for_both planned (found.paths told.0 told.1))
+    (room_for_both (plan g at least.0 least.1) (found.paths least.0 least.1))
 
-pub returns-clause-thaws : goal.returns-clause-thaws
-returns-clause-thaws g c =
-    let found = c.entering_new-targets.ensures in
-    let before = subst (λ p. ThawsFor g.R.Region.memory (paths_in c.entering_new-targets.result) p c.thaw_before.new.parts) found.same in
-    let planned = plan g (goal.at.returns-clause-thaws g c).After-new_need-need in
-    ok_one c.thaw_before.result c.thaw_before.ensures.thaws (λ thaws free least. thaws_before (planned free least) (found.paths free least) (before thaws))
-
-pub returns-clause-thawed : goal.returns-clause-thawed
-returns-clause-thawed g c =
+pub returns : goal.returns
+returns g c =
+    let planned = plan g (goal.at.returns g c).After-new_need-need in
     let found = c.entering_new-targets.ensures in
     let ways = paths_in c.entering_new-targets.result in
+    let more = c.new_need-need.result in
     let before = subst (λ p. ThawsFor g.R.Region.memory ways p c.thaw_before.new.parts) found.same in
-    let fits = subst (λ p. thaw_count g.R.Region.memory ways p + c.new_need-need.result ≤ length (members p.blocks)) found.same in
-    let planned = plan g (goal.at.returns-clause-thawed g c).After-new_need-need in
-    ok_both c.thaw_before.result c.thaw_before.ensures.thaws c.thaw_before.ensures.enough
-    (λ thaws enough free least. ready_behind (planned free least) (found.paths free least) (before thaws) (fits enough))
-
-pub returns-clause-refused : goal.returns-clause-refused
-returns-clause-refused g c =
-    let found = c.entering_new-targets.ensures in
-    let planned = plan g (goal.at.returns-clause-refused g c).After-new_need-need in
-    by_one c.thaw_before.result c.thaw_before.ensures.refused
-    (λ lacks has free least. lacks_both (planned free least) (found.paths free least) lacks
-    (subst (λ p. LacksBlocksToThaw g.R.Region.memory (paths_in c.entering_new-targets.result) p c.new_need-need.result lacks) found.same has))
+    let fits = subst (λ p. thaw_count g.R.Region.memory ways p + more ≤ length (members p.blocks)) found.same in
+    let thaw = c.thaw_before in
+    record {
+      thaws = ok_one thaw.result thaw.ensures.thaws (λ thaws free least. thaws_before (planned free least) (found.paths free least) (before thaws));
+      thawed = ok_both thaw.result thaw.ensures.thaws thaw.ensures.enough
+          (λ thaws enough free least. ready_behind (planned free least) (found.paths free least) (before thaws) (fits enough));
+      refused = by_one thaw.result thaw.ensures.refused
+          (λ lacks has free least. lacks_both (planned free least) (found.paths free least) lacks
+          (subst (λ p. LacksBlocksToThaw g.R.Region.memory ways p more lacks) found.same has));
+      same = subst (λ p. OnErr thaw.result (thaw.new.parts ≡ p)) found.same thaw.ensures.same;
+    }

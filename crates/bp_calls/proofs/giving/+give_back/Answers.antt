@@ -43,18 +43,17 @@ returns-then-top-eq0 g t c =
     gives_none _ c.args.blocks.now
     (λ b. null_given_up image c.args.tree.root c.args.tree.size c.args.shorter b (sym c.block-top.ensures ∙ c.if-top-eq0.true))
 
-pub give_top-requires-clause-in_range : goal.give_top-requires-clause-in_range
-give_top-requires-clause-in_range g t c = omega (arith, low g t (goal.at.give_top-requires-clause-in_range g t c).After-block-top, c.requires.room)
-
-pub give_top-requires-clause-known : goal.give_top-requires-clause-known
-give_top-requires-clause-known g t c = omega (arith, low g t (goal.at.give_top-requires-clause-known g t c).After-block-top, c.requires.known)
-
-pub give_top-requires-clause-taken : goal.give_top-requires-clause-taken
-give_top-requires-clause-taken g t c =
+pub give_top-requires : goal.give_top-requires
+give_top-requires g t c =
     let image = current_words (g.R.Region.memory c.args.region.now) in
-    let present = rw c.block-top.ensures at c.if-top-eq0.false in
-    let has = top_block image c.args.tree.root c.args.tree.size (omega (arith, c.if-tree-shorter.false)) present in
-    rw c.block-top.ensures (c.requires.taken (block_of c.args.tree.root) has)
+    let inside = low g t (goal.at.give_top-requires g t c).After-block-top in
+    let has = top_block image c.args.tree.root c.args.tree.size (omega (arith, c.if-tree-shorter.false))
+    (rw c.block-top.ensures at c.if-top-eq0.false) in
+    record {
+      in_range = omega (arith, inside, c.requires.room);
+      known = omega (arith, inside, c.requires.known);
+      taken = rw c.block-top.ensures (c.requires.taken (block_of c.args.tree.root) has);
+    }
 
 pub returns-then-height-eq0 : goal.returns-then-height-eq0
 returns-then-height-eq0 g t c =

@@ -74,43 +74,53 @@ module _ (old : Memory) (blocks : Set) (j : ℕ) (name : Name) where
     put_prepares zero can path is size e = absurd (directory_inode image 0 can.lacks.directory refl)
     put_prepares (suc n) can path is size e = rw e (prepares n can path is)
 
-    module _ (new : Memory) (rest : List ℕ) (i size : ℕ) (bytes : List ℕ) (can : CanPutBehind kept old blocks i name) (e : size ≡ size_of image i) (entry : AreEntryBytes j name bytes)
-        (prepared : PreparesWith kept old new (members blocks) rest i size (size + 256) bytes) where
-      pub put_well_formed : IsWellFormed (current_words new)
-      put_well_formed = well_formed-same image (current_words new) can.lacks.well_formed prepared.ready.meaning
+-- the bytes of an entry are prepared behind the last one of a directory, by the size that was read
+pub record PreparesEntry (kept : ℕ → Bool) (old new : Memory) (blocks : Set) (rest : List ℕ) (i size j : ℕ) (name : Name) : Type 0 where
+  pub bytes : List ℕ
+  pub can : CanPutBehind kept old blocks i name
+  pub sized : size ≡ size_of (current_words old) i
+  pub entry : AreEntryBytes j name bytes
+  pub prepared : PreparesWith kept old new (members blocks) rest i size (size + 256) bytes
 
-      pub put_reached : IsReached (current_words new) i
-      put_reached = reached_on image (current_words new) prepared.ready.meaning i can.lacks.reached
+module _ {kept : ℕ → Bool} {old new : Memory} {blocks : Set} {rest : List ℕ} {i size j : ℕ} {name : Name}
+    (puts : PreparesEntry kept old new blocks rest i size j name) where
+  open puts use {bytes, can, sized as e, entry, prepared}
 
-      pub put_sound : (root : ℕ) → root ≡ root_of (current_words new) i → IsSound (current_words new) root (size + 256)
-      put_sound root is = rw is prepared.ready.sound
+  pub put_well_formed : IsWellFormed (current_words new)
+  put_well_formed = well_formed-same (current_words old) (current_words new) can.lacks.well_formed prepared.ready.meaning
 
-      laid : (o : ℕ) → size ≤ o → o < size + 256 → byte (current_words new) (root_of (current_words new) i) o ≡ given size bytes o
-      laid o low high = prepared.ready.bytes_are o (omega (arith, low, e)) high
+  pub put_reached : IsReached (current_words new) i
+  put_reached = reached_on (current_words old) (current_words new) prepared.ready.meaning i can.lacks.reached
 
-      entries : size % 256 ≡ 0
-      entries = rw e (can.lacks.well_formed.directory_sizes i can.lacks.reached can.lacks.directory)
+  pub put_sound : (root : ℕ) → root ≡ root_of (current_words new) i → IsSound (current_words new) root (size + 256)
+  put_sound root is = rw is prepared.ready.sound
 
-      module _ (root number count : ℕ) (is : root ≡ root_of (current_words new) i) (first : number ≡ content_word (current_words new) root (size / 8)) (second : count ≡ content_word (current_words new) root (size / 8 + 1))
-          (small : number < 2 ^ 64) (also : count < 2 ^ 64) (low : j < 2 ^ 64) where
-        first_is : content_word (current_words new) (root_of (current_words new) i) (size / 8) ≡ j
-        first_is = inumber_there (current_words new) (root_of (current_words new) i) size j name bytes entries entry laid low (rw (first, is) at small)
+  laid : (o : ℕ) → size ≤ o → o < size + 256 → byte (current_words new) (root_of (current_words new) i) o ≡ given size bytes o
+  laid o low high = prepared.ready.bytes_are o (omega (arith, low, e)) high
 
-        second_is : content_word (current_words new) (root_of (current_words new) i) (size / 8 + 1) ≡ length name
-        second_is = length_there (current_words new) (root_of (current_words new) i) size j name bytes entries entry laid
-            (let short = can.lacks.form.short in omega (arith, short)) (rw (second, is) at also)
+  entries : size % 256 ≡ 0
+  entries = rw e (can.lacks.well_formed.directory_sizes i can.lacks.reached can.lacks.directory)
 
-        pub put_number : number ≡ j
-        put_number = first ∙ rw is first_is
+  module _ {root number count : ℕ} (is : root ≡ root_of (current_words new) i) (first : number ≡ content_word (current_words new) root (size / 8))
+      (second : count ≡ content_word (current_words new) root (size / 8 + 1)) (small : number < 2 ^ 64) (also : count < 2 ^ 64) (low : j < 2 ^ 64) where
+    first_is : content_word (current_words new) (root_of (current_words new) i) (size / 8) ≡ j
+    first_is = inumber_there (current_words new) (root_of (current_words new) i) size j name bytes entries entry laid low (rw (first, is) at small)
 
-        pub put_count : count ≡ length name
-        put_count = second ∙ rw is second_is
+    second_is : content_word (current_words new) (root_of (current_words new) i) (size / 8 + 1) ≡ length name
+    second_is = length_there (current_words new) (root_of (current_words new) i) size j name bytes entries entry laid
+        (let short = can.lacks.form.short in omega (arith, short)) (rw (second, is) at also)
 
-        pub put_done : PutsBehind kept old new (members blocks) rest i j name
-        put_done = record {
-          bytes = bytes;
-          prepared = rw e at prepared;
-          inumber = rw e at (inumber_read (current_words new) (root_of (current_words new) i) size j name bytes entries entry laid first_is);
-          spelled = rw e at
-              (name_read_back (current_words new) (root_of (current_words new) i) size j name bytes entries entry laid can.lacks.form.short second_is);
-        }
+    pub put_number : number ≡ j
+    put_number = first ∙ rw is first_is
+
+    pub put_count : count ≡ length name
+    put_count = second ∙ rw is second_is
+
+    pub put_done : PutsBehind kept old new (members blocks) rest i j name
+    put_done = record {
+      bytes = bytes;
+      prepared = rw e at prepared;
+      inumber = rw e at (inumber_read (current_words new) (root_of (current_words new) i) size j name bytes entries entry laid first_is);
+      spelled = rw e at
+          (name_read_back (current_words new) (root_of (current_words new) i) size j name bytes entries entry laid can.lacks.form.short second_is);
+    }

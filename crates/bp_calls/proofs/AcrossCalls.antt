@@ -63,10 +63,11 @@ module _ {image : Image} {i off : ℕ} {bytes : List ℕ} {plan : Plan} (is : Is
   pub from_plan : (P : ℕ → ℕ → List ℕ → Type 0) → P plan.inode plan.off plan.bytes.now → P i off bytes
   from_plan P here = subst (P i off) is.bytes_are (subst (λ o. P i o plan.bytes.now) is.from (subst (λ j. P j plan.off plan.bytes.now) is.inode here))
 
-  -- and the file's tree
+  -- its root word is that of the file's tree
   pub root_planned : plan.tree.root ≡ root_of image plan.inode
   root_planned = is.root ∙ ap (root_of image) (sym is.inode)
 
+  -- and its size
   pub size_planned : plan.tree.size ≡ size_of image plan.inode
   size_planned = is.size ∙ ap (size_of image) (sym is.inode)
 

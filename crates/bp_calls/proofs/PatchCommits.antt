@@ -188,7 +188,8 @@ module _ {kept : ℕ → Bool} {old : Memory} {blocks inodes : Set} {patches : L
   module _ (new : Memory) (after : Set) (done : CommitsTouched (size_of (current_words old)) kept touched old new blocks after) where
     pub overwrites_files : OverwritesFiles patches (current_words old) (current_words new)
     overwrites_files =
-        patches_overwrite image (current_words new) wf touched (has blocks) overwrite_can no_word at (IsTurned (job_of touched) (length (commit_cover image touched))) done.words patches touches.runs asked.each
+        patches_overwrite image (current_words new) wf touched (has blocks) overwrite_can no_word at
+        (IsTurned (job_of touched) (length (commit_cover image touched))) done.words patches touches.runs asked.each
 
     -- the leaves of so many bytes in so few runs are few
     leaves : leaves_of touched.runs.now ≤ 47

@@ -99,6 +99,7 @@ module _ {R : Type 0} {memory : R → Memory} {change : Change} {more : ℕ} {ol
   -- ## Where no block is kept
 
   module _ (none : length (members old.frozen) ≡ 0) where
+    -- nothing is thawed then
     nothing_thawed : thaw_count memory (targets image change) old ≡ 0
     nothing_thawed = nothing memory change more old plan.needs plan.room plan.mounted plan.reached none
 
@@ -123,5 +124,6 @@ module _ {R : Type 0} {memory : R → Memory} {change : Change} {more : ℕ} {ol
       pub thaws_unthawed : ThawsBefore memory old old change
       thaws_unthawed = unthawed memory change more old plan.needs plan.room plan.mounted plan.reached none plan.leads (omega (arith, room_unkept))
 
+      -- and it is ready
       pub ready_unthawed : AreThawedFor memory old change
       ready_unthawed = ready_behind refl thaws_unthawed (omega (arith, nothing_thawed, enough))

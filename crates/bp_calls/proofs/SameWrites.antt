@@ -1,14 +1,17 @@
 -- What may be written into a file before a thaw may be written behind it, and so with a size that it is to get.
-use Rattle.std.proofs.Common.{◌≡◌, ◌+◌, ◌<◌, ◌≤◌, [], ℕ, List, length, sym, ◌∙◌, subst}
+use Rattle.std.proofs.Common.{◌≡◌, ◌+◌, ◌<◌, ◌≤◌, [], ◌∷◌, ℕ, List, length, sym, ◌∙◌, subst}
 use Rattle.bp_calls.specs.CanGrow.{CanGrowFile}
 use Rattle.bp_calls.specs.CanWrite.{CanWrite, CanWriteInto, CanWriteThawed}
 use Rattle.bp_calls.specs.Mounted.{IsMounted}
 use Rattle.bp_calls.specs.Space.{HasRoomThawed, HasRoomWhereFree}
 use Rattle.bp_calls.proofs.NothingKept.{room_at_once}
 use Rattle.bp_calls.specs.ThawsFor.{ThawsFor}
+use Rattle.bp_calls.specs.TouchedBelow.{IsRunFor, WritesBelow}
 use Rattle.bp_calls.proofs.ThawedParts.{mounted_thawed, thawed_clear}
 use Rattle.bp_changes.proofs.Formatted.{version_stays}
 use Rattle.bp_changes.proofs.ReachedOn.{reached_on}
+use Rattle.bp_cow.specs.declared.touched.Run.{Run}
+use Rattle.bp_cow.specs.declared.touched.Touched.{Touched}
 use Rattle.bp_free.specs.declared.parts.Parts.{Parts}
 use Rattle.bp_layout.specs.Formatted.{version_of}
 use Rattle.bp_layout.specs.Inode.{IsFile, size_of}
@@ -23,6 +26,21 @@ use Rattle.pm_region.specs.Memory.{Memory, current_words}
 -- mounted parts have what is asked of the image and the sets
 pub write_mounted : {R : Type 0} (image : Image) (parts : Parts R) (i off : ℕ) (bytes : List ℕ) → IsMounted image parts → CanWrite image i off bytes → CanWriteInto (kept_of parts) image parts.blocks parts.inodes i off bytes
 write_mounted image parts i off bytes mounted can = record { well_formed = mounted.well_formed; exact = mounted.exact.sets; can = can }
+
+-- a write below the size of a file, over the parts of a file system
+abbrev pub WritesIn : {R : Type 0} → (R → Memory) → Parts R → ℕ → ℕ → List ℕ → Touched → Type 0
+WritesIn memory parts = WritesBelow (kept_of parts) (memory parts.region) parts.blocks parts.inodes
+
+-- it is one where they are mounted, and the run for the bytes is all that is touched
+pub writes_in : {R : Type 0} (memory : R → Memory) (parts : Parts R) (i off : ℕ) (bytes : List ℕ) (touched : Touched) (run : Run)
+    → IsMounted (current_words (memory parts.region)) parts → CanWrite (current_words (memory parts.region)) i off bytes
+    → off + length bytes ≤ size_of (current_words (memory parts.region)) i → touched.runs.now ≡ run ∷ [] → touched.words.now ≡ []
+    → touched.trees.now ≡ [] → IsRunFor (current_words (memory parts.region)) i off bytes run → WritesIn memory parts i off bytes touched
+writes_in memory parts i off bytes touched run mounted can below one no_words no_trees is = record {
+  into = write_mounted (current_words (memory parts.region)) parts i off bytes mounted can;
+  below = below;
+  touches = record { run = run; one = one; no_words = no_words; no_trees = no_trees; is = is };
+}
 
 -- where no block is kept it may be written at once
 pub write_at_once : {R : Type 0} (memory : R → Memory) (parts : Parts R) (i off : ℕ) (bytes : List ℕ) → IsMounted (current_words (memory parts.region)) parts → CanWrite (current_words (memory parts.region)) i off bytes →

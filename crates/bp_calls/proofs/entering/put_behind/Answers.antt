@@ -28,8 +28,9 @@ prep-requires g c =
     }
 
 -- the entry is prepared
-puts : (g : Over) (c : After-prep g) → PreparesEntry (kept_of c.args.parts.now) (g.R.Region.memory c.args.parts.now.region)
-    (g.R.Region.memory c.prep.new.parts.region) c.args.parts.now.blocks (members c.prep.new.parts.blocks) c.args.dir c.args.tree.size c.args.inode c.args.name.now
+puts : (g : Over) (c : After-prep g)
+    → PreparesEntry (kept_of c.args.parts.now) (g.R.Region.memory c.args.parts.now.region) (g.R.Region.memory c.prep.new.parts.region)
+    c.args.parts.now.blocks (members c.prep.new.parts.blocks) c.args.dir c.args.tree.size c.args.inode c.args.name.now
 puts g c =
     let can = put_prepares (g.R.Region.memory c.args.parts.now.region) c.args.parts.now.blocks c.args.inode c.args.name.now c.args.dir c.requires.can
     c.root_path-at.result.items c.root_path-at.ensures c.args.tree.size c.requires.size in

@@ -1,27 +1,20 @@
 use Rattle.std.proofs.Common.{ℕ, List, [], ◌∷◌, ◌++◌, length, map, sym, ◌∙◌, ap, rules}
 use Rattle.arrayvec.specs.ArrayVec.{ArrayVec}
 use Rattle.bp_layout.specs.WordPaths.{WordPath}
-use Rattle.bp_calls.specs.TouchedBelow.{WritesBelow}
-use Rattle.bp_calls.proofs.SameWrites.{write_mounted}
+use Rattle.bp_calls.proofs.SameWrites.{WritesIn, writes_in}
 use Rattle.bp_calls.proofs.WriteBelow.{write_can, write_cover, write_inside}
 use Rattle.bp_calls.proofs.WriteTargets.{below_at, file_some}
-use Rattle.bp_shapes.specs.Sets.{kept_of}
 use Rattle.pm_region.specs.Memory.{current_words}
 use Rattle.bp_calls.proofs.targets.covering.Given.{Over}
 use Rattle.bp_calls.proofs.targets.covering.Goals.{After-touched_by}
 use Rattle.bp_calls.proofs.targets.covering.Goals as goal
 
 -- the run of the bytes is all that is touched
-write : (g : Over) (c : After-touched_by g) → WritesBelow (kept_of c.args.parts.now) (g.R.Region.memory c.args.parts.now.region)
-    c.args.parts.now.blocks c.args.parts.now.inodes c.args.i c.args.off c.args.bytes.now c.touched_by.result
+write : (g : Over) (c : After-touched_by g) → WritesIn g.R.Region.memory c.args.parts.now c.args.i c.args.off c.args.bytes.now c.touched_by.result
 write g c =
-    let parts = c.args.parts.now in
     let is = c.touched_by.ensures in
-    record {
-      into = write_mounted (current_words (g.R.Region.memory parts.region)) parts c.args.i c.args.off c.args.bytes.now c.requires.mounted c.requires.can;
-      below = c.requires.below;
-      touches = record { run = c.run_for.result; one = is.runs; no_words = is.words; no_trees = is.trees; is = c.run_for.ensures };
-    }
+    writes_in g.R.Region.memory c.args.parts.now c.args.i c.args.off c.args.bytes.now c.touched_by.result c.run_for.result c.requires.mounted c.requires.can
+    c.requires.below is.runs is.words is.trees c.run_for.ensures
 
 pub cover-requires : goal.cover-requires
 cover-requires g c =

@@ -1,15 +1,14 @@
 use Rattle.std.proofs.Common.{arith}
-use Rattle.bp_calls.specs.TouchedBelow.{WritesBelow}
+use Rattle.bp_calls.proofs.SameWrites.{WritesIn}
 use Rattle.bp_calls.proofs.WriteBelow.{write_can, write_loose, write_room}
 use Rattle.bp_calls.proofs.WriteCommits.{write_commits}
-use Rattle.bp_shapes.specs.Sets.{kept_of}
 use Rattle.bp_calls.proofs.writing.write_below.Given.{Over}
 use Rattle.bp_calls.proofs.writing.write_below.Goals.{After-touched_by-touched}
 use Rattle.bp_calls.proofs.writing.write_below.Goals as goal
 
 -- the run of the bytes is all that is touched
-write : (g : Over) (c : After-touched_by-touched g) → WritesBelow (kept_of c.args.parts.now) (g.R.Region.memory c.args.parts.now.region)
-    c.args.parts.now.blocks c.args.parts.now.inodes c.args.i c.args.off c.args.bytes.now c.touched_by-touched.result
+write : (g : Over) (c : After-touched_by-touched g)
+    → WritesIn g.R.Region.memory c.args.parts.now c.args.i c.args.off c.args.bytes.now c.touched_by-touched.result
 write g c =
     let is = c.touched_by-touched.ensures in
     record {

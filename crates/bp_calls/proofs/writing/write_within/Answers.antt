@@ -6,11 +6,10 @@ use Rattle.bp_layout.specs.Inode.{size_of}
 use Rattle.bp_layout.specs.Need.Change.{writes}
 use Rattle.bp_layout.specs.Thaw.{cover_now, thawed}
 use Rattle.bp_calls.specs.CanWrite.{CanWrite}
-use Rattle.bp_calls.specs.TouchedBelow.{WritesBelow}
 use Rattle.bp_calls.specs.WritesFile.{WritesFile}
 use Rattle.bp_calls.proofs.CommitLaws.{commits_at_once}
 use Rattle.bp_calls.proofs.NothingKept.{room_at_once}
-use Rattle.bp_calls.proofs.SameWrites.{write_mounted}
+use Rattle.bp_calls.proofs.SameWrites.{WritesIn, writes_in}
 use Rattle.bp_calls.proofs.WriteBelow.{from_run, of_run, write_can, write_cover, write_inside, write_loose, write_room}
 use Rattle.bp_calls.proofs.WriteCommits.{write_commits}
 use Rattle.bp_calls.proofs.writing.write_within.Given.{Over}
@@ -18,16 +17,12 @@ use Rattle.bp_calls.proofs.writing.write_within.Goals.{After-touched_by-touched,
 use Rattle.bp_calls.proofs.writing.write_within.Goals as goal
 
 -- the run of the bytes is all that is touched
-write : (g : Over) (c : After-touched_by-touched g) → WritesBelow (kept_of c.args.parts.now) (g.R.Region.memory c.args.parts.now.region)
-    c.args.parts.now.blocks c.args.parts.now.inodes c.args.i c.args.off c.args.bytes.now c.touched_by-touched.result
+write : (g : Over) (c : After-touched_by-touched g)
+    → WritesIn g.R.Region.memory c.args.parts.now c.args.i c.args.off c.args.bytes.now c.touched_by-touched.result
 write g c =
-    let parts = c.args.parts.now in
     let is = c.touched_by-touched.ensures in
-    record {
-      into = write_mounted (current_words (g.R.Region.memory parts.region)) parts c.args.i c.args.off c.args.bytes.now c.requires.mounted c.requires.can;
-      below = c.requires.below;
-      touches = record { run = c.run_for.result; one = is.runs; no_words = is.words; no_trees = is.trees; is = c.run_for.ensures };
-    }
+    writes_in g.R.Region.memory c.args.parts.now c.args.i c.args.off c.args.bytes.now c.touched_by-touched.result c.run_for.result c.requires.mounted
+    c.requires.can c.requires.below is.runs is.words is.trees c.run_for.ensures
 
 pub find_ways-found-requires : goal.find_ways-found-requires
 find_ways-found-requires g c =

@@ -80,22 +80,7 @@ module _ (cores : ℕ) (words : ℕ) (since : List ℕ) (log : List Entry) (epoc
     in_since : word < length since
     in_since = let size = sound.as_many_since in omega arith
 
-    pub cleared : IsCleared since since2 gone
-    cleared = record {
-      since_size = length-set since word 0;
-      since_is = λ other. elim (eqb_tells other word) [
-        | inl same ↦ rw (same.0, same.1) (get_or-set_same since word 0 0 in_since)
-        | inr differ ↦ rw differ.0 (get_or-set_other since word other 0 0 differ.1)
-      ];
-    }
-
-    pub one_dirty : (other : ℕ) → gone other ≡ true → (first : ℕ) × (get_or since other 0 ≡ suc first)
-    one_dirty other is =
-        let same = eqb-true other word is in
-        let h = held words since log epochs sound word may.owner (under_seen since log epochs word may.owner may.under) in
-        (h.first, ap (λ n. get_or since n 0) same ∙ h.since_is)
-
-    pub one_closed : (place core other later its_core : ℕ) → Waits since log place core other → Waits since log later core its_core → epoch_at log core place < epoch_at log core later → gone its_core ≡ true → gone other ≡ true
+    one_closed : (place core other later its_core : ℕ) → Waits since log place core other → Waits since log later core its_core → epoch_at log core place < epoch_at log core later → gone its_core ≡ true → gone other ≡ true
     one_closed place core other later its_word waits its_waits less is =
         let same = eqb-true its_word word is in
         let here : Waits since log later core word = subst (λ n. Waits since log later core n) same its_waits in
@@ -108,8 +93,19 @@ module _ (cores : ℕ) (words : ℕ) (since : List ℕ) (log : List Entry) (epoc
         let most = may.earliest other (record { core = core; epoch = epoch_at log core place }) (under_waits words since log epochs sound core word place core other waits) core_is in
         absurd (omega arith)
 
+    pub cleared : IsCleared words since log epochs since2 gone
+    cleared = record {
+      sound = sound;
+      since_size = length-set since word 0;
+      since_is = λ other. elim (eqb_tells other word) [
+        | inl same ↦ rw (same.0, same.1) (get_or-set_same since word 0 0 in_since)
+        | inr differ ↦ rw differ.0 (get_or-set_other since word other 0 0 differ.1)
+      ];
+      closed = one_closed;
+    }
+
     pub written_sound : AreSound words since2 log epochs
-    written_sound = cleared_sound words since log epochs since2 gone sound cleared one_dirty one_closed
+    written_sound = cleared_sound words since log epochs since2 gone cleared
 
     map_set : (f : ℕ → Option Owner) (xs : List ℕ) (i y : ℕ) → map f (set xs i y) ≡ set (map f xs) i (f y)
     map_set f [] i y = refl

@@ -5,15 +5,17 @@ use Rattle.pm_cores.specs.declared.entry.Entry.{Entry}
 use Rattle.pm_cores.specs.Log.{epoch_at}
 use Rattle.pm_cores.specs.Inside.{waits_at, Waits, AreSound}
 
--- what is left where the words that a test tells are written back
-pub record IsCleared (since since2 : List ℕ) (gone : ℕ → Bool) : Type 0 where
+-- What is left where the words that a test tells are written back: with a word go those of its core to which stores of earlier epochs wait.
+pub record IsCleared (words : ℕ) (since : List ℕ) (log : List Entry) (epochs since2 : List ℕ) (gone : ℕ → Bool) : Type 0 where
+  pub sound : AreSound words since log epochs
   pub since_size : length since2 ≡ length since
   pub since_is : (word : ℕ) → get_or since2 word 0 ≡ cond (gone word) 0 (get_or since word 0)
+  pub closed : (place core word other its_word : ℕ) → Waits since log place core word → Waits since log other core its_word →
+      epoch_at log core place < epoch_at log core other → gone its_word ≡ true → gone word ≡ true
 
-module _ (words : ℕ) (since : List ℕ) (log : List Entry) (epochs : List ℕ) (since2 : List ℕ) (gone : ℕ → Bool)
-    (sound : AreSound words since log epochs) (cleared : IsCleared since since2 gone)
-    (dirty : (word : ℕ) → gone word ≡ true → (first : ℕ) × (get_or since word 0 ≡ suc first))
-    (closed : (place core word other its_word : ℕ) → Waits since log place core word → Waits since log other core its_word → epoch_at log core place < epoch_at log core other → gone its_word ≡ true → gone word ≡ true) where
+module _ (words : ℕ) (since : List ℕ) (log : List Entry) (epochs since2 : List ℕ) (gone : ℕ → Bool) (cleared : IsCleared words since log epochs since2 gone) where
+  open cleared use {sound, closed}
+
   gone_zero : (word : ℕ) → gone word ≡ true → get_or since2 word 0 ≡ 0
   gone_zero word is = cleared.since_is word ∙ ap (λ b. cond b 0 (get_or since word 0)) is
 

@@ -11,6 +11,7 @@ pub mod Views
 pub mod Calls
 pub mod Backs
 pub mod Whole
+pub mod Vectors
 pub mod Cleaning
 pub mod Coherent
 pub mod Over

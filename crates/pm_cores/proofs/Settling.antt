@@ -8,6 +8,7 @@ use Rattle.pm_cores.specs.declared.entry.Owner.{Owner}
 use Rattle.pm_cores.specs.Log.{epoch_at, IsStore}
 use Rattle.pm_cores.specs.Caches.{is_up_to, owner_is_up_to}
 use Rattle.pm_cores.specs.Inside.{waits_at, owner_since, Waits, AreSound, IsLow}
+use Rattle.pm_cores.proofs.Clearing.{IsCleared}
 use Rattle.pm_cores.proofs.Lists.{get_within}
 use Rattle.pm_cores.proofs.Logs.{epoch_at-le}
 use Rattle.pm_cores.proofs.Waiting.{waits_true, first_waits, owner_of_waiting, held}
@@ -218,7 +219,7 @@ module _ (words : ℕ) (since : List ℕ) (log : List Entry) (epochs : List ℕ)
       ]
 
   -- what goes with an owner takes all of its core's earlier epochs along
-  pub settle_closed : (place core word other its_word : ℕ) → Waits since log place core word → Waits since log other core its_word → epoch_at log core place < epoch_at log core other → is_due owner log epochs (get_or since its_word 0) ≡ true → is_due owner log epochs (get_or since word 0) ≡ true
+  settle_closed : (place core word other its_word : ℕ) → Waits since log place core word → Waits since log other core its_word → epoch_at log core place < epoch_at log core other → is_due owner log epochs (get_or since its_word 0) ≡ true → is_due owner log epochs (get_or since word 0) ≡ true
   settle_closed place core word other its_word waits its_waits less its_due =
       let own = owner_of_waiting words since log epochs sound other core its_word its_waits in
       let its : Owner = record { core = core; epoch = epoch_at log core other } in
@@ -226,5 +227,7 @@ module _ (words : ℕ) (since : List ℕ) (log : List Entry) (epochs : List ℕ)
       let here = subst (λ c. Waits since log place c word) parts.0 waits in
       waiting_due place word here (let same = ap (λ c. epoch_at log c place) parts.0 in let most = parts.1 in omega arith)
 
-  pub settle_dirty : (word : ℕ) → is_due owner log epochs (get_or since word 0) ≡ true → (first : ℕ) × (get_or since word 0 ≡ suc first)
-  settle_dirty word is = let its = due word is in (its.first, its.since_is)
+  pub settle_cleared : (since2 : List ℕ) → length since2 ≡ length since →
+      ((word : ℕ) → get_or since2 word 0 ≡ cond (is_due owner log epochs (get_or since word 0)) 0 (get_or since word 0)) →
+      IsCleared words since log epochs since2 (λ word. is_due owner log epochs (get_or since word 0))
+  settle_cleared since2 size is = record { sound = sound; since_size = size; since_is = is; closed = settle_closed }

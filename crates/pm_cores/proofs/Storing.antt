@@ -19,10 +19,19 @@ pub record IsSince (log : List Entry) (word : ℕ) (since since2 : List ℕ) : T
   pub same : (other first : ℕ) → get_or since other 0 ≡ suc first → get_or since2 other 0 ≡ suc first
   pub others : (other : ℕ) → other ≢ word → get_or since2 other 0 ≡ get_or since other 0
 
-module _ (words : ℕ) (since : List ℕ) (log : List Entry) (epochs since2 : List ℕ) (core word value epoch : ℕ)
-    (sound : AreSound words since log epochs) (epoch_is : epoch ≡ core_barriers core log) (low : word < words)
-    (waiting : IsSince log word since since2)
-    (ready : (place its_core its_word : ℕ) → Waits since log place its_core its_word → line_at its_word ≡ line_at word → (its_core ≡ core) × (epoch_at log its_core place ≡ core_barriers core log)) where
+-- a core's word waits from then on, and its line is the core's in its epoch
+pub record CanStore (words : ℕ) (since : List ℕ) (log : List Entry) (epochs since2 : List ℕ) (core word epoch : ℕ) : Type 0 where
+  pub sound : AreSound words since log epochs
+  pub epoch_is : epoch ≡ core_barriers core log
+  pub low : word < words
+  pub waiting : IsSince log word since since2
+  pub ready : (place its_core its_word : ℕ) → Waits since log place its_core its_word → line_at its_word ≡ line_at word →
+      (its_core ≡ core) × (epoch_at log its_core place ≡ core_barriers core log)
+
+module _ (words : ℕ) (since : List ℕ) (log : List Entry) (epochs since2 : List ℕ) (core word epoch value : ℕ)
+    (can : CanStore words since log epochs since2 core word epoch) where
+  open can use {sound, epoch_is, low, waiting, ready}
+
   abbrev log2 : List Entry
   log2 = log ++ Store core word value ∷ []
 

@@ -14,7 +14,7 @@ use Rattle.pm_cores.specs.Caches.{Caches, is_up_to, owner_is_up_to, entry_is_up_
 use Rattle.pm_cores.specs.Inside.{waits_at, owner_since, entry_is_back, flags_of, owners_of, caches_by, Waits, AreSound}
 use Rattle.pm_cores.proofs.Lists.{get_within, get_before, get_pushed_new, index_before, index_past}
 use Rattle.pm_cores.proofs.Logs.{IsNoStore, epoch_at-most, epoch_at-end}
-use Rattle.pm_cores.proofs.Storing.{IsSince}
+use Rattle.pm_cores.proofs.Storing.{CanStore, new_waits, stored_sound}
 use Rattle.pm_cores.proofs.Waiting.{first_waits, owner_of_waiting, held}
 use Rattle.pm_cores.proofs.Settling.{is_due}
 
@@ -345,14 +345,18 @@ first_owner_skip owners left n i found left_is low is none =
 
 -- ## A store more
 
-pub stored_seen : (cores : ℕ) (words : ℕ) (since : List ℕ) (log : List Entry) (epochs : List ℕ) (capacity : ℕ) (since2 : List ℕ) (core word value epoch : ℕ)
-    (sound : AreSound words since log epochs) (sound2 : AreSound words since2 (log ++ Store core word value ∷ []) (epochs ++ epoch ∷ [])) (low : word < words)
-    (waiting : IsSince log word since since2) (fresh : waits_at (get_or since2 word 0) (length log) ≡ true) →
+pub stored_seen : (cores words : ℕ) (since : List ℕ) (log : List Entry) (epochs : List ℕ) (capacity : ℕ) (since2 : List ℕ) (core word epoch value : ℕ)
+    (can : CanStore words since log epochs since2 core word epoch) →
     caches_by cores words since2 (log ++ Store core word value ∷ []) (epochs ++ epoch ∷ []) capacity ≡ stored (caches_by cores words since log epochs capacity) core word value
-stored_seen cores words since log epochs capacity since2 core word value epoch sound sound2 low waiting fresh = rw (owners_are, flags_are) refl
+stored_seen cores words since log epochs capacity since2 core word epoch value can = rw (owners_are, flags_are) refl
   where
-    log2 : List Entry
-    log2 = log ++ Store core word value ∷ []
+    open can use {sound, waiting}
+
+    sound2 : AreSound words since2 (log ++ Store core word value ∷ []) (epochs ++ epoch ∷ [])
+    sound2 = stored_sound words since log epochs since2 core word epoch value can
+
+    fresh : waits_at (get_or since2 word 0) (length log) ≡ true
+    fresh = new_waits words since log epochs since2 core word epoch value can
 
     flag_at : (place : ℕ) → place < length log → (entry : Option Entry) → slice_get log place ≡ entry → entry_is_back since2 place entry ≡ entry_is_back since place entry
     flag_at place early None is = refl

@@ -1,133 +1,80 @@
-use Rattle.std.proofs.Common.{◌≡◌, ◌<◌, ◌≤◌, ◌∙◌, ℕ, ap, sym, subst, arith, length, get_or}
-use Rattle.std.proofs.lemmas.Grind.{get_or_default_zero}
-use Rattle.pm_cores.specs.Log.{IsStore}
-use Rattle.pm_cores.specs.Caches.{Caches, IsDirtyUnder, MayLeave, IsNeeded}
-use Rattle.pm_cores.specs.Inside.{IsLow, Waits}
-use Rattle.pm_cores.proofs.Backs.{first_in, may_go, is_needed}
-use Rattle.pm_cores.proofs.Whole.{with_low}
+use Rattle.std.proofs.Common.{◌∙◌, ap, arith, length, sym}
+use Rattle.std.proofs.lemmas.List.{get_or_read}
+use Rattle.pm_cores.proofs.Backs.{may_go, is_needed}
+use Rattle.pm_cores.proofs.Vectors.{IsFirst, first_read, low_read, stored_in_since}
+use Rattle.pm_cores.proofs.Whole.{IsCoreLow, with_low}
+use Rattle.pm_cores.proofs.cores.Cores.needed.Goals.{After-index, After-first_waiting-first}
 use Rattle.pm_cores.proofs.cores.Cores.needed.Goals as goal
+
+-- the low that is read is the owner's
+low_at : (c : After-index) → IsCoreLow c.self.inside c.owner_of_word-owner.result.core c.index.result.now
+low_at c = low_read c.self.inside c.self.invariant _ _ (rw (← c.self.view_is) at c.owner_of_word-owner.ensures.core) c.index.ensures
+
+-- what is found is the first store of the owner that waits
+first_at : (c : After-first_waiting-first) → IsFirst c.self.inside c.args.i c.owner_of_word-owner.result c.first_waiting-first.result
+first_at c =
+    let owner = rw (← c.self.view_is) at c.owner_of_word-owner.ensures in
+    let told = rw (c.deref.ensures.value, c.deref-2.ensures.value) at c.first_waiting-first.ensures in
+    first_read c.self.inside c.self.invariant c.args.i _ _ owner.core owner.under (record { is_low = told.low; high = told.high }) told.found
 
 pub first_waiting-first-requires-clause-low : goal.first_waiting-first-requires-clause-low
 first_waiting-first-requires-clause-low c =
-    let inside = c.self.inside in
-    let old = c.self.invariant in
-    let core = c.owner_of_word-owner.result.core in
-    let known : core < inside.counts.len = subst (λ (s : Caches). core < s.cores) (sym c.self.view_is) c.owner_of_word-owner.ensures.core in
-    let in_lows : core < length inside.lows.items = let e = inside.lows.ok.0 in let same = old.as_many_lows in omega arith in
-    let is = c.index.ensures ∙ get_or_default_zero inside.lows.items core c.index.result.now in_lows in
-    rw (c.deref.ensures.value, c.deref-2.ensures.value, is) (old.lows core known)
+    rw (c.deref.ensures.value, c.deref-2.ensures.value) (low_at (goal.at.first_waiting-first-requires-clause-low c).After-index).is_low
 
 pub first_waiting-first-requires-clause-high : goal.first_waiting-first-requires-clause-high
-first_waiting-first-requires-clause-high c =
-    let inside = c.self.inside in
-    let old = c.self.invariant in
-    let core = c.owner_of_word-owner.result.core in
-    let known : core < inside.counts.len = subst (λ (s : Caches). core < s.cores) (sym c.self.view_is) c.owner_of_word-owner.ensures.core in
-    let in_lows : core < length inside.lows.items = let e = inside.lows.ok.0 in let same = old.as_many_lows in omega arith in
-    let is = c.index.ensures ∙ get_or_default_zero inside.lows.items core c.index.result.now in_lows in
-    rw (c.deref-2.ensures.value, is) (old.low_heights core known)
+first_waiting-first-requires-clause-high c = rw c.deref-2.ensures.value (low_at (goal.at.first_waiting-first-requires-clause-high c).After-index).high
 
 pub first_waiting-first-requires-clause-words : goal.first_waiting-first-requires-clause-words
-first_waiting-first-requires-clause-words c =
-    let sound = c.self.invariant.sound in
-    rw (c.deref.ensures.value, c.deref-2.ensures.value) (λ (place core word : ℕ) (store : IsStore c.self.inside.log.items place core word). let low = sound.words place core word store in let size = sound.as_many_since in omega arith)
+first_waiting-first-requires-clause-words c = rw (c.deref.ensures.value, c.deref-2.ensures.value) (stored_in_since c.self.inside c.self.invariant)
 
 pub index-epoch-requires : goal.index-epoch-requires
 index-epoch-requires c =
-    let inside = c.self.inside in
-    let old = c.self.invariant in
-    let owner = c.owner_of_word-owner.result in
-    let first = c.first_waiting-first.result in
-    let low : IsLow inside.since.items inside.log.items owner.core first = rw (c.deref.ensures.value, c.deref-2.ensures.value) at c.first_waiting-first.ensures.low in
-    let under = subst (λ (s : Caches). IsDirtyUnder s c.args.i owner) (sym c.self.view_is) c.owner_of_word-owner.ensures.under in
-    let within = first_in inside.counts.len inside.words inside.since.items inside.log.items inside.epochs.items inside.room old.sound c.args.i owner under first low in
-    let size = old.sound.as_many_epochs in
-    let e = inside.epochs.ok.0 in
-    omega arith
+    let at = first_at (goal.at.index-epoch-requires c).After-first_waiting-first in
+    omega (arith, at.in_epochs, c.self.inside.epochs.ok.0)
 
 pub invariant_of-self : goal.invariant_of-self
 invariant_of-self c =
-    let inside = c.self.inside in
-    let owner = c.owner_of_word-owner.result in
-    let first = c.first_waiting-first.result in
-    let low : IsLow inside.since.items inside.log.items owner.core first = rw (c.deref.ensures.value, c.deref-2.ensures.value) at c.first_waiting-first.ensures.low in
-    let high : first ≤ length inside.log.items = rw c.deref-2.ensures.value at c.first_waiting-first.ensures.high in
-    let known : owner.core < inside.counts.len = subst (λ (s : Caches). owner.core < s.cores) (sym c.self.view_is) c.owner_of_word-owner.ensures.core in
-    with_low inside c.self.invariant owner.core first known low high
+    let at = first_at (goal.at.invariant_of-self c).After-first_waiting-first in
+    with_low c.self.inside c.self.invariant _ _ at.known at.low
 
 pub invariant_of-self-2 : goal.invariant_of-self-2
 invariant_of-self-2 c =
-    let inside = c.self.inside in
-    let owner = c.owner_of_word-owner.result in
-    let first = c.first_waiting-first.result in
-    let low : IsLow inside.since.items inside.log.items owner.core first = rw (c.deref.ensures.value, c.deref-2.ensures.value) at c.first_waiting-first.ensures.low in
-    let high : first ≤ length inside.log.items = rw c.deref-2.ensures.value at c.first_waiting-first.ensures.high in
-    let known : owner.core < inside.counts.len = subst (λ (s : Caches). owner.core < s.cores) (sym c.self.view_is) c.owner_of_word-owner.ensures.core in
-    with_low inside c.self.invariant owner.core first known low high
+    let at = first_at (goal.at.invariant_of-self-2 c).After-first_waiting-first in
+    with_low c.self.inside c.self.invariant _ _ at.known at.low
 
 pub returns-then-epoch-owner-clause-needed : goal.returns-then-epoch-owner-clause-needed
 returns-then-epoch-owner-clause-needed c =
     let inside = c.self.inside in
-    let old = c.self.invariant in
-    let owner = c.owner_of_word-owner.result in
-    let first = c.first_waiting-first.result in
-    let low : IsLow inside.since.items inside.log.items owner.core first = rw (c.deref.ensures.value, c.deref-2.ensures.value) at c.first_waiting-first.ensures.low in
-    let under = subst (λ (s : Caches). IsDirtyUnder s c.args.i owner) (sym c.self.view_is) c.owner_of_word-owner.ensures.under in
-    let within = first_in inside.counts.len inside.words inside.since.items inside.log.items inside.epochs.items inside.room old.sound c.args.i owner under first low in
-    let in_epochs : first < length inside.epochs.items = let size = old.sound.as_many_epochs in omega arith in
-    let found : (other : ℕ) × Waits inside.since.items inside.log.items first owner.core other = (rw (c.deref.ensures.value, c.deref-2.ensures.value) at c.first_waiting-first.ensures.found) within in
-    let epoch = sym (get_or_default_zero inside.epochs.items first c.index-epoch.result.now in_epochs) ∙ sym c.index-epoch.ensures ∙ c.if-epoch-owner.true in
-    subst (λ (s : Caches). MayLeave s c.args.i) c.self.view_is
-    (may_go inside.counts.len inside.words inside.since.items inside.log.items inside.epochs.items inside.room old.sound c.args.i owner under first low found epoch)
+    let at = first_at (goal.at.returns-then-epoch-owner-clause-needed c).After-first_waiting-first in
+    let epoch = get_or_read inside.epochs.items _ _ at.in_epochs c.index-epoch.ensures 0 in
+    rw (← c.self.view_is)
+    (may_go inside.counts.len inside.words inside.since.items inside.log.items inside.epochs.items inside.room c.self.invariant.sound
+    c.args.i _ at.under _ at.low.is_low at.found (sym epoch ∙ c.if-epoch-owner.true))
 
 pub lowest_word-requires-clause-sound : goal.lowest_word-requires-clause-sound
 lowest_word-requires-clause-sound c =
-    let inside = c.self.inside in
     let sound = c.self.invariant.sound in
     rw (ap length c.deref-3.ensures.value ∙ sound.as_many_since, c.deref-3.ensures.value, c.deref-4.ensures.value, c.deref-5.ensures.value) sound
 
 pub lowest_word-requires-clause-low : goal.lowest_word-requires-clause-low
 lowest_word-requires-clause-low c =
-    let low = rw (c.deref.ensures.value, c.deref-2.ensures.value) at c.first_waiting-first.ensures.low in
-    rw (c.deref-3.ensures.value, c.deref-4.ensures.value) low
+    rw (c.deref-3.ensures.value, c.deref-4.ensures.value) (first_at (goal.at.lowest_word-requires-clause-low c).After-first_waiting-first).low.is_low
 
 pub lowest_word-requires-clause-found : goal.lowest_word-requires-clause-found
 lowest_word-requires-clause-found c =
-    let inside = c.self.inside in
-    let old = c.self.invariant in
-    let owner = c.owner_of_word-owner.result in
-    let first = c.first_waiting-first.result in
-    let low : IsLow inside.since.items inside.log.items owner.core first = rw (c.deref.ensures.value, c.deref-2.ensures.value) at c.first_waiting-first.ensures.low in
-    let under = subst (λ (s : Caches). IsDirtyUnder s c.args.i owner) (sym c.self.view_is) c.owner_of_word-owner.ensures.under in
-    let within = first_in inside.counts.len inside.words inside.since.items inside.log.items inside.epochs.items inside.room old.sound c.args.i owner under first low in
-    let found : (other : ℕ) × Waits inside.since.items inside.log.items first owner.core other = (rw (c.deref.ensures.value, c.deref-2.ensures.value) at c.first_waiting-first.ensures.found) within in
-    rw (c.deref-3.ensures.value, c.deref-4.ensures.value) found
+    rw (c.deref-3.ensures.value, c.deref-4.ensures.value) (first_at (goal.at.lowest_word-requires-clause-found c).After-first_waiting-first).found
 
 pub lowest_word-requires-clause-epoch : goal.lowest_word-requires-clause-epoch
 lowest_word-requires-clause-epoch c =
-    let inside = c.self.inside in
-    let old = c.self.invariant in
-    let owner = c.owner_of_word-owner.result in
-    let first = c.first_waiting-first.result in
-    let low : IsLow inside.since.items inside.log.items owner.core first = rw (c.deref.ensures.value, c.deref-2.ensures.value) at c.first_waiting-first.ensures.low in
-    let under = subst (λ (s : Caches). IsDirtyUnder s c.args.i owner) (sym c.self.view_is) c.owner_of_word-owner.ensures.under in
-    let within = first_in inside.counts.len inside.words inside.since.items inside.log.items inside.epochs.items inside.room old.sound c.args.i owner under first low in
-    let in_epochs : first < length inside.epochs.items = let size = old.sound.as_many_epochs in omega arith in
-    rw c.deref-5.ensures.value (c.index-epoch.ensures ∙ get_or_default_zero inside.epochs.items first c.index-epoch.result.now in_epochs)
+    let at = first_at (goal.at.lowest_word-requires-clause-epoch c).After-first_waiting-first in
+    rw c.deref-5.ensures.value (get_or_read c.self.inside.epochs.items _ _ at.in_epochs c.index-epoch.ensures 0)
 
 pub returns-clause-needed : goal.returns-clause-needed
 returns-clause-needed c =
     let inside = c.self.inside in
-    let old = c.self.invariant in
-    let owner = c.owner_of_word-owner.result in
-    let first = c.first_waiting-first.result in
-    let low : IsLow inside.since.items inside.log.items owner.core first = rw (c.deref.ensures.value, c.deref-2.ensures.value) at c.first_waiting-first.ensures.low in
-    let under = subst (λ (s : Caches). IsDirtyUnder s c.args.i owner) (sym c.self.view_is) c.owner_of_word-owner.ensures.under in
-    let within = first_in inside.counts.len inside.words inside.since.items inside.log.items inside.epochs.items inside.room old.sound c.args.i owner under first low in
-    let in_epochs : first < length inside.epochs.items = let size = old.sound.as_many_epochs in omega arith in
-    let found : (other : ℕ) × Waits inside.since.items inside.log.items first owner.core other = (rw (c.deref.ensures.value, c.deref-2.ensures.value) at c.first_waiting-first.ensures.found) within in
-    let epoch : c.index-epoch.result.now ≡ get_or inside.epochs.items first 0 = c.index-epoch.ensures ∙ get_or_default_zero inside.epochs.items first c.index-epoch.result.now in_epochs in
-    let its = simp (c.deref-3.ensures.value, c.deref-4.ensures.value, c.deref-5.ensures.value, epoch) at c.lowest_word.ensures.under in
-    let lowest = simp (c.deref-3.ensures.value, c.deref-4.ensures.value, c.deref-5.ensures.value, epoch) at c.lowest_word.ensures.lowest in
-    subst (λ (s : Caches). IsNeeded s c.args.i c.lowest_word.result) c.self.view_is
-    (is_needed inside.counts.len inside.words inside.since.items inside.log.items inside.epochs.items inside.room old.sound c.args.i owner under first low found (λ same. c.if-epoch-owner.false (epoch ∙ same)) c.lowest_word.result its lowest)
+    let at = first_at (goal.at.returns-clause-needed c).After-first_waiting-first in
+    let epoch = get_or_read inside.epochs.items _ _ at.in_epochs c.index-epoch.ensures 0 in
+    let lowest = simp (c.deref-3.ensures.value, c.deref-4.ensures.value, c.deref-5.ensures.value, epoch) at c.lowest_word.ensures in
+    rw (← c.self.view_is)
+    (is_needed inside.counts.len inside.words inside.since.items inside.log.items inside.epochs.items inside.room c.self.invariant.sound
+    c.args.i _ at.under _ at.low.is_low at.found (λ same. c.if-epoch-owner.false (epoch ∙ same)) c.lowest_word.result lowest.under lowest.lowest)

@@ -64,6 +64,15 @@ module _ (image : Image) (root size level index : ℕ) where
   pub present_none : size ≡ 0 → is_present image root size (record { level = level; index = index }) ≡ false
   present_none none = present_far (λ below. omega (arith, below, none))
 
+-- behind the slots of the inode file a pointer stands in the tree of an inode
+pub record IsInTree (image : Image) (w : WordPath) (d h number : ℕ) : Type 0 where
+  pub past : h < d
+  pub reached : IsReached image (number / 8)
+  pub some : number / 8 ≢ 0
+  pub low : d - (h + 1) ≤ height_of (root_of image (number / 8))
+  pub there : is_there_now image (take d w) ≡ is_present image (root_of image (number / 8)) (size_of image (number / 8))
+      (record { level = height_of (root_of image (number / 8)) - (d - (h + 1)); index = path_number (drop (h + 1) (take d w)) })
+
 module _ (image : Image) (wf : IsWellFormed image) (w : WordPath) (way : IsWayIn image w) (d : ℕ) (low : d < length w) where
   abbrev top : ℕ
   top = height_of (root_of image 0)
@@ -79,32 +88,31 @@ module _ (image : Image) (wf : IsWellFormed image) (w : WordPath) (way : IsWayIn
       (ap (λ n. is_present image (root_of image 0) (size_of image 0) (record { level = height_of (root_of image 0) - n; index = path_number (take d w) })) long)
 
   abbrev tree : ℕ
-  tree = path_number (take (suc (height_of (root_of image 0))) (take d w)) / 8
+  tree = path_number (take (suc top) (take d w)) / 8
 
-  pub there_tree : height_of (root_of image 0) < d →
-      is_there_now image (take d w) ≡ is_present image (root_of image (path_number (take (suc (height_of (root_of image 0))) (take d w)) / 8)) (size_of image (path_number (take (suc (height_of (root_of image 0))) (take d w)) / 8))
-      (record { level = height_of (root_of image (path_number (take (suc (height_of (root_of image 0))) (take d w)) / 8)) - (d - suc (height_of (root_of image 0))); index = path_number (drop (suc (height_of (root_of image 0))) (take d w)) })
-  there_tree past = rw (lt-leb (length (take d w)) (height_of (root_of image 0)) (omega (arith, long, past)))
-      (ap (λ n. is_present image (root_of image (path_number (take (suc (height_of (root_of image 0))) (take d w)) / 8)) (size_of image (path_number (take (suc (height_of (root_of image 0))) (take d w)) / 8))
-      (record { level = height_of (root_of image (path_number (take (suc (height_of (root_of image 0))) (take d w)) / 8)) - (n - suc (height_of (root_of image 0))); index = path_number (drop (suc (height_of (root_of image 0))) (take d w)) })) long)
+  there_tree : top < d → is_there_now image (take d w) ≡ is_present image (root_of image tree) (size_of image tree)
+      (record { level = height_of (root_of image tree) - (d - suc top); index = path_number (drop (suc top) (take d w)) })
+  there_tree past = rw (lt-leb (length (take d w)) top (omega (arith, long, past)))
+      (ap (λ n. is_present image (root_of image tree) (size_of image tree)
+      (record { level = height_of (root_of image tree) - (n - suc top); index = path_number (drop (suc top) (take d w)) })) long)
 
-  first_slots : height_of (root_of image 0) < d → take (suc (height_of (root_of image 0))) (take d w) ≡ take (suc (height_of (root_of image 0))) w
-  first_slots past = take-take (suc (height_of (root_of image 0))) d w (omega (arith, past))
+  first_slots : top < d → take (suc top) (take d w) ≡ take (suc top) w
+  first_slots past = take-take (suc top) d w (omega (arith, past))
 
   -- the tree whose pointer it is
-  tree_is : height_of (root_of image 0) < d → path_number (take (suc (height_of (root_of image 0))) (take d w)) / 8 ≡ of.tree
+  tree_is : top < d → tree ≡ of.tree
   tree_is past = sym (ap (λ (p : ℕ × TreeNode). p.0) unfolded) ∙ ap (λ (p : ℕ × TreeNode). p.0) (pointed_is image wf (take d w) of)
     where
       unfolded : pointed (heights_now image) (take d w) ≡ (
-        path_number (take (suc (height_of (root_of image 0))) (take d w)) / 8,
+        tree,
         record {
-          level = height_of (root_of image (path_number (take (suc (height_of (root_of image 0))) (take d w)) / 8)) - (length (take d w) - suc (height_of (root_of image 0)));
-          index = path_number (drop (suc (height_of (root_of image 0))) (take d w));
+          level = height_of (root_of image tree) - (length (take d w) - suc top);
+          index = path_number (drop (suc top) (take d w));
         },
       )
-      unfolded = rw (lt-leb (length (take d w)) (height_of (root_of image 0)) (omega (arith, long, past))) refl
+      unfolded = rw (lt-leb (length (take d w)) top (omega (arith, long, past))) refl
 
-  depth_of : (t e k : ℕ) → e ≤ height_of (root_of image t) → take d w ≡ tree_path (height_of (word image 2)) t e k → height_of (root_of image 0) < d → (t ≢ 0) × (d ≡ suc (height_of (root_of image 0)) + e)
+  depth_of : (t e k : ℕ) → e ≤ height_of (root_of image t) → take d w ≡ tree_path (height_of (word image 2)) t e k → top < d → (t ≢ 0) × (d ≡ suc top + e)
   depth_of zero e k few is past =
       let size : d ≡ e = sym long ∙ ap (λ (p : WordPath). length p) is ∙ length-digits e k in
       absurd (omega (arith, size, few, past))
@@ -112,13 +120,26 @@ module _ (image : Image) (wf : IsWellFormed image) (w : WordPath) (way : IsWayIn
       let size = sym long ∙ ap (λ (p : WordPath). length p) is ∙ length-append (inode_path (height_of (word image 2)) (suc i) 1) (digits e k) in
       (λ none. omega (arith, none), omega (arith, size, length-digits e k, length-digits (suc (height_of (word image 2))) (8 * suc i + 1)))
 
-  pub tree_reached : (past : height_of (root_of image 0) < d) → IsReached image (path_number (take (suc (height_of (root_of image 0))) (take d w)) / 8)
+  tree_reached : top < d → IsReached image tree
   tree_reached past = subst (IsReached image) (sym (tree_is past)) of.reached
 
-  pub tree_some : (past : height_of (root_of image 0) < d) → path_number (take (suc (height_of (root_of image 0))) (take d w)) / 8 ≢ 0
+  tree_some : top < d → tree ≢ 0
   tree_some past none = (depth_of of.tree of.depth of.index of.low of.is past).0 (sym (tree_is past) ∙ none)
 
-  pub tree_low : (past : height_of (root_of image 0) < d) → d - suc (height_of (root_of image 0)) ≤ height_of (root_of image (path_number (take (suc (height_of (root_of image 0))) (take d w)) / 8))
+  tree_low : top < d → d - suc top ≤ height_of (root_of image tree)
   tree_low past =
       let deep = (depth_of of.tree of.depth of.index of.low of.is past).1 in
-      subst (λ (t : ℕ). d - suc (height_of (root_of image 0)) ≤ height_of (root_of image t)) (sym (tree_is past)) (omega (arith, deep, of.low))
+      subst (λ (t : ℕ). d - suc top ≤ height_of (root_of image t)) (sym (tree_is past)) (omega (arith, deep, of.low))
+
+  pub in_tree : (h number : ℕ) → h ≡ height_of (root_of image 0) → h < d → number ≡ path_number (drop 0 (take (h + 1) w)) → IsInTree image w d h number
+  in_tree h number top_is less value =
+      let next : h + 1 ≡ suc top = omega (arith, top_is) in
+      let past : top < d = omega (arith, top_is, less) in
+      let is : number / 8 ≡ tree = ap (λ n. n / 8) (value ∙ ap (λ n. path_number (take n w)) next ∙ ap path_number (sym (first_slots past))) in
+      record {
+        past = less;
+        reached = rw is (tree_reached past);
+        some = rw is (tree_some past);
+        low = rw (is, next) (tree_low past);
+        there = rw (is, next) (there_tree past);
+      }

@@ -1,26 +1,19 @@
-use Rattle.std.proofs.Common.{◌≡◌, ◌≢◌, ℕ, suc, ◌+◌, ◌-◌, ◌/◌, ◌<◌, ◌≤◌, take, drop, refl, sym, ◌∙◌, ap, ap₂, subst, arith}
+use Rattle.std.proofs.Common.{◌≡◌, ◌≢◌, ℕ, ◌+◌, ◌-◌, ◌<◌, ◌≤◌, refl, sym, ◌∙◌, ap, arith}
 use Rattle.pm_region.specs.Memory.{current_words}
-use Rattle.std.proofs.lemmas.List.{take-take}
-use Rattle.bp_layout.specs.Inode.{root_of, size_of}
-use Rattle.bp_layout.specs.Need.{path_number}
+use Rattle.bp_layout.specs.Inode.{root_of}
 use Rattle.bp_layout.specs.Nodes.{is_present}
-use Rattle.bp_layout.specs.Reached.{IsReached}
 use Rattle.bp_layout.specs.Reached.IsReached.{inode_file}
 use Rattle.bp_layout.specs.WellFormed.{IsWellFormed}
 use Rattle.bp_layout.specs.Words.{Image, height_of}
 use Rattle.bp_thaw.proofs.FindSteps.{low_slot}
-use Rattle.bp_thaw.proofs.WayNumbers.{present_none, there_file, there_tree, tree_low, tree_reached, tree_some}
+use Rattle.bp_thaw.proofs.WayNumbers.{IsInTree, in_tree, present_none, there_file}
+use Rattle.bp_thaw.proofs.ways.is_there.Given as given
+use Rattle.bp_thaw.proofs.ways.is_there.Goals.{After-height-top, After-number-2}
 use Rattle.bp_thaw.proofs.ways.is_there.Goals as goal
 
 -- the inode file is no higher than any tree
 low_top : (image : Image) → IsWellFormed image → height_of (root_of image 0) ≤ 5
-low_top image wf = let some : 4096 ≤ size_of image 0 = wf.some_inodes in (wf.sound 0 inode_file).low (omega (arith, some))
-
--- the number of the tree's inode
-number_is : (image : Image) (w : _) (d h number : ℕ) → h ≡ height_of (root_of image 0) → height_of (root_of image 0) < d → number ≡ path_number (drop 0 (take (h + 1) w)) → number / 8 ≡ path_number (take (suc (height_of (root_of image 0))) (take d w)) / 8
-number_is image w d h number is past value =
-    let next : h + 1 ≡ suc (height_of (root_of image 0)) = omega (arith, is) in
-    ap (λ n. n / 8) (value ∙ ap (λ n. path_number (take n w)) next ∙ ap path_number (sym (take-take (suc (height_of (root_of image 0))) d w (omega (arith, past)))))
+low_top image wf = (wf.sound 0 inode_file).low (omega (arith, wf.some_inodes))
 
 no_zero : (n : ℕ) → n ≢ 0 → 0 < n
 no_zero n some = omega (arith, some)
@@ -29,107 +22,82 @@ present_as : (image : Image) (root other size also level same index number : ℕ
     is_present image root size (record { level = level; index = index }) ≡ is_present image other also (record { level = same; index = number })
 present_as image root other size also level same index number a b c d = rw (a, b, c, d) refl
 
+-- the height that is read is the inode file's
+top_is : (g : given.Over) (c : After-height-top g) → c.height-top.result ≡ height_of (root_of (current_words (g.R.Region.memory c.args.region.now)) 0)
+top_is g c = c.height-top.ensures ∙ ap height_of c.inode_file-file.ensures.root
+
+-- below the inode file the number that is read tells an inode
+tree : (g : given.Over) (c : After-number-2 g) →
+    IsInTree (current_words (g.R.Region.memory c.args.region.now)) c.args.way.now.items c.args.depth c.height-top.result c.number-2.result
+tree g c =
+    let top = c.height-top.ensures ∙ ap height_of c.inode_file-file.ensures.root in
+    in_tree _ c.requires.well_formed _ c.requires.way _ c.requires.depth _ _ top (omega (arith, c.if-depth-top.false)) c.number-2.ensures
+
 pub number-requires-clause-few : goal.number-requires-clause-few
 number-requires-clause-few g c =
-    omega (arith, c.if-depth-top.true, c.height-top.ensures ∙ ap height_of c.inode_file-file.ensures.root, low_top (current_words (g.R.Region.memory c.args.region.now)) c.requires.well_formed)
+    omega (arith, c.if-depth-top.true, top_is g (goal.at.number-requires-clause-few g c).After-height-top, low_top _ c.requires.well_formed)
 
 pub number-requires-clause-slots : goal.number-requires-clause-slots
-number-requires-clause-slots g c n = low_slot (current_words (g.R.Region.memory c.args.region.now)) c.args.way.now.items c.requires.way n
+number-requires-clause-slots g c = low_slot _ _ c.requires.way
 
 pub is_present-requires-clause-sound : goal.is_present-requires-clause-sound
 is_present-requires-clause-sound g c = rw (c.inode_file-file.ensures.root, c.inode_file-file.ensures.size) (c.requires.well_formed.sound 0 inode_file)
 
 pub number-requires-2-clause-few : goal.number-requires-2-clause-few
-number-requires-2-clause-few g c =
-    omega (arith, c.height-top.ensures ∙ ap height_of c.inode_file-file.ensures.root, low_top (current_words (g.R.Region.memory c.args.region.now)) c.requires.well_formed)
+number-requires-2-clause-few g c = omega (arith, top_is g (goal.at.number-requires-2-clause-few g c).After-height-top, low_top _ c.requires.well_formed)
 
 pub number-requires-2-clause-slots : goal.number-requires-2-clause-slots
-number-requires-2-clause-slots g c n = low_slot (current_words (g.R.Region.memory c.args.region.now)) c.args.way.now.items c.requires.way n
+number-requires-2-clause-slots g c = low_slot _ _ c.requires.way
 
 pub tree_of-tree-requires-clause-reached : goal.tree_of-tree-requires-clause-reached
-tree_of-tree-requires-clause-reached g c =
-    let image = current_words (g.R.Region.memory c.args.region.now) in
-    let top : c.height-top.result ≡ height_of (root_of image 0) = c.height-top.ensures ∙ ap height_of c.inode_file-file.ensures.root in
-    let past : height_of (root_of image 0) < c.args.depth = omega (arith, top, c.if-depth-top.false) in
-    subst (IsReached image) (sym (number_is image c.args.way.now.items c.args.depth c.height-top.result c.number-2.result top past c.number-2.ensures))
-    (tree_reached image c.requires.well_formed c.args.way.now.items c.requires.way c.args.depth c.requires.depth past)
+tree_of-tree-requires-clause-reached g c = (tree g (goal.at.tree_of-tree-requires-clause-reached g c).After-number-2).reached
 
 pub tree_of-tree-requires-clause-inode : goal.tree_of-tree-requires-clause-inode
-tree_of-tree-requires-clause-inode g c =
-    let image = current_words (g.R.Region.memory c.args.region.now) in
-    let top : c.height-top.result ≡ height_of (root_of image 0) = c.height-top.ensures ∙ ap height_of c.inode_file-file.ensures.root in
-    let past : height_of (root_of image 0) < c.args.depth = omega (arith, top, c.if-depth-top.false) in
-    let is = number_is image c.args.way.now.items c.args.depth c.height-top.result c.number-2.result top past c.number-2.ensures in
-    λ none. tree_some image c.requires.well_formed c.args.way.now.items c.requires.way c.args.depth c.requires.depth past (sym is ∙ none)
-
-pub returns-then-tree-eq0 : goal.returns-then-tree-eq0
-returns-then-tree-eq0 g c =
-    let image = current_words (g.R.Region.memory c.args.region.now) in
-    let top : c.height-top.result ≡ height_of (root_of image 0) = c.height-top.ensures ∙ ap height_of c.inode_file-file.ensures.root in
-    let past : height_of (root_of image 0) < c.args.depth = omega (arith, top, c.if-depth-top.false) in
-    let is = number_is image c.args.way.now.items c.args.depth c.height-top.result c.number-2.result top past c.number-2.ensures in
-    sym (there_tree image c.requires.well_formed c.args.way.now.items c.requires.way c.args.depth c.requires.depth past
-    ∙ present_none image _ _ _ _ (ap (size_of image) (sym is) ∙ sym c.tree_of-tree.ensures.size ∙ c.if-tree-eq0.true))
-
-pub overflow_cast-level : goal.overflow_cast-level
-overflow_cast-level g c =
-    let image = current_words (g.R.Region.memory c.args.region.now) in
-    let top : c.height-top.result ≡ height_of (root_of image 0) = c.height-top.ensures ∙ ap height_of c.inode_file-file.ensures.root in
-    let past : height_of (root_of image 0) < c.args.depth = omega (arith, top, c.if-depth-top.false) in
-    omega (arith, top, past, tree_low image c.requires.well_formed c.args.way.now.items c.requires.way c.args.depth c.requires.depth past)
-
-pub overflow_sub-level : goal.overflow_sub-level
-overflow_sub-level g c =
-    let image = current_words (g.R.Region.memory c.args.region.now) in
-    let top : c.height-top.result ≡ height_of (root_of image 0) = c.height-top.ensures ∙ ap height_of c.inode_file-file.ensures.root in
-    let past : height_of (root_of image 0) < c.args.depth = omega (arith, top, c.if-depth-top.false) in
-    let is = number_is image c.args.way.now.items c.args.depth c.height-top.result c.number-2.result top past c.number-2.ensures in
-    let height : c.height.result ≡ height_of (root_of image (path_number (take (suc (height_of (root_of image 0))) (take c.args.depth c.args.way.now.items)) / 8)) =
-    c.height.ensures ∙ ap height_of (c.tree_of-tree.ensures.root ∙ ap (root_of image) is) in
-    omega (arith, top, past, height, tree_low image c.requires.well_formed c.args.way.now.items c.requires.way c.args.depth c.requires.depth past)
-
-pub number-requires-3-clause-few : goal.number-requires-3-clause-few
-number-requires-3-clause-few g c =
-    let image = current_words (g.R.Region.memory c.args.region.now) in
-    let top : c.height-top.result ≡ height_of (root_of image 0) = c.height-top.ensures ∙ ap height_of c.inode_file-file.ensures.root in
-    let past : height_of (root_of image 0) < c.args.depth = omega (arith, top, c.if-depth-top.false) in
-    let is = number_is image c.args.way.now.items c.args.depth c.height-top.result c.number-2.result top past c.number-2.ensures in
-    let reached = tree_reached image c.requires.well_formed c.args.way.now.items c.requires.way c.args.depth c.requires.depth past in
-    let some = no_zero (size_of image _) (λ none. c.if-tree-eq0.false (c.tree_of-tree.ensures.size ∙ ap (size_of image) is ∙ none)) in
-    omega (arith, top, past, (c.requires.well_formed.sound _ reached).low some, tree_low image c.requires.well_formed c.args.way.now.items c.requires.way c.args.depth c.requires.depth past)
-
-pub number-requires-3-clause-slots : goal.number-requires-3-clause-slots
-number-requires-3-clause-slots g c n = low_slot (current_words (g.R.Region.memory c.args.region.now)) c.args.way.now.items c.requires.way n
-
-pub is_present-requires-2-clause-sound : goal.is_present-requires-2-clause-sound
-is_present-requires-2-clause-sound g c =
-    let image = current_words (g.R.Region.memory c.args.region.now) in
-    let top : c.height-top.result ≡ height_of (root_of image 0) = c.height-top.ensures ∙ ap height_of c.inode_file-file.ensures.root in
-    let past : height_of (root_of image 0) < c.args.depth = omega (arith, top, c.if-depth-top.false) in
-    let is = number_is image c.args.way.now.items c.args.depth c.height-top.result c.number-2.result top past c.number-2.ensures in
-    rw (c.tree_of-tree.ensures.root, c.tree_of-tree.ensures.size)
-    (c.requires.well_formed.sound (c.number-2.result / 8) (subst (IsReached image) (sym is) (tree_reached image c.requires.well_formed c.args.way.now.items c.requires.way c.args.depth c.requires.depth past)))
+tree_of-tree-requires-clause-inode g c = (tree g (goal.at.tree_of-tree-requires-clause-inode g c).After-number-2).some
 
 pub tree_of-tree-requires-clause-few : goal.tree_of-tree-requires-clause-few
 tree_of-tree-requires-clause-few g c = omega (arith, c.number-2.type_inv)
 
+pub returns-then-tree-eq0 : goal.returns-then-tree-eq0
+returns-then-tree-eq0 g c =
+    let at = tree g (goal.at.returns-then-tree-eq0 g c).After-number-2 in
+    sym (at.there ∙ present_none _ _ _ _ _ (sym c.tree_of-tree.ensures.size ∙ c.if-tree-eq0.true))
+
+pub overflow_cast-level : goal.overflow_cast-level
+overflow_cast-level g c =
+    let at = tree g (goal.at.overflow_cast-level g c).After-number-2 in
+    omega (arith, at.low)
+
+pub overflow_sub-level : goal.overflow_sub-level
+overflow_sub-level g c =
+    let at = tree g (goal.at.overflow_sub-level g c).After-number-2 in
+    omega (arith, at.low, c.height.ensures ∙ ap height_of c.tree_of-tree.ensures.root)
+
+pub number-requires-3-clause-few : goal.number-requires-3-clause-few
+number-requires-3-clause-few g c =
+    let at = tree g (goal.at.number-requires-3-clause-few g c).After-number-2 in
+    let some = no_zero _ (λ none. c.if-tree-eq0.false (c.tree_of-tree.ensures.size ∙ none)) in
+    omega (arith, at.past, at.low, (c.requires.well_formed.sound _ at.reached).low some)
+
+pub number-requires-3-clause-slots : goal.number-requires-3-clause-slots
+number-requires-3-clause-slots g c = low_slot _ _ c.requires.way
+
+pub is_present-requires-2-clause-sound : goal.is_present-requires-2-clause-sound
+is_present-requires-2-clause-sound g c =
+    let at = tree g (goal.at.is_present-requires-2-clause-sound g c).After-number-2 in
+    rw (c.tree_of-tree.ensures.root, c.tree_of-tree.ensures.size) (c.requires.well_formed.sound _ at.reached)
+
 pub returns-then-depth-top : goal.returns-then-depth-top
 returns-then-depth-top g c =
     let image = current_words (g.R.Region.memory c.args.region.now) in
-    let top : c.height-top.result ≡ height_of (root_of image 0) = c.height-top.ensures ∙ ap height_of c.inode_file-file.ensures.root in
-    c.is_present.ensures
-    ∙ present_as image _ _ _ _ _ _ _ _ c.inode_file-file.ensures.root c.inode_file-file.ensures.size (ap (λ h. h - c.args.depth) top) c.number.ensures
-    ∙ sym (there_file image c.requires.well_formed c.args.way.now.items c.requires.way c.args.depth c.requires.depth (omega (arith, c.if-depth-top.true, top)))
+    let file = c.inode_file-file.ensures in
+    let top = top_is g (goal.at.returns-then-depth-top g c).After-height-top in
+    c.is_present.ensures ∙ present_as image _ _ _ _ _ _ _ _ file.root file.size (ap (λ h. h - c.args.depth) top) c.number.ensures
+    ∙ sym (there_file image c.requires.well_formed _ c.requires.way _ c.requires.depth (omega (arith, c.if-depth-top.true, top)))
 
 pub returns : goal.returns
 returns g c =
-    let image = current_words (g.R.Region.memory c.args.region.now) in
-    let top : c.height-top.result ≡ height_of (root_of image 0) = c.height-top.ensures ∙ ap height_of c.inode_file-file.ensures.root in
-    let past : height_of (root_of image 0) < c.args.depth = omega (arith, top, c.if-depth-top.false) in
-    let is = number_is image c.args.way.now.items c.args.depth c.height-top.result c.number-2.result top past c.number-2.ensures in
-    let next : c.height-top.result + 1 ≡ suc (height_of (root_of image 0)) = omega (arith, top) in
-    let root = c.tree_of-tree.ensures.root ∙ ap (root_of image) is in
-    let size = c.tree_of-tree.ensures.size ∙ ap (size_of image) is in
-    c.is_present-2.ensures
-    ∙ present_as image _ _ _ _ _ _ _ _ root size (ap₂ (λ h n. h - (c.args.depth - n)) (c.height.ensures ∙ ap height_of root) next) (c.number-3.ensures ∙ ap (λ n. path_number (drop n (take c.args.depth c.args.way.now.items))) next)
-    ∙ sym (there_tree image c.requires.well_formed c.args.way.now.items c.requires.way c.args.depth c.requires.depth past)
+    let at = tree g (goal.at.returns g c).After-number-2 in
+    let file = c.tree_of-tree.ensures in
+    let level = ap (λ h. h - (c.args.depth - (c.height-top.result + 1))) (c.height.ensures ∙ ap height_of file.root) in
+    c.is_present-2.ensures ∙ present_as _ _ _ _ _ _ _ _ _ file.root file.size level c.number-3.ensures ∙ sym at.there

@@ -1,5 +1,5 @@
 -- One more pointer of a way is looked at, and one more way.
-use Rattle.std.proofs.Common.{◌≡◌, ◌≢◌, ◌⊎◌, ℕ, zero, suc, ◌+◌, ◌*◌, ◌/◌, ◌%◌, ◌<◌, ◌≤◌, List, [], ◌∷◌, ◌++◌, map, length, take, drop, get_or, Bool, true, false, ◌||◌, ◌==◌, refl, sym, ◌∙◌, ap, subst, arith, inl, inr, true≢false}
+use Rattle.std.proofs.Common.{◌≡◌, ◌≢◌, ◌⊎◌, ℕ, zero, suc, ◌+◌, ◌*◌, ◌/◌, ◌%◌, ◌^◌, ◌<◌, ◌≤◌, List, [], ◌∷◌, ◌++◌, map, length, take, drop, get_or, Bool, true, false, ◌||◌, ◌==◌, refl, sym, ◌∙◌, ap, subst, arith, inl, inr, true≢false}
 use Rattle.std.specs.List.{list_any, slice_index}
 use Rattle.std.proofs.lemmas.Bool.{cases_eq}
 use Rattle.std.proofs.lemmas.List.{length-take-le, take-append-drop, take_more}
@@ -76,6 +76,14 @@ low_path h (suc i) d k n = low_append (inode_path h (suc i) 1) (digits d k) (low
 pub low_slot : (image : Image) (w : WordPath) → IsWayIn image w → (n : ℕ) → get_or w n 0 < 512
 low_slot image w way n = subst (λ p. get_or p n 0 < 512) (sym way.is) (low_path (height_of (word image 2)) way.tree way.depth way.index n)
 
+-- a pointer of a way, the block to which it leads, and the place of the next one
+pub record IsOnWay (image : Image) (w : WordPath) (d block : ℕ) : Type 0 where
+  pub kept : (kept : ℕ → Bool) → is_kept_at image kept (take d w) ≡ kept block
+  pub inside : block < block_count image
+  pub fits : 512 * block + 512 ≤ 2 ^ 32
+  pub slot : get_or w d 0 < 512
+  pub next : 512 * block + get_or w d 0 ≡ address image (take (d + 1) w)
+
 module _ (image : Image) (wf : IsWellFormed image) (w : WordPath) (way : IsWayIn image w) where
   -- the trail of the first slots
   pub take-trail : (d : ℕ) → d ≤ length w → path_trail (take d w) ≡ trail_of w d
@@ -125,17 +133,17 @@ module _ (image : Image) (wf : IsWellFormed image) (w : WordPath) (way : IsWayIn
       go true e = absurd (true≢false (sym (there_above (n + d) d (omega arith) (omega (arith, fits)) e) ∙ none))
 
   -- the next place
-  pub place-next : (d : ℕ) → d < length w → address image (take (d + 1) w) ≡ 512 * block_of (word image (address image (take d w))) + get_or w d 0
+  place-next : (d : ℕ) → d < length w → address image (take (d + 1) w) ≡ 512 * block_of (word image (address image (take d w))) + get_or w d 0
   place-next d low = ap (address image) (take_more w d 0 low) ∙ address_from-append image 2 (take d w) (get_or w d 0 ∷ [])
 
   module _ (d : ℕ) (low : d < length w) (there : is_there_now image (take d w) ≡ true) where
     of : IsPointerPath image (take d w)
     of = front_path image wf w d way low
 
-    pub kept_here : (kept : ℕ → Bool) → is_kept_at image kept (take d w) ≡ kept (block_of (word image (address image (take d w))))
+    kept_here : (kept : ℕ → Bool) → is_kept_at image kept (take d w) ≡ kept (block_of (word image (address image (take d w))))
     kept_here kept = rw there refl
 
-    pub block_inside : block_of (word image (address image (take d w))) < block_count image
+    block_inside : block_of (word image (address image (take d w))) < block_count image
     block_inside = rw (block_at image wf (take d w) of there) ((bones image wf).in_range (path_trail (take d w)) (there_pointer image wf (take d w) of there).0)
 
     pub place_inside : address image (take d w) < length image
@@ -145,3 +153,14 @@ module _ (image : Image) (wf : IsWellFormed image) (w : WordPath) (way : IsWayIn
         rw (address_is image wf (take d w) of there)
         (low-placed image (IsTreePointer image (size_of image)) (path_trail (take d w)) (bones image wf) some
         (placed image (IsTreePointer image (size_of image)) (are image wf) (bones image wf) (path_trail (take d w)) one.0 one.1))
+
+    pub on_way : (place value block : ℕ) → place ≡ address image (take d w) → value ≡ word image place → block ≡ block_of value → IsOnWay image w d block
+    on_way place value block at loaded of =
+        let is : block ≡ block_of (word image (address image (take d w))) = of ∙ ap block_of (loaded ∙ ap (word image) at) in
+        record {
+          kept = λ kept. kept_here kept ∙ ap kept (sym is);
+          inside = rw is block_inside;
+          fits = omega (arith, is, block_inside, wf.formatted.sized.at_most);
+          slot = low_slot image w way d;
+          next = rw is (sym (place-next d low));
+        }

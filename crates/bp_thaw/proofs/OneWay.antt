@@ -1,20 +1,16 @@
 -- What is kept on one way.
-use Rattle.std.proofs.Common.{◌≡◌, ℕ, ◌-◌, ◌<◌, [], ◌∷◌, length, take, Bool, true, refl, sym, ◌∙◌, ap, subst, arith, inl, inr}
+use Rattle.std.proofs.Common.{◌≡◌, ℕ, ◌-◌, ◌<◌, [], ◌∷◌, length, take, Bool, true, refl, sym, ◌∙◌, subst, arith, inl, inr}
 use Rattle.std.specs.List.{range_with_len}
 use Rattle.bp_layout.specs.Members.{Has}
 use Rattle.bp_layout.specs.Need.{prefixes_from}
 use Rattle.bp_layout.specs.Thaw.{is_kept_at, thawed_on}
 use Rattle.bp_layout.specs.WellFormed.{IsWellFormed}
-use Rattle.bp_layout.specs.WordPaths.{WordPath, address}
-use Rattle.bp_layout.specs.Words.{Image, block_of, word}
+use Rattle.bp_layout.specs.WordPaths.{WordPath}
+use Rattle.bp_layout.specs.Words.{Image}
 use Rattle.bp_layout.proofs.MemberLaws.{has-filter, has-map, has-range}
 use Rattle.bp_layout.proofs.ThawLaws.{loose-on}
 use Rattle.bp_thaw.specs.Fronts.{IsWayIn, found_on}
 use Rattle.bp_thaw.proofs.Found.{found_is}
-
--- the block to which the pointer at a place leads
-pub block_led : (image : Image) (front : WordPath) (place value block : ℕ) → place ≡ address image front → value ≡ word image place → block ≡ block_of value → block ≡ block_of (word image (address image front))
-block_led image front place value block at loaded of = of ∙ ap block_of (loaded ∙ ap (word image) at)
 
 -- nothing is found on it: so nothing is thawed on it
 pub none_on_way : (image : Image) → IsWellFormed image → (kept : ℕ → Bool) (way : WordPath) → IsWayIn image way → found_on image kept [] way (length way) ≡ [] → thawed_on image kept (way ∷ []) ≡ []

@@ -12,12 +12,13 @@ use Rattle.pm_region.proofs.MayLaws.{room_after_may}
 use Rattle.pm_region.proofs.MemoryLaws.{adds_both, adds_none, current_words-adds}
 use Rattle.bp_free.specs.Set.{Set, TakesLeast, has}
 use Rattle.bp_layout.specs.Members.{AreApart, Each, Has}
-use Rattle.bp_layout.specs.Words.{word, block_of}
+use Rattle.bp_layout.specs.Words.{word, block_count, block_of}
 use Rattle.bp_layout.proofs.MemberLaws.{apart-append, apart-first, each-append, each-as, has-behind, has-either, has-front}
 use Rattle.bp_commit.specs.Performs.{InBlock}
 use Rattle.bp_cow.specs.Copies.{CanFillBlock, FillsBlock, pointing_to}
 use Rattle.bp_thaw.specs.Copies.{AreTurned, Copies, blocks_of, copy_at, places_of, source_of, turned_to, turned_word}
 use Rattle.bp_thaw.specs.Steps.{CanFillCopies, InBlocks, TakesAll}
+use Rattle.bp_thaw.proofs.MarkAll.{has-mapped}
 
 clash : (b : Bool) → b ≡ true → b ≡ false → ⊥
 clash b one two = absurd (cc)
@@ -171,33 +172,28 @@ filled_none copies memory = record {
 }
 
 module _ (copies done : Copies) (old now : Memory) (can : CanFillCopies copies old) (inside : (c : ℕ × ℕ) → Has done c → Has copies c) (so_far : HasFilled copies done old now) where
-  pub beside_filled : (place : ℕ) → (Has (blocks_of copies) (place / 512) → ⊥) → word (current_words now) place ≡ word (current_words old) place
+  beside_filled : (place : ℕ) → (Has (blocks_of copies) (place / 512) → ⊥) → word (current_words now) place ≡ word (current_words old) place
   beside_filled place none =
       let each = EachMay-stored (AnyAt (InBlocks (blocks_of copies))) (current_words old) so_far.part.added so_far.part.may in
       ap (λ ws. word ws place) (current_words-adds old now so_far.part.added so_far.part.adds)
       ∙ elim (each.each place) [ inl e ↦ e | inr is ↦ absurd (none is) ]
 
-  pub length_filled : length (current_words now) ≡ length (current_words old)
+  length_filled : length (current_words now) ≡ length (current_words old)
   length_filled =
       ap length (current_words-adds old now so_far.part.added so_far.part.adds)
       ∙ (EachMay-stored (AnyAt (InBlocks (blocks_of copies))) (current_words old) so_far.part.added so_far.part.may).size
 
-  pub room_filled : room_in old ≤ room_in now + 512 * length done
+  room_filled : room_in old ≤ room_in now + 512 * length done
   room_filled = omega (arith, room_after_may (AnyAt (InBlocks (blocks_of copies))) 0 (512 * length done) old now so_far.part)
 
   module _ (c : ℕ × ℕ) (here : Has copies c) where
-    pub source_filled : source_of (current_words now) c ≡ source_of (current_words old) c
+    source_filled : source_of (current_words now) c ≡ source_of (current_words old) c
     source_filled = ap block_of (beside_filled c.0 (can.outside c here))
 
     has_block : Has (blocks_of copies) c.1
-    has_block = go copies here
-      where
-        go : (cs : Copies) → Has cs c → Has (blocks_of cs) c.1
-        go [] none = absurd none
-        go (d ∷ cs) (inl e) = inl (ap (λ (x : ℕ × ℕ). x.1) e)
-        go (d ∷ cs) (inr later) = inr (go cs later)
+    has_block = has-mapped (λ (x : ℕ × ℕ). x.1) copies c c.1 here refl
 
-    pub can_fill : 512 * length done + 512 ≤ 512 * length copies → CanFillBlock c.1 now
+    can_fill : 512 * length done + 512 ≤ 512 * length copies → CanFillBlock c.1 now
     can_fill few = record {
       inside = subst (λ n. c.1 < n / 512) (sym length_filled) (can.in_range c.1 has_block);
       not_null = can.not_null c.1 has_block;
@@ -209,7 +205,7 @@ module _ (copies done : Copies) (old now : Memory) (can : CanFillCopies copies o
       block_is : (b s : ℕ) → s < 512 → (512 * b + s) / 512 ≡ b
       block_is b s low = omega (arith, low)
 
-      pub filled_one : HasFilled copies (done ++ c ∷ []) old next
+      filled_one : HasFilled copies (done ++ c ∷ []) old next
       filled_one = record {
         part = record {
           added = so_far.part.added ++ fills.stores.part.added;
@@ -237,3 +233,39 @@ module _ (copies done : Copies) (old now : Memory) (can : CanFillCopies copies o
           go copy slot low (inl early) = fills.equal.others (512 * copy.1 + slot) (λ e. new copy early (sym (block_is copy.1 slot low) ∙ e)) ∙ so_far.words copy slot early low
           go copy slot low (inr (inl e)) = subst (λ (x : ℕ × ℕ). word (current_words next) (512 * x.1 + slot) ≡ turned_word (current_words old) copies (512 * source_of (current_words old) x + slot)) e (last slot low)
           go copy slot low (inr (inr none)) = absurd none
+
+-- a copy that can be filled
+pub record CanFillCopy (copies : Copies) (copy : ℕ × ℕ) (memory : Memory) : Type 0 where
+  pub place : copy.0 < length (current_words memory)
+  pub present : 0 < source_of (current_words memory) copy
+  pub block : source_of (current_words memory) copy < block_count (current_words memory)
+  pub fills : CanFillBlock copy.1 memory
+
+module _ (copies : Copies) (i : ℕ) (item : ℕ × ℕ) (old now : Memory) (can : CanFillCopies copies old) (so_far : HasFilled copies (take i copies) old now)
+    (low : i < length copies) (is : get_or copies i (0, 0) ≡ item) where
+  here : Has copies item
+  here = subst (Has copies) is (has-item copies i (0, 0) low)
+
+  pub next_can : CanFillCopy copies item now
+  next_can =
+      let size = length_filled copies (take i copies) old now can (has-taken copies i) so_far in
+      let source = source_filled copies (take i copies) old now can (has-taken copies i) so_far item here in
+      record {
+        place = omega (arith, can.inside item here, size);
+        present = omega (arith, can.present item here, source);
+        block = omega (arith, can.sources item here, source, size);
+        fills = can_fill copies (take i copies) old now can (has-taken copies i) so_far item here (omega (arith, low, length-taken copies i (omega (arith, low))));
+      }
+
+  new_block : (d : ℕ × ℕ) → Has (take i copies) d → d.1 ≢ item.1
+  new_block d has same =
+      apart-before (λ (x : ℕ × ℕ). x.1) (take i copies) item (apart-more_taken (λ (x : ℕ × ℕ). x.1) copies i item low is can.blocks)
+      (has-mapped (λ (x : ℕ × ℕ). x.1) (take i copies) d item.1 has same)
+
+  pub filled_next : (next : Memory) → FillsBlock item.1 now next →
+      ((slot : ℕ) → slot < 512 →
+      word (current_words next) (512 * item.1 + slot) ≡ turned_word (current_words now) copies (512 * source_of (current_words now) item + slot)) →
+      HasFilled copies (take (i + 1) copies) old next
+  filled_next next fills words =
+      one_more_taken (λ cs. HasFilled copies cs old next) copies i item low is
+      (filled_one copies (take i copies) old now can (has-taken copies i) so_far item here next fills new_block words)

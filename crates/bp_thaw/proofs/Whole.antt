@@ -24,9 +24,11 @@ use Rattle.bp_cow.specs.Committed.{IsCommitted}
 use Rattle.bp_cow.specs.Counting.{IsTreeWord}
 use Rattle.bp_thaw.specs.Copies.{Copies, blocks_of, is_copied, links_among, places_of}
 use Rattle.bp_layout.specs.Thaw.{thawed_on}
+use Rattle.bp_thaw.specs.Fronts.{places_found}
 use Rattle.bp_thaw.specs.Steps.{AreKept, ArePlacesOf, CanFillCopies, FillsCopies, InBlocks, TakesAll}
 use Rattle.bp_thaw.specs.Thaws.{CanThaw, Thaws}
 use Rattle.bp_thaw.proofs.Clear.{clear, places_are, places_once, trails_kept, trails_number, trails_of}
+use Rattle.bp_thaw.proofs.Found.{found_is}
 use Rattle.bp_thaw.proofs.ThawEnd.{copied_loose, copy-place, copy-source, has_words, links_few, loose_same, shape, thaws}
 use Rattle.bp_thaw.proofs.Told.{shape_stays}
 
@@ -86,66 +88,92 @@ module _ (kept : ℕ → Bool) (paths : List WordPath) (memory : Memory) (blocks
 
 -- ---- some are
 
-module _ (kept : ℕ → Bool) (paths : List WordPath) (first : Memory) (before after : Set) (can : CanThaw kept paths first before) (places : List ℕ)
-    (found : places ≡ map (address (current_words first)) (thawed_on (current_words first) kept paths)) where
+module _ (kept : ℕ → Bool) (paths : List WordPath) (first : Memory) (before : Set) (can : CanThaw kept paths first before) (places : List ℕ)
+    (found : places ≡ places_found (current_words first) kept paths) where
+  abbrev thawed : List WordPath
+  thawed = thawed_on (current_words first) kept paths
+
+  found_thawed : places ≡ map (address (current_words first)) thawed
+  found_thawed = found ∙ ap (map (address (current_words first))) (found_is (current_words first) can.well_formed kept paths can.ways)
+
+  number_found : length places ≡ length thawed
+  number_found = ap length found_thawed ∙ length-map thawed (address (current_words first))
+
+  pub none_found : length places ≡ 0 → thawed_on (current_words first) kept paths ≡ []
+  none_found none = no_items thawed (sym number_found ∙ none)
+    where
+      no_items : (xs : List WordPath) → length xs ≡ 0 → xs ≡ []
+      no_items [] none = refl
+      no_items (x ∷ xs) none = absurd (omega (arith, none))
+
+  pub enough : length places ≤ length (members before)
+  enough = rw number_found can.enough
+
+-- a block is taken for each pointer that is thawed
+pub record IsCopying (kept : ℕ → Bool) (paths : List WordPath) (first : Memory) (before after : Set) (places : List ℕ) (copies : Copies) : Type 0 where
+  pub can : CanThaw kept paths first before
+  pub found : places ≡ places_found (current_words first) kept paths
+  pub of : places_of copies ≡ places
+  pub takes : TakesAll before after (blocks_of copies)
+
+module _ (kept : ℕ → Bool) (paths : List WordPath) (first : Memory) (before after : Set) (places : List ℕ) (copies : Copies)
+    (copying : IsCopying kept paths first before after places copies) where
+  open copying use {can, found, of, takes}
+
   abbrev old : Image
   old = current_words first
 
   abbrev trails : List Trail
   trails = trails_of (thawed_on old kept paths)
 
-  pub number-places : length places ≡ length (thawed_on (current_words first) kept paths)
-  number-places = ap length found ∙ length-map (thawed_on old kept paths) (address old)
-
-  pub enough : length places ≤ length (members before)
-  enough = rw number-places can.enough
+  is_thawed : places ≡ map (address old) (thawed_on old kept paths)
+  is_thawed = found_thawed kept paths first before can places found
 
   are_kept : AreKept old kept (trails_of (thawed_on (current_words first) kept paths))
   are_kept = trails_kept old can.well_formed kept paths can.ways
 
-  module _ (copies : Copies) (of : places_of copies ≡ places) (takes : TakesAll before after (blocks_of copies)) where
-    at : places_of copies ≡ map (place_on (current_words first)) (trails_of (thawed_on (current_words first) kept paths))
-    at = of ∙ found ∙ places_are old can.well_formed kept paths can.ways
+  at : places_of copies ≡ map (place_on (current_words first)) (trails_of (thawed_on (current_words first) kept paths))
+  at = of ∙ is_thawed ∙ places_are old can.well_formed kept paths can.ways
 
-    apart : AreApart (places_of copies)
-    apart = subst AreApart (sym (of ∙ found)) (places_once old can.well_formed kept paths can.ways)
+  apart : AreApart (places_of copies)
+  apart = subst AreApart (sym (of ∙ is_thawed)) (places_once old can.well_formed kept paths can.ways)
 
-    number : length copies ≡ length (thawed_on (current_words first) kept paths)
-    number = sym (length-map copies (λ (c : ℕ × ℕ). c.0)) ∙ ap length of ∙ number-places
+  number : length copies ≡ length (thawed_on (current_words first) kept paths)
+  number = sym (length-map copies (λ (c : ℕ × ℕ). c.0)) ∙ ap length of ∙ number_found kept paths first before can places found
 
-    pub can_fill_all : CanFillCopies copies first
-    can_fill_all = record {
-      places = apart;
-      blocks = takes.once;
-      inside = λ c here. (copy-place kept first before after can.well_formed can.free trails are_kept copies at apart takes c here).0;
-      outside = λ c here. (copy-place kept first before after can.well_formed can.free trails are_kept copies at apart takes c here).1;
-      sources = λ c here. (copy-source kept first before after can.well_formed can.free trails are_kept copies at apart takes c here).0;
-      present = λ c here. (copy-source kept first before after can.well_formed can.free trails are_kept copies at apart takes c here).2;
-      apart = λ c here. (copy-source kept first before after can.well_formed can.free trails are_kept copies at apart takes c here).1;
-      not_null = λ b here. (can.free.free b (takes.were b here)).low;
-      in_range = λ b here. (can.free.free b (takes.were b here)).high;
-      room = let room = can.room in omega (arith, room, number);
-    }
+  pub can_fill_all : CanFillCopies copies first
+  can_fill_all = record {
+    places = apart;
+    blocks = takes.once;
+    inside = λ c here. (copy-place kept first before after can.well_formed can.free trails are_kept copies at apart takes c here).0;
+    outside = λ c here. (copy-place kept first before after can.well_formed can.free trails are_kept copies at apart takes c here).1;
+    sources = λ c here. (copy-source kept first before after can.well_formed can.free trails are_kept copies at apart takes c here).0;
+    present = λ c here. (copy-source kept first before after can.well_formed can.free trails are_kept copies at apart takes c here).2;
+    apart = λ c here. (copy-source kept first before after can.well_formed can.free trails are_kept copies at apart takes c here).1;
+    not_null = λ b here. (can.free.free b (takes.were b here)).low;
+    in_range = λ b here. (can.free.free b (takes.were b here)).high;
+    room = let room = can.room in omega (arith, room, number);
+  }
 
-    module _ (mid : Memory) (fills : FillsCopies copies first mid) where
-      whole : length (current_words mid) ≡ length (current_words first)
-      whole = (has_words kept first before after can.well_formed can.free trails are_kept copies at apart takes mid fills).whole
+  module _ (mid : Memory) (fills : FillsCopies copies first mid) where
+    whole : length (current_words mid) ≡ length (current_words first)
+    whole = (has_words kept first before after can.well_formed can.free trails are_kept copies at apart takes mid fills).whole
 
-      pub places_mid : ArePlacesOf (current_words mid) copies
-      places_mid c here = subst (λ n. c.0 < n) (sym whole) (can_fill_all.inside c here)
+    pub places_mid : ArePlacesOf (current_words mid) copies
+    places_mid c here = subst (λ n. c.0 < n) (sym whole) (can_fill_all.inside c here)
 
-      pub links_mid : ArePlacesOf (current_words mid) (links_among (current_words mid) copies copies)
-      links_mid pair here = let c = links_places (current_words mid) copies copies pair here in subst (λ n. n < length (current_words mid)) (sym c.2) (places_mid c.0 c.1)
+    pub links_mid : ArePlacesOf (current_words mid) (links_among (current_words mid) copies copies)
+    links_mid pair here = let c = links_places (current_words mid) copies copies pair here in subst (λ n. n < length (current_words mid)) (sym c.2) (places_mid c.0 c.1)
 
-      pub room_mid : length (links_among (current_words mid) copies copies) + 2 ≤ room_in mid
-      room_mid =
-          let room = can.room in
-          omega (arith, room, number, links_few (current_words mid) copies copies, room_after_may (AnyAt (InBlocks (blocks_of copies))) 0 (512 * length copies) first mid fills.part)
+    pub room_mid : length (links_among (current_words mid) copies copies) + 2 ≤ room_in mid
+    room_mid =
+        let room = can.room in
+        omega (arith, room, number, links_few (current_words mid) copies copies, room_after_may (AnyAt (InBlocks (blocks_of copies))) 0 (512 * length copies) first mid fills.part)
 
-      module _ (last : Memory) (adds : Adds mid last (Barrier ∷ links_of (links_among (current_words mid) copies copies) ++ Barrier ∷ [])) where
-        pub thaws_all : Thaws kept paths first last before after
-        thaws_all =
-            thaws kept first before after can.well_formed can.free trails are_kept copies at apart takes mid fills last adds paths (trails_number old can.well_formed kept paths can.ways)
-            (clear old can.well_formed kept paths can.ways (current_words last) (shape kept first before after can.well_formed can.free trails are_kept copies at apart takes mid fills last adds)
-            (copied_loose kept first before after can.well_formed can.free trails are_kept copies at apart takes mid fills last adds)
-            (loose_same kept first before after can.well_formed can.free trails are_kept copies at apart takes mid fills last adds))
+    module _ (last : Memory) (adds : Adds mid last (Barrier ∷ links_of (links_among (current_words mid) copies copies) ++ Barrier ∷ [])) where
+      pub thaws_all : Thaws kept paths first last before after
+      thaws_all =
+          thaws kept first before after can.well_formed can.free trails are_kept copies at apart takes mid fills last adds paths (trails_number old can.well_formed kept paths can.ways)
+          (clear old can.well_formed kept paths can.ways (current_words last) (shape kept first before after can.well_formed can.free trails are_kept copies at apart takes mid fills last adds)
+          (copied_loose kept first before after can.well_formed can.free trails are_kept copies at apart takes mid fills last adds)
+          (loose_same kept first before after can.well_formed can.free trails are_kept copies at apart takes mid fills last adds))

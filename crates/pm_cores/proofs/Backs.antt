@@ -65,12 +65,6 @@ module _ (cores : ℕ) (words : ℕ) (since : List ℕ) (log : List Entry) (epoc
 
   -- one word goes back
   module _ (word : ℕ) (within : word < words) (may : MayLeave caches word) where
-    its_held : (get_or since word 0 ≢ 0)
-    its_held zero_is =
-        let h = held words since log epochs sound word may.owner (under_seen since log epochs word may.owner may.under) in
-        let is = h.since_is in
-        omega arith
-
     abbrev since2 : List ℕ
     since2 = set since word 0
 

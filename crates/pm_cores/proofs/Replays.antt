@@ -76,19 +76,22 @@ mask_by_front epoch front (entry ∷ rest) fronts [] same sizes = absurd (omega 
 mask_by_front epoch front (entry ∷ rest) fronts (flag ∷ rests) same sizes =
     let log : List Entry = front ++ entry ∷ rest in
     let back : List Bool = fronts ++ flag ∷ rests in
+    let again : List Entry = (front ++ entry ∷ []) ++ rest in
+    let flags : List Bool = (fronts ++ flag ∷ []) ++ rests in
     let log_is : (front ++ entry ∷ []) ++ rest ≡ front ++ entry ∷ rest = append_assoc front (entry ∷ []) rest in
     let back_is : (fronts ++ flag ∷ []) ++ rests ≡ fronts ++ flag ∷ rests = append_assoc fronts (flag ∷ []) rests in
     let longer : length (front ++ entry ∷ []) ≡ suc (length front) = omega (arith, length-append front (entry ∷ [])) in
     let longers : length (fronts ++ flag ∷ []) ≡ length (front ++ entry ∷ []) = omega (arith, length-append front (entry ∷ []), length-append fronts (flag ∷ [])) in
     let later = mask_by_front epoch (front ++ entry ∷ []) rest (fronts ++ flag ∷ []) rests longers (omega arith) in
-    let later_is : mask_to 0 epoch log back (length log) ≡ mask_to 0 epoch log back (suc (length front)) ++ mask_seen epoch (core_barriers 0 (front ++ entry ∷ [])) rest rests =
-    subst (λ (l : List Entry). mask_to 0 epoch l back (length l) ≡ mask_to 0 epoch l back (suc (length front)) ++ mask_seen epoch (core_barriers 0 (front ++ entry ∷ [])) rest rests) log_is
-    (subst (λ (b : List Bool). mask_to 0 epoch ((front ++ entry ∷ []) ++ rest) b (length ((front ++ entry ∷ []) ++ rest)) ≡ mask_to 0 epoch ((front ++ entry ∷ []) ++ rest) b (suc (length front)) ++ mask_seen epoch (core_barriers 0 (front ++ entry ∷ [])) rest rests) back_is
-    (subst (λ n. mask_to 0 epoch ((front ++ entry ∷ []) ++ rest) ((fronts ++ flag ∷ []) ++ rests) (length ((front ++ entry ∷ []) ++ rest)) ≡ mask_to 0 epoch ((front ++ entry ∷ []) ++ rest) ((fronts ++ flag ∷ []) ++ rests) n ++ mask_seen epoch (core_barriers 0 (front ++ entry ∷ [])) rest rests) longer later)) in
+    let seen = mask_seen epoch (core_barriers 0 (front ++ entry ∷ [])) rest rests in
+    let later_is : mask_to 0 epoch log back (length log) ≡ mask_to 0 epoch log back (suc (length front)) ++ seen =
+    subst (λ (l : List Entry). mask_to 0 epoch l back (length l) ≡ mask_to 0 epoch l back (suc (length front)) ++ seen) log_is
+    (subst (λ (b : List Bool). mask_to 0 epoch again b (length again) ≡ mask_to 0 epoch again b (suc (length front)) ++ seen) back_is
+    (subst (λ n. mask_to 0 epoch again flags (length again) ≡ mask_to 0 epoch again flags n ++ seen) longer later)) in
     let here : flag_in 0 epoch log back (length front) (slice_get log (length front)) ≡ flag_in 0 epoch log back (length front) (Some entry) = ap (flag_in 0 epoch log back (length front)) (get_seam front entry rest) in
     let flag_is : get_or back (length front) false ≡ flag = ap (λ n. get_or back n false) (sym same) ∙ flag_seam fronts flag rests in
-    later_is ∙ ap (λ (bs : List Bool). (mask_to 0 epoch log back (length front) ++ bs) ++ mask_seen epoch (core_barriers 0 (front ++ entry ∷ [])) rest rests) here
-    ∙ append_assoc (mask_to 0 epoch log back (length front)) (flag_in 0 epoch log back (length front) (Some entry)) (mask_seen epoch (core_barriers 0 (front ++ entry ∷ [])) rest rests)
+    later_is ∙ ap (λ (bs : List Bool). (mask_to 0 epoch log back (length front) ++ bs) ++ seen) here
+    ∙ append_assoc (mask_to 0 epoch log back (length front)) (flag_in 0 epoch log back (length front) (Some entry)) seen
     ∙ ap (λ (bs : List Bool). mask_to 0 epoch log back (length front) ++ bs) (one entry flag_is)
   where
     one : (it : Entry) → get_or (fronts ++ flag ∷ rests) (length front) false ≡ flag →
@@ -118,7 +121,8 @@ module _ (epoch : ℕ) where
     before : (place word : ℕ) → IsStore log place 0 word → epoch_at log 0 place < left → slice_get back place ≡ Some true
     behind : (place word : ℕ) → IsStore log place 0 word → left < epoch_at log 0 place → slice_get back place ≡ Some false
 
-  none_back : (log : List Entry) (back : List Bool) (words : List ℕ) → length back ≡ length log → ((place core word : ℕ) → IsStore log place core word → slice_get back place ≡ Some false) → words_back words log back ≡ words
+  none_back : (log : List Entry) (back : List Bool) (words : List ℕ) → length back ≡ length log
+      → ((place core word : ℕ) → IsStore log place core word → slice_get back place ≡ Some false) → words_back words log back ≡ words
   none_back [] back words size none = refl
   none_back (entry ∷ log) [] words size none = absurd (omega arith)
   none_back (Load core word ∷ log) (flag ∷ back) words size none = none_back log back words (omega arith) (λ place its at store. none (suc place) its at (record { value = store.value; is = store.is }))
@@ -128,31 +132,31 @@ module _ (epoch : ℕ) where
       let flag : Some true ≡ Some false = none 0 core word (record { value = value; is = refl }) in
       cc
 
-  load_fits : (left core word : ℕ) (log : List Entry) (flag : Bool) (back : List Bool) → Fits left (Load core word ∷ log) (flag ∷ back) → Fits left log back
-  load_fits left core word log flag back fits = record {
-    size = let size = fits.size in omega arith;
+  -- what is behind an entry that takes some epochs
+  later_fits : (left next some : ℕ) (entry : Entry) (log : List Entry) (flag : Bool) (back : List Bool)
+      → ((es : List Entry) → core_barriers 0 (entry ∷ es) ≡ some + core_barriers 0 es) → some + next ≡ left
+      → Fits left (entry ∷ log) (flag ∷ back) → Fits next log back
+  later_fits left next some entry log flag back takes sum fits = record {
+    size = omega (arith, fits.size);
     alone = λ place its at store. fits.alone (suc place) its at (record { value = store.value; is = store.is });
-    before = λ place at store low. fits.before (suc place) at (record { value = store.value; is = store.is }) low;
-    behind = λ place at store high. fits.behind (suc place) at (record { value = store.value; is = store.is }) high;
+    before = λ place at store low. fits.before (suc place) at (record { value = store.value; is = store.is }) (omega (arith, takes (take place log)));
+    behind = λ place at store high. fits.behind (suc place) at (record { value = store.value; is = store.is }) (omega (arith, takes (take place log)));
   }
+
+  load_fits : (left core word : ℕ) (log : List Entry) (flag : Bool) (back : List Bool) → Fits left (Load core word ∷ log) (flag ∷ back) → Fits left log back
+  load_fits left core word log flag back = later_fits left left 0 (Load core word) log flag back (λ es. omega arith) (omega arith)
 
   store_fits : (left core word value : ℕ) (log : List Entry) (flag : Bool) (back : List Bool) → Fits left (Store core word value ∷ log) (flag ∷ back) → Fits left log back
-  store_fits left core word value log flag back fits = record {
-    size = let size = fits.size in omega arith;
-    alone = λ place its at store. fits.alone (suc place) its at (record { value = store.value; is = store.is });
-    before = λ place at store low. fits.before (suc place) at (record { value = store.value; is = store.is }) low;
-    behind = λ place at store high. fits.behind (suc place) at (record { value = store.value; is = store.is }) high;
-  }
+  store_fits left core word value log flag back = later_fits left left 0 (Store core word value) log flag back (λ es. omega arith) (omega arith)
 
   barrier_fits : (left next core : ℕ) (log : List Entry) (flag : Bool) (back : List Bool) → cond (eqb core 0) 1 0 + next ≡ left → Fits left (Barrier core ∷ log) (flag ∷ back) → Fits next log back
-  barrier_fits left next core log flag back sum fits = record {
-    size = let size = fits.size in omega arith;
-    alone = λ place its at store. fits.alone (suc place) its at (record { value = store.value; is = store.is });
-    before = λ place at store low. fits.before (suc place) at (record { value = store.value; is = store.is }) (omega arith);
-    behind = λ place at store high. fits.behind (suc place) at (record { value = store.value; is = store.is }) (omega arith);
-  }
+  barrier_fits left next core log flag back = later_fits left next (cond (eqb core 0) 1 0) (Barrier core) log flag back (λ es. refl)
 
-  kept : (left seen : ℕ) (log : List Entry) (back : List Bool) (words : List ℕ) → seen + left ≡ epoch → Fits left log back → words_back words log back ≡ words_after words (stores_of left (mask_seen epoch seen log back) (done_by_first log))
+  -- the words that are back are those that a crash keeps
+  abbrev AreKept : ℕ → ℕ → List Entry → List Bool → List ℕ → Type 0
+  AreKept left seen log back words = words_back words log back ≡ words_after words (stores_of left (mask_seen epoch seen log back) (done_by_first log))
+
+  kept : (left seen : ℕ) (log : List Entry) (back : List Bool) (words : List ℕ) → seen + left ≡ epoch → Fits left log back → AreKept left seen log back words
   kept left seen [] back words sum fits = refl
   kept left seen (entry ∷ log) [] words sum fits = let size = fits.size in absurd (omega arith)
   kept left seen (Load core word ∷ log) (flag ∷ back) words sum fits = kept left seen log back words sum (load_fits left core word log flag back fits)
@@ -162,7 +166,9 @@ module _ (epoch : ℕ) where
     | inl own ↦ rw own (fence left sum fits own (λ next total its. kept next (seen + 1) log back words total its))
   ]
     where
-      fence : (left : ℕ) → seen + left ≡ epoch → Fits left (Barrier core ∷ log) (flag ∷ back) → eqb core 0 ≡ true → ((next : ℕ) → (seen + 1) + next ≡ epoch → Fits next log back → words_back words log back ≡ words_after words (stores_of next (mask_seen epoch (seen + 1) log back) (done_by_first log))) → words_back words log back ≡ words_after words (stores_of left (mask_seen epoch (seen + 1) log back) (Fence ∷ done_by_first log))
+      fence : (left : ℕ) → seen + left ≡ epoch → Fits left (Barrier core ∷ log) (flag ∷ back) → eqb core 0 ≡ true
+          → ((next : ℕ) → (seen + 1) + next ≡ epoch → Fits next log back → AreKept next (seen + 1) log back words)
+          → words_back words log back ≡ words_after words (stores_of left (mask_seen epoch (seen + 1) log back) (Fence ∷ done_by_first log))
       fence zero sum fits own rest =
           none_back log back words (let size = fits.size in omega arith)
           (λ place its at store.
@@ -175,7 +181,10 @@ module _ (epoch : ℕ) where
       let own : eqb core 0 ≡ true = eq-eqb core 0 first in
       rw own (one left flag sum fits first (λ now next total its. kept next seen log back now total its))
     where
-      one : (left : ℕ) (flag : Bool) → seen + left ≡ epoch → Fits left (Store core word value ∷ log) (flag ∷ back) → core ≡ 0 → ((now : List ℕ) (next : ℕ) → seen + next ≡ epoch → Fits next log back → words_back now log back ≡ words_after now (stores_of next (mask_seen epoch seen log back) (done_by_first log))) → words_back words (Store core word value ∷ log) (flag ∷ back) ≡ words_after words (stores_of left (cond (true && eqb seen epoch) (flag ∷ []) [] ++ mask_seen epoch seen log back) (Set word value ∷ done_by_first log))
+      one : (left : ℕ) (flag : Bool) → seen + left ≡ epoch → Fits left (Store core word value ∷ log) (flag ∷ back) → core ≡ 0
+          → ((now : List ℕ) (next : ℕ) → seen + next ≡ epoch → Fits next log back → AreKept next seen log back now)
+          → words_back words (Store core word value ∷ log) (flag ∷ back)
+          ≡ words_after words (stores_of left (cond (true && eqb seen epoch) (flag ∷ []) [] ++ mask_seen epoch seen log back) (Set word value ∷ done_by_first log))
       one zero true sum fits first rest = rw (eq-eqb seen epoch (omega arith)) (rest (set words word value) zero sum (store_fits zero core word value log true back fits))
       one zero false sum fits first rest = rw (eq-eqb seen epoch (omega arith)) (rest words zero sum (store_fits zero core word value log false back fits))
       one (suc left) true sum fits first rest = rw (ne_eqb seen epoch (λ e. omega arith)) (rest (set words word value) (suc left) sum (store_fits (suc left) core word value log true back fits))
@@ -183,7 +192,11 @@ module _ (epoch : ℕ) where
           let flag_is : Some false ≡ Some true = fits.before 0 word (record { value = value; is = ap (λ n. Some (Store n word value)) first }) (omega arith) in
           cc
 
-  few : (left seen : ℕ) (log : List Entry) (back : List Bool) → seen + left ≡ epoch → length (mask_seen epoch seen log back) ≤ epoch_stores left (done_by_first log)
+  -- there are no more flags than stores of the epoch
+  abbrev AreFew : ℕ → ℕ → List Entry → List Bool → Type 0
+  AreFew left seen log back = length (mask_seen epoch seen log back) ≤ epoch_stores left (done_by_first log)
+
+  few : (left seen : ℕ) (log : List Entry) (back : List Bool) → seen + left ≡ epoch → AreFew left seen log back
   few left seen [] back sum = omega arith
   few left seen (entry ∷ log) [] sum = omega arith
   few left seen (Load core word ∷ log) (flag ∷ back) sum = few left seen log back sum
@@ -199,7 +212,8 @@ module _ (epoch : ℕ) where
       past seen (Barrier core ∷ log) (flag ∷ back) high = past (seen + cond (eqb core 0) 1 0) log back (omega arith)
       past seen (Store core word value ∷ log) (flag ∷ back) high = rw (and_right (eqb core 0) (eqb seen epoch) (ne_eqb seen epoch (λ e. omega arith))) (past seen log back high)
 
-      fence : (left : ℕ) → seen + left ≡ epoch → ((next : ℕ) → (seen + 1) + next ≡ epoch → length (mask_seen epoch (seen + 1) log back) ≤ epoch_stores next (done_by_first log)) → length (mask_seen epoch (seen + 1) log back) ≤ epoch_stores left (Fence ∷ done_by_first log)
+      fence : (left : ℕ) → seen + left ≡ epoch → ((next : ℕ) → (seen + 1) + next ≡ epoch → AreFew next (seen + 1) log back)
+          → length (mask_seen epoch (seen + 1) log back) ≤ epoch_stores left (Fence ∷ done_by_first log)
       fence zero sum rest = rw (past (seen + 1) log back (omega arith)) (omega arith)
       fence (suc left) sum rest = rest left (omega arith)
   few left seen (Store core word value ∷ log) (flag ∷ back) sum = elim (cases_Bool (eqb core 0)) [
@@ -207,7 +221,8 @@ module _ (epoch : ℕ) where
     | inl own ↦ rw own (one left sum (λ next total. few next seen log back total))
   ]
     where
-      one : (left : ℕ) → seen + left ≡ epoch → ((next : ℕ) → seen + next ≡ epoch → length (mask_seen epoch seen log back) ≤ epoch_stores next (done_by_first log)) → length (cond (true && eqb seen epoch) (flag ∷ []) [] ++ mask_seen epoch seen log back) ≤ epoch_stores left (Set word value ∷ done_by_first log)
+      one : (left : ℕ) → seen + left ≡ epoch → ((next : ℕ) → seen + next ≡ epoch → AreFew next seen log back)
+          → length (cond (true && eqb seen epoch) (flag ∷ []) [] ++ mask_seen epoch seen log back) ≤ epoch_stores left (Set word value ∷ done_by_first log)
       one zero sum rest = rw (eq-eqb seen epoch (omega arith)) (let most = rest zero sum in omega arith)
       one (suc left) sum rest = rw (ne_eqb seen epoch (λ e. omega arith)) (rest (suc left) sum)
 

@@ -198,10 +198,6 @@ module _ (words : ℕ) (since : List ℕ) (log : List Entry) (epochs since2 : Li
     in_order = in_order_at;
   }
 
-  -- a store that waits did so before, or is the new one
-  pub waiting_before : (place its_core its_word : ℕ) → Waits since2 log2 place its_core its_word → Waits since log place its_core its_word ⊎ IsNew place its_core its_word
-  waiting_before = waits_of
-
   pub low_stored : (its_core at : ℕ) → at ≤ length log → IsLow since log its_core at → IsLow since2 log2 its_core at
   low_stored its_core at most is_low = λ place its_word waits. elim (waits_of place its_core its_word waits) [
     | inl old ↦ is_low place its_word old

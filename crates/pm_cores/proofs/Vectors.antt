@@ -69,8 +69,7 @@ module _ (inside : Inside) (holds : HoldsCaches inside) where
       IsCoreLow inside owner.core first →
       (first < length inside.log.items → (other : ℕ) × Waits inside.since.items inside.log.items first owner.core other) → IsFirst inside word owner first
   first_read word owner first known under low found =
-      let within =
-      first_in inside.counts.len inside.words inside.since.items inside.log.items inside.epochs.items inside.room holds.sound word owner under first low.is_low in
+      let within = first_in inside.counts.len _ _ _ _ inside.room holds.sound word owner under first low.is_low in
       record { known = known; under = under; low = low; in_epochs = omega (arith, within, holds.sound.as_many_epochs); found = found within }
 
 -- a vector of zeros

@@ -20,13 +20,10 @@ pub record IsCoreLow (inside : Inside) (core low : ℕ) : Type 0 where
   pub high : low ≤ length inside.log.items
 
 -- a log that grew by an entry, with its epoch and the number of the store before it
-pub record IsGrown (inside : Inside) (entry : Entry) (epoch before : ℕ) (log : Vec Entry) (epochs befores : Vec ℕ) : Type 0 where
-  pub log_is : log.items ≡ inside.log.items ++ entry ∷ []
-  pub epochs_are : epochs.items ≡ inside.epochs.items ++ epoch ∷ []
-  pub befores_are : befores.items ≡ inside.befores.items ++ before ∷ []
-  pub log_room : inside.log.cap ≤ log.cap
-  pub epochs_room : inside.epochs.cap ≤ epochs.cap
-  pub befores_room : inside.befores.cap ≤ befores.cap
+pub record IsGrown (inside : Inside) (entry : Entry) (epoch before : ℕ) (log2 : Vec Entry) (epochs2 befores2 : Vec ℕ) : Type 0 where
+  pub log : (log2.items ≡ inside.log.items ++ entry ∷ []) × (inside.log.cap ≤ log2.cap)
+  pub epochs : (epochs2.items ≡ inside.epochs.items ++ epoch ∷ []) × (inside.epochs.cap ≤ epochs2.cap)
+  pub befores : (befores2.items ≡ inside.befores.items ++ before ∷ []) × (inside.befores.cap ≤ befores2.cap)
   pub known : core_of entry < inside.counts.len
   pub room : length inside.log.items < inside.room
 
@@ -68,10 +65,9 @@ module _ (inside : Inside) (holds : HoldsCaches inside) where
   pub with_since : (since : Vec ℕ) (gone : ℕ → Bool) → IsCleared inside.words inside.since.items inside.log.items inside.epochs.items since.items gone →
       HoldsCaches (record inside { since = since })
   with_since since gone back =
-      with_waiting since inside.lows (cleared_sound inside.words inside.since.items inside.log.items inside.epochs.items since.items gone back) refl
+      with_waiting since inside.lows (cleared_sound _ _ _ _ _ _ back) refl
       (λ core known. record {
-        is_low = λ place word waits. holds.lows core known place word
-            (still inside.words inside.since.items inside.log.items inside.epochs.items since.items gone back place core word waits);
+        is_low = λ place word waits. holds.lows core known place word (still _ _ _ _ _ _ back place core word waits);
         high = holds.low_heights core known;
       })
 
@@ -87,20 +83,20 @@ module _ (inside : Inside) (holds : HoldsCaches inside) (entry : Entry) (epoch b
       let longer = length-append inside.log.items (entry ∷ []) in
       let known : (core : ℕ) → core < counts.len → core < inside.counts.len = λ core low. omega (arith, low, many) in
       record {
-        sound = rw (grown.log_is, grown.epochs_are) sound;
-        told = rw (grown.log_is, grown.befores_are) told;
-        lows = λ core low. rw grown.log_is (lows core (get_or inside.lows.items core 0) (core_low inside holds core (known core low)));
-        low_heights = λ core low. rw grown.log_is (omega (arith, holds.low_heights core (known core low), longer));
-        counts = λ core low. rw grown.log_is (counted core (known core low));
-        known_cores = rw (grown.log_is, many) (known_pushed inside.log.items entry inside.counts.len holds.known_cores grown.known);
+        sound = rw (grown.log.0, grown.epochs.0) sound;
+        told = rw (grown.log.0, grown.befores.0) told;
+        lows = λ core low. rw grown.log.0 (lows core (get_or inside.lows.items core 0) (core_low inside holds core (known core low)));
+        low_heights = λ core low. rw grown.log.0 (omega (arith, holds.low_heights core (known core low), longer));
+        counts = λ core low. rw grown.log.0 (counted core (known core low));
+        known_cores = rw (grown.log.0, many) (known_pushed inside.log.items entry inside.counts.len holds.known_cores grown.known);
         as_many_lows = holds.as_many_lows ∙ sym many;
         some_core = omega (arith, holds.some_core, many);
-        fits = omega (arith, grown.room, log.ok.0, ap length grown.log_is, longer);
+        fits = omega (arith, grown.room, log.ok.0, ap length grown.log.0, longer);
         few = holds.few;
         whole_lines = holds.whole_lines;
-        log_reserved = omega (arith, holds.log_reserved, grown.log_room);
-        epochs_reserved = omega (arith, holds.epochs_reserved, grown.epochs_room);
-        befores_reserved = omega (arith, holds.befores_reserved, grown.befores_room);
+        log_reserved = omega (arith, holds.log_reserved, grown.log.1);
+        epochs_reserved = omega (arith, holds.epochs_reserved, grown.epochs.1);
+        befores_reserved = omega (arith, holds.befores_reserved, grown.befores.1);
       }
 
   -- an entry that is no barrier leaves the epochs
@@ -116,6 +112,6 @@ module _ (inside : Inside) (holds : HoldsCaches inside) (entry : Entry) (epoch b
       HoldsCaches (record inside { log = log; epochs = epochs; befores = befores; counts = counts })
   with_other_entry none ready epoch_is no_before counts =
       with_entry inside.since inside.lasts counts
-      (pushed_sound inside.words inside.since.items inside.log.items inside.epochs.items entry epoch holds.sound epoch_is none ready)
-      (rw no_before (pushed_told inside.words inside.lasts.items inside.log.items inside.befores.items holds.told entry none))
-      (λ core low at. low_pushed inside.words inside.since.items inside.log.items inside.epochs.items entry epoch holds.sound epoch_is none ready core low at.is_low)
+      (pushed_sound _ _ _ _ entry epoch holds.sound epoch_is none ready)
+      (rw no_before (pushed_told _ _ _ _ holds.told entry none))
+      (λ core low at. low_pushed _ _ _ _ entry epoch holds.sound epoch_is none ready core low at.is_low)

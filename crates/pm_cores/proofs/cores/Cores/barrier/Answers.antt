@@ -14,6 +14,9 @@ use Rattle.pm_cores.proofs.cores.Cores.barrier.Goals as goal
 no_store : (core : ℕ) → IsNoStore (Barrier core)
 no_store core = λ its_core at value same. cc
 
+no_load : (core its word : ℕ) → Barrier core ≡ Load its word → ⊥
+no_load core its word same = cc
+
 -- the number that is read is the core's epoch
 epoch_at : (c : After-index-epoch) → c.index-epoch.result.now ≡ core_barriers c.args.core c.self.inside.log.items
 epoch_at c = epoch_read c.self.inside c.self.invariant c.args.core _ (rw (← c.self.view_is) at c.requires).core c.index-epoch.ensures
@@ -33,17 +36,14 @@ invariant_of-self c =
     let epoch = c.index-epoch.result.now in
     let epoch_is = epoch_at (goal.at.invariant_of-self c).After-index-epoch in
     let grown : IsGrown inside (Barrier core) epoch 0 c.push_entry.new.log c.push_number.new.numbers c.push_number-2.new.numbers = record {
-      log_is = c.push_entry.ensures.items;
-      epochs_are = c.push_number.ensures.items;
-      befores_are = c.push_number-2.ensures.items;
-      log_room = c.push_entry.ensures.capacity;
-      epochs_room = c.push_number.ensures.capacity;
-      befores_room = c.push_number-2.ensures.capacity;
+      log = (c.push_entry.ensures.items, c.push_entry.ensures.capacity);
+      epochs = (c.push_number.ensures.items, c.push_number.ensures.capacity);
+      befores = (c.push_number-2.ensures.items, c.push_number-2.ensures.capacity);
       known = asked.core;
       room = asked.room;
     } in
-    let no_load = λ (its_core word : ℕ) (same : Barrier core ≡ Load its_core word) (place other_core other : ℕ). absurd (let differ : Barrier core ≡ Load its_core word = same in cc) in
-    with_other_entry inside old _ epoch 0 _ _ _ grown (no_store core) no_load epoch_is refl (with_item inside.counts core (epoch + 1)) refl (λ its low.
+    with_other_entry inside old _ epoch 0 _ _ _ grown (no_store core) (λ its word same. absurd (no_load core its word same)) epoch_is refl
+    (with_item inside.counts core (epoch + 1)) refl (λ its low.
     rw core_barriers-append (elim (set_either inside.counts.items core (epoch + 1) its (omega (arith, asked.core, inside.counts.ok.0))) [
       | inl same ↦ rw (same.1, same.0, eq-eqb core core refl) (omega (arith, epoch_is))
       | inr differ ↦ rw (differ.1, ne_eqb core its (λ e. differ.0 (sym e))) (omega (arith, old.counts its low))
@@ -53,5 +53,4 @@ pub returns : goal.returns
 returns c =
     let inside = c.self.inside in
     rw (← c.self.view_is, c.push_entry.ensures.items, c.push_number.ensures.items)
-    (pushed_seen inside.counts.len inside.words inside.since.items inside.log.items inside.epochs.items inside.room (Barrier c.args.core)
-    c.index-epoch.result.now c.self.invariant.sound (no_store c.args.core))
+    (pushed_seen inside.counts.len _ _ _ _ inside.room (Barrier c.args.core) c.index-epoch.result.now c.self.invariant.sound (no_store c.args.core))

@@ -1,4 +1,4 @@
-use Rattle.std.proofs.Common.{◌≡◌, ◌∙◌, ℕ, ap, arith, length, replicate}
+use Rattle.std.proofs.Common.{◌≡◌, ◌∙◌, ap, arith, length, replicate}
 use Rattle.std.specs.Vec.{with_items}
 use Rattle.pm_cores.proofs.Cleaning.{fresh_sound, zero_at}
 use Rattle.pm_cores.proofs.Telling.{fresh_told}
@@ -12,17 +12,15 @@ clean : (c : After-clean_words) → (with_items c.self.inside.since c.clean_word
 clean c =
     zeroed c.self.inside.since _ _ c.deref_mut.ensures.value c.clean_words.ensures ∙ ap (λ n. replicate n 0) c.self.invariant.sound.as_many_since
 
-pub clean_words-requires-clause-words : goal.clean_words-requires-clause-words
-clean_words-requires-clause-words c = rw (c.deref_mut.ensures.value, c.deref.ensures.value) (stored_in_since c.self.inside c.self.invariant)
+pub clean_words-requires : goal.clean_words-requires
+clean_words-requires c =
+    rw (c.deref_mut.ensures.value, c.deref.ensures.value)
+    (record { words = stored_in_since c.self.inside c.self.invariant; first = c.self.invariant.sound.first })
 
-pub clean_words-requires-clause-first : goal.clean_words-requires-clause-first
-clean_words-requires-clause-first c = rw (c.deref_mut.ensures.value, c.deref.ensures.value) c.self.invariant.sound.first
-
-pub clean_words-requires-2-clause-words : goal.clean_words-requires-2-clause-words
-clean_words-requires-2-clause-words c = rw (c.deref_mut-2.ensures.value, c.deref-2.ensures.value) (stored_in_lasts c.self.inside c.self.invariant)
-
-pub clean_words-requires-2-clause-first : goal.clean_words-requires-2-clause-first
-clean_words-requires-2-clause-first c = rw (c.deref_mut-2.ensures.value, c.deref-2.ensures.value) c.self.invariant.told.store
+pub clean_words-requires-2 : goal.clean_words-requires-2
+clean_words-requires-2 c =
+    rw (c.deref_mut-2.ensures.value, c.deref-2.ensures.value)
+    (record { words = stored_in_lasts c.self.inside c.self.invariant; first = c.self.invariant.told.store })
 
 pub invariant_of-self : goal.invariant_of-self
 invariant_of-self c =

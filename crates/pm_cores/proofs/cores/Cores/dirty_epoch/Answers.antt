@@ -2,13 +2,7 @@ use Rattle.std.proofs.Common.{◌<◌, ◌≤◌, ◌∙◌, arith, length}
 use Rattle.std.proofs.lemmas.List.{get_or_read}
 use Rattle.pm_cores.proofs.Flags.{open_epoch_found, open_epoch_none}
 use Rattle.pm_cores.proofs.Vectors.{epoch_read, low_read, stored_in_since}
-use Rattle.pm_cores.proofs.Whole.{IsCoreLow}
-use Rattle.pm_cores.proofs.cores.Cores.dirty_epoch.Goals.{After-index}
 use Rattle.pm_cores.proofs.cores.Cores.dirty_epoch.Goals as goal
-
--- the low that is read is that of core 0
-low_at : (c : After-index) → IsCoreLow c.self.inside 0 c.index.result.now
-low_at c = low_read c.self.inside c.self.invariant 0 _ c.self.invariant.some_core c.index.ensures
 
 pub index-requires : goal.index-requires
 index-requires c = omega (arith, c.self.invariant.as_many_lows, c.self.invariant.some_core)
@@ -16,15 +10,14 @@ index-requires c = omega (arith, c.self.invariant.as_many_lows, c.self.invariant
 pub index-requires-else-first-len : goal.index-requires-else-first-len
 index-requires-else-first-len c = c.self.invariant.some_core
 
-pub first_waiting-first-requires-clause-low : goal.first_waiting-first-requires-clause-low
-first_waiting-first-requires-clause-low c =
-    rw (c.deref.ensures.value, c.deref-2.ensures.value) (low_at (goal.at.first_waiting-first-requires-clause-low c).After-index).is_low
-
-pub first_waiting-first-requires-clause-high : goal.first_waiting-first-requires-clause-high
-first_waiting-first-requires-clause-high c = rw c.deref-2.ensures.value (low_at (goal.at.first_waiting-first-requires-clause-high c).After-index).high
-
-pub first_waiting-first-requires-clause-words : goal.first_waiting-first-requires-clause-words
-first_waiting-first-requires-clause-words c = rw (c.deref.ensures.value, c.deref-2.ensures.value) (stored_in_since c.self.inside c.self.invariant)
+pub first_waiting-first-requires : goal.first_waiting-first-requires
+first_waiting-first-requires c =
+    let at = low_read c.self.inside c.self.invariant 0 _ c.self.invariant.some_core c.index.ensures in
+    record {
+      low = rw (c.deref.ensures.value, c.deref-2.ensures.value) at.is_low;
+      high = rw c.deref-2.ensures.value at.high;
+      words = rw (c.deref.ensures.value, c.deref-2.ensures.value) (stored_in_since c.self.inside c.self.invariant);
+    }
 
 pub returns-then-first-len : goal.returns-then-first-len
 returns-then-first-len c =
@@ -37,7 +30,7 @@ returns-then-first-len c =
     let found = told.found within in
     rw (← c.self.view_is)
     (get_or_read inside.epochs.items first _ in_epochs c.index-then-first-len.ensures 0
-    ∙ open_epoch_found inside.counts.len inside.words inside.since.items inside.log.items inside.epochs.items inside.room sound 0 first told.low found.0 found.1)
+    ∙ open_epoch_found inside.counts.len _ _ _ _ inside.room sound 0 first told.low found.0 found.1)
 
 pub returns-else-first-len : goal.returns-else-first-len
 returns-else-first-len c =
@@ -48,4 +41,4 @@ returns-else-first-len c =
     let past : length inside.log.items ≤ first = omega (arith, inside.log.ok.0, c.len.ensures, c.if-first-len.false) in
     rw (← c.self.view_is)
     (epoch_read inside old 0 _ old.some_core c.index-else-first-len.ensures
-    ∙ open_epoch_none inside.counts.len inside.words inside.since.items inside.log.items inside.epochs.items inside.room old.sound 0 first told.low past)
+    ∙ open_epoch_none inside.counts.len _ _ _ _ inside.room old.sound 0 first told.low past)

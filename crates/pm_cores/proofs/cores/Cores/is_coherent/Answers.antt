@@ -7,4 +7,4 @@ use Rattle.pm_cores.proofs.cores.Cores.is_coherent.Goals as goal
 pub returns : goal.returns
 returns c =
     let inside = c.self.inside in
-    subst (λ (s : Caches). IsCoherent s) c.self.view_is (coherent inside.counts.len inside.words inside.since.items inside.log.items inside.epochs.items inside.room c.self.invariant.sound)
+    subst (λ (s : Caches). IsCoherent s) c.self.view_is (coherent inside.counts.len _ _ _ _ inside.room c.self.invariant.sound)

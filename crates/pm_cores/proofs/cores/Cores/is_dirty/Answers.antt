@@ -5,7 +5,6 @@ use Rattle.pm_cores.proofs.cores.Cores.is_dirty.Goals as goal
 
 pub returns : goal.returns
 returns c =
-    let inside = c.self.inside in
-    let number = since_read inside c.self.invariant c.args.i _ (rw (← c.self.view_is) at c.requires) c.index.ensures in
+    let number = since_read c.self.inside c.self.invariant c.args.i _ (rw (← c.self.view_is) at c.requires) c.index.ensures in
     rw (← c.self.view_is)
-    (ap (λ n. not (eqb n 0)) number ∙ sym (dirty_seen inside.words inside.since.items inside.log.items inside.epochs.items c.self.invariant.sound c.args.i))
+    (ap (λ n. not (eqb n 0)) number ∙ sym (dirty_seen _ _ _ _ c.self.invariant.sound c.args.i))

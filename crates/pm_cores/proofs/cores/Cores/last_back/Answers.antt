@@ -17,19 +17,16 @@ index-requires-else-since-eq0 c =
 
 pub returns-then-since-eq0-clause-within : goal.returns-then-since-eq0-clause-within
 returns-then-since-eq0-clause-within c =
-    let inside = c.self.inside in
-    let is = last_read inside c.self.invariant c.args.i _ (rw (← c.self.view_is) at c.requires) c.index.ensures in
-    rw (← c.self.view_is, is) (last_within inside.words inside.lasts.items inside.log.items inside.befores.items c.self.invariant.told c.args.i)
+    let is = last_read c.self.inside c.self.invariant c.args.i _ (rw (← c.self.view_is) at c.requires) c.index.ensures in
+    rw (← c.self.view_is, is) (last_within _ _ _ _ c.self.invariant.told c.args.i)
 
 pub returns-then-since-eq0-clause-told : goal.returns-then-since-eq0-clause-told
 returns-then-since-eq0-clause-told c = λ base within.
-    let inside = c.self.inside in
     let old = c.self.invariant in
-    let is = last_read inside old c.args.i _ (rw (← c.self.view_is) at c.requires) c.index.ensures in
+    let is = last_read c.self.inside old c.args.i _ (rw (← c.self.view_is) at c.requires) c.index.ensures in
     let clean = sym (since_at (goal.at.returns-then-since-eq0-clause-told c).After-index-since) ∙ c.if-since-eq0.true in
     rw (← c.self.view_is, is)
-    (back_clean inside.words inside.lasts.items inside.log.items inside.befores.items old.told inside.since.items inside.epochs.items old.sound
-    base c.args.i within clean)
+    (back_clean _ _ _ _ old.told _ _ old.sound base c.args.i within clean)
 
 pub returns-else-since-eq0-clause-within : goal.returns-else-since-eq0-clause-within
 returns-else-since-eq0-clause-within c =
@@ -44,5 +41,4 @@ returns-else-since-eq0-clause-told c = λ base within.
     let since = since_at (goal.at.returns-else-since-eq0-clause-told c).After-index-since in
     let at = waiting_read inside old c.args.i _ since c.if-since-eq0.false in
     rw (← c.self.view_is, get_or_read inside.befores.items _ _ at.in_befores c.index-else-since-eq0.ensures 0)
-    (back_dirty inside.words inside.lasts.items inside.log.items inside.befores.items old.told inside.since.items inside.epochs.items old.sound
-    base c.args.i within _ at.is)
+    (back_dirty _ _ _ _ old.told _ _ old.sound base c.args.i within _ at.is)

@@ -5,9 +5,8 @@ use Rattle.pm_cores.proofs.cores.Cores.last_store.Goals as goal
 
 pub returns-clause-within : goal.returns-clause-within
 returns-clause-within c =
-    let inside = c.self.inside in
-    let is = last_read inside c.self.invariant c.args.i _ (rw (← c.self.view_is) at c.requires) c.index.ensures in
-    rw (← c.self.view_is, is) (last_within inside.words inside.lasts.items inside.log.items inside.befores.items c.self.invariant.told c.args.i)
+    let is = last_read c.self.inside c.self.invariant c.args.i _ (rw (← c.self.view_is) at c.requires) c.index.ensures in
+    rw (← c.self.view_is, is) (last_within _ _ _ _ c.self.invariant.told c.args.i)
 
 pub returns-clause-told : goal.returns-clause-told
 returns-clause-told c = λ base.

@@ -8,8 +8,7 @@ use Rattle.pm_cores.proofs.cores.Cores.owner_of_line.Goals as goal
 
 pub line_owner-requires-clause-in_log : goal.line_owner-requires-clause-in_log
 line_owner-requires-clause-in_log c =
-    let inside = c.self.inside in
-    λ other. rw (c.deref.ensures.value, c.deref-2.ensures.value) (since_within inside.words inside.since.items inside.log.items inside.epochs.items c.self.invariant.sound other)
+    λ other. rw (c.deref.ensures.value, c.deref-2.ensures.value) (since_within _ _ _ _ c.self.invariant.sound other)
 
 pub line_owner-requires-clause-whole : goal.line_owner-requires-clause-whole
 line_owner-requires-clause-whole c =
@@ -26,20 +25,17 @@ returns-clause-line c =
 
 pub returns-clause-core : goal.returns-clause-core
 returns-clause-core c =
-    let inside = c.self.inside in
     let is = rw (c.deref.ensures.value, c.deref-2.ensures.value, c.deref-3.ensures.value) at c.line_owner.ensures in
     subst (λ (s : Caches). IfSome c.line_owner.result (λ (o : Owner). o.core < s.cores)) c.self.view_is
-    (line_owner_known inside.words inside.since.items inside.log.items inside.epochs.items c.self.invariant.sound inside.counts.len c.self.invariant.known_cores c.args.i c.line_owner.result is)
+    (line_owner_known _ _ _ _ c.self.invariant.sound c.self.inside.counts.len c.self.invariant.known_cores c.args.i c.line_owner.result is)
 
 pub returns-clause-epoch : goal.returns-clause-epoch
 returns-clause-epoch c =
-    let inside = c.self.inside in
     let is = rw (c.deref.ensures.value, c.deref-2.ensures.value, c.deref-3.ensures.value) at c.line_owner.ensures in
     subst (λ (s : Caches). IfSome c.line_owner.result (λ (o : Owner). o.epoch ≤ core_barriers o.core s.log)) c.self.view_is
-    (line_owner_most inside.words inside.since.items inside.log.items inside.epochs.items c.self.invariant.sound c.args.i c.line_owner.result is)
+    (line_owner_most _ _ _ _ c.self.invariant.sound c.args.i c.line_owner.result is)
 
 pub returns-clause-each : goal.returns-clause-each
 returns-clause-each c = λ other owner under same.
-    let inside = c.self.inside in
     let is = rw (c.deref.ensures.value, c.deref-2.ensures.value, c.deref-3.ensures.value) at c.line_owner.ensures in
-    is ∙ line_owner_each inside.words inside.since.items inside.log.items inside.epochs.items c.self.invariant.sound c.args.i other owner (subst (λ (s : Caches). IsDirtyUnder s other owner) (sym c.self.view_is) under) same
+    is ∙ line_owner_each _ _ _ _ c.self.invariant.sound c.args.i other owner (subst (λ (s : Caches). IsDirtyUnder s other owner) (sym c.self.view_is) under) same

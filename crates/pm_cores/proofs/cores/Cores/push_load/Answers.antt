@@ -16,16 +16,13 @@ invariant_of-self c =
     let asked = rw (← c.self.view_is) at c.requires in
     let epoch = c.index-epoch.result.now in
     let grown : IsGrown inside (Load c.args.core c.args.i) epoch 0 c.push_entry.new.log c.push_number.new.numbers c.push_number-2.new.numbers = record {
-      log_is = c.push_entry.ensures.items;
-      epochs_are = c.push_number.ensures.items;
-      befores_are = c.push_number-2.ensures.items;
-      log_room = c.push_entry.ensures.capacity;
-      epochs_room = c.push_number.ensures.capacity;
-      befores_room = c.push_number-2.ensures.capacity;
+      log = (c.push_entry.ensures.items, c.push_entry.ensures.capacity);
+      epochs = (c.push_number.ensures.items, c.push_number.ensures.capacity);
+      befores = (c.push_number-2.ensures.items, c.push_number-2.ensures.capacity);
       known = asked.core;
       room = asked.room;
     } in
-    let ready = ready_to_load inside.words inside.since.items inside.log.items inside.epochs.items old.sound c.args.core c.args.i asked.ready in
+    let ready = ready_to_load _ _ _ _ old.sound c.args.core c.args.i asked.ready in
     with_other_entry inside old _ epoch 0 _ _ _ grown (no_store c.args.core c.args.i) ready (epoch_read inside old _ epoch asked.core c.index-epoch.ensures) refl
     inside.counts refl (counts_stay inside old _ epoch 0 _ _ _ grown (λ core. refl))
 
@@ -33,5 +30,4 @@ pub returns : goal.returns
 returns c =
     let inside = c.self.inside in
     rw (← c.self.view_is, c.push_entry.ensures.items, c.push_number.ensures.items)
-    (pushed_seen inside.counts.len inside.words inside.since.items inside.log.items inside.epochs.items inside.room (Load c.args.core c.args.i)
-    c.index-epoch.result.now c.self.invariant.sound (no_store c.args.core c.args.i))
+    (pushed_seen inside.counts.len _ _ _ _ inside.room (Load c.args.core c.args.i) c.index-epoch.result.now c.self.invariant.sound (no_store c.args.core c.args.i))

@@ -35,7 +35,7 @@ can_store c =
         same = λ other first is. waits.same other (omega (arith, is)) ∙ is;
         others = waits.others;
       };
-      ready = ready_to_store inside.words inside.since.items inside.log.items inside.epochs.items c.self.invariant.sound c.args.core c.args.i asked.ready;
+      ready = ready_to_store _ _ _ _ c.self.invariant.sound c.args.core c.args.i asked.ready;
     }
 
 pub invariant_of-self : goal.invariant_of-self
@@ -47,16 +47,13 @@ invariant_of-self c =
     let epoch = c.index-epoch.result.now in
     let entry = Store c.args.core c.args.i c.args.v in
     let grown : IsGrown inside entry epoch c.index-before.result.now c.push_entry.new.log c.push_number.new.numbers c.push_number-2.new.numbers = record {
-      log_is = c.push_entry.ensures.items;
-      epochs_are = c.push_number.ensures.items;
-      befores_are = c.push_number-2.ensures.items;
-      log_room = c.push_entry.ensures.capacity;
-      epochs_room = c.push_number.ensures.capacity;
-      befores_room = c.push_number-2.ensures.capacity;
+      log = (c.push_entry.ensures.items, c.push_entry.ensures.capacity);
+      epochs = (c.push_number.ensures.items, c.push_number.ensures.capacity);
+      befores = (c.push_number-2.ensures.items, c.push_number-2.ensures.capacity);
       known = asked.core;
       room = asked.room;
     } in
-    let told = stored_told inside.words inside.lasts.items inside.log.items inside.befores.items old.told c.args.core c.args.i c.args.v in
+    let told = stored_told _ _ _ _ old.told c.args.core c.args.i c.args.v in
     with_entry inside old entry epoch _ _ _ _ grown (with_items inside.since c.wait_since.new.since) (with_item inside.lasts c.args.i (c.len-place.result + 1))
     inside.counts
     (rw (items_are after) (stored_sound _ _ _ _ _ _ _ _ c.args.v (can_store after)))

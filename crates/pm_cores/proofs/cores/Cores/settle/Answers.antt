@@ -4,13 +4,9 @@ use Rattle.std.proofs.lemmas.List.{with_items_is}
 use Rattle.pm_cores.proofs.Settling.{settle_cleared}
 use Rattle.pm_cores.proofs.Vectors.{low_read}
 use Rattle.pm_cores.proofs.Views.{settled_seen}
-use Rattle.pm_cores.proofs.Whole.{IsCoreLow, with_low, with_since}
-use Rattle.pm_cores.proofs.cores.Cores.settle.Goals.{After-index-low, After-settle_words}
+use Rattle.pm_cores.proofs.Whole.{with_low, with_since}
+use Rattle.pm_cores.proofs.cores.Cores.settle.Goals.{After-settle_words}
 use Rattle.pm_cores.proofs.cores.Cores.settle.Goals as goal
-
--- the low that is read is the owner's
-low_at : (c : After-index-low) → IsCoreLow c.self.inside c.args.owner.core c.index-low.result.now
-low_at c = low_read c.self.inside c.self.invariant _ _ (rw (← c.self.view_is) at c.requires) c.index-low.ensures
 
 -- each word has its number
 size_is : (c : After-settle_words) → length c.settle_words.new.since ≡ length c.self.inside.since.items
@@ -19,17 +15,15 @@ size_is c = c.settle_words.auto.since ∙ ap length c.deref_mut.ensures.value
 items_are : (c : After-settle_words) → (with_items c.self.inside.since c.settle_words.new.since).items ≡ c.settle_words.new.since
 items_are c = with_items_is c.self.inside.since c.settle_words.new.since (size_is c ∙ sym c.self.inside.since.ok.0)
 
-pub settle_words-requires-clause-sound : goal.settle_words-requires-clause-sound
-settle_words-requires-clause-sound c =
+pub settle_words-requires : goal.settle_words-requires
+settle_words-requires c =
     let sound = c.self.invariant.sound in
-    rw (ap length c.deref_mut.ensures.value ∙ sound.as_many_since, c.deref_mut.ensures.value, c.deref.ensures.value, c.deref-2.ensures.value) sound
-
-pub settle_words-requires-clause-low : goal.settle_words-requires-clause-low
-settle_words-requires-clause-low c =
-    rw (c.deref_mut.ensures.value, c.deref.ensures.value) (low_at (goal.at.settle_words-requires-clause-low c).After-index-low).is_low
-
-pub settle_words-requires-clause-high : goal.settle_words-requires-clause-high
-settle_words-requires-clause-high c = rw c.deref.ensures.value (low_at (goal.at.settle_words-requires-clause-high c).After-index-low).high
+    let at = low_read c.self.inside c.self.invariant _ _ (rw (← c.self.view_is) at c.requires) c.index-low.ensures in
+    record {
+      sound = rw (ap length c.deref_mut.ensures.value ∙ sound.as_many_since, c.deref_mut.ensures.value, c.deref.ensures.value, c.deref-2.ensures.value) sound;
+      low = rw (c.deref_mut.ensures.value, c.deref.ensures.value) at.is_low;
+      high = rw c.deref.ensures.value at.high;
+    }
 
 pub invariant_of-self : goal.invariant_of-self
 invariant_of-self c =
@@ -37,7 +31,7 @@ invariant_of-self c =
     let after = (goal.at.invariant_of-self c).After-settle_words in
     let told = simp (c.deref_mut.ensures.value, c.deref.ensures.value, c.deref-2.ensures.value) at c.settle_words.ensures in
     let since = with_items inside.since c.settle_words.new.since in
-    let cleared = settle_cleared inside.words inside.since.items inside.log.items inside.epochs.items c.self.invariant.sound c.args.owner _ (size_is after) told.since in
+    let cleared = settle_cleared _ _ _ _ c.self.invariant.sound c.args.owner _ (size_is after) told.since in
     with_low (record inside { since = since }) (with_since inside c.self.invariant since _ (rw (← items_are after) at cleared)) c.args.owner.core c.settle_words.result
     (rw (← c.self.view_is) at c.requires) (record { is_low = rw (items_are after) told.low; high = told.high })
 
@@ -47,5 +41,4 @@ returns c =
     let after = (goal.at.returns c).After-settle_words in
     let told = simp (c.deref_mut.ensures.value, c.deref.ensures.value, c.deref-2.ensures.value) at c.settle_words.ensures in
     rw (← c.self.view_is, items_are after)
-    (settled_seen inside.counts.len inside.words inside.since.items inside.log.items inside.epochs.items inside.room c.self.invariant.sound
-    c.settle_words.new.since (size_is after) c.args.owner told.since)
+    (settled_seen inside.counts.len _ _ _ _ inside.room c.self.invariant.sound c.settle_words.new.since (size_is after) c.args.owner told.since)

@@ -8,11 +8,11 @@ invariant_of-self c =
     let inside = c.self.inside in
     let asked = rw (← c.self.view_is) at c.requires in
     with_since inside c.self.invariant (with_item inside.since c.args.i 0) _
-    (cleared inside.counts.len inside.words inside.since.items inside.log.items inside.epochs.items inside.room c.self.invariant.sound c.args.i asked.word asked.may)
+    (cleared inside.counts.len _ _ _ _ inside.room c.self.invariant.sound c.args.i asked.word asked.may)
 
 pub returns : goal.returns
 returns c =
     let inside = c.self.inside in
     let asked = rw (← c.self.view_is) at c.requires in
     rw (← c.self.view_is)
-    (written_seen inside.counts.len inside.words inside.since.items inside.log.items inside.epochs.items inside.room c.self.invariant.sound c.args.i asked.word asked.may)
+    (written_seen inside.counts.len _ _ _ _ inside.room c.self.invariant.sound c.args.i asked.word asked.may)

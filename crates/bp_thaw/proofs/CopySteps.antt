@@ -35,13 +35,6 @@ has-item [] i d low = absurd (omega (arith, low))
 has-item (x ∷ xs) zero d low = inl refl
 has-item (x ∷ xs) (suc i) d low = inr (has-item xs i d (omega (arith, low)))
 
-pub has-taken : {A : Type 0} (xs : List A) (n : ℕ) (x : A) → Has (take n xs) x → Has xs x
-has-taken [] zero x has = absurd has
-has-taken [] (suc n) x has = absurd has
-has-taken (y ∷ xs) zero x has = absurd has
-has-taken (y ∷ xs) (suc n) x (inl e) = inl e
-has-taken (y ∷ xs) (suc n) x (inr later) = inr (has-taken xs n x later)
-
 pub length-taken : {A : Type 0} (xs : List A) (n : ℕ) → n ≤ length xs → length (take n xs) ≡ n
 length-taken [] zero low = refl
 length-taken [] (suc n) low = absurd (omega (arith, low))
@@ -171,7 +164,24 @@ filled_none copies memory = record {
   words = λ copy slot none low. absurd none;
 }
 
-module _ (copies done : Copies) (old now : Memory) (can : CanFillCopies copies old) (inside : (c : ℕ × ℕ) → Has done c → Has copies c) (so_far : HasFilled copies done old now) where
+-- a copy that can be filled
+pub record CanFillCopy (copies : Copies) (copy : ℕ × ℕ) (memory : Memory) : Type 0 where
+  pub place : copy.0 < length (current_words memory)
+  pub present : 0 < source_of (current_words memory) copy
+  pub block : source_of (current_words memory) copy < block_count (current_words memory)
+  pub fills : CanFillBlock copy.1 memory
+
+module _ (copies : Copies) (i : ℕ) (c : ℕ × ℕ) (old now : Memory) (can : CanFillCopies copies old) (so_far : HasFilled copies (take i copies) old now)
+    (low : i < length copies) (is : get_or copies i (0, 0) ≡ c) where
+  abbrev done : Copies
+  done = take i copies
+
+  here : Has copies c
+  here = subst (Has copies) is (has-item copies i (0, 0) low)
+
+  has_block : Has (blocks_of copies) c.1
+  has_block = has-mapped (λ (x : ℕ × ℕ). x.1) copies c c.1 here refl
+
   beside_filled : (place : ℕ) → (Has (blocks_of copies) (place / 512) → ⊥) → word (current_words now) place ≡ word (current_words old) place
   beside_filled place none =
       let each = EachMay-stored (AnyAt (InBlocks (blocks_of copies))) (current_words old) so_far.part.added so_far.part.may in
@@ -186,86 +196,59 @@ module _ (copies done : Copies) (old now : Memory) (can : CanFillCopies copies o
   room_filled : room_in old ≤ room_in now + 512 * length done
   room_filled = omega (arith, room_after_may (AnyAt (InBlocks (blocks_of copies))) 0 (512 * length done) old now so_far.part)
 
-  module _ (c : ℕ × ℕ) (here : Has copies c) where
-    source_filled : source_of (current_words now) c ≡ source_of (current_words old) c
-    source_filled = ap block_of (beside_filled c.0 (can.outside c here))
+  source_filled : source_of (current_words now) c ≡ source_of (current_words old) c
+  source_filled = ap block_of (beside_filled c.0 (can.outside c here))
 
-    has_block : Has (blocks_of copies) c.1
-    has_block = has-mapped (λ (x : ℕ × ℕ). x.1) copies c c.1 here refl
-
-    can_fill : 512 * length done + 512 ≤ 512 * length copies → CanFillBlock c.1 now
-    can_fill few = record {
+  pub next_can : CanFillCopy copies c now
+  next_can = record {
+    place = omega (arith, can.inside c here, length_filled);
+    present = omega (arith, can.present c here, source_filled);
+    block = omega (arith, can.sources c here, source_filled, length_filled);
+    fills = record {
       inside = subst (λ n. c.1 < n / 512) (sym length_filled) (can.in_range c.1 has_block);
       not_null = can.not_null c.1 has_block;
-      room = omega (arith, room_filled, can.room, few);
-    }
+      room = omega (arith, room_filled, can.room, low, length-taken copies i (omega (arith, low)));
+    };
+  }
 
-    module _ (next : Memory) (fills : FillsBlock c.1 now next) (new : (d : ℕ × ℕ) → Has done d → d.1 ≢ c.1)
-        (words : (slot : ℕ) → slot < 512 → word (current_words next) (512 * c.1 + slot) ≡ turned_word (current_words now) copies (512 * source_of (current_words now) c + slot)) where
-      block_is : (b s : ℕ) → s < 512 → (512 * b + s) / 512 ≡ b
-      block_is b s low = omega (arith, low)
-
-      filled_one : HasFilled copies (done ++ c ∷ []) old next
-      filled_one = record {
-        part = record {
-          added = so_far.part.added ++ fills.stores.part.added;
-          adds = adds_both old now next so_far.part.added fills.stores.part.added so_far.part.adds fills.stores.part.adds;
-          may = StoresMay-append (AnyAt (InBlocks (blocks_of copies))) so_far.part.added fills.stores.part.added so_far.part.may
-              (StoresMay-weaker (AnyAt (InBlock c.1)) (AnyAt (InBlocks (blocks_of copies))) (λ place value e. subst (Has (blocks_of copies)) (sym e) has_block) fills.stores.part.added fills.stores.part.may);
-          piece = IsPiece-more (0 + 0) (512 * length done + 512) 0 (512 * length (done ++ c ∷ [])) (so_far.part.added ++ fills.stores.part.added) (omega arith) (omega (arith, length-append done (c ∷ [])))
-              (IsPiece-append 0 (512 * length done) 0 512 so_far.part.added fills.stores.part.added so_far.part.piece fills.stores.part.piece);
-        };
-        stored = subst (Each (λ b. StoresTo (InBlock b) (so_far.part.added ++ fills.stores.part.added))) (sym (map-more (λ (x : ℕ × ℕ). x.1) done c))
-            (each-append (λ b. StoresTo (InBlock b) (so_far.part.added ++ fills.stores.part.added)) (blocks_of done) (c.1 ∷ [])
-            (each-as (λ b. StoresTo (InBlock b) so_far.part.added) (λ b. StoresTo (InBlock b) (so_far.part.added ++ fills.stores.part.added)) (λ b. StoresTo-front (InBlock b) so_far.part.added fills.stores.part.added) (blocks_of done) so_far.stored)
-            (StoresTo-behind (InBlock c.1) so_far.part.added fills.stores.part.added fills.stores.some, tt));
-        words = λ copy slot has low. go copy slot low (has-either done (c ∷ []) copy has);
-      }
-        where
-          last : (slot : ℕ) → slot < 512 → word (current_words next) (512 * c.1 + slot) ≡ turned_word (current_words old) copies (512 * source_of (current_words old) c + slot)
-          last slot low =
-              words slot low
-              ∙ ap (λ b. turned_word (current_words now) copies (512 * b + slot)) source_filled
-              ∙ ap (turned_to (copy_at copies (512 * source_of (current_words old) c + slot)))
-              (beside_filled (512 * source_of (current_words old) c + slot) (λ has. can.apart c here (subst (Has (blocks_of copies)) (block_is (source_of (current_words old) c) slot low) has)))
-
-          go : (copy : ℕ × ℕ) (slot : ℕ) → slot < 512 → Has done copy ⊎ Has (c ∷ []) copy → word (current_words next) (512 * copy.1 + slot) ≡ turned_word (current_words old) copies (512 * source_of (current_words old) copy + slot)
-          go copy slot low (inl early) = fills.equal.others (512 * copy.1 + slot) (λ e. new copy early (sym (block_is copy.1 slot low) ∙ e)) ∙ so_far.words copy slot early low
-          go copy slot low (inr (inl e)) = subst (λ (x : ℕ × ℕ). word (current_words next) (512 * x.1 + slot) ≡ turned_word (current_words old) copies (512 * source_of (current_words old) x + slot)) e (last slot low)
-          go copy slot low (inr (inr none)) = absurd none
-
--- a copy that can be filled
-pub record CanFillCopy (copies : Copies) (copy : ℕ × ℕ) (memory : Memory) : Type 0 where
-  pub place : copy.0 < length (current_words memory)
-  pub present : 0 < source_of (current_words memory) copy
-  pub block : source_of (current_words memory) copy < block_count (current_words memory)
-  pub fills : CanFillBlock copy.1 memory
-
-module _ (copies : Copies) (i : ℕ) (item : ℕ × ℕ) (old now : Memory) (can : CanFillCopies copies old) (so_far : HasFilled copies (take i copies) old now)
-    (low : i < length copies) (is : get_or copies i (0, 0) ≡ item) where
-  here : Has copies item
-  here = subst (Has copies) is (has-item copies i (0, 0) low)
-
-  pub next_can : CanFillCopy copies item now
-  next_can =
-      let size = length_filled copies (take i copies) old now can (has-taken copies i) so_far in
-      let source = source_filled copies (take i copies) old now can (has-taken copies i) so_far item here in
-      record {
-        place = omega (arith, can.inside item here, size);
-        present = omega (arith, can.present item here, source);
-        block = omega (arith, can.sources item here, source, size);
-        fills = can_fill copies (take i copies) old now can (has-taken copies i) so_far item here (omega (arith, low, length-taken copies i (omega (arith, low))));
-      }
-
-  new_block : (d : ℕ × ℕ) → Has (take i copies) d → d.1 ≢ item.1
+  new_block : (d : ℕ × ℕ) → Has done d → d.1 ≢ c.1
   new_block d has same =
-      apart-before (λ (x : ℕ × ℕ). x.1) (take i copies) item (apart-more_taken (λ (x : ℕ × ℕ). x.1) copies i item low is can.blocks)
-      (has-mapped (λ (x : ℕ × ℕ). x.1) (take i copies) d item.1 has same)
+      apart-before (λ (x : ℕ × ℕ). x.1) done c (apart-more_taken (λ (x : ℕ × ℕ). x.1) copies i c low is can.blocks)
+      (has-mapped (λ (x : ℕ × ℕ). x.1) done d c.1 has same)
 
-  pub filled_next : (next : Memory) → FillsBlock item.1 now next →
-      ((slot : ℕ) → slot < 512 →
-      word (current_words next) (512 * item.1 + slot) ≡ turned_word (current_words now) copies (512 * source_of (current_words now) item + slot)) →
-      HasFilled copies (take (i + 1) copies) old next
-  filled_next next fills words =
-      one_more_taken (λ cs. HasFilled copies cs old next) copies i item low is
-      (filled_one copies (take i copies) old now can (has-taken copies i) so_far item here next fills new_block words)
+  module _ (next : Memory) (fills : FillsBlock c.1 now next)
+      (words : (slot : ℕ) → slot < 512 → word (current_words next) (512 * c.1 + slot) ≡ turned_word (current_words now) copies (512 * source_of (current_words now) c + slot)) where
+    block_is : (b s : ℕ) → s < 512 → (512 * b + s) / 512 ≡ b
+    block_is b s low = omega (arith, low)
+
+    filled_one : HasFilled copies (done ++ c ∷ []) old next
+    filled_one = record {
+      part = record {
+        added = so_far.part.added ++ fills.stores.part.added;
+        adds = adds_both old now next so_far.part.added fills.stores.part.added so_far.part.adds fills.stores.part.adds;
+        may = StoresMay-append (AnyAt (InBlocks (blocks_of copies))) so_far.part.added fills.stores.part.added so_far.part.may
+            (StoresMay-weaker (AnyAt (InBlock c.1)) (AnyAt (InBlocks (blocks_of copies))) (λ place value e. subst (Has (blocks_of copies)) (sym e) has_block) fills.stores.part.added fills.stores.part.may);
+        piece = IsPiece-more (0 + 0) (512 * length done + 512) 0 (512 * length (done ++ c ∷ [])) (so_far.part.added ++ fills.stores.part.added) (omega arith) (omega (arith, length-append done (c ∷ [])))
+            (IsPiece-append 0 (512 * length done) 0 512 so_far.part.added fills.stores.part.added so_far.part.piece fills.stores.part.piece);
+      };
+      stored = subst (Each (λ b. StoresTo (InBlock b) (so_far.part.added ++ fills.stores.part.added))) (sym (map-more (λ (x : ℕ × ℕ). x.1) done c))
+          (each-append (λ b. StoresTo (InBlock b) (so_far.part.added ++ fills.stores.part.added)) (blocks_of done) (c.1 ∷ [])
+          (each-as (λ b. StoresTo (InBlock b) so_far.part.added) (λ b. StoresTo (InBlock b) (so_far.part.added ++ fills.stores.part.added)) (λ b. StoresTo-front (InBlock b) so_far.part.added fills.stores.part.added) (blocks_of done) so_far.stored)
+          (StoresTo-behind (InBlock c.1) so_far.part.added fills.stores.part.added fills.stores.some, tt));
+      words = λ copy slot has low. go copy slot low (has-either done (c ∷ []) copy has);
+    }
+      where
+        last : (slot : ℕ) → slot < 512 → word (current_words next) (512 * c.1 + slot) ≡ turned_word (current_words old) copies (512 * source_of (current_words old) c + slot)
+        last slot low =
+            words slot low
+            ∙ ap (λ b. turned_word (current_words now) copies (512 * b + slot)) source_filled
+            ∙ ap (turned_to (copy_at copies (512 * source_of (current_words old) c + slot)))
+            (beside_filled (512 * source_of (current_words old) c + slot) (λ has. can.apart c here (subst (Has (blocks_of copies)) (block_is (source_of (current_words old) c) slot low) has)))
+
+        go : (copy : ℕ × ℕ) (slot : ℕ) → slot < 512 → Has done copy ⊎ Has (c ∷ []) copy → word (current_words next) (512 * copy.1 + slot) ≡ turned_word (current_words old) copies (512 * source_of (current_words old) copy + slot)
+        go copy slot low (inl early) = fills.equal.others (512 * copy.1 + slot) (λ e. new_block copy early (sym (block_is copy.1 slot low) ∙ e)) ∙ so_far.words copy slot early low
+        go copy slot low (inr (inl e)) = subst (λ (x : ℕ × ℕ). word (current_words next) (512 * x.1 + slot) ≡ turned_word (current_words old) copies (512 * source_of (current_words old) x + slot)) e (last slot low)
+        go copy slot low (inr (inr none)) = absurd none
+
+    pub filled_next : HasFilled copies (take (i + 1) copies) old next
+    filled_next = one_more_taken (λ cs. HasFilled copies cs old next) copies i c low is filled_one

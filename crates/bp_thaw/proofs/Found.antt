@@ -207,9 +207,6 @@ module _ (image : Image) (wf : IsWellFormed image) (kept : ℕ → Bool) where
             let one : filter (is_kept_at image kept) (filter (new_to earlier) (take d w ∷ [])) ≡ take d w ∷ [] = rw (f, e) refl in
             rw (e, new) (ap (λ xs. xs ++ take d w ∷ []) rest ∙ ap (λ xs. (found ++ rest_of earlier w d) ++ xs) (sym one) ∙ sym (last []))
 
-    abbrev all_rest : List WordPath
-    all_rest = rest_of earlier w (length w)
-
     ways_now : (v : WordPath) → Has (w ∷ earlier) v → IsWayIn image v
     ways_now v (inl e) = subst (IsWayIn image) e way
     ways_now v (inr later) = so_far.ways v later

@@ -177,9 +177,6 @@ module _ (image : Image) (wf : IsWellFormed image) where
     pub pointed_is : pointed (heights_now image) path ≡ (of.tree, record { level = height_of (root_of image of.tree) - of.depth; index = of.index })
     pointed_is = ap (pointed (heights_now image)) of.is ∙ pointed_node of.tree of.depth of.index of.reached of.low of.few
 
-    abbrev shown : Bool
-    shown = is_present image (root_of image of.tree) (size_of image of.tree) (record { level = height_of (root_of image of.tree) - of.depth; index = of.index })
-
     pub there_is : is_there_now image path ≡ is_present image (root_of image of.tree) (size_of image of.tree) (record { level = height_of (root_of image of.tree) - of.depth; index = of.index })
     there_is = ap (λ (p : ℕ × TreeNode). is_present image (root_of image p.0) (size_of image p.0) p.1) pointed_is
 

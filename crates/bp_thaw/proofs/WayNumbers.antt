@@ -1,14 +1,14 @@
 -- The numbers that slots tell, and the nodes by them.
 use Rattle.std.proofs.Common.{nat_le, ◌≡◌, ◌≢◌, ℕ, zero, suc, ◌+◌, ◌-◌, ◌*◌, ◌/◌, ◌^◌, ◌<◌, ◌≤◌, List, [], ◌∷◌, ◌++◌, length, take, drop, get_or, Bool, true, false, not, ◌&&◌, ◌==◌, pow-suc, refl, sym, ◌∙◌, ap, subst, arith}
 use Rattle.std.specs.Prelude.{nat_lt}
-use Rattle.std.proofs.lemmas.Bool.{le-leb, lt-leb, lt-ltb, ltb-true}
+use Rattle.std.proofs.lemmas.Bool.{le-leb, lt-leb, ltb-true}
 use Rattle.std.proofs.lemmas.List.{length-append, length-take-le, take-take, take_more}
 use native.Mathlib.Nat.{pow-le-pow_right}
 use Rattle.bp_layout.specs.Inode.{root_of, size_of}
-use Rattle.bp_layout.specs.Need.{path_number, pointed}
+use Rattle.bp_layout.specs.Need.{path_number}
 use Rattle.bp_layout.specs.Nodes.{TreeNode, is_present}
 use Rattle.bp_layout.specs.Reached.{IsReached}
-use Rattle.bp_layout.specs.Thaw.{heights_now, is_there_now}
+use Rattle.bp_layout.specs.Thaw.{is_there_now}
 use Rattle.bp_layout.specs.Tree.{node, span}
 use Rattle.bp_layout.specs.WellFormed.{IsWellFormed}
 use Rattle.bp_layout.specs.WordPaths.{WordPath, digits, inode_path, tree_path}
@@ -58,9 +58,6 @@ module _ (image : Image) (root size level index : ℕ) where
       go true false e = rw e refl
       go true true e = absurd (past (ltb-true (index * span level) size e))
 
-  pub present_near : level ≤ height_of root → index * span level < size → is_present image root size (record { level = level; index = index }) ≡ not (node image root (height_of root - level) index == 0)
-  present_near low below = rw (le-leb level (height_of root) low, lt-ltb (index * span level) size below) refl
-
   pub present_none : size ≡ 0 → is_present image root size (record { level = level; index = index }) ≡ false
   present_none none = present_far (λ below. omega (arith, below, none))
 
@@ -101,16 +98,8 @@ module _ (image : Image) (wf : IsWellFormed image) (w : WordPath) (way : IsWayIn
 
   -- the tree whose pointer it is
   tree_is : top < d → tree ≡ of.tree
-  tree_is past = sym (ap (λ (p : ℕ × TreeNode). p.0) unfolded) ∙ ap (λ (p : ℕ × TreeNode). p.0) (pointed_is image wf (take d w) of)
-    where
-      unfolded : pointed (heights_now image) (take d w) ≡ (
-        tree,
-        record {
-          level = height_of (root_of image tree) - (length (take d w) - suc top);
-          index = path_number (drop (suc top) (take d w));
-        },
-      )
-      unfolded = rw (lt-leb (length (take d w)) top (omega (arith, long, past))) refl
+  tree_is past =
+      rw (lt-leb (length (take d w)) top (omega (arith, long, past))) at (ap (λ (p : ℕ × TreeNode). p.0) (pointed_is image wf (take d w) of))
 
   depth_of : (t e k : ℕ) → e ≤ height_of (root_of image t) → take d w ≡ tree_path (height_of (word image 2)) t e k → top < d → (t ≢ 0) × (d ≡ suc top + e)
   depth_of zero e k few is past =

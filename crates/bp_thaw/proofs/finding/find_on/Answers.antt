@@ -35,10 +35,8 @@ returns-then-not-is_there-clause-places g c found e =
 
 pub load-requires : goal.load-requires
 load-requires g c =
-    let image = current_words (g.R.Region.memory c.args.region.now) in
-    let way = c.args.way.now.items in
-    let low : c.loop-depth.depth < length way = omega (arith, c.loop-depth-test.true, c.len-end.ensures.value) in
-    let inside = place_inside image c.requires.well_formed way c.requires.way c.loop-depth.depth low (sym c.is_there.ensures ∙ c.if-not-is_there.false) in
+    let low : c.loop-depth.depth < length c.args.way.now.items = omega (arith, c.loop-depth-test.true, c.len-end.ensures.value) in
+    let inside = place_inside _ c.requires.well_formed _ c.requires.way _ low (sym c.is_there.ensures ∙ c.if-not-is_there.false) in
     omega (arith, inside, c.loop-depth.invariant.place, length_now (g.R.Region.memory c.args.region.now))
 
 pub overflow_cast-block : goal.overflow_cast-block

@@ -21,10 +21,8 @@ loop-depth-init g c = record { none = refl; place = refl }
 
 pub load-requires : goal.load-requires
 load-requires g c =
-    let image = current_words (g.R.Region.memory c.args.parts.now.region) in
-    let way = c.args.way.now.items in
-    let low : c.loop-depth.depth < length way = omega (arith, c.loop-depth-test.true, c.len-depth-end.ensures.value) in
-    let inside = place_inside image c.requires.well_formed way c.requires.way c.loop-depth.depth low (c.requires.there _ low) in
+    let low : c.loop-depth.depth < length c.args.way.now.items = omega (arith, c.loop-depth-test.true, c.len-depth-end.ensures.value) in
+    let inside = place_inside _ c.requires.well_formed _ c.requires.way _ low (c.requires.there _ low) in
     omega (arith, inside, c.loop-depth.invariant.place, length_now (g.R.Region.memory c.args.parts.now.region))
 
 pub overflow_cast-block : goal.overflow_cast-block

@@ -74,7 +74,8 @@ module _ (cores : ℕ) (words : ℕ) (since : List ℕ) (log : List Entry) (epoc
     in_since : word < length since
     in_since = let size = sound.as_many_since in omega arith
 
-    one_closed : (place core other later its_core : ℕ) → Waits since log place core other → Waits since log later core its_core → epoch_at log core place < epoch_at log core later → gone its_core ≡ true → gone other ≡ true
+    one_closed : (place core other later its_core : ℕ) → Waits since log place core other → Waits since log later core its_core
+        → epoch_at log core place < epoch_at log core later → gone its_core ≡ true → gone other ≡ true
     one_closed place core other later its_word waits its_waits less is =
         let same = eqb-true its_word word is in
         let here : Waits since log later core word = subst (λ n. Waits since log later core n) same its_waits in

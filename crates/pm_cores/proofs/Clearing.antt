@@ -13,7 +13,8 @@ pub record IsCleared (words : ℕ) (since : List ℕ) (log : List Entry) (epochs
   pub closed : (place core word other its_word : ℕ) → Waits since log place core word → Waits since log other core its_word →
       epoch_at log core place < epoch_at log core other → gone its_word ≡ true → gone word ≡ true
 
-module _ (words : ℕ) (since : List ℕ) (log : List Entry) (epochs since2 : List ℕ) (gone : ℕ → Bool) (cleared : IsCleared words since log epochs since2 gone) where
+module _ (words : ℕ) (since : List ℕ) (log : List Entry) (epochs since2 : List ℕ) (gone : ℕ → Bool)
+    (cleared : IsCleared words since log epochs since2 gone) where
   open cleared use {sound, closed}
 
   gone_zero : (word : ℕ) → gone word ≡ true → get_or since2 word 0 ≡ 0

@@ -184,7 +184,8 @@ module _ (epoch : ℕ) where
       one : (left : ℕ) (flag : Bool) → seen + left ≡ epoch → Fits left (Store core word value ∷ log) (flag ∷ back) → core ≡ 0
           → ((now : List ℕ) (next : ℕ) → seen + next ≡ epoch → Fits next log back → AreKept next seen log back now)
           → words_back words (Store core word value ∷ log) (flag ∷ back)
-          ≡ words_after words (stores_of left (cond (true && eqb seen epoch) (flag ∷ []) [] ++ mask_seen epoch seen log back) (Set word value ∷ done_by_first log))
+          ≡ words_after words
+          (stores_of left (cond (true && eqb seen epoch) (flag ∷ []) [] ++ mask_seen epoch seen log back) (Set word value ∷ done_by_first log))
       one zero true sum fits first rest = rw (eq-eqb seen epoch (omega arith)) (rest (set words word value) zero sum (store_fits zero core word value log true back fits))
       one zero false sum fits first rest = rw (eq-eqb seen epoch (omega arith)) (rest words zero sum (store_fits zero core word value log false back fits))
       one (suc left) true sum fits first rest = rw (ne_eqb seen epoch (λ e. omega arith)) (rest (set words word value) (suc left) sum (store_fits (suc left) core word value log true back fits))

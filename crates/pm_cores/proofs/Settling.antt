@@ -219,7 +219,9 @@ module _ (words : ℕ) (since : List ℕ) (log : List Entry) (epochs : List ℕ)
       ]
 
   -- what goes with an owner takes all of its core's earlier epochs along
-  settle_closed : (place core word other its_word : ℕ) → Waits since log place core word → Waits since log other core its_word → epoch_at log core place < epoch_at log core other → is_due owner log epochs (get_or since its_word 0) ≡ true → is_due owner log epochs (get_or since word 0) ≡ true
+  settle_closed : (place core word other its_word : ℕ) → Waits since log place core word → Waits since log other core its_word
+      → epoch_at log core place < epoch_at log core other → is_due owner log epochs (get_or since its_word 0) ≡ true
+      → is_due owner log epochs (get_or since word 0) ≡ true
   settle_closed place core word other its_word waits its_waits less its_due =
       let own = owner_of_waiting words since log epochs sound other core its_word its_waits in
       let its : Owner = record { core = core; epoch = epoch_at log core other } in

@@ -15,30 +15,17 @@ index-requires-else-since-eq0 c =
     let at = waiting_read inside c.self.invariant c.args.i _ (since_at (goal.at.index-requires-else-since-eq0 c).After-index-since) c.if-since-eq0.false in
     omega (arith, at.in_befores, inside.befores.ok.0)
 
-pub returns-then-since-eq0-clause-within : goal.returns-then-since-eq0-clause-within
-returns-then-since-eq0-clause-within c =
-    let is = last_read c.self.inside c.self.invariant c.args.i _ (rw (← c.self.view_is) at c.requires) c.index.ensures in
-    rw (← c.self.view_is, is) (last_within _ _ _ _ c.self.invariant.told c.args.i)
-
-pub returns-then-since-eq0-clause-told : goal.returns-then-since-eq0-clause-told
-returns-then-since-eq0-clause-told c = λ base within.
+pub returns-then-since-eq0 : goal.returns-then-since-eq0
+returns-then-since-eq0 c =
     let old = c.self.invariant in
     let is = last_read c.self.inside old c.args.i _ (rw (← c.self.view_is) at c.requires) c.index.ensures in
-    let clean = sym (since_at (goal.at.returns-then-since-eq0-clause-told c).After-index-since) ∙ c.if-since-eq0.true in
+    let clean = sym (since_at (goal.at.returns-then-since-eq0 c).After-index-since) ∙ c.if-since-eq0.true in
     rw (← c.self.view_is, is)
-    (back_clean _ _ _ _ old.told _ _ old.sound base c.args.i within clean)
+    (record { within = last_within _ _ _ _ old.told c.args.i; told = λ base within. back_clean _ _ _ _ old.told _ _ old.sound base c.args.i within clean })
 
-pub returns-else-since-eq0-clause-within : goal.returns-else-since-eq0-clause-within
-returns-else-since-eq0-clause-within c =
-    let since = since_at (goal.at.returns-else-since-eq0-clause-within c).After-index-since in
-    let at = waiting_read c.self.inside c.self.invariant c.args.i _ since c.if-since-eq0.false in
-    rw (← c.self.view_is, get_or_read c.self.inside.befores.items _ _ at.in_befores c.index-else-since-eq0.ensures 0) at.early
-
-pub returns-else-since-eq0-clause-told : goal.returns-else-since-eq0-clause-told
-returns-else-since-eq0-clause-told c = λ base within.
-    let inside = c.self.inside in
+pub returns-else-since-eq0 : goal.returns-else-since-eq0
+returns-else-since-eq0 c =
     let old = c.self.invariant in
-    let since = since_at (goal.at.returns-else-since-eq0-clause-told c).After-index-since in
-    let at = waiting_read inside old c.args.i _ since c.if-since-eq0.false in
-    rw (← c.self.view_is, get_or_read inside.befores.items _ _ at.in_befores c.index-else-since-eq0.ensures 0)
-    (back_dirty _ _ _ _ old.told _ _ old.sound base c.args.i within _ at.is)
+    let at = waiting_read c.self.inside old c.args.i _ (since_at (goal.at.returns-else-since-eq0 c).After-index-since) c.if-since-eq0.false in
+    rw (← c.self.view_is, get_or_read c.self.inside.befores.items _ _ at.in_befores c.index-else-since-eq0.ensures 0)
+    (record { within = at.early; told = λ base within. back_dirty _ _ _ _ old.told _ _ old.sound base c.args.i within _ at.is })

@@ -23,11 +23,13 @@ invariant_of-self c =
       room = asked.room;
     } in
     let ready = ready_to_load _ _ _ _ old.sound c.args.core c.args.i asked.ready in
-    with_other_entry inside old _ epoch 0 _ _ _ grown (no_store c.args.core c.args.i) ready (epoch_read inside old _ epoch asked.core c.index-epoch.ensures) refl
-    inside.counts refl (counts_stay inside old _ epoch 0 _ _ _ grown (λ core. refl))
+    let epoch_is = epoch_read inside old _ epoch asked.core c.index-epoch.ensures in
+    with_other_entry inside old _ epoch 0 _ _ _ grown (no_store c.args.core c.args.i) ready epoch_is refl inside.counts refl
+    (counts_stay inside old _ epoch 0 _ _ _ grown (λ core. refl))
 
 pub returns : goal.returns
 returns c =
     let inside = c.self.inside in
     rw (← c.self.view_is, c.push_entry.ensures.items, c.push_number.ensures.items)
-    (pushed_seen inside.counts.len _ _ _ _ inside.room (Load c.args.core c.args.i) c.index-epoch.result.now c.self.invariant.sound (no_store c.args.core c.args.i))
+    (pushed_seen inside.counts.len _ _ _ _ inside.room (Load c.args.core c.args.i) c.index-epoch.result.now
+    c.self.invariant.sound (no_store c.args.core c.args.i))

@@ -53,11 +53,11 @@ invariant_of-self c =
       known = asked.core;
       room = asked.room;
     } in
-    let told = stored_told _ _ _ _ old.told c.args.core c.args.i c.args.v in
-    with_entry inside old entry epoch _ _ _ _ grown (with_items inside.since c.wait_since.new.since) (with_item inside.lasts c.args.i (c.len-place.result + 1))
-    inside.counts
+    let last = c.len-place.result + 1 in
+    let told = stored_told _ _ _ _ old.told c.args.core c.args.i c.args.v last asked.word (omega (arith, c.len-place.ensures, inside.log.ok.0)) in
+    with_entry inside old entry epoch _ _ _ _ grown (with_items inside.since c.wait_since.new.since) (with_item inside.lasts c.args.i last) inside.counts
     (rw (items_are after) (stored_sound _ _ _ _ _ _ _ _ c.args.v (can_store after)))
-    (rw (last_read inside old c.args.i _ asked.word c.index-before.ensures) (told (c.len-place.result + 1) asked.word (omega (arith, c.len-place.ensures, inside.log.ok.0))))
+    (rw (last_read inside old c.args.i _ asked.word c.index-before.ensures) told)
     (λ core low at. rw (items_are after) (low_stored _ _ _ _ _ _ _ _ c.args.v (can_store after) core low at.high at.is_low))
     refl
     (counts_stay inside old entry epoch _ _ _ _ grown (λ core. refl))

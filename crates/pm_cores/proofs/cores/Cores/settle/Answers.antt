@@ -32,8 +32,9 @@ invariant_of-self c =
     let told = simp (c.deref_mut.ensures.value, c.deref.ensures.value, c.deref-2.ensures.value) at c.settle_words.ensures in
     let since = with_items inside.since c.settle_words.new.since in
     let cleared = settle_cleared _ _ _ _ c.self.invariant.sound c.args.owner _ (size_is after) told.since in
-    with_low (record inside { since = since }) (with_since inside c.self.invariant since _ (rw (← items_are after) at cleared)) c.args.owner.core c.settle_words.result
-    (rw (← c.self.view_is) at c.requires) (record { is_low = rw (items_are after) told.low; high = told.high })
+    let holds = with_since inside c.self.invariant since _ (rw (← items_are after) at cleared) in
+    with_low (record inside { since = since }) holds c.args.owner.core c.settle_words.result (rw (← c.self.view_is) at c.requires)
+    (record { is_low = rw (items_are after) told.low; high = told.high })
 
 pub returns : goal.returns
 returns c =

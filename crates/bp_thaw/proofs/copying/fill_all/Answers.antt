@@ -16,9 +16,8 @@ pub loop-i-preserved : goal.loop-i-preserved
 loop-i-preserved g c =
     let low : c.loop-i.i < length c.args.copies.now.items = omega (arith, c.loop-i-test.true, c.len-i-end.ensures.value) in
     let is = ap (λ cs. get_or cs c.loop-i.i (0, 0)) (sym c.deref.ensures.0) in
-    record {
-      filled = filled_next _ _ _ _ _ c.requires c.loop-i.invariant.filled low is (g.R.Region.memory c.fill_copy.new.region) c.fill_copy.ensures.fills c.fill_copy.ensures.words;
-    }
+    let told = c.fill_copy.ensures in
+    record { filled = filled_next _ _ _ _ _ c.requires c.loop-i.invariant.filled low is (g.R.Region.memory c.fill_copy.new.region) told.fills told.words }
 
 pub returns : goal.returns
 returns g c =

@@ -68,7 +68,8 @@ loop-depth-preserved g c =
       | then-is_free w ↦
           rw w.places-is
           (record {
-            found = λ found e. add_step image kept found way d _ _ _ (step.found found e) step.place (is ∙ w.if-is_free.true) w.add_place.ensures.old w.add_place.ensures.new;
+            found = λ found e.
+                add_step image kept found way d _ _ _ (step.found found e) step.place (is ∙ w.if-is_free.true) w.add_place.ensures.old w.add_place.ensures.new;
             place = next;
             few = omega (arith, w.add_place.ensures.few, step.few);
           })

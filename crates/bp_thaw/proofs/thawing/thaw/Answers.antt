@@ -1,8 +1,6 @@
-use Rattle.std.proofs.Common.{ℕ, ◌+◌, ◌≤◌, List, length, sym, ◌∙◌, subst}
+use Rattle.std.proofs.Common.{sym, ◌∙◌}
 use Rattle.std.proofs.lemmas.Bool.{eqb-true}
-use Rattle.pm_region.specs.Memory.{current_words, room_in}
 use Rattle.bp_free.specs.Set.{has}
-use Rattle.bp_thaw.specs.Steps.{ArePlacesOf}
 use Rattle.bp_thaw.specs.Thaws.{paths_in}
 use Rattle.bp_thaw.proofs.ThawStores.{stored_links}
 use Rattle.bp_thaw.proofs.Whole.{IsCopying, can_fill_all, enough, links_mid, none_found, places_mid, room_mid, thaws_all, thaws_nothing}
@@ -35,10 +33,7 @@ pub store_links-requires : goal.store_links-requires
 store_links-requires g c =
     let mid = g.R.Region.memory c.fill_all.new.region in
     let copies = copying g (goal.at.store_links-requires g c).After-take_all-copies in
-    record {
-      places = subst (ArePlacesOf (current_words mid)) (sym c.links_to-links.ensures) (links_mid _ _ _ _ _ _ _ copies mid c.fill_all.ensures);
-      room = subst (λ (xs : List (ℕ × ℕ)). length xs + 2 ≤ room_in mid) (sym c.links_to-links.ensures) (room_mid _ _ _ _ _ _ _ copies mid c.fill_all.ensures);
-    }
+    rw c.links_to-links.ensures (record { places = links_mid _ _ _ _ _ _ _ copies mid c.fill_all.ensures; room = room_mid _ _ _ _ _ _ _ copies mid c.fill_all.ensures })
 
 pub returns-clause-thaws : goal.returns-clause-thaws
 returns-clause-thaws g c =

@@ -1,7 +1,6 @@
-use Rattle.std.proofs.Common.{◌≡◌, ◌≢◌, ℕ, ◌+◌, ◌-◌, ◌<◌, ◌≤◌, refl, sym, ◌∙◌, ap, arith}
+use Rattle.std.proofs.Common.{◌≡◌, ◌≢◌, ℕ, ◌<◌, ◌≤◌, sym, ◌∙◌, ap, arith}
 use Rattle.pm_region.specs.Memory.{current_words}
 use Rattle.bp_layout.specs.Inode.{root_of}
-use Rattle.bp_layout.specs.Nodes.{is_present}
 use Rattle.bp_layout.specs.Reached.IsReached.{inode_file}
 use Rattle.bp_layout.specs.WellFormed.{IsWellFormed}
 use Rattle.bp_layout.specs.Words.{Image, height_of}
@@ -17,10 +16,6 @@ low_top image wf = (wf.sound 0 inode_file).low (omega (arith, wf.some_inodes))
 
 no_zero : (n : ℕ) → n ≢ 0 → 0 < n
 no_zero n some = omega (arith, some)
-
-present_as : (image : Image) (root other size also level same index number : ℕ) → root ≡ other → size ≡ also → level ≡ same → index ≡ number →
-    is_present image root size (record { level = level; index = index }) ≡ is_present image other also (record { level = same; index = number })
-present_as image root other size also level same index number a b c d = rw (a, b, c, d) refl
 
 -- the height that is read is the inode file's
 top_is : (g : given.Over) (c : After-height-top g) → c.height-top.result ≡ height_of (root_of (current_words (g.R.Region.memory c.args.region.now)) 0)
@@ -89,15 +84,12 @@ is_present-requires-2-clause-sound g c =
 
 pub returns-then-depth-top : goal.returns-then-depth-top
 returns-then-depth-top g c =
-    let image = current_words (g.R.Region.memory c.args.region.now) in
-    let file = c.inode_file-file.ensures in
     let top = top_is g (goal.at.returns-then-depth-top g c).After-height-top in
-    c.is_present.ensures ∙ present_as image _ _ _ _ _ _ _ _ file.root file.size (ap (λ h. h - c.args.depth) top) c.number.ensures
-    ∙ sym (there_file image c.requires.well_formed _ c.requires.way _ c.requires.depth (omega (arith, c.if-depth-top.true, top)))
+    let is = rw (c.inode_file-file.ensures.root, c.inode_file-file.ensures.size, top, c.number.ensures) at c.is_present.ensures in
+    is ∙ sym (there_file _ c.requires.well_formed _ c.requires.way _ c.requires.depth (omega (arith, c.if-depth-top.true, top)))
 
 pub returns : goal.returns
 returns g c =
-    let at = tree g (goal.at.returns g c).After-number-2 in
-    let file = c.tree_of-tree.ensures in
-    let level = ap (λ h. h - (c.args.depth - (c.height-top.result + 1))) (c.height.ensures ∙ ap height_of file.root) in
-    c.is_present-2.ensures ∙ present_as _ _ _ _ _ _ _ _ _ file.root file.size level c.number-3.ensures ∙ sym at.there
+    let tree_is = c.tree_of-tree.ensures in
+    let is = rw (c.height.ensures, tree_is.root, tree_is.size, c.number-3.ensures) at c.is_present-2.ensures in
+    is ∙ sym (tree g (goal.at.returns g c).After-number-2).there

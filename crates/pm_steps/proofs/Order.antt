@@ -90,20 +90,36 @@ words_after-set (Barrier ∷ events) (false ∷ back) words word value none = wo
 words_after-set (Mark ∷ events) (true ∷ back) words word value none = words_after-set events back words word value (NoneTo-tail Mark events true back word none)
 words_after-set (Mark ∷ events) (false ∷ back) words word value none = words_after-set events back words word value (NoneTo-tail Mark events false back word none)
 
+-- no store to the word behind a place is back
+abbrev NoneBehind : List Event → List Bool → ℕ → ℕ → Type 0
+NoneBehind events back which word = (j other : ℕ) → which < j → slice_get back j ≡ Some true → slice_get events j ≡ Some (Store word other) → ⊥
+
+NoneBehind-tail : (event : Event) (events : List Event) (flag : Bool) (back : List Bool) (which word : ℕ)
+    → NoneBehind (event ∷ events) (flag ∷ back) (suc which) word → NoneBehind events back which word
+NoneBehind-tail event events flag back which word none = λ j other low is at. none (suc j) other (omega arith) is at
+
 -- one more store is back, and none behind it to its word was
-words_after-back : (events : List Event) (back : List Bool) (words : List ℕ) (which word value : ℕ) → slice_get events which ≡ Some (Store word value) → slice_get back which ≡ Some false → ((j other : ℕ) → which < j → slice_get back j ≡ Some true → slice_get events j ≡ Some (Store word other) → ⊥) → words_after words (items_where_true (set back which true) events) ≡ set (words_after words (items_where_true back events)) word value
+words_after-back : (events : List Event) (back : List Bool) (words : List ℕ) (which word value : ℕ)
+    → slice_get events which ≡ Some (Store word value) → slice_get back which ≡ Some false → NoneBehind events back which word
+    → words_after words (items_where_true (set back which true) events) ≡ set (words_after words (items_where_true back events)) word value
 words_after-back [] back words which word value store waits none = cc
 words_after-back (event ∷ events) [] words which word value store waits none = cc
 words_after-back (event ∷ events) (flag ∷ back) words zero word value store waits none =
     let event_is : event ≡ Store word value = cc in
     let flag_is : flag ≡ false = cc in
     rw (event_is, flag_is) (words_after-set events back words word value (λ j other is at. none (suc j) other (omega arith) is at))
-words_after-back (Store place other ∷ events) (true ∷ back) words (suc which) word value store waits none = words_after-back events back (set words place other) which word value store waits (λ j v low is at. none (suc j) v (omega arith) is at)
-words_after-back (Store place other ∷ events) (false ∷ back) words (suc which) word value store waits none = words_after-back events back words which word value store waits (λ j v low is at. none (suc j) v (omega arith) is at)
-words_after-back (Barrier ∷ events) (true ∷ back) words (suc which) word value store waits none = words_after-back events back words which word value store waits (λ j v low is at. none (suc j) v (omega arith) is at)
-words_after-back (Barrier ∷ events) (false ∷ back) words (suc which) word value store waits none = words_after-back events back words which word value store waits (λ j v low is at. none (suc j) v (omega arith) is at)
-words_after-back (Mark ∷ events) (true ∷ back) words (suc which) word value store waits none = words_after-back events back words which word value store waits (λ j v low is at. none (suc j) v (omega arith) is at)
-words_after-back (Mark ∷ events) (false ∷ back) words (suc which) word value store waits none = words_after-back events back words which word value store waits (λ j v low is at. none (suc j) v (omega arith) is at)
+words_after-back (Store place other ∷ events) (true ∷ back) words (suc which) word value store waits none =
+    words_after-back events back (set words place other) which word value store waits (NoneBehind-tail (Store place other) events true back which word none)
+words_after-back (Store place other ∷ events) (false ∷ back) words (suc which) word value store waits none =
+    words_after-back events back words which word value store waits (NoneBehind-tail (Store place other) events false back which word none)
+words_after-back (Barrier ∷ events) (true ∷ back) words (suc which) word value store waits none =
+    words_after-back events back words which word value store waits (NoneBehind-tail Barrier events true back which word none)
+words_after-back (Barrier ∷ events) (false ∷ back) words (suc which) word value store waits none =
+    words_after-back events back words which word value store waits (NoneBehind-tail Barrier events false back which word none)
+words_after-back (Mark ∷ events) (true ∷ back) words (suc which) word value store waits none =
+    words_after-back events back words which word value store waits (NoneBehind-tail Mark events true back which word none)
+words_after-back (Mark ∷ events) (false ∷ back) words (suc which) word value store waits none =
+    words_after-back events back words which word value store waits (NoneBehind-tail Mark events false back which word none)
 
 items_where_true-push : (back : List Bool) (events : List Event) → items_where_true (back ++ false ∷ []) events ≡ items_where_true back events
 items_where_true-push [] [] = refl

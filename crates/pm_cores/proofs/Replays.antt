@@ -143,12 +143,6 @@ module _ (epoch : ℕ) where
     behind = λ place at store high. fits.behind (suc place) at (record { value = store.value; is = store.is }) (omega (arith, takes (take place log)));
   }
 
-  load_fits : (left core word : ℕ) (log : List Entry) (flag : Bool) (back : List Bool) → Fits left (Load core word ∷ log) (flag ∷ back) → Fits left log back
-  load_fits left core word log flag back = later_fits left left 0 (Load core word) log flag back (λ es. omega arith) (omega arith)
-
-  store_fits : (left core word value : ℕ) (log : List Entry) (flag : Bool) (back : List Bool) → Fits left (Store core word value ∷ log) (flag ∷ back) → Fits left log back
-  store_fits left core word value log flag back = later_fits left left 0 (Store core word value) log flag back (λ es. omega arith) (omega arith)
-
   barrier_fits : (left next core : ℕ) (log : List Entry) (flag : Bool) (back : List Bool) → cond (eqb core 0) 1 0 + next ≡ left → Fits left (Barrier core ∷ log) (flag ∷ back) → Fits next log back
   barrier_fits left next core log flag back = later_fits left next (cond (eqb core 0) 1 0) (Barrier core) log flag back (λ es. refl)
 
@@ -159,7 +153,8 @@ module _ (epoch : ℕ) where
   kept : (left seen : ℕ) (log : List Entry) (back : List Bool) (words : List ℕ) → seen + left ≡ epoch → Fits left log back → AreKept left seen log back words
   kept left seen [] back words sum fits = refl
   kept left seen (entry ∷ log) [] words sum fits = let size = fits.size in absurd (omega arith)
-  kept left seen (Load core word ∷ log) (flag ∷ back) words sum fits = kept left seen log back words sum (load_fits left core word log flag back fits)
+  kept left seen (Load core word ∷ log) (flag ∷ back) words sum fits =
+      kept left seen log back words sum (later_fits left left 0 (Load core word) log flag back (λ es. omega arith) (omega arith) fits)
   kept left seen (Barrier core ∷ log) (flag ∷ back) words sum fits = elim (cases_Bool (eqb core 0)) [
     | inr other ↦
         rw other (kept left (seen + 0) log back words (omega arith) (barrier_fits left left core log flag back (rw other (omega arith)) fits))
@@ -179,16 +174,17 @@ module _ (epoch : ℕ) where
   kept left seen (Store core word value ∷ log) (flag ∷ back) words sum fits =
       let first : core ≡ 0 = fits.alone 0 core word (record { value = value; is = refl }) in
       let own : eqb core 0 ≡ true = eq-eqb core 0 first in
-      rw own (one left flag sum fits first (λ now next total its. kept next seen log back now total its))
+      let later = later_fits left left 0 (Store core word value) log flag back (λ es. omega arith) (omega arith) fits in
+      rw own (one left flag sum fits first (λ now. kept left seen log back now sum later))
     where
       one : (left : ℕ) (flag : Bool) → seen + left ≡ epoch → Fits left (Store core word value ∷ log) (flag ∷ back) → core ≡ 0
-          → ((now : List ℕ) (next : ℕ) → seen + next ≡ epoch → Fits next log back → AreKept next seen log back now)
+          → ((now : List ℕ) → AreKept left seen log back now)
           → words_back words (Store core word value ∷ log) (flag ∷ back)
           ≡ words_after words
           (stores_of left (cond (true && eqb seen epoch) (flag ∷ []) [] ++ mask_seen epoch seen log back) (Set word value ∷ done_by_first log))
-      one zero true sum fits first rest = rw (eq-eqb seen epoch (omega arith)) (rest (set words word value) zero sum (store_fits zero core word value log true back fits))
-      one zero false sum fits first rest = rw (eq-eqb seen epoch (omega arith)) (rest words zero sum (store_fits zero core word value log false back fits))
-      one (suc left) true sum fits first rest = rw (ne_eqb seen epoch (λ e. omega arith)) (rest (set words word value) (suc left) sum (store_fits (suc left) core word value log true back fits))
+      one zero true sum fits first rest = rw (eq-eqb seen epoch (omega arith)) (rest (set words word value))
+      one zero false sum fits first rest = rw (eq-eqb seen epoch (omega arith)) (rest words)
+      one (suc left) true sum fits first rest = rw (ne_eqb seen epoch (λ e. omega arith)) (rest (set words word value))
       one (suc left) false sum fits first rest =
           let flag_is : Some false ≡ Some true = fits.before 0 word (record { value = value; is = ap (λ n. Some (Store n word value)) first }) (omega arith) in
           cc

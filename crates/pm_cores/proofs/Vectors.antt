@@ -45,10 +45,11 @@ module _ (inside : Inside) (holds : HoldsCaches inside) where
   low_read core got known is =
       rw (get_or_read inside.lows.items core got (omega (arith, known, inside.lows.ok.0, holds.as_many_lows)) is 0) (core_low inside holds core known)
 
-  -- words to which there are stores have their numbers
+  -- a word to which there is a store has its number
   pub stored_in_since : (place core word : ℕ) → IsStore inside.log.items place core word → word < length inside.since.items
   stored_in_since place core word store = omega (arith, holds.sound.words place core word store, holds.sound.as_many_since)
 
+  -- .. also among those of the last stores
   pub stored_in_lasts : (place core word : ℕ) → IsStore inside.log.items place core word → word < length inside.lasts.items
   stored_in_lasts place core word store = omega (arith, holds.sound.words place core word store, holds.told.as_many_lasts)
 

@@ -49,6 +49,7 @@ module _ (inside : Inside) (holds : HoldsCaches inside) where
     befores_reserved = holds.befores_reserved;
   }
 
+  -- what holds of the low of a core
   pub core_low : (core : ℕ) → core < inside.counts.len → IsCoreLow inside core (get_or inside.lows.items core 0)
   core_low core known = record { is_low = holds.lows core known; high = holds.low_heights core known }
 

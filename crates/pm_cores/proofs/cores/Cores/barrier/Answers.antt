@@ -14,6 +14,7 @@ use Rattle.pm_cores.proofs.cores.Cores.barrier.Goals as goal
 no_store : (core : ℕ) → IsNoStore (Barrier core)
 no_store core = λ its_core at value same. cc
 
+-- a barrier is no load
 no_load : (core its word : ℕ) → Barrier core ≡ Load its word → ⊥
 no_load core its word same = cc
 

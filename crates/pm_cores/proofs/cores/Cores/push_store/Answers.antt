@@ -14,6 +14,7 @@ use Rattle.pm_cores.proofs.cores.Cores.push_store.Goals as goal
 size_is : (c : After-wait_since) → length c.wait_since.new.since ≡ length c.self.inside.since.items
 size_is c = c.wait_since.auto.since ∙ ap length c.deref_mut.ensures.value
 
+-- so its numbers are those that the call left
 items_are : (c : After-wait_since) → (with_items c.self.inside.since c.wait_since.new.since).items ≡ c.wait_since.new.since
 items_are c = with_items_is c.self.inside.since c.wait_since.new.since (size_is c ∙ sym c.self.inside.since.ok.0)
 

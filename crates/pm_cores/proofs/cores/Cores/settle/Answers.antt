@@ -12,6 +12,7 @@ use Rattle.pm_cores.proofs.cores.Cores.settle.Goals as goal
 size_is : (c : After-settle_words) → length c.settle_words.new.since ≡ length c.self.inside.since.items
 size_is c = c.settle_words.auto.since ∙ ap length c.deref_mut.ensures.value
 
+-- so its numbers are those that the call left
 items_are : (c : After-settle_words) → (with_items c.self.inside.since c.settle_words.new.since).items ≡ c.settle_words.new.since
 items_are c = with_items_is c.self.inside.since c.settle_words.new.since (size_is c ∙ sym c.self.inside.since.ok.0)
 

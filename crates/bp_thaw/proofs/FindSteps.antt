@@ -132,16 +132,9 @@ module _ (image : Image) (wf : IsWellFormed image) (w : WordPath) (way : IsWayIn
       go false e = e
       go true e = absurd (true≢false (sym (there_above (n + d) d (omega arith) (omega (arith, fits)) e) ∙ none))
 
-  -- the next place
-  place-next : (d : ℕ) → d < length w → address image (take (d + 1) w) ≡ 512 * block_of (word image (address image (take d w))) + get_or w d 0
-  place-next d low = ap (address image) (take_more w d 0 low) ∙ address_from-append image 2 (take d w) (get_or w d 0 ∷ [])
-
   module _ (d : ℕ) (low : d < length w) (there : is_there_now image (take d w) ≡ true) where
     of : IsPointerPath image (take d w)
     of = front_path image wf w d way low
-
-    kept_here : (kept : ℕ → Bool) → is_kept_at image kept (take d w) ≡ kept (block_of (word image (address image (take d w))))
-    kept_here kept = rw there refl
 
     block_inside : block_of (word image (address image (take d w))) < block_count image
     block_inside = rw (block_at image wf (take d w) of there) ((bones image wf).in_range (path_trail (take d w)) (there_pointer image wf (take d w) of there).0)
@@ -158,9 +151,9 @@ module _ (image : Image) (wf : IsWellFormed image) (w : WordPath) (way : IsWayIn
     on_way place value block at loaded of =
         let is : block ≡ block_of (word image (address image (take d w))) = of ∙ ap block_of (loaded ∙ ap (word image) at) in
         record {
-          kept = λ kept. kept_here kept ∙ ap kept (sym is);
+          kept = λ kept. rw there (ap kept (sym is));
           inside = rw is block_inside;
           fits = omega (arith, is, block_inside, wf.formatted.sized.at_most);
           slot = low_slot image w way d;
-          next = rw is (sym (place-next d low));
+          next = rw is (sym (ap (address image) (take_more w d 0 low) ∙ address_from-append image 2 (take d w) (get_or w d 0 ∷ [])));
         }

@@ -1,5 +1,5 @@
 -- The numbers that slots tell, and the nodes by them.
-use Rattle.std.proofs.Common.{nat_le, ◌≡◌, ◌≢◌, ℕ, zero, suc, ◌+◌, ◌-◌, ◌*◌, ◌/◌, ◌^◌, ◌<◌, ◌≤◌, List, [], ◌∷◌, ◌++◌, length, take, drop, get_or, Bool, true, false, not, ◌&&◌, ◌==◌, pow-suc, refl, sym, ◌∙◌, ap, subst, arith}
+use Rattle.std.proofs.Common.{nat_le, ◌≡◌, ◌≢◌, ℕ, zero, suc, ◌+◌, ◌-◌, ◌*◌, ◌/◌, ◌^◌, ◌<◌, ◌≤◌, List, [], ◌∷◌, ◌++◌, length, take, drop, get_or, Bool, true, false, not, ◌&&◌, ◌==◌, pow-suc, refl, sym, ◌∙◌, ap, arith}
 use Rattle.std.specs.Prelude.{nat_lt}
 use Rattle.std.proofs.lemmas.Bool.{le-leb, lt-leb, ltb-true}
 use Rattle.std.proofs.lemmas.List.{length-append, length-take-le, take-take, take_more}
@@ -93,9 +93,6 @@ module _ (image : Image) (wf : IsWellFormed image) (w : WordPath) (way : IsWayIn
       (ap (λ n. is_present image (root_of image tree) (size_of image tree)
       (record { level = height_of (root_of image tree) - (n - suc top); index = path_number (drop (suc top) (take d w)) })) long)
 
-  first_slots : top < d → take (suc top) (take d w) ≡ take (suc top) w
-  first_slots past = take-take (suc top) d w (omega (arith, past))
-
   -- the tree whose pointer it is
   tree_is : top < d → tree ≡ of.tree
   tree_is past =
@@ -109,26 +106,17 @@ module _ (image : Image) (wf : IsWellFormed image) (w : WordPath) (way : IsWayIn
       let size = sym long ∙ ap (λ (p : WordPath). length p) is ∙ length-append (inode_path (height_of (word image 2)) (suc i) 1) (digits e k) in
       (λ none. omega (arith, none), omega (arith, size, length-digits e k, length-digits (suc (height_of (word image 2))) (8 * suc i + 1)))
 
-  tree_reached : top < d → IsReached image tree
-  tree_reached past = subst (IsReached image) (sym (tree_is past)) of.reached
-
-  tree_some : top < d → tree ≢ 0
-  tree_some past none = (depth_of of.tree of.depth of.index of.low of.is past).0 (sym (tree_is past) ∙ none)
-
-  tree_low : top < d → d - suc top ≤ height_of (root_of image tree)
-  tree_low past =
-      let deep = (depth_of of.tree of.depth of.index of.low of.is past).1 in
-      subst (λ (t : ℕ). d - suc top ≤ height_of (root_of image t)) (sym (tree_is past)) (omega (arith, deep, of.low))
-
   pub in_tree : (h number : ℕ) → h ≡ height_of (root_of image 0) → h < d → number ≡ path_number (drop 0 (take (h + 1) w)) → IsInTree image w d h number
   in_tree h number top_is less value =
       let next : h + 1 ≡ suc top = omega (arith, top_is) in
       let past : top < d = omega (arith, top_is, less) in
-      let is : number / 8 ≡ tree = ap (λ n. n / 8) (value ∙ ap (λ n. path_number (take n w)) next ∙ ap path_number (sym (first_slots past))) in
+      let slots = take-take (suc top) d w (omega (arith, past)) in
+      let is : number / 8 ≡ tree = ap (λ n. n / 8) (value ∙ ap (λ n. path_number (take n w)) next ∙ ap path_number (sym slots)) in
+      let deep = depth_of of.tree of.depth of.index of.low of.is past in
       record {
         past = less;
-        reached = rw is (tree_reached past);
-        some = rw is (tree_some past);
-        low = rw (is, next) (tree_low past);
+        reached = rw (is, tree_is past) of.reached;
+        some = rw (is, tree_is past) deep.0;
+        low = rw (is, tree_is past, next) (omega (arith, deep.1, of.low));
         there = rw (is, next) (there_tree past);
       }

@@ -1,6 +1,6 @@
 -- What the steps of a thaw ask for, and what they make together.
 use Rattle.std.proofs.Common.{◌≡◌, ℕ, ◌+◌, ◌*◌, ◌/◌, ◌<◌, ◌≤◌, List, [], ◌∷◌, ◌++◌, map, length, Bool, true, false, refl, sym, ◌∙◌, ap, subst, arith, inl, inr}
-use Rattle.std.proofs.lemmas.List.{length-map}
+use Rattle.std.proofs.lemmas.List.{length-map, nil_from_length}
 use Rattle.pm_epochs.specs.declared.event.Event.TheVariants.{Barrier}
 use Rattle.pm_epochs.specs.May.{AnyAt, links_of}
 use Rattle.pm_epochs.proofs.CrashLaws.{quiet_none}
@@ -93,19 +93,18 @@ module _ (kept : ℕ → Bool) (paths : List WordPath) (first : Memory) (before 
   abbrev thawed : List WordPath
   thawed = thawed_on (current_words first) kept paths
 
+  -- the places that are found are those of the pointers that are thawed
   found_thawed : places ≡ map (address (current_words first)) thawed
   found_thawed = found ∙ ap (map (address (current_words first))) (found_is (current_words first) can.well_formed kept paths can.ways)
 
   number_found : length places ≡ length thawed
   number_found = ap length found_thawed ∙ length-map thawed (address (current_words first))
 
+  -- none is found, so none is thawed
   pub none_found : length places ≡ 0 → thawed_on (current_words first) kept paths ≡ []
-  none_found none = no_items thawed (sym number_found ∙ none)
-    where
-      no_items : (xs : List WordPath) → length xs ≡ 0 → xs ≡ []
-      no_items [] none = refl
-      no_items (x ∷ xs) none = absurd (omega (arith, none))
+  none_found none = nil_from_length thawed (sym number_found ∙ none)
 
+  -- there is a free block for each
   pub enough : length places ≤ length (members before)
   enough = rw number_found can.enough
 

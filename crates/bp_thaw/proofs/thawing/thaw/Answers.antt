@@ -27,13 +27,15 @@ fill_all-requires g c = can_fill_all _ _ _ _ _ _ _ (copying g (goal.at.fill_all-
 
 pub links_to-links-requires : goal.links_to-links-requires
 links_to-links-requires g c =
-    places_mid _ _ _ _ _ _ _ (copying g (goal.at.links_to-links-requires g c).After-take_all-copies) (g.R.Region.memory c.fill_all.new.region) c.fill_all.ensures
+    let mid = g.R.Region.memory c.fill_all.new.region in
+    places_mid _ _ _ _ _ _ _ (copying g (goal.at.links_to-links-requires g c).After-take_all-copies) mid c.fill_all.ensures
 
 pub store_links-requires : goal.store_links-requires
 store_links-requires g c =
     let mid = g.R.Region.memory c.fill_all.new.region in
     let copies = copying g (goal.at.store_links-requires g c).After-take_all-copies in
-    rw c.links_to-links.ensures (record { places = links_mid _ _ _ _ _ _ _ copies mid c.fill_all.ensures; room = room_mid _ _ _ _ _ _ _ copies mid c.fill_all.ensures })
+    rw c.links_to-links.ensures
+    (record { places = links_mid _ _ _ _ _ _ _ copies mid c.fill_all.ensures; room = room_mid _ _ _ _ _ _ _ copies mid c.fill_all.ensures })
 
 pub returns-clause-thaws : goal.returns-clause-thaws
 returns-clause-thaws g c =

@@ -187,8 +187,13 @@ module _ (Same : Likeness) (base : List ℕ) (events : List Event) (word value :
       let one : 1 ≡ marks (events ++ commit word value) + 1 = omega (arith, marks-append events (commit word value)) in
       rw (up_to_mark_behind (events ++ commit word value) (Mark ∷ []) 1 0 one) (words_after-append base (events ++ commit word value) (Mark ∷ []))
 
+  abbrev call : List Event
+  call = events ++ commit word value ++ Mark ∷ []
+
   -- what a cut leaves, by what it keeps
-  outcome : (epoch : ℕ) (mask : List Bool) (kept : List Event) (calls : ℕ) → stores_of epoch mask (events ++ commit word value ++ Mark ∷ []) ≡ kept → marks_of epoch mask (events ++ commit word value ++ Mark ∷ []) ≡ calls → Same (words_after base kept) (after_calls base (events ++ commit word value ++ Mark ∷ []) calls) → Same (words_after base (stores_of epoch mask (events ++ commit word value ++ Mark ∷ []))) (after_calls base (events ++ commit word value ++ Mark ∷ []) (marks_of epoch mask (events ++ commit word value ++ Mark ∷ [])))
+  outcome : (epoch : ℕ) (mask : List Bool) (kept : List Event) (calls : ℕ) → stores_of epoch mask call ≡ kept → marks_of epoch mask call ≡ calls →
+      Same (words_after base kept) (after_calls base call calls) →
+      Same (words_after base (stores_of epoch mask call)) (after_calls base call (marks_of epoch mask call))
   outcome epoch mask kept calls kept_is calls_is same = rw (kept_is, calls_is) same
 
   -- a preparation that is quiet, then the one store alone in its epoch, then the end of the call

@@ -7,7 +7,7 @@ use Rattle.std.proofs.lemmas.List.Elements.{filter-append, filter_passes, All-co
 use Rattle.std.proofs.lemmas.List.Kept.{IsStrictlyIncreasing-filter}
 use Rattle.std.proofs.lemmas.List.Sums.{length-filter, count_by-le-length}
 use Rattle.std.proofs.lemmas.List.FromFn.{length-range_with_len, get_or-range_with_len}
-use Rattle.bp_free.specs.Set.{Set, has, members, below, members_above, with, without, empty, IsLeast, TakesLeast, Fills}
+use Rattle.bp_free.specs.Set.{Set, has, members, below, members_above, with, without, empty, IsLeast, TakesLeast, TakesOne, Fills}
 
 -- ---- ranges
 
@@ -177,6 +177,18 @@ taken_least old new i least rest = record {
   };
   first = members_least old i least ∙ ap (λ s. i ∷ members s) (sym rest);
   count = ap (λ s. length (members s) + 1) rest ∙ count_without old i least.low least.is_in;
+  size = ap length rest ∙ length-set old i false;
+}
+
+-- a number that is in leaves
+pub taken_one : (old new : Set) (i : ℕ) → i < length old → has old i ≡ true → new ≡ without old i → TakesOne old new i
+taken_one old new i low there rest = record {
+  taken = record {
+    was = there;
+    gone = ap (λ s. has s i) rest ∙ has_without_same old i low;
+    others = λ k other. ap (λ s. has s k) rest ∙ has_without_other old i k other;
+  };
+  count = ap (λ s. length (members s) + 1) rest ∙ count_without old i low there;
   size = ap length rest ∙ length-set old i false;
 }
 

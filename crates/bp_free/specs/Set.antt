@@ -54,6 +54,12 @@ pub record TakesLeast (old new : Set) (i : ℕ) : Type 0 where
   pub count : length (members new) + 1 ≡ length (members old)
   pub size : length new ≡ length old
 
+-- i alone has left the set
+pub record TakesOne (old new : Set) (i : ℕ) : Type 0 where
+  pub taken : TakesNumber (has old) (has new) i
+  pub count : length (members new) + 1 ≡ length (members old)
+  pub size : length new ≡ length old
+
 -- the numbers from one number up to another join, and no others
 pub record Fills (from to : ℕ) (old new : Set) : Type 0 where
   pub room : length new ≡ length old

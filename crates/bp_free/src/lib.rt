@@ -6,6 +6,7 @@
 
 mod bits;
 mod counts;
+mod hints;
 pub mod laws;
 mod numbers;
 mod parts;

@@ -1,16 +1,20 @@
 //! Free numbers, and how many there are.
 
-ghost use Rattle.std.specs.Prelude.{◌≡◌, ℕ, ◌+◌, ◌*◌, ◌%◌, ◌<◌, ◌≤◌, ◌^◌, [], false, true, length, IfOk, MatchOption};
+ghost use Rattle.std.specs.Prelude.{◌≡◌, ℕ, ◌+◌, ◌*◌, ◌%◌, ◌<◌, ◌≤◌, ◌^◌, [], false, true, length, IfOk, IfSome, MatchOption};
 ghost use Rattle.std.specs.Int.{div_ceil};
 ghost use Rattle.bp_free.specs.Looks.{looks};
-ghost use Rattle.bp_free.specs.Set.{Set, has, members, with, without, empty, IsLeast, TakesLeast, Fills, IsComplement};
+ghost use Rattle.bp_free.specs.Set.{Set, has, members, with, without, empty, IsLeast, TakesLeast, TakesOne, Fills, IsComplement};
 ghost use Rattle.bp_free.specs.Words.{TellsAlone};
 
 use crate::bits::{Bits, Member, WORD};
+use crate::hints::Hints;
 use crate::steps::{Looks, Steps, Uncounted};
 use std::alloc::{AllocError, Global};
 use std::marker::{Model, PhantomData};
 use std::sync::ledger::Ledger;
+
+/// How many numbers are looked at, one by one, for a block that has no hint.
+const NEAR: u32 = 64;
 
 /// What free blocks are numbers of.
 #[derive(Clone, Copy)]
@@ -28,13 +32,15 @@ pub type Inodes = Numbers<InodeNumbers>;
 
 /// A set of free numbers below a room: numbers of blocks or of inodes, as `Kind` says.
 ///
-/// It holds its memory from the start: no call but [`Numbers::new`] allocates. The least number is found in a pass over
-/// one bit for each 64 numbers.
+/// It holds its memory from the start: no call but [`Numbers::new`] allocates, except for hints, which
+/// [`Numbers::take_in_place_of`] does without where memory is out. The least number is found in a pass over one bit for
+/// each 64 numbers.
 #[derive(Drop)]
 pub struct Numbers<Kind> {
     free: Bits,
     words_in_use: Bits,
     count: u32,
+    hints: Hints,
     kind: PhantomData<Kind>,
 }
 
@@ -61,6 +67,7 @@ impl<Kind> Numbers<Kind> {
             free,
             words_in_use,
             count: 0,
+            hints: Hints::new(alloc),
             kind: PhantomData,
         })
     }
@@ -227,5 +234,85 @@ impl<Kind> Numbers<Kind> {
     {
         self.free.complement(&other.free, &mut self.words_in_use);
         self.count = other.room() - other.count;
+    }
+}
+
+impl Numbers<BlockNumbers> {
+    /// Takes a block out of a set that has one, for a copy of another block. Where that one was itself taken in place of
+    /// a block that is free, it takes that: an older version stands there, from which the copy likely differs in few words.
+    ///
+    /// Else it takes one near the last that was taken so, and not the least, since just the blocks that were given back
+    /// last are older versions of others. It looks at [`NEAR`] numbers at most, and then does what [`Numbers::take_least`]
+    /// does. The hints take four bytes for each block, up to the last one that was taken so.
+    pub fn take_in_place_of(&mut self, block: u64) -> u32
+        requires { 0 < length (members self.old) }
+        ensures { TakesOne self.old self.new result }
+    {
+        let taken = self.take_hinted(block);
+        let room = self.room();
+        self.hints.note(taken, block, room);
+        taken
+    }
+
+    /// Takes the block out where an older version of this one may stand, or else one for which there is no hint.
+    #[tactic(auto, using(crate::proofs::Members::taken_one))]
+    fn take_hinted(&mut self, block: u64) -> u32
+        requires { 0 < length (members self.old) }
+        ensures { TakesOne self.old self.new result }
+    {
+        let older = self.hints.older(block);
+        if older != 0 && older < self.room() && self.is_free(older) {
+            self.claim(older);
+            return older;
+        }
+        self.take_next()
+    }
+
+    /// Takes one out behind the last one that was taken so, and notes it as the last one.
+    fn take_next(&mut self) -> u32
+        requires { 0 < length (members self.old) }
+        ensures { TakesOne self.old self.new result }
+    {
+        let taken = self.take_near(self.start());
+        self.hints.next = taken.saturating_add(1);
+        taken
+    }
+
+    /// Where the search for a block without a hint begins: behind the last one that was found, and at 0 again once that is
+    /// past twice the blocks in use. So older versions take at most as much room as what is in use, and an image stays
+    /// compact.
+    fn start(&self) -> u32 {
+        let in_use = self.room().saturating_sub(self.count);
+        if self.hints.next <= in_use.saturating_mul(2).saturating_add(NEAR) {
+            self.hints.next
+        } else {
+            0
+        }
+    }
+
+    /// Takes the first one out of the next few from `first` on, or the least where none of these is free.
+    fn take_near(&mut self, first: u32) -> u32
+        requires { 0 < length (members self.old) }
+        ensures { TakesOne self.old self.new result }
+    {
+        match self.first_near(first) {
+            Some(near) => {
+                self.claim(near);
+                near
+            }
+            None => self.take_least(),
+        }
+    }
+
+    /// The first free one of the next few from `first` on.
+    fn first_near(&self, first: u32) -> Option<u32>
+        ensures { IfSome result (λ i. (i < length self.now) × (has self.now i ≡ true)) }
+    {
+        for i in first..first.saturating_add(NEAR).min(self.room()) {
+            if self.is_free(i) {
+                return Some(i);
+            }
+        }
+        None
     }
 }

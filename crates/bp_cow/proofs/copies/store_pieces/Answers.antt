@@ -7,13 +7,13 @@ use Rattle.bp_cow.proofs.CopyLaws.{front_none, front_more, front_room, front_lon
 use Rattle.bp_cow.proofs.copies.store_pieces.Goals as goal
 
 pub loop-piece-init : goal.loop-piece-init
-loop-piece-init g c = record { front = front_none c.args.to (λ slot. get_or c.args.words.now slot 0) (g.R.Region.memory c.args.region.now) }
+loop-piece-init g c = record { most = omega arith; front = front_none c.args.to (λ slot. get_or c.args.words.now slot 0) (g.R.Region.memory c.args.region.now) }
 
 pub overflow_mul-to : goal.overflow_mul-to
 overflow_mul-to g c = omega (arith, c.requires.to.inside, length-current_words (g.R.Region.memory c.args.region.now), c.words-words.ensures, c.words-words.type_inv)
 
 pub overflow_add-to : goal.overflow_add-to
-overflow_add-to g c = omega (arith, c.requires.to.inside, length-current_words (g.R.Region.memory c.args.region.now), c.words-words.ensures, c.words-words.type_inv, c.requires.few, c.loop-piece-test.true)
+overflow_add-to g c = omega (arith, c.requires.to.inside, length-current_words (g.R.Region.memory c.args.region.now), c.words-words.ensures, c.words-words.type_inv, c.requires.few, c.loop-piece-test.true, c.next_pieces-count.ensures.most)
 
 pub set_words-requires-clause-in_range : goal.set_words-requires-clause-in_range
 set_words-requires-clause-in_range g c =
@@ -22,7 +22,8 @@ set_words-requires-clause-in_range g c =
       c.requires.to.inside,
       c.requires.few,
       c.loop-piece-test.true,
-      length-loaded c.args.words.now _ (8 * c.loop-piece.piece) 8 refl (omega (arith, c.requires.few, c.loop-piece-test.true)),
+      c.next_pieces-count.ensures.most,
+      length-loaded c.args.words.now _ (8 * c.loop-piece.piece) (8 * c.next_pieces-count.result) refl (omega (arith, c.requires.few, c.loop-piece-test.true, c.next_pieces-count.ensures.most)),
       front_long c.args.to _ (8 * c.loop-piece.piece) (g.R.Region.memory c.args.region.now) (g.R.Region.memory c.loop-piece.region) c.loop-piece.invariant.front,
     )
 
@@ -33,12 +34,13 @@ set_words-requires-clause-room g c =
       c.requires.to.room,
       c.requires.few,
       c.loop-piece-test.true,
-      length-loaded c.args.words.now _ (8 * c.loop-piece.piece) 8 refl (omega (arith, c.requires.few, c.loop-piece-test.true)),
+      c.next_pieces-count.ensures.most,
+      length-loaded c.args.words.now _ (8 * c.loop-piece.piece) (8 * c.next_pieces-count.result) refl (omega (arith, c.requires.few, c.loop-piece-test.true, c.next_pieces-count.ensures.most)),
       front_room c.args.to _ (8 * c.loop-piece.piece) (g.R.Region.memory c.args.region.now) (g.R.Region.memory c.loop-piece.region) c.loop-piece.invariant.front,
     )
 
 pub set_words-requires-clause-few : goal.set_words-requires-clause-few
-set_words-requires-clause-few g c = omega (arith, length-loaded c.args.words.now _ (8 * c.loop-piece.piece) 8 refl (omega (arith, c.requires.few, c.loop-piece-test.true)))
+set_words-requires-clause-few g c = omega (arith, length-loaded c.args.words.now _ (8 * c.loop-piece.piece) (8 * c.next_pieces-count.result) refl (omega (arith, c.requires.few, c.loop-piece-test.true, c.next_pieces-count.ensures.most)))
 
 pub loop-piece-preserved : goal.loop-piece-preserved
 loop-piece-preserved g c =
@@ -48,14 +50,17 @@ loop-piece-preserved g c =
     let new = g.R.Region.memory c.set_words.new.region in
     let front = c.loop-piece.invariant.front in
     let count : ℕ = 8 * c.loop-piece.piece in
-    let next : count + 8 ≡ 8 * (c.loop-piece.piece + 1) = omega arith in
+    let more : ℕ = 8 * c.next_pieces-count.result in
+    let fits : count + more ≤ 512 = omega (arith, c.requires.few, c.loop-piece-test.true, c.next_pieces-count.ensures.most) in
+    let next : count + more ≡ 8 * (c.loop-piece.piece + c.next_pieces-count.result) = omega arith in
     let start : count ≡ 0 → c.loop-piece.piece ≡ 0 = λ none. omega (arith, none) in
     let inside : 512 * c.args.to + 512 ≤ length (current_words middle) = omega (arith, c.requires.to.inside, front_long c.args.to value count old middle front) in
     record {
+      most = omega (arith, c.loop-piece-test.true, c.next_pieces-count.ensures.most);
       front = subst (λ n. HoldsFront c.args.to value n old new) next
-          (front_more c.args.to count 8 value old middle front (omega (arith, c.requires.few, c.loop-piece-test.true)) (omega arith) inside
-          (slice_range c.args.words.now count (count + 8)) (length-loaded c.args.words.now _ count 8 refl (omega (arith, c.requires.few, c.loop-piece-test.true)))
-          (λ i few. loaded_word c.args.words.now _ count 8 refl i few)
+          (front_more c.args.to count more value old middle front fits (omega (arith, c.next_pieces-count.ensures.some)) inside
+          (slice_range c.args.words.now count (count + more)) (length-loaded c.args.words.now _ count more refl (omega (arith, fits)))
+          (λ i few. loaded_word c.args.words.now _ count more refl i few)
           (nat_eq c.loop-piece.piece 0) new (λ none. ap (λ p. nat_eq p 0) (start none)) c.set_words.ensures);
     }
 
@@ -63,12 +68,12 @@ pub returns-clause-fills : goal.returns-clause-fills
 returns-clause-fills g c =
     let old = g.R.Region.memory c.args.region.now in
     let new = g.R.Region.memory c.loop-piece.region in
-    let end : 8 * c.loop-piece.piece ≡ 8 * c.args.pieces = omega (arith, c.loop-piece-test.false, c.loop-piece.auto.piece-end) in
+    let end : 8 * c.loop-piece.piece ≡ 8 * c.args.pieces = omega (arith, c.loop-piece-test.false, c.loop-piece.invariant.most) in
     filled c.args.to _ (8 * c.args.pieces) old new (subst (λ n. HoldsFront c.args.to (λ slot. get_or c.args.words.now slot 0) n old new) end c.loop-piece.invariant.front) (omega (arith, c.requires.some)) (omega (arith, c.requires.few))
 
 pub returns-clause-words : goal.returns-clause-words
 returns-clause-words g c slot low =
     let old = g.R.Region.memory c.args.region.now in
     let new = g.R.Region.memory c.loop-piece.region in
-    let end : 8 * c.loop-piece.piece ≡ 8 * c.args.pieces = omega (arith, c.loop-piece-test.false, c.loop-piece.auto.piece-end) in
+    let end : 8 * c.loop-piece.piece ≡ 8 * c.args.pieces = omega (arith, c.loop-piece-test.false, c.loop-piece.invariant.most) in
     stored_words c.args.to _ (8 * c.args.pieces) old new (subst (λ n. HoldsFront c.args.to (λ slot. get_or c.args.words.now slot 0) n old new) end c.loop-piece.invariant.front) c.requires.to.not_null slot low

@@ -1,4 +1,4 @@
-//! Sets of free numbers and counts of names: each call once, and the numbers at the ends of words.
+//! Sets of free numbers and counts of names: each call once, the numbers at the ends of words, and where a copy goes.
 
 ghost use Rattle.std.specs.Prelude.{◌≡◌, ◌+◌, ◌<◌, ◌≤◌, length};
 ghost use Rattle.bp_limits.specs.Limits.{max_blocks};
@@ -88,5 +88,51 @@ fn blocks_are_found_in_seventeen_steps(rt: HostRuntime) -> Result<(), Fail> {
     let first = take_counting::<Brand>(&mut blocks, Blank::new(1));
     assert_eq!(rt; first, Some(0));
     assert_eq!(rt; blocks.count(), 65_535);
+    Ok(())
+}
+
+/// Takes a block in place of another one, where one is free.
+fn take_in_place_of(blocks: &mut Blocks, block: u64) -> Option<u32> {
+    if blocks.count() == 0 {
+        return None;
+    }
+    Some(blocks.take_in_place_of(block))
+}
+
+/// Gives a block back that is not free.
+fn give_back(blocks: &mut Blocks, block: u32) {
+    if block < blocks.room() && !blocks.is_free(block) {
+        blocks.give(block);
+    }
+}
+
+#[test]
+fn a_block_is_taken_where_an_older_version_stands(rt: HostRuntime) -> Result<(), Fail> {
+    let mut blocks = Blocks::new(rt.alloc(), 200)?;
+    assert_eq!(rt; blocks.room(), 200);
+    blocks.fill(10, 200);
+    assert_eq!(rt; take_in_place_of(&mut blocks, 5), Some(10));
+    give_back(&mut blocks, 5);
+    // The copy of the copy goes back, and a block of which nothing is known does not go there.
+    assert_eq!(rt; take_in_place_of(&mut blocks, 7), Some(11));
+    assert_eq!(rt; take_in_place_of(&mut blocks, 10), Some(5));
+    give_back(&mut blocks, 10);
+    assert_eq!(rt; take_in_place_of(&mut blocks, 5), Some(10));
+    // Where the older version was written over, there is another one.
+    assert_eq!(rt; take_in_place_of(&mut blocks, 10), Some(12));
+    Ok(())
+}
+
+#[test]
+fn blocks_without_a_hint_begin_again(rt: HostRuntime) -> Result<(), Fail> {
+    let mut blocks = Blocks::new(rt.alloc(), 200)?;
+    assert_eq!(rt; blocks.room(), 200);
+    blocks.fill(2, 200);
+    // Two blocks are in use, so it begins again behind 2 * 2 + 64.
+    for wanted in 2..69 {
+        assert_eq!(rt; take_in_place_of(&mut blocks, u64::MAX), Some(wanted));
+        give_back(&mut blocks, wanted);
+    }
+    assert_eq!(rt; take_in_place_of(&mut blocks, u64::MAX), Some(2));
     Ok(())
 }

@@ -32,9 +32,8 @@ pub type Inodes = Numbers<InodeNumbers>;
 
 /// A set of free numbers below a room: numbers of blocks or of inodes, as `Kind` says.
 ///
-/// It holds its memory from the start: no call but [`Numbers::new`] allocates, except for hints, which
-/// [`Numbers::take_in_place_of`] does without where memory is out. The least number is found in a pass over one bit for
-/// each 64 numbers.
+/// It holds its memory from the start: no call but [`Numbers::new`] and [`Numbers::with_hints`] allocates. The least number
+/// is found in a pass over one bit for each 64 numbers.
 #[derive(Drop)]
 pub struct Numbers<Kind> {
     free: Bits,
@@ -67,7 +66,7 @@ impl<Kind> Numbers<Kind> {
             free,
             words_in_use,
             count: 0,
-            hints: Hints::new(alloc),
+            hints: Hints::none(alloc),
             kind: PhantomData,
         })
     }
@@ -238,19 +237,28 @@ impl<Kind> Numbers<Kind> {
 }
 
 impl Numbers<BlockNumbers> {
+    /// The empty set of a room, with memory for the hints of [`Numbers::take_in_place_of`], four bytes for each block. Fails
+    /// where memory is out.
+    pub fn with_hints(alloc: Global, room: u32) -> Result<Blocks, AllocError>
+        ensures { IfOk result (λ set. set ≡ empty room) }
+    {
+        let mut blocks = Numbers::new(alloc, room)?;
+        blocks.hints = Hints::new(alloc, room as usize)?;
+        Ok(blocks)
+    }
+
     /// Takes a block out of a set that has one, for a copy of another block. Where that one was itself taken in place of
     /// a block that is free, it takes that: an older version stands there, from which the copy likely differs in few words.
     ///
     /// Else it takes one near the last that was taken so, and not the least, since just the blocks that were given back
     /// last are older versions of others. It looks at [`NEAR`] numbers at most, and then does what [`Numbers::take_least`]
-    /// does. The hints take four bytes for each block, up to the last one that was taken so.
+    /// does. A set that was made by [`Numbers::new`] has no hints.
     pub fn take_in_place_of(&mut self, block: u64) -> u32
         requires { 0 < length (members self.old) }
         ensures { TakesOne self.old self.new result }
     {
         let taken = self.take_hinted(block);
-        let room = self.room();
-        self.hints.note(taken, block, room);
+        self.hints.note(taken, block);
         taken
     }
 

@@ -108,7 +108,7 @@ fn give_back(blocks: &mut Blocks, block: u32) {
 
 #[test]
 fn a_block_is_taken_where_an_older_version_stands(rt: HostRuntime) -> Result<(), Fail> {
-    let mut blocks = Blocks::new(rt.alloc(), 200)?;
+    let mut blocks = Blocks::with_hints(rt.alloc(), 200)?;
     assert_eq!(rt; blocks.room(), 200);
     blocks.fill(10, 200);
     assert_eq!(rt; take_in_place_of(&mut blocks, 5), Some(10));

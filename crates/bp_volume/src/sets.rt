@@ -54,14 +54,14 @@ impl Sets {
     }
 }
 
-/// Empty sets of blocks and of inodes.
+/// Empty sets of blocks, with hints for copies, and of inodes.
 fn empty_sets(alloc: Global, blocks: u32) -> Result<(Blocks, Inodes), AllocError>
     requires { blocks ≤ max_blocks }
     ensures blocks { IfOk result (λ sets. sets.0 ≡ empty blocks) }
     ensures inodes { IfOk result (λ sets. sets.1 ≡ empty (block_inodes * blocks)) }
 {
     Ok((
-        Blocks::new(alloc, blocks)?,
+        Blocks::with_hints(alloc, blocks)?,
         Inodes::new(alloc, BLOCK_INODES * blocks)?,
     ))
 }

@@ -1,5 +1,5 @@
 -- A run of two cores' caches over the first events of a log, and what a crash finds then.
-use Rattle.std.specs.Prelude.{◌≡◌, ℕ, ◌+◌, ◌%◌, ◌<◌, ◌≤◌, ◌==◌, nat_le, nat_lt, not, ◌&&◌, Bool, true, false, if◌then◌else◌, Option, Some, None, List, [], ◌∷◌, length, take}
+use Rattle.std.specs.Prelude.{◌≡◌, ℕ, ◌+◌, ◌%◌, ◌<◌, ◌≤◌, ◌==◌, nat_le, nat_lt, not, ◌&&◌, Bool, true, false, if◌then◌else◌, Option, Some, None, List, [], ◌∷◌, length, map, take}
 use Rattle.std.specs.List.{list_all}
 use Rattle.pm_epochs.specs.declared.event.Event.{Event}
 use Rattle.pm_epochs.specs.declared.event.Event.TheVariants.{Store, Barrier, Mark}
@@ -67,6 +67,11 @@ cache_moment events seed = drawn seed % (length events + 1)
 abbrev pub cache_cut : Caches → List Event → ℕ → PowerCut
 cache_cut begun events seed =
     cut_at (cache_run begun None (next_state seed) (take (cache_moment events seed) events)) (cache_moment events seed)
+
+-- what a crash keeps of a run from these caches does not depend on the values that are stored
+abbrev pub IsBlindToValues : Caches → Type 0
+IsBlindToValues begun =
+    (events : List Event) (seed : ℕ) → cache_cut begun (map without_value events) seed ≡ cache_cut begun events seed
 
 -- the caches keep their cores, words and room, and their log has at most so many entries
 pub record IsLike (begun : Caches) (entries : ℕ) (caches : Caches) : Type 0 where

@@ -1,11 +1,11 @@
 //! What holds of all crashes that a script asks for, each law as a function that does nothing.
 
-ghost use Rattle.std.specs.Prelude.{◌≡◌, ◌<◌, ℕ, List, map};
+ghost use Rattle.std.specs.Prelude.{◌≡◌, ◌<◌, ℕ, List};
 ghost use Rattle.pm_epochs.specs.declared.event.Event.{Event};
 ghost use Rattle.pm_epochs.specs.Log.{words_after, marks};
 ghost use Rattle.pm_epochs.specs.Replay.{IsRight, replay, kept_calls, epoch_of};
 ghost use Rattle.pm_cores.specs.Caches.{caches_over};
-ghost use Rattle.bp_replay.specs.Cache.{cache_cut, without_value};
+ghost use Rattle.bp_replay.specs.Cache.{IsBlindToValues};
 ghost use Rattle.bp_replay.specs.Generator.{next_state, drawn};
 ghost use Rattle.bp_replay.specs.Storm.{GoesByItsDraw, IsNotWrittenBack, IsWrittenBack, OfEachStore, RunsToStorm, storm_cut};
 ghost use Rattle.bp_replay.specs.Wanted.{all, nothing, cut_for};
@@ -52,7 +52,5 @@ pub fn a_storm_writes_back_what_may_go()
 
 /// What a crash keeps of a run of caches does not depend on the values that are stored.
 pub fn a_cache_cut_is_blind_to_values()
-    ensures { (cores words capacity : ℕ) (events : List Event) (seed : ℕ) →
-        cache_cut (caches_over cores words capacity) (map without_value events) seed ≡
-        cache_cut (caches_over cores words capacity) events seed }
+    ensures { (cores words capacity : ℕ) → IsBlindToValues (caches_over cores words capacity) }
 {}

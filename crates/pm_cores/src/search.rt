@@ -221,11 +221,8 @@ pub fn push_flags(since: &[u32], log: &[Entry], epochs: &[u32], epoch: u32, choi
     requires counted { AreCounted log.now epochs.now }
     requires room { length log.now ≤ choice.old.room }
     requires empty { choice.old.cut.mask ≡ [] }
-    ensures { choice.new ≡ record {
-      cut = record choice.old.cut {
-        mask = mask_to 0 epoch log.now (flags_of since.now log.now) (length log.now);
-      };
-      room = choice.old.room;
+    ensures { choice.new ≡ record choice.old {
+      cut = record choice.old.cut { mask = mask_to 0 epoch log.now (flags_of since.now log.now) (length log.now) };
     } }
 {
     for k in 0..log.len() {

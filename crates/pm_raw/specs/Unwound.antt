@@ -1,6 +1,6 @@
 -- What the words now and an undo log tell. An undo log has the events of a log, and in each store the value that it replaced in
 -- place of the one that it brought.
-use Rattle.std.specs.Prelude.{ℕ, List, [], ◌∷◌, slice_index, slice_set}
+use Rattle.std.specs.Prelude.{ℕ, ◌-◌, List, [], ◌∷◌, ◌++◌, take, drop, slice_index, slice_set}
 use Rattle.pm_epochs.specs.declared.event.Event.{Event}
 use Rattle.pm_epochs.specs.declared.event.Event.TheVariants.{Store, Barrier, Mark}
 
@@ -17,6 +17,15 @@ events_from now [] = []
 events_from now (Store word saved ∷ undos) = Store word (slice_index (base_from now undos) word) ∷ events_from now undos
 events_from now (Barrier ∷ undos) = Barrier ∷ events_from now undos
 events_from now (Mark ∷ undos) = Mark ∷ events_from now undos
+
+-- an undo log of which the events from one number up to another are those of the log again
+abbrev pub unwound_within : ℕ → ℕ → List ℕ → List Event → List Event
+unwound_within start end now undos =
+    take start undos ++ (events_from now (take (end - start) (drop start undos)) ++ drop end undos)
+
+-- an undo log of which all events from a number on are those of the log again
+abbrev pub unwound : ℕ → List ℕ → List Event → List Event
+unwound start now undos = take start undos ++ events_from now (drop start undos)
 
 -- the undo log of a log, from the words before it
 abbrev pub undo_of : List ℕ → List Event → List Event

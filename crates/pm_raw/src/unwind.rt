@@ -1,9 +1,9 @@
 //! Words as they were before the last events of a log, by its undo log.
 
-ghost use Rattle.std.specs.Prelude.{◌≡◌, ◌+◌, ◌-◌, ◌<◌, ◌≤◌, ◌++◌, true, false, drop, length, slice_index, take};
+ghost use Rattle.std.specs.Prelude.{◌≡◌, ◌+◌, ◌-◌, ◌<◌, ◌≤◌, true, false, drop, length, slice_index, take};
 ghost use Rattle.pm_region.specs.Memory.{AreWithin, stores_from};
 ghost use Rattle.pm_raw.specs.Entries.{events_of};
-ghost use Rattle.pm_raw.specs.Unwound.{base_from, events_from};
+ghost use Rattle.pm_raw.specs.Unwound.{base_from, events_from, unwound, unwound_within};
 
 use super::log::{Log, NO_WORD, Piece};
 use super::runs::{Runs, WordRow};
@@ -72,9 +72,8 @@ fn unwind_row(
     ensures less { result < end }
     ensures each { length saved.new ≡ length saved.old }
     ensures words { words.new ≡ base_from words.old (take (end - result) (drop result (events_of places.now.words saved.old))) }
-    ensures log { let undos = events_of places.now.words saved.old in
-        events_of places.now.words saved.new
-        ≡ take result undos ++ (events_from words.old (take (end - result) (drop result undos)) ++ drop end undos) }
+    ensures log { events_of places.now.words saved.new ≡
+        unwound_within result end words.old (events_of places.now.words saved.old) }
 {
     let WordRow { first, len } = places.row_before(start, end);
     let from = end - len;
@@ -92,8 +91,7 @@ pub fn unwind(words: &mut [u64], places: &Runs, saved: &mut [u64], start: usize)
     requires within { AreWithin (length words.old) (events_of places.now.words saved.old) }
     ensures each { length saved.new ≡ length saved.old }
     ensures words { words.new ≡ base_from words.old (drop start (events_of places.now.words saved.old)) }
-    ensures log { let undos = events_of places.now.words saved.old in
-        events_of places.now.words saved.new ≡ take start undos ++ events_from words.old (drop start undos) }
+    ensures log { events_of places.now.words saved.new ≡ unwound start words.old (events_of places.now.words saved.old) }
 {
     let mut end = saved.len();
     while end > start {

@@ -87,8 +87,8 @@ pub trait Region {
         requires { i < length (memory self.now).events }
         ensures get { slice_get (memory self.now).events i ≡
             Some (event_of result (value_at (memory self.now).events i)) }
-        ensures value { event_of result (value_at (memory self.now).events i) ≡
-            slice_index_or (memory self.now).events i (event_of result (value_at (memory self.now).events i)) };
+        ensures value { let event = event_of result (value_at (memory self.now).events i) in
+            event ≡ slice_index_or (memory self.now).events i event };
 
     /// A word as it was behind the first `moment` events of the log. It may take time for each event of the log.
     fn word_at(&self, moment: usize, word: u32) -> u64

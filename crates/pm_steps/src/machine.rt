@@ -298,9 +298,8 @@ fn push_flags<R: Region>(region: &R, backs: &Backs, epoch: usize, choice: &mut C
     requires done { length backs.now.back ≤ length (R.memory region.now).events }
     requires room { length backs.now.back ≤ choice.old.room }
     requires empty { choice.old.cut.mask ≡ [] }
-    ensures { choice.new ≡ record {
+    ensures { choice.new ≡ record choice.old {
       cut = record choice.old.cut { mask = epoch_flags epoch (R.memory region.now).events backs.now.back };
-      room = choice.old.room;
     } }
 {
     let mut left = epoch;

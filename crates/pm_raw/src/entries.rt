@@ -1,14 +1,15 @@
 //! What a region writes down of each event since the last drain.
-ghost use Rattle.std.specs.Prelude.{◌≡◌, ◌+◌, ◌-◌, ◌^◌, ◌<◌, ◌≤◌, [], ◌∷◌, ◌++◌, IfOk, Some, drop, length, option_map, slice_get, take, vec_capacity, vec_len};
+ghost use Rattle.std.specs.Prelude.{◌≡◌, ◌+◌, ◌-◌, ◌^◌, ◌<◌, ◌≤◌, [], ◌∷◌, ◌++◌, IfOk, Some, drop, length, option_map, slice_get, take};
 ghost use Rattle.std.specs.List.{range_with_len};
 ghost use Rattle.pm_epochs.specs.Kind.{event_kind};
 ghost use Rattle.pm_region.specs.Memory.{AreInRow, AreWithin};
 ghost use Rattle.pm_raw.specs.Entries.{event_of, events_of};
-ghost use Rattle.pm_raw.specs.Unwound.{base_from, events_from};
+ghost use Rattle.pm_raw.specs.Unwound.{base_from, unwound};
 
 use super::log::{BARRIER, Log, NO_WORD};
 use super::runs::{Runs, WordRow};
 use super::unwind::unwind;
+use super::values::add;
 use pm_epochs::EventKind;
 use pm_region::Row;
 use std::alloc::{AllocError, Global};
@@ -33,19 +34,6 @@ impl Model for Entries {
     ghost view = { entered_of };
 
     ghost invariant = { HasNumbers };
-}
-
-/// Adds values, in room that is there.
-#[inline(always)]
-fn add(values: &mut Vec<u64>, more: &[u64])
-    requires { vec_len values.old + length more.now ≤ vec_capacity values.old }
-    ensures items { values.new.items ≡ values.old.items ++ more.now }
-    ensures room { vec_capacity values.old ≤ vec_capacity values.new }
-{
-    match values.extend_from_slice(more) {
-        Ok(()) => {}
-        Err(_) => unreachable!(),
-    }
 }
 
 /// What the event with this word and this number is.
@@ -133,8 +121,8 @@ impl Entries {
         requires within { AreWithin (length words.old) (events_of self.old.words self.old.saved) }
         ensures each { length self.new.saved ≡ length self.new.words }
         ensures words { words.new ≡ base_from words.old (drop start (events_of self.old.words self.old.saved)) }
-        ensures log { let undos = events_of self.old.words self.old.saved in
-            events_of self.new.words self.new.saved ≡ take start undos ++ events_from words.old (drop start undos) }
+        ensures log { events_of self.new.words self.new.saved ≡
+            unwound start words.old (events_of self.old.words self.old.saved) }
         ensures room { self.new.room ≡ self.old.room }
     {
         unwind(words, &self.words, &mut self.saved, start);

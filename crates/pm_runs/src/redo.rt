@@ -1,8 +1,9 @@
 //! A region that keeps the values of its log.
-ghost use Rattle.std.specs.Prelude.{◌≡◌, ◌+◌, ◌^◌, ◌<◌, ◌≤◌, [], ◌++◌, IfOk, length, map, replicate, vec_capacity, vec_len};
+ghost use Rattle.std.specs.Prelude.{◌≡◌, ◌+◌, ◌^◌, ◌<◌, ◌≤◌, [], ◌++◌, IfOk, length, map, replicate};
 ghost use Rattle.pm_epochs.specs.Kind.{event_value};
 
 use pm_epochs::{BadChoice, Choice, Event, EventKind, Kept};
+use pm_raw::values::add;
 use pm_raw::{RawArray, RawRegion};
 use pm_region::{Region, Row};
 use std::alloc::{AllocError, Global};
@@ -26,19 +27,6 @@ impl Model for RedoRegion {
     ghost view = { redo_memory };
 
     ghost invariant = { HasValues };
-}
-
-/// Adds values, in room that is there.
-#[inline(always)]
-fn add(values: &mut Vec<u64>, more: &[u64])
-    requires { vec_len values.old + length more.now ≤ vec_capacity values.old }
-    ensures items { values.new.items ≡ values.old.items ++ more.now }
-    ensures room { vec_capacity values.old ≤ vec_capacity values.new }
-{
-    match values.extend_from_slice(more) {
-        Ok(()) => {}
-        Err(_) => unreachable!(),
-    }
 }
 
 impl RedoRegion {

@@ -56,7 +56,7 @@
  *   processes behind a fork.
  *
  * COST
- *   A volume has its own copy of the words (4 KiB a block), up to some 720 bytes a block beside it, and a log of 524,288 events (23 MB); of
+ *   A volume has its own copy of the words (4 KiB a block), up to some 724 bytes a block beside it, and a log of 524,288 events (23 MB); of
  *   both the system gives what is used. Memory is taken by bpfs_mount, bpfs_format_events, bpfs_list and bpfs_snap_list; calls may take
  *   some to remember where names stand, and go on without where there is none.
  *

@@ -52,6 +52,10 @@ unreachable-requires g c =
     subst (λ (memory : Memory). IsFileSystem memory.base) (sym made) (formatted_file_system old.base c.args.version (block_count old.base) c.requires.sized.whole c.requires.sized.at_least c.requires.sized.at_most) in
     true≢false (sym (c.in-Err.ensures.well_formed.1 wf))
 
+pub returns-clause-made : goal.returns-clause-made
+returns-clause-made g c =
+    c.in-Ok-scanned.ensures.same ∙ c.drain.ensures ∙ drained_format c.args.version (g.R.Region.memory c.args.region) _ c.requires.fresh c.lay_out.ensures.stores
+
 pub returns-clause-empty : goal.returns-clause-empty
 returns-clause-empty g c =
     let old : Memory = g.R.Region.memory c.args.region in

@@ -13,7 +13,7 @@ pub overflow_mul-to : goal.overflow_mul-to
 overflow_mul-to g c = omega (arith, c.requires.to.inside, length-current_words (g.R.Region.memory c.args.region.now), c.words-words.ensures, c.words-words.type_inv)
 
 pub overflow_add-to : goal.overflow_add-to
-overflow_add-to g c = omega (arith, c.requires.to.inside, length-current_words (g.R.Region.memory c.args.region.now), c.words-words.ensures, c.words-words.type_inv, c.requires.few, c.loop-piece-test.true, c.next_pieces-count.ensures.most)
+overflow_add-to g c = omega (arith, c.requires.to.inside, length-current_words (g.R.Region.memory c.args.region.now), c.words-words.ensures, c.words-words.type_inv, c.requires.few, c.loop-piece-test.true, c.next_group-count.ensures.most)
 
 pub set_words-requires-clause-in_range : goal.set_words-requires-clause-in_range
 set_words-requires-clause-in_range g c =
@@ -22,8 +22,8 @@ set_words-requires-clause-in_range g c =
       c.requires.to.inside,
       c.requires.few,
       c.loop-piece-test.true,
-      c.next_pieces-count.ensures.most,
-      length-loaded c.args.words.now _ (8 * c.loop-piece.piece) (8 * c.next_pieces-count.result) refl (omega (arith, c.requires.few, c.loop-piece-test.true, c.next_pieces-count.ensures.most)),
+      c.next_group-count.ensures.most,
+      length-loaded c.args.words.now _ (8 * c.loop-piece.piece) (8 * c.next_group-count.result) refl (omega (arith, c.requires.few, c.loop-piece-test.true, c.next_group-count.ensures.most)),
       front_long c.args.to _ (8 * c.loop-piece.piece) (g.R.Region.memory c.args.region.now) (g.R.Region.memory c.loop-piece.region) c.loop-piece.invariant.front,
     )
 
@@ -34,13 +34,13 @@ set_words-requires-clause-room g c =
       c.requires.to.room,
       c.requires.few,
       c.loop-piece-test.true,
-      c.next_pieces-count.ensures.most,
-      length-loaded c.args.words.now _ (8 * c.loop-piece.piece) (8 * c.next_pieces-count.result) refl (omega (arith, c.requires.few, c.loop-piece-test.true, c.next_pieces-count.ensures.most)),
+      c.next_group-count.ensures.most,
+      length-loaded c.args.words.now _ (8 * c.loop-piece.piece) (8 * c.next_group-count.result) refl (omega (arith, c.requires.few, c.loop-piece-test.true, c.next_group-count.ensures.most)),
       front_room c.args.to _ (8 * c.loop-piece.piece) (g.R.Region.memory c.args.region.now) (g.R.Region.memory c.loop-piece.region) c.loop-piece.invariant.front,
     )
 
 pub set_words-requires-clause-few : goal.set_words-requires-clause-few
-set_words-requires-clause-few g c = omega (arith, length-loaded c.args.words.now _ (8 * c.loop-piece.piece) (8 * c.next_pieces-count.result) refl (omega (arith, c.requires.few, c.loop-piece-test.true, c.next_pieces-count.ensures.most)))
+set_words-requires-clause-few g c = omega (arith, length-loaded c.args.words.now _ (8 * c.loop-piece.piece) (8 * c.next_group-count.result) refl (omega (arith, c.requires.few, c.loop-piece-test.true, c.next_group-count.ensures.most)))
 
 pub loop-piece-preserved : goal.loop-piece-preserved
 loop-piece-preserved g c =
@@ -50,15 +50,15 @@ loop-piece-preserved g c =
     let new = g.R.Region.memory c.set_words.new.region in
     let front = c.loop-piece.invariant.front in
     let count : ℕ = 8 * c.loop-piece.piece in
-    let more : ℕ = 8 * c.next_pieces-count.result in
-    let fits : count + more ≤ 512 = omega (arith, c.requires.few, c.loop-piece-test.true, c.next_pieces-count.ensures.most) in
-    let next : count + more ≡ 8 * (c.loop-piece.piece + c.next_pieces-count.result) = omega arith in
+    let more : ℕ = 8 * c.next_group-count.result in
+    let fits : count + more ≤ 512 = omega (arith, c.requires.few, c.loop-piece-test.true, c.next_group-count.ensures.most) in
+    let next : count + more ≡ 8 * (c.loop-piece.piece + c.next_group-count.result) = omega arith in
     let start : count ≡ 0 → c.loop-piece.piece ≡ 0 = λ none. omega (arith, none) in
     let inside : 512 * c.args.to + 512 ≤ length (current_words middle) = omega (arith, c.requires.to.inside, front_long c.args.to value count old middle front) in
     record {
-      most = omega (arith, c.loop-piece-test.true, c.next_pieces-count.ensures.most);
+      most = omega (arith, c.loop-piece-test.true, c.next_group-count.ensures.most);
       front = subst (λ n. HoldsFront c.args.to value n old new) next
-          (front_more c.args.to count more value old middle front fits (omega (arith, c.next_pieces-count.ensures.some)) inside
+          (front_more c.args.to count more value old middle front fits (omega (arith, c.next_group-count.ensures.some)) inside
           (slice_range c.args.words.now count (count + more)) (length-loaded c.args.words.now _ count more refl (omega (arith, fits)))
           (λ i few. loaded_word c.args.words.now _ count more refl i few)
           (nat_eq c.loop-piece.piece 0) new (λ none. ap (λ p. nat_eq p 0) (start none)) c.set_words.ensures);

@@ -68,6 +68,17 @@ fn are_marked(marks: &[bool]) -> bool
     !marks.contains(&false)
 }
 
+/// Marks a block, where it is one of those that are told apart.
+fn mark_block(marks: &mut [bool], block: usize)
+    ensures marked { is_marked marks.new block ≡ true }
+    ensures more { (i : ℕ) → is_marked marks.old i ≡ true → is_marked marks.new i ≡ true }
+    ensures size { length marks.new ≡ length marks.old }
+{
+    if block < marks.len() {
+        marks[block] = true;
+    }
+}
+
 /// Marks the blocks that hold so many words in a row.
 fn mark_words(marks: &mut [bool], first: u32, count: usize)
     requires some { 0 < count }
@@ -78,7 +89,10 @@ fn mark_words(marks: &mut [bool], first: u32, count: usize)
 {
     let last = (first as usize + (count - 1)) / BLOCK_WORDS as usize;
     let end = marks.len().min(last + 1);
-    for block in (first / BLOCK_WORDS) as usize..end {
+    let begin = (first / BLOCK_WORDS) as usize;
+    // Most rows lie in one block.
+    mark_block(marks, begin);
+    for block in begin + 1..end {
         marks[block] = true;
     }
 }

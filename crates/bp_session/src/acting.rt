@@ -105,6 +105,9 @@ fn count_log<R: Region>(region: &R) -> Outcome
 
 /// Does what the line of the buffers asks for, as `act` does, but leaves a sync to be done: at `Outcome::Synced`
 /// nothing is written back yet. The blocks are marked to which a log stored that a call drained.
+// Where it stands in its callers an outcome need not go by way of memory, from which it would be read in wider pieces than it
+// was written: the processor waits then.
+#[inline(always)]
 fn act_but_sync<R: Region>(
     alloc: Global,
     volume: &mut Volume<R>,
@@ -193,6 +196,7 @@ fn mark_crash(outcome: Outcome, stale: &mut [bool])
 /// Does what the line asks for. A sync is done behind the replies that wait, and saves to the attached file the blocks
 /// that are stale and those to which a store went since the last drain. It is broken off by the sink, before a sync is
 /// done, or by the files, as it saves.
+#[inline(always)]
 pub(crate) fn act_and_save<R: Region, K: Sink, F: Files>(
     alloc: Global,
     volume: &mut Volume<R>,

@@ -1,5 +1,5 @@
 -- The number that bytes spell.
-use Rattle.std.proofs.Common.{◌≡◌, ℕ, zero, suc, ◌+◌, ◌*◌, ◌/◌, ◌%◌, ◌^◌, ◌<◌, List, [], ◌∷◌, ◌++◌, length, drop, slice_index, refl, sym, ◌∙◌, ap, arith, pow-suc}
+use Rattle.std.proofs.Common.{◌≡◌, ℕ, zero, suc, ◌+◌, ◌*◌, ◌/◌, ◌%◌, ◌^◌, ◌<◌, List, [], ◌∷◌, length, slice_index, sym, ◌∙◌, ap, arith, pow-suc}
 use Rattle.std.proofs.Math.Nat.{div-div-eq-div-mul, pow-succ'}
 use Rattle.std.proofs.Math.Arith.{mod-mul}
 use Rattle.bp_layout.specs.Words.{byte_of}
@@ -40,16 +40,3 @@ read_back w (b ∷ bytes) small is (suc o) within =
     let low : b < 256 = small 0 in
     let rest : w / 256 % 256 ^ length bytes ≡ word_of bytes = omega (arith, e, low) in
     sym (further w o) ∙ read_back (w / 256) bytes (λ k. small (suc k)) rest o (omega (arith, within))
-
--- zeros above the bytes change nothing
-zeros_less : (zeros : List ℕ) (n : ℕ) → word_of zeros ≡ 0 → word_of (drop n zeros) ≡ 0
-zeros_less zeros zero none = none
-zeros_less [] (suc n) none = refl
-zeros_less (b ∷ zeros) (suc n) none = zeros_less zeros n (omega (arith, none))
-
-onto_zeros : (bytes zeros : List ℕ) → word_of zeros ≡ 0 → word_of (bytes ++ zeros) ≡ word_of bytes
-onto_zeros [] zeros none = none
-onto_zeros (b ∷ bytes) zeros none = omega (arith, onto_zeros bytes zeros none)
-
-pub filled_up : (whole bytes zeros : List ℕ) (n : ℕ) → word_of zeros ≡ 0 → whole ≡ bytes → word_of (whole ++ drop n zeros) ≡ word_of bytes
-filled_up whole bytes zeros n none is = ap (λ xs. word_of (xs ++ drop n zeros)) is ∙ onto_zeros bytes (drop n zeros) (zeros_less zeros n none)

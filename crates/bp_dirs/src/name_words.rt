@@ -1,20 +1,54 @@
 //! Names as words, eight bytes a word, the first byte lowest. The last word of a name has its last bytes, one to eight, with
 //! zeros above them.
 
-ghost use Rattle.std.specs.Prelude.{◌≡◌, ◌+◌, ◌-◌, ◌*◌, ◌/◌, ◌≤◌, length};
+ghost use Rattle.std.specs.Prelude.{◌≡◌, ◌+◌, ◌-◌, ◌*◌, ◌/◌, ◌^◌, ◌<◌, ◌≤◌, length};
 ghost use Rattle.bp_dirs.specs.EntryWords.{part_word, last_part};
 ghost use Rattle.pm_words.specs.Bytes.{word_of};
 
 use pm_words::read_word;
 
+/// The word with these bytes, two at most, and zeros above them.
+fn pack_two(bytes: &[u8]) -> u64
+    requires { length bytes.now ≤ 2 }
+    ensures word { result ≡ word_of bytes.now }
+    ensures small { result < 2 ^ 16 }
+{
+    if bytes.is_empty() {
+        return 0;
+    }
+    let first = bytes[0] as u64;
+    if bytes.len() == 1 {
+        first
+    } else {
+        first + 0x100 * bytes[1] as u64
+    }
+}
+
+/// The word with these bytes, four at most, and zeros above them.
+fn pack_four(bytes: &[u8]) -> u64
+    requires { length bytes.now ≤ 4 }
+    ensures word { result ≡ word_of bytes.now }
+    ensures small { result < 2 ^ 32 }
+{
+    if bytes.len() < 2 {
+        return pack_two(bytes);
+    }
+    let (low, high) = bytes.split_at(2);
+    pack_two(low) + 0x1_0000 * pack_two(high)
+}
+
 /// The word with these bytes, and zeros above them.
-fn packed(bytes: &[u8]) -> u64
+// It is put together from two halves, and each of them likewise: to read a word in memory just behind stores of its bytes
+// makes the processor wait for these, and for all stores before them.
+fn pack(bytes: &[u8]) -> u64
     requires { length bytes.now ≤ 8 }
     ensures { result ≡ word_of bytes.now }
 {
-    let mut whole = [0; 8];
-    whole[..bytes.len()].copy_from_slice(bytes);
-    read_word(&whole)
+    if bytes.len() < 4 {
+        return pack_four(bytes);
+    }
+    let (low, high) = bytes.split_at(4);
+    pack_four(low) + 0x1_0000_0000 * pack_four(high)
 }
 
 /// The number of a name's last word, which is how many whole words stand before it.
@@ -28,7 +62,7 @@ pub(crate) fn last_part(name: &[u8]) -> usize
 pub(crate) fn last_word(name: &[u8]) -> u64
     ensures { result ≡ part_word name.now (last_part name.now) }
 {
-    packed(&name[8 * last_part(name)..])
+    pack(&name[8 * last_part(name)..])
 }
 
 /// A word of a name with eight bytes of it.

@@ -1,4 +1,4 @@
-use Rattle.std.proofs.Common.{◌≡◌, ◌-◌, ◌/◌, ◌==◌}
+use Rattle.std.proofs.Common.{◌≡◌, ◌/◌, ◌==◌}
 use Rattle.std.specs.Prelude.{IfSome}
 use Rattle.bp_layout.specs.Directory.{inumber_in, is_named_in}
 use Rattle.pm_region.specs.Memory.{current_words}

@@ -7,7 +7,7 @@
 #include <stdlib.h>
 #include <string.h>
 
-enum { BLOCKS = 4096, FILE_SIZE = 1 << 20, TIMES = 200 };
+enum { BLOCKS = 4096, FILE_SIZE = 1 << 20, TIMES = 200, EARLIER = 2000 };
 
 #define PATH(text) (const uint8_t *)(text), sizeof(text) - 1
 #define MUST(it) must((it), #it, __LINE__)
@@ -101,6 +101,11 @@ static void row(const char *name, uint32_t (*call)(int)) {
            (double)(stream.bytes - sent) / TIMES);
 }
 
+/* Makes calls that are not counted: a block that was copied before has an older version, to which its next copy goes. */
+static void make_earlier(uint32_t (*call)(int)) {
+    for (int i = 0; i < EARLIER; i++) MUST(call(i) == BPFS_OK && bpfs_carry(&fs, &stream.carrier) == 0);
+}
+
 static void begin(void) {
     bpfs_event events[16];
     size_t count;
@@ -120,9 +125,11 @@ int main(void) {
     begin();
     printf("| call, the mean of %d | epochs | events | bytes of the stream |\n|---|---|---|---|\n", TIMES);
     row("write of one word", write_word);
-    row("write of 64 bytes, aligned", write_64);
-    row("write of 4,096 bytes, aligned", write_page);
-    row("write of 65,536 bytes, aligned", write_64k);
+    row("write of 64 bytes, mostly the first in its block", write_64);
+    make_earlier(write_64);
+    row("write of 64 bytes, behind others in its block", write_64);
+    row("write of 4,096 bytes", write_page);
+    row("write of 65,536 bytes", write_64k);
     row("append of 200 bytes", append_200);
     row("create", create);
     row("rename in a directory", rename_it);

@@ -68,7 +68,7 @@ fn give_step<R: Region>(
     let _words = region.words();
     let pointer = load_slot(region, at.block as u64, touched.slot(way, at.depth) as u64);
     let next = pm_words::block_of(pointer) as u32;
-    if next != 0 && is_new(touched, way, from, at.depth + 1) {
+    if next != 0 && is_new(touched, way, at.depth + 1) {
         give_loose(blocks, frozen, next);
     }
     next

@@ -27,7 +27,7 @@ fn turned_for(touched: &Touched<'_>, way: &Way<'_>, from: usize) -> u32
     }
     let mut count = 0;
     for depth in from..end {
-        if is_new(touched, way, from, depth + 1) {
+        if is_new(touched, way, depth + 1) {
             count += 1;
         }
     }

@@ -35,17 +35,13 @@ overflow_add-place g c =
     let inside = next_low (reached g at.Start) (next g at.After-slot) in
     omega (arith, inside, length-current_words (g.R.Region.memory c.args.region.now), c.words-words.ensures, c.words-words.type_inv)
 
-pub is_new-requires-clause-from : goal.is_new-requires-clause-from
-is_new-requires-clause-from g c =
-    let low = c.requires.1.1.1.0.low in omega (arith, low)
-
 pub is_new-requires-clause-depth : goal.is_new-requires-clause-depth
 is_new-requires-clause-depth g c =
     omega (arith, c.requires.1.1.1.1.0)
 
 pub turn-requires-clause-some : goal.turn-requires-clause-some
 turn-requires-clause-some g c =
-    let one = turns_one (job_of c.args.touched.now) c.args.from c.args.way.now.index (c.args.depth + 1) (c.is_new.ensures.first c.if-is_new.true) in
+    let one = turns_one (job_of c.args.touched.now) c.args.from c.args.way.now.index (c.args.depth + 1) (c.is_new.ensures.first c.if-is_new.true c.args.from) in
     omega (arith, c.requires.1.1.1.1.1.1.1.0, one)
 
 pub turn-requires-clause-place : goal.turn-requires-clause-place
@@ -67,7 +63,7 @@ turn-requires-clause-free_high g c b is =
 
 pub turn-requires-clause-room : goal.turn-requires-clause-room
 turn-requires-clause-room g c =
-    let one = turns_one (job_of c.args.touched.now) c.args.from c.args.way.now.index (c.args.depth + 1) (c.is_new.ensures.first c.if-is_new.true) in
+    let one = turns_one (job_of c.args.touched.now) c.args.from c.args.way.now.index (c.args.depth + 1) (c.is_new.ensures.first c.if-is_new.true c.args.from) in
     omega (arith, c.requires.1.1.1.1.1.1.1.1, one)
 
 pub load-requires : goal.load-requires
@@ -85,17 +81,17 @@ overflow_cast-result g c =
 pub returns-then-is_new-clause-made : goal.returns-then-is_new-clause-made
 returns-then-is_new-clause-made g c =
     let at = goal.at.returns-then-is_new-clause-made g c in
-    made_copy (reached g at.Start) (next g at.After-slot) (c.is_new.ensures.first c.if-is_new.true) c.turn.ensures.words c.turn.ensures.taken
+    made_copy (reached g at.Start) (next g at.After-slot) (c.is_new.ensures.first c.if-is_new.true c.args.from) c.turn.ensures.words c.turn.ensures.taken
 
 pub returns-then-is_new-clause-block : goal.returns-then-is_new-clause-block
 returns-then-is_new-clause-block g c =
     let at = goal.at.returns-then-is_new-clause-block g c in
-    copy_reached (reached g at.Start) (next g at.After-slot) (c.is_new.ensures.first c.if-is_new.true) c.turn.ensures.words c.turn.ensures.taken
+    copy_reached (reached g at.Start) (next g at.After-slot) (c.is_new.ensures.first c.if-is_new.true c.args.from) c.turn.ensures.words c.turn.ensures.taken
 
 pub returns-then-is_new-clause-makes : goal.returns-then-is_new-clause-makes
 returns-then-is_new-clause-makes g c =
     let at = goal.at.returns-then-is_new-clause-makes g c in
-    let first = c.is_new.ensures.first c.if-is_new.true in
+    let first = c.is_new.ensures.first c.if-is_new.true c.args.from in
     let one = turns_one (job_of c.args.touched.now) c.args.from c.args.way.now.index (c.args.depth + 1) first in
     let taken = stored_taken (reached g at.Start) (next g at.After-slot) first c.turn.ensures.words c.turn.ensures.taken in
     makes_as (sym one) (omega (arith, one))
@@ -103,7 +99,7 @@ returns-then-is_new-clause-makes g c =
 
 pub returns-else-is_new-clause-made : goal.returns-else-is_new-clause-made
 returns-else-is_new-clause-made g c =
-    made_before c.requires.1.1.1.0 c.requires.1.1.1.1.1.0 (c.is_new.ensures.begun c.if-is_new.false)
+    made_before c.requires.1.1.1.0 c.requires.1.1.1.1.1.0 (c.is_new.ensures.begun c.if-is_new.false c.args.from (omega (arith, c.requires.1.1.1.0.low)))
 
 pub returns-else-is_new-clause-block : goal.returns-else-is_new-clause-block
 returns-else-is_new-clause-block g c =
@@ -112,5 +108,5 @@ returns-else-is_new-clause-block g c =
 
 pub returns-else-is_new-clause-makes : goal.returns-else-is_new-clause-makes
 returns-else-is_new-clause-makes g c =
-    let none = turns_none (job_of c.args.touched.now) c.args.from c.args.way.now.index (c.args.depth + 1) (c.is_new.ensures.begun c.if-is_new.false) in
+    let none = turns_none (job_of c.args.touched.now) c.args.from c.args.way.now.index (c.args.depth + 1) (c.is_new.ensures.begun c.if-is_new.false c.args.from (omega (arith, c.requires.1.1.1.0.low))) in
     makes_as (sym none) (omega (arith, none)) (makes_none c.args.blocks.now (g.R.Region.memory c.args.region.now))

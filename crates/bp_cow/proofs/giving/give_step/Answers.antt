@@ -39,10 +39,6 @@ overflow_cast-next g c =
     let whole : length g.plan.old ≡ 512 * block_count g.plan.old = left.can.whole in
     omega (arith, next g places.After-block_of-next at, old_next_low at, whole, left.whole, length-current_words (g.R.Region.memory c.args.region.now), c.words-words.ensures, c.words-words.type_inv)
 
-pub is_new-requires-clause-from : goal.is_new-requires-clause-from
-is_new-requires-clause-from g c =
-    let low = c.requires.1.1.1.0.way.low in omega (arith, low)
-
 pub is_new-requires-clause-depth : goal.is_new-requires-clause-depth
 is_new-requires-clause-depth g c =
     omega (arith, c.requires.1.1.1.1.0)
@@ -64,7 +60,7 @@ give_loose-requires-clause-used g c =
     let places = goal.at.give_loose-requires-clause-used g c in
     let at = old g places.Start in
     let is = next g places.After-block_of-next at in
-    ap (has c.args.blocks.now) is ∙ back_full at c.requires.1.1.1.0.back (c.is_new.ensures.first c.if-is_new.true) (λ null. c.if-next-ne0.true (is ∙ null))
+    ap (has c.args.blocks.now) is ∙ back_full at c.requires.1.1.1.0.back (c.is_new.ensures.first c.if-is_new.true c.args.from) (λ null. c.if-next-ne0.true (is ∙ null))
 
 pub returns-then-is_new-clause-back : goal.returns-then-is_new-clause-back
 returns-then-is_new-clause-back g c =
@@ -73,7 +69,7 @@ returns-then-is_new-clause-back g c =
     let is = next g places.After-block_of-next at in
     -- the set that tells what is kept has the block just if it is kept
     let told = c.requires.1.1.1.1.1.1.same c.block_of-next.result ∙ ap g.plan.kept is in
-    back_one at c.requires.1.1.1.0.back (c.is_new.ensures.first c.if-is_new.true) (λ null. c.if-next-ne0.true (is ∙ null))
+    back_one at c.requires.1.1.1.0.back (c.is_new.ensures.first c.if-is_new.true c.args.from) (λ null. c.if-next-ne0.true (is ∙ null))
     (λ loose. subst (TakesNumber (has c.give_loose.new.blocks) (has c.args.blocks.now)) is (c.give_loose.ensures.given (told ∙ loose)))
     (λ kept. ap has (c.give_loose.ensures.stays (told ∙ kept)))
 
@@ -86,7 +82,7 @@ returns-else-next-ne0-clause-back g c =
     let at = old g places.Start in
     let is = next g places.After-block_of-next at in
     elim c.else-next-ne0.branch [
-      | else-next-ne0-via-then-next-ne0+else-is_new w ↦ back_none at c.requires.1.1.1.0.back (inr (w.is_new.ensures.begun w.if-is_new.false))
+      | else-next-ne0-via-then-next-ne0+else-is_new w ↦ back_none at c.requires.1.1.1.0.back (inr (w.is_new.ensures.begun w.if-is_new.false c.args.from (omega (arith, c.requires.1.1.1.0.way.low))))
       | else-next-ne0-via-else-next-ne0 w ↦ back_none at c.requires.1.1.1.0.back (inl (sym is ∙ w.if-next-ne0.false))
     ]
 

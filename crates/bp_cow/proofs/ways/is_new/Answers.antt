@@ -21,16 +21,17 @@ clash : (b : Bool) → b ≡ true → b ≡ false → ⊥
 clash b one two = absurd (cc)
 
 pub returns-clause-first : goal.returns-clause-first
-returns-clause-first c is b =
-    let shared = begun-shared (job_of c.args.touched.now) c.args.from c.args.way.now.index c.args.depth c.requires.depth b in
-    let low = (c.requires.way.shared c.args.depth).1 shared in
-    let past : c.args.way.now.shared ≤ c.args.depth = leb-true c.args.way.now.shared c.args.depth is in
+returns-clause-first c is from b =
+    let way = c.args.way.now in
+    let low = (c.requires.way.shared c.args.depth).1 (begun-shared (job_of c.args.touched.now) from way.index c.args.depth c.requires.depth b) in
+    let past : way.shared ≤ c.args.depth = leb-true way.shared c.args.depth is in
     omega (arith, low, past)
 
 pub returns-clause-begun : goal.returns-clause-begun
-returns-clause-begun c not =
-    let s : IsShared (job_of c.args.touched.now).way c.args.way.now.index ((job_of c.args.touched.now).way c.args.way.now.index) c.args.depth = elim (cases_lt c.args.depth c.args.way.now.shared) [
+returns-clause-begun c not from begins =
+    let way = c.args.way.now in
+    let s : IsShared (job_of c.args.touched.now).way way.index ((job_of c.args.touched.now).way way.index) c.args.depth = elim (cases_lt c.args.depth way.shared) [
       | inl few ↦ (c.requires.way.shared c.args.depth).0 few
-      | inr past ↦ let is : nat_le c.args.way.now.shared c.args.depth ≡ true = le-leb c.args.way.now.shared c.args.depth past in absurd (clash (nat_le c.args.way.now.shared c.args.depth) is not)
+      | inr past ↦ absurd (clash (nat_le way.shared c.args.depth) (le-leb way.shared c.args.depth past) not)
     ] in
-    record { which = s.which; depth = c.args.depth; early = s.early; low = c.requires.from; high = s.there; same = s.same }
+    record { which = s.which; depth = c.args.depth; early = s.early; low = begins; high = s.there; same = s.same }

@@ -1,5 +1,5 @@
 -- With how many slots the paths that tell begin alike.
-use Rattle.std.proofs.Common.{◌≡◌, ◌≢◌, ◌⊎◌, ℕ, zero, suc, ◌+◌, ◌-◌, ◌*◌, ◌/◌, ◌^◌, ◌<◌, ◌≤◌, List, ◌∷◌, length, min, refl, sym, ◌∙◌, ap, subst, arith, inl, inr, pow-suc}
+use Rattle.std.proofs.Common.{◌≡◌, ◌≢◌, ◌⊎◌, ℕ, zero, suc, ◌+◌, ◌-◌, ◌*◌, ◌/◌, ◌^◌, ◌<◌, ◌≤◌, List, ◌∷◌, length, min, sym, ◌∙◌, ap, subst, arith, inl, inr, pow-suc}
 use Rattle.std.specs.Prelude.{◌↔◌}
 use Rattle.std.specs.List.{slice_index}
 use Rattle.std.proofs.Math.Nat.{div-eq_of_lt}
@@ -88,12 +88,6 @@ ends-low run is = rw pow-suc (low (512 ^ run.height) is.covered)
 -- the first of them begin with the same slots, so many
 abbrev pub FirstAlike : Touched → ℕ → ℕ → Type 0
 FirstAlike touched count n = (k : ℕ) → k < count → BothBegin (end_path touched k) (end_path touched 0) n
-
-pub first-one : (touched : Touched) (n : ℕ) → (n ≤ length (end_path touched 0)) ↔ FirstAlike touched 1 n
-first-one touched n = (
-  λ low k one. let none : k ≡ 0 = omega (arith, one) in subst (λ i. BothBegin (end_path touched i) (end_path touched 0) n) (sym none) (record { here = low; there = low; same = refl }),
-  λ all. (all 0 (omega arith)).here,
-)
 
 pub first-next : (touched : Touched) (count most next : ℕ) → ((n : ℕ) → (n ≤ most) ↔ FirstAlike touched count n) →
     ((n : ℕ) → (n ≤ next) ↔ (n ≤ most) × BothBegin (end_path touched count) (end_path touched 0) n) → (n : ℕ) → (n ≤ next) ↔ FirstAlike touched (suc count) n

@@ -7,7 +7,7 @@ use Rattle.bp_layout.specs.Words.{Image, word, block_count}
 use Rattle.bp_shapes.specs.Trail.{word_on, block_on, place_on, trail_of, IsPlaced}
 use Rattle.bp_shapes.specs.Trail.IsPlaced.{at_top, in_block}
 use Rattle.bp_layout.specs.WordPaths.{digits}
-use Rattle.bp_shapes.proofs.PathTrails.{trail_of-next, word-placed, slot-trail_of}
+use Rattle.bp_shapes.proofs.PathTrails.{trail_of-next, word-placed}
 use Rattle.bp_cow.specs.declared.touched.Run.{Run}
 use Rattle.bp_cow.specs.declared.touched.Touched.{Touched}
 use Rattle.bp_cow.specs.declared.covering.FoundCover.{FoundCover}
@@ -42,9 +42,6 @@ end-short touched is = ends-by touched.runs.now (word_paths touched) (length tou
     (λ run has. let short = (is.runs run has).short in omega (arith, length-run_path run (run.off / 8), short))
     (λ run has. let short = (is.runs run has).short in omega (arith, length-run_path run ((run_end run - 1) / 8), short))
     (λ k few. is.short k few)
-
-pub alike-slot : (touched : Touched) (count i : ℕ) → i < ends touched → BeginAlike touched (count + 1) → slice_index (end_path touched i) count ≡ slice_index (end_path touched 0) count
-alike-slot touched count i here alike = slot-trail_of (end_path touched i) (end_path touched 0) (count + 1) count (alike.same i here) (omega arith)
 
 pub at-start : (image : Image) (touched : Touched) → 512 ≤ length image → IsAt image touched (record { len = 0; place = 2 })
 at-start image touched some = record {

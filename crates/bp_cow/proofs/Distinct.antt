@@ -37,32 +37,6 @@ pub record IsFrontOf (shortest : ℕ) (paths : List (List ℕ)) (q : List ℕ) :
   pub high : count < length path
   pub same : q ≡ take count path
 
--- one of the paths begins with this one
-begun : List ℕ → List (List ℕ) → Bool
-begun q earlier = list_any (is_prefix q) earlier
-
-record IsBegunBy (earlier : List (List ℕ)) (q : List ℕ) : Type 0 where
-  pub path : List ℕ
-  pub has : Has earlier path
-  pub begins : is_prefix q path ≡ true
-
-begun-by : (q : List ℕ) (earlier : List (List ℕ)) → list_any (is_prefix q) earlier ≡ true → IsBegunBy earlier q
-begun-by q [] e = absurd (cc)
-begun-by q (path ∷ earlier) e = go (is_prefix q path) refl (λ more. begun-by q earlier more)
-  where
-    go : (x : Bool) → is_prefix q path ≡ x → (list_any (is_prefix q) earlier ≡ true → IsBegunBy earlier q) → IsBegunBy (path ∷ earlier) q
-    go true is rest = record { path = path; has = inl refl; begins = is }
-    go false is rest = let b = rest (rw is at e) in record { path = b.path; has = inr b.has; begins = b.begins }
-
-by-begun : (q : List ℕ) (earlier : List (List ℕ)) (path : List ℕ) → Has earlier path → is_prefix q path ≡ true → list_any (is_prefix q) earlier ≡ true
-by-begun q [] path has begins = absurd has
-by-begun q (first ∷ earlier) path (inl e) begins = let here : is_prefix q first ≡ true = subst (λ p. is_prefix q p ≡ true) (sym e) begins in rw here refl
-by-begun q (first ∷ earlier) path (inr more) begins = go (is_prefix q first) refl (by-begun q earlier path more begins)
-  where
-    go : (x : Bool) → is_prefix q first ≡ x → list_any (is_prefix q) earlier ≡ true → list_any (is_prefix q) (first ∷ earlier) ≡ true
-    go true is rest = rw is refl
-    go false is rest = rw is rest
-
 -- the fronts of one path, from some lengths on
 numbered : (start count n : ℕ) (path q : List ℕ) → Has (map (λ k. take k path) (range_with_len start count)) q → (k : ℕ) × (start ≤ k) × (k < start + count) × (q ≡ take k path)
 numbered start zero n path q has = absurd has

@@ -88,9 +88,6 @@ one_run P run is one r has = go (subst (λ (rs : List Run). Has rs r) one has)
     go (inl e) = subst P e is
     go (inr none) = absurd none
 
-pub has-one : {runs : List Run} → (run : Run) → runs ≡ run ∷ [] → Has runs run
-has-one run one = subst (λ (rs : List Run). Has rs run) (sym one) (inl refl)
-
 pub has-first : (runs : List Run) (run : Run) → Some run ≡ slice_get runs 0 → Has runs run
 has-first [] run is = absurd (cc)
 has-first (first ∷ runs) run is = inl (cc)

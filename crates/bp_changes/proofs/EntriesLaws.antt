@@ -92,14 +92,6 @@ module _ (old new : Image) (same : SameDirectories old new) where
       let small : r < entry_count old u = slot_back u r was directory low in
       was_entry old new u r was kind small (same.inumber u r was kind small) (λ n. same.name u r (inumber_at old u r) was n)
 
--- where the bytes of files change
-pub files_keep_entries : (old new : Image) → IsWellFormed old → KeepsDirectories old new → KeepsEntries old new NoSlot
-files_keep_entries old new wf keeps = directories_keep_entries old new (directories-same old new wf keeps)
-
--- and where the image means the same
-pub meaning_keeps_entries : (old new : Image) → IsWellFormed old → SameMeaning old new → KeepsEntries old new NoSlot
-meaning_keeps_entries old new wf same = directories_keep_entries old new (meaning.view-same old new wf same).directories
-
 -- ---- a name more
 
 module _ (old new : Image) (i s j : ℕ) (gains : GainsEntry old new i s j) (u r : ℕ) (reached : IsReached old u) (now : IsDirectory new u) (low : r < entry_count new u) (apart : OneSlot i s u r → ⊥) where
@@ -199,26 +191,3 @@ carries_keeps_entries old new wf i s k r j carries u x reached now low apart =
 
 pub keeps_more : (old new : Image) (Fewer More : ℕ → ℕ → Type 0) → KeepsEntries old new Fewer → ((i slot : ℕ) → Fewer i slot → More i slot) → KeepsEntries old new More
 keeps_more old new Fewer More keeps more i slot reached now low apart = keeps i slot reached now low (λ touched. apart (more i slot touched))
-
-pub keeps_twice : (old mid new : Image) (First Second : ℕ → ℕ → Type 0) → KeepsEntries old mid First → KeepsEntries mid new Second → KeepsEntries old new (λ i slot. First i slot ⊎ Second i slot)
-keeps_twice old mid new First Second first second i slot reached now low apart = record {
-  reached = before.reached;
-  directory = before.directory;
-  in_size = before.in_size;
-  same = record {
-    inumber = between.same.inumber ∙ before.same.inumber;
-    name = λ some. between.same.name some ∙ before.same.name (λ none. some (between.same.inumber ∙ none));
-  };
-}
-  where
-    between : WasEntry mid new i slot
-    between = second i slot reached now low (λ touched. apart (inr touched))
-
-    before : WasEntry old mid i slot
-    before = first i slot between.reached between.directory between.in_size (λ touched. apart (inl touched))
-
--- a change behind what nobody sees
-pub keeps_over : (old mid new : Image) (Touched : ℕ → ℕ → Type 0) → IsWellFormed old → SameMeaning old mid → KeepsEntries mid new Touched → KeepsEntries old new Touched
-keeps_over old mid new Touched wf same keeps =
-    keeps_more old new (λ i slot. NoSlot i slot ⊎ Touched i slot) Touched (keeps_twice old mid new NoSlot Touched (meaning_keeps_entries old mid wf same) keeps)
-    (λ i slot at. elim at [ inl never ↦ absurd never | inr touched ↦ touched ])

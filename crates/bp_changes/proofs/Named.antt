@@ -360,14 +360,6 @@ module _ (old new : Image) (wf : IsWellFormed old) (i s k r j : ℕ) (can : CanM
       (λ e n. elim (moved_back l e n) [ inl fresh ↦ absurd (other fresh.0) | inr before ↦ before.0 ])
       (λ e n. moved_names l e n (λ same. other (at_source l e n same)) (λ same. apart (subst (IsNamed old l) same n)))
 
-  -- the entry was empty
-  pub moved_counts : gone ≡ 0 → AreCounts new counts
-  moved_counts none = record { each = λ l low. at l low (cases_eq l j) }
-    where
-      at : (l : ℕ) → l < length counts → (l ≡ j) ⊎ (l ≡ j → ⊥) → HasNames new l (slice_index counts l)
-      at l low (inl same) = subst (λ n. HasNames new n (slice_index counts n)) (sym same) (mine (subst (λ n. n < length counts) same low))
-      at l low (inr other) = others l low other (λ n. n.names.not_empty (at_target l (k, r) n refl ∙ none))
-
   -- what it named has a name less
   pub replaced_counts : gone ≢ 0 → gone < length counts → (rest : ℕ) → slice_index counts gone ≡ rest + 1 → AreCounts new (set counts gone rest)
   replaced_counts some small rest is = record { each = λ l low. at l (rw (length-set counts gone rest) at low) (cases_eq l gone) (cases_eq l j) }

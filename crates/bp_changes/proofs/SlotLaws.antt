@@ -47,14 +47,6 @@ adds_keeps old new wf i s j adds = gains_keep old new wf i s j (adds_gain old ne
 pub links_keeps : (old new : Image) → IsWellFormed old → (i s j : ℕ) → LinksName old new i s j → KeepsSlots old new
 links_keeps old new wf i s j links = gains_keep old new wf i s j (links_gain old new i s j links) (links_takes old new wf i s j links)
 
--- the bytes of files
-pub files_keep : (old new : Image) → IsWellFormed old → KeepsDirectories old new → KeepsSlots old new
-files_keep old new wf keeps name slot of =
-    let was : IsEntryFor old name slot = entry_of_slot old name slot of in
-    stays old new (directories.well_formed-same old new wf keeps) name slot was (directories.reached-on old new wf keeps name.0 of.reached)
-    (directories.names-on old new wf keeps name.0 slot (inumber_at old name.0 slot) of.reached was.entry)
-    (directories.name-same old new wf keeps name.0 slot (inumber_at old name.0 slot) of.reached was.entry)
-
 -- One name fewer. What it names has no entry, so no directory with a name in it goes; other names of a file stay.
 pub removes_keeps : (old new : Image) → IsWellFormed old → (i s j : ℕ) → CanUnlink old i s j → RemovesEntry old new i s → KeepsOther old new (i, name_at old i s)
 removes_keeps old new wf i s j can removes name slot differs of =

@@ -31,11 +31,3 @@ agrees-store old new place value harmless agrees = record {
     at_place : (p : ℕ) → ((p ≡ place) ⊎ (p ≡ place → ⊥)) → IsHarmless old p (word (set new place value) p)
     at_place p (inl here) = subst (λ q. IsHarmless old q (word (set new place value) q)) (sym here) (stored (cases_lt place (length new)))
     at_place p (inr other) = rw (get_or-set_other new place p value 0 other) (agrees.each p)
-
-abbrev pub AllHarmless : Image → List (ℕ × ℕ) → Type 0
-AllHarmless image [] = Unit {0}
-AllHarmless image (store ∷ stores) = IsHarmless image store.0 store.1 × AllHarmless image stores
-
-pub agrees-stores : (old new : Image) (stores : List (ℕ × ℕ)) → AllHarmless old stores → Agrees old new → Agrees old (after_stores new stores)
-agrees-stores old new [] harmless agrees = agrees
-agrees-stores old new (store ∷ stores) harmless agrees = agrees-stores old (set new store.0 store.1) stores harmless.1 (agrees-store old new store.0 store.1 harmless.0 agrees)

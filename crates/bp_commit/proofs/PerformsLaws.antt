@@ -45,13 +45,6 @@ stored_at P b (Store word value ∷ events) all (inr later) = stored_at P b even
 stored_at P b (Barrier ∷ events) all found = stored_at P b events all found
 stored_at P b (Mark ∷ events) all found = stored_at P b events all found
 
-pub stored_wider : (P Q : ℕ → Type 0) → ((word : ℕ) → P word → Q word) → (events : List Event) → StoresTo P events → StoresTo Q events
-stored_wider P Q wider [] found = elim found [ ]
-stored_wider P Q wider (Store word value ∷ events) (inl here) = inl (wider word here)
-stored_wider P Q wider (Store word value ∷ events) (inr later) = inr (stored_wider P Q wider events later)
-stored_wider P Q wider (Barrier ∷ events) found = stored_wider P Q wider events found
-stored_wider P Q wider (Mark ∷ events) found = stored_wider P Q wider events found
-
 -- an open word of a free block is one of a block that is taken
 pub open-free : (image : Image) (kept : ℕ → Bool) (taken : List ℕ) (word b : ℕ) → word / 512 ≡ b → IsFreeBlock image kept b → IsOpen image kept taken word → Has taken b
 open-free image kept taken word b here free (in_taken has) = subst (Has taken) here has

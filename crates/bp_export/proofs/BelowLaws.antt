@@ -18,16 +18,6 @@ use Rattle.bp_export.specs.declared.firsts.Firsts.{Firsts}
 use Rattle.bp_export.proofs.GoingLaws.{goes_before, goes_nothing, goes_nowhere, goes_stop, goes_then}
 use Rattle.bp_export.proofs.Places.{behind, below_node, calls-append, child_place, entries_all, inner_place, is_dir, next_directory, next_file, told_directory, told_file, whole}
 
--- another answer after the same
-pub tours_as : {S T : Type 0} (image : Image) (counts : List ℕ) (i : ℕ) (place : Place) (v : S) (w : T) (after : Firsts) (a b : List ℕ) (t u : SinkView) →
-    Tours image counts (itself image i) place (Ok v) after a b t u → Tours image counts (itself image i) place (Ok w) after a b t u
-tours_as image counts i place v w after a b t u tours = record { goes = tours.goes; remembers = tours.remembers }
-
-pub tours_stop : (S T : Type 0) (image : Image) (counts : List ℕ) (i : ℕ) (place : Place) (e d : Fault) → d ≡ e → (after : Firsts) (a b : List ℕ) (t u : SinkView) →
-    Tours {T = S} image counts (itself image i) place (Err e) after a b t u → Tours {T = T} image counts (itself image i) place (Err d) after a b t u
-tours_stop S T image counts i place e d same after a b t u tours =
-    subst (λ (fault : Fault). Tours {T = T} image counts (itself image i) place (Err fault) after a b t u) (sym same) (record { goes = goes_stop S T e _ a b t u tours.goes; remembers = tt })
-
 module _ (image : Image) (counts : List ℕ) (i : ℕ) (text : List ℕ) (before : Firsts) (place : Place) (stands : WalkStandsAt image counts inside i text before place)
     (a : List ℕ) (t : SinkView) where
   abbrev calls : List Entry → List Call

@@ -19,10 +19,6 @@ lines-append xs ys = flat_map-append _ xs ys
 pub goes_nothing : {T : Type 0} (v : T) (a : List ℕ) (t : SinkView) → Goes [] (Ok v) a a t t
 goes_nothing v a t = (passes_nothing a t.taken, refl)
 
--- what is answered besides is of no matter
-pub goes_as : {S T : Type 0} (v : S) (w : T) (xs : List Call) (a b : List ℕ) (t u : SinkView) → Goes xs (Ok v) a b t u → Goes xs (Ok w) a b t u
-goes_as v w xs a b t u goes = goes
-
 -- memory was out before a line was told
 pub goes_nowhere : (T : Type 0) (e : Fault) → e ≡ Memory → (xs : List Call) (a : List ℕ) (t : SinkView) → Goes {T = T} xs (Err e) a a t t
 goes_nowhere T e is xs a t =

@@ -143,9 +143,6 @@ module _ (image : Image) (counts : List ℕ) (i : ℕ) (text : List ℕ) (before
     pub child_found : lookup image child ≡ Some j
     child_found = lookup_from-append image 1 place.path name ∙ ap (option_and_then (λ u. lookup_in image u name)) stands.found ∙ finds
 
-    pub child_reached : IsReached image j
-    child_reached = lookup_from-reached image 1 j child root_directory child_found
-
     pub child_text : text ++ 47 ∷ name ≡ path_text child
     child_text = ap (λ l. l ++ 47 ∷ name) stands.spelled ∙ sym (text_further place.path name)
 

@@ -94,62 +94,13 @@ pub record IsMidway (other now used : Set) (word : ℕ) : Type 0 where
   pub each : (i : ℕ) → i / 64 < word → i < length other → has now i ≡ not (has other i)
   pub told : (at : ℕ) → at < word → TellsEmpty now at (not (has used at))
 
-pub midway_none : (other now used : Set) → length other ≡ length now → length used ≡ (length now + 63) / 64 → IsMidway other now used 0
-midway_none other now used room words = record {
-  room = sym room;
-  words = omega (arith, words, room);
-  each = λ i low. absurd (omega (arith, low));
-  told = λ at low. absurd (omega (arith, low));
-}
-
-tells_kept : (old new : Set) (word : ℕ) (b : Bool) → ((i : ℕ) → i / 64 ≡ word → has new i ≡ has old i) → TellsEmpty old word b → TellsEmpty new word b
-tells_kept old new word true same tells = λ i here. same i here ∙ tells i here
-tells_kept old new word false same tells = (tells.0, tells.1, same tells.0 tells.1 ∙ tells.2)
-
 twice : (b : Bool) → not (not b) ≡ b
 twice true = refl
 twice false = refl
 
-pub midway_more : (other old new used : Set) (word : ℕ) (b : Bool) → IsMidway other old used word → word < length used → ComplementsWord other old new word → TellsEmpty new word b → IsMidway other new (set used word (not b)) (word + 1)
-midway_more other old new used word b midway low change tells = record {
-  room = change.room ∙ midway.room;
-  words = length-set used word (not b) ∙ midway.words;
-  each = λ i before within. elim (cases_eq (i / 64) word) [
-    | inl here ↦ change.inside i (omega (arith, within, midway.room)) here
-    | inr there ↦ change.others i there ∙ midway.each i (omega (arith, before, there)) within
-  ];
-  told = λ at before. elim (cases_eq at word) [
-    | inl here ↦
-        let mark : not (has (set used word (not b)) at) ≡ b =
-        ap (λ j. not (has (set used word (not b)) j)) here ∙ ap not (get_or-set_same used word (not b) false low) ∙ twice b in
-        subst (λ c. TellsEmpty new at c) (sym mark) (subst (λ j. TellsEmpty new j b) (sym here) tells)
-    | inr there ↦
-        let mark : has (set used word (not b)) at ≡ has used at = get_or-set_other used word at (not b) false there in
-        subst (λ c. TellsEmpty new at (not c)) (sym mark)
-        (tells_kept old new at (not (has used at)) (λ i here. change.others i (λ same. there (sym here ∙ same))) (midway.told at (omega (arith, before, there))))
-  ];
-}
-
-pub midway_complement : (other new used : Set) (word : ℕ) → IsMidway other new used word → length used ≤ word → IsComplement other new
-midway_complement other new used word midway all = record {
-  room = midway.room;
-  each = λ i low. midway.each i (omega (arith, low, all, midway.words)) low;
-}
-
 in_use : (s : Set) (word i : ℕ) (b : Bool) → TellsEmpty s word (not b) → i / 64 ≡ word → has s i ≡ true → b ≡ true
 in_use s word i true tells here there = refl
 in_use s word i false tells here there = absurd (cc (there, tells i here))
-
-pub midway_summary : (other new used : Set) (word : ℕ) → IsMidway other new used word → length used ≤ word → IsSummary new used
-midway_summary other new used word midway all = record {
-  room = omega (arith, midway.words, midway.room);
-  all = λ i there.
-      let low = has_low new i there in
-      in_use new (i / 64) i (has used (i / 64)) (midway.told (i / 64) (omega (arith, low, all, midway.words, midway.room))) refl there;
-  some = λ at there.
-      let low = has_low used at there in
-      subst (λ b. TellsEmpty new at (not b)) there (midway.told at (omega (arith, low, all)));
-}
 
 -- ---- how many
 

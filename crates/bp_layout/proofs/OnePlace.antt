@@ -127,11 +127,3 @@ above_pointer image _ _ k _ _ _ _ some found live followed (inode_above {i = i})
       followed = subst (λ (x : ℕ). IsFollowed image (root_of image 0) (size_of image 0) (height_of (root_of image 0)) x) (same_row i) (inode_followed image i found).1;
       at = refl;
     }
-
--- Why "another pointer" is another place: where a size is above its tree's capacity, the root word is live under two numbers, so told by numbers it would name its block twice.
-pub two_numbers : (image : Image) (t : ℕ) → IsFound image t → covered (suc (height_of (root_of image t))) < size_of image t →
-    IsPointer image t 0 0 (pointer_place image t 0 0) × IsPointer image t 0 1 (pointer_place image t 0 0)
-two_numbers image t found large = (
-  record { found = found; live = record { level = height_of (root_of image t); height = omega arith; live = omega (arith, large) }; followed = tt; at = refl },
-  record { found = found; live = record { level = height_of (root_of image t); height = omega arith; live = omega (arith, large) }; followed = tt; at = refl },
-)

@@ -22,12 +22,6 @@ none_at image (path ∷ paths) = rw (with_false (is_there_now image path)) (none
 pub thawed-none : (image : Image) (change : Change) → thawed image none_kept change ≡ []
 thawed-none image change = none_at image (fronts_of [] (targets image change))
 
-pub thawed_on-none : (image : Image) (paths : List WordPath) → thawed_on image none_kept paths ≡ []
-thawed_on-none image paths = none_at image (fronts_of [] paths)
-
-pub loose-none : (image : Image) (shortest : ℕ) (path : WordPath) → IsLoose image none_kept shortest path
-loose-none image shortest path = none_at image (prefixes_from shortest path)
-
 pub full_need-none : (image : Image) (change : Change) → full_need image none_kept change ≡ need image change
 full_need-none image change = let none : length (thawed image none_kept change) ≡ 0 = ap length (thawed-none image change) in omega (arith, none)
 

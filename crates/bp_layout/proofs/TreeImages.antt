@@ -41,12 +41,6 @@ snapshot-formatted image formatted = record {
   counted = snapshot-word image 1 (λ e. omega (arith, e)) (λ e. omega (arith, e)) ∙ formatted.counted ∙ ap (λ n. n / 512) (sym (length-snapshot image));
 }
 
-pub snapshot-slot : (image : Image) (block slot : ℕ) → slot_word (snapshot_of image) block slot ≡ slot_word image block slot
-snapshot-slot image zero slot = refl
-snapshot-slot image (suc b) slot = snapshot-word image (512 * suc b + slot) (λ e. omega (arith, e)) (λ e. omega (arith, e))
-
--- so readers that are handed a root word need not know whose it is
-pub snapshot-tree_word : (image : Image) (root depth index : ℕ) → tree_word (snapshot_of image) root depth index ≡ tree_word image root depth index
 unfolding tree_word
 snapshot-tree_word image root zero index = refl
 snapshot-tree_word image root (suc depth) index =

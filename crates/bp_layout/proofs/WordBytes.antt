@@ -14,17 +14,3 @@ to_le-byte n (suc (suc (suc (suc (suc zero))))) low = refl
 to_le-byte n (suc (suc (suc (suc (suc (suc zero)))))) low = refl
 to_le-byte n (suc (suc (suc (suc (suc (suc (suc zero))))))) low = refl
 to_le-byte n (suc (suc (suc (suc (suc (suc (suc (suc c)))))))) low = absurd (omega (arith, low))
-
-pub from_le-byte : (raw : List ℕ) (n c : ℕ) → length raw ≡ 8 → ((i : ℕ) → get_or raw i 0 < 256) → n ≡ from_le_bytes w64 raw → c < 8 → byte_of n c ≡ get_or raw c 0
-from_le-byte raw n c eight small is low = sym (to_le-byte n c low) ∙ ap (λ bs. get_or bs c 0) (le_bytes_8 raw n eight small is)
-
-pub to_le-small : (n i : ℕ) → get_or (to_le_bytes w64 n) i 0 < 256
-to_le-small n zero = omega arith
-to_le-small n (suc zero) = omega arith
-to_le-small n (suc (suc zero)) = omega arith
-to_le-small n (suc (suc (suc zero))) = omega arith
-to_le-small n (suc (suc (suc (suc zero)))) = omega arith
-to_le-small n (suc (suc (suc (suc (suc zero))))) = omega arith
-to_le-small n (suc (suc (suc (suc (suc (suc zero)))))) = omega arith
-to_le-small n (suc (suc (suc (suc (suc (suc (suc zero))))))) = omega arith
-to_le-small n (suc (suc (suc (suc (suc (suc (suc (suc i)))))))) = omega arith

@@ -100,20 +100,3 @@ first_before tree is front e after are = ap (λ qs. own (find same qs)) keys_are
     go : (o : Option Path) → find same (paths front) ≡ o → own (find same (paths front ++ e.0 ∷ paths after)) ≡ own (find same (paths front))
     go None at = ap own (find_on same (paths front) (e.0 ∷ paths after) at) ∙ here (same e.0) refl ∙ ap own (sym at)
     go (Some q) at = ap own (find_soon same (paths front) (e.0 ∷ paths after) q at ∙ sym at)
-
--- It is there too.
-pub first_of_there : (tree : PathMap) (path : Path) (node : Node) → get tree.nodes path ≡ Some node → (other : Node) × (get tree.nodes (first_of tree path) ≡ Some other)
-first_of_there tree path node at = go (find (is_one tree.one path) (keys tree.nodes)) refl
-  where
-    stands : (q : Path) → has q (entries tree.nodes) ≡ true → (other : Node) × (get tree.nodes q ≡ Some other)
-    stands q there = found (entry.find path_cmp q (entries tree.nodes)) refl
-      where
-        found : (o : Option Node) → entry.find path_cmp q (entries tree.nodes) ≡ o → (other : Node) × (get tree.nodes q ≡ Some other)
-        found None e = absurd (true≢false (sym there ∙ ap is_some e))
-        found (Some other) e = (other, get-entries tree.nodes q ∙ e)
-
-    go : (o : Option Path) → find (is_one tree.one path) (keys tree.nodes) ≡ o → (other : Node) × (get tree.nodes (first_of tree path) ≡ Some other)
-    go None e = (node, ap (λ found. get tree.nodes (unwrap_or found path)) e ∙ at)
-    go (Some q) e =
-        let other = stands q (first_there (is_one tree.one path) (entries tree.nodes) q e).1 in
-        (other.0, ap (λ found. get tree.nodes (unwrap_or found path)) e ∙ other.1)

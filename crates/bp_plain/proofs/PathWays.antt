@@ -158,18 +158,3 @@ insert_keeps_way nodes path node way p name rest cut =
 
 pub get_inserted : (nodes : Nodes) (path : Path) (node : Node) → get (insert nodes path node) path ≡ Some node
 get_inserted nodes path node = get-insert path_cmp-IsTotalOrder nodes path node path ∙ ap (λ r. cond (is_eq r) (Some node) (get nodes path)) (tied_itself path_cmp-IsTotalOrder path)
-
--- the node that is put last stays
-pub insert_twice : (nodes : Nodes) (path : Path) (one two : Node) → insert (insert nodes path one) path two ≡ insert nodes path two
-insert_twice nodes path one two = same_map path_cmp-IsTotalOrder path_cmp-IsAntisymmetric _ _ same
-  where
-    by : (b : Bool) (found : Option Node) → cond b (Some two) (cond b (Some one) found) ≡ cond b (Some two) found
-    by true found = refl
-    by false found = refl
-
-    same : (q : Path) → get (insert (insert nodes path one) path two) q ≡ get (insert nodes path two) q
-    same q =
-        get-insert path_cmp-IsTotalOrder (insert nodes path one) path two q
-        ∙ ap (cond (eq_by_cmp path_cmp q path) (Some two)) (get-insert path_cmp-IsTotalOrder nodes path one q)
-        ∙ by (eq_by_cmp path_cmp q path) (get nodes q)
-        ∙ sym (get-insert path_cmp-IsTotalOrder nodes path two q)

@@ -79,7 +79,7 @@ impl Reply {
         })
     }
 
-    /// The answer.
+    /// The answer of the last call that was made with it; at first that a call is done.
     pub fn answer(&self) -> Answer<'_>
         ensures seen { answer_seen result ≡ self.now.answer }
         ensures short { IsShortAnswer result }

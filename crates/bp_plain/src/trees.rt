@@ -46,7 +46,7 @@ impl Model for Plain {
 }
 
 impl Plain {
-    /// The root directory alone, in a version.
+    /// The root directory alone, in a version. Fails only for want of memory.
     pub fn of(alloc: Global, version: Version) -> Result<Plain, AllocError>
         ensures { IfOk result (λ tree. tree ≡ empty_tree version) }
     {

@@ -174,9 +174,6 @@ refusal_uncounted old why high = record {
 
 -- ---- a storm
 
-storm_adds_no_refusal : (count total : ℕ) (f : ℕ → ℕ) → counted (kept_of count total) f numbers ≡ map f numbers
-storm_adds_no_refusal count total f = refl
-
 pub storm_counted : (old : Summary) (c n : ℕ) → c ≤ log_events → n ≤ log_events → CountsReply old (kept_of c n) (summary old.ok old.refused (old.crashes + 1) (old.kept + c) (old.of + n))
 storm_counted old c n few all = record {
   sums = λ replies was.

@@ -9,7 +9,7 @@ ghost use Rattle.bp_play.specs.Turning.{IsSmall, IsSmallTurn, bytes_by, call_by,
 ghost use Rattle.bp_script.specs.Commands.Command.{file_call, storm};
 
 use crate::summary::Summary;
-use crate::turning::{PlayCall, Turn, draw_turn};
+use crate::turning::{LENGTHS, PlayCall, Turn, draw_turn};
 use bp_limits::LOG_EVENTS;
 use bp_plain::{Call, Reply};
 use bp_replay::{Generator, storm};
@@ -20,7 +20,7 @@ use pm_steps::Backs;
 use std::alloc::{AllocError, Global};
 
 /// The most bytes that a turn writes.
-const MOST_BYTES: usize = 9_000;
+const MOST_BYTES: usize = LENGTHS as usize;
 
 /// The memory of a play. It takes no other.
 #[derive(Drop)]

@@ -11,6 +11,15 @@ use crate::paths::PlayPath;
 use crate::sort::{Sort, sort_by};
 use bp_replay::Generator;
 
+/// Offsets, in bytes, are drawn below it.
+const OFFSETS: u32 = 70_000;
+
+/// How many bytes are read is drawn below it, and one less than how many are written.
+pub(crate) const LENGTHS: u32 = 9_000;
+
+/// Sizes to which files are cut or lengthened, in bytes, are drawn below it.
+const SIZES: u32 = 100_000;
+
 /// A call of a play.
 #[derive(Clone, Copy)]
 pub(crate) enum PlayCall {
@@ -77,8 +86,8 @@ fn draw_read(generator: &mut Generator) -> Turn
     ensures { IsDrawn (draw_of Read generator.old.state) result generator.new.state }
 {
     let path = file(generator);
-    let off = u64::from(below(generator, 70_000));
-    let len = below(generator, 9_000) as usize;
+    let off = u64::from(below(generator, OFFSETS));
+    let len = below(generator, LENGTHS) as usize;
     Turn::Call(PlayCall::Read { path, off, len })
 }
 
@@ -86,8 +95,8 @@ fn draw_write(generator: &mut Generator) -> Turn
     ensures { IsDrawn (draw_of Write generator.old.state) result generator.new.state }
 {
     let path = file(generator);
-    let off = u64::from(below(generator, 70_000));
-    let len = 1 + below(generator, 9_000) as usize;
+    let off = u64::from(below(generator, OFFSETS));
+    let len = 1 + below(generator, LENGTHS) as usize;
     let byte = below(generator, 256) as u8;
     Turn::Call(PlayCall::Write {
         path,
@@ -101,7 +110,7 @@ fn draw_truncate(generator: &mut Generator) -> Turn
     ensures { IsDrawn (draw_of Truncate generator.old.state) result generator.new.state }
 {
     let path = file(generator);
-    let size = u64::from(below(generator, 100_000));
+    let size = u64::from(below(generator, SIZES));
     Turn::Call(PlayCall::Truncate { path, size })
 }
 

@@ -168,9 +168,3 @@ dropped_at events moment i event low is = (let next : suc i ≡ i + 1 = omega ar
     at (first ∷ events) zero i low is = absurd (omega arith)
     at (first ∷ events) (suc moment) zero low is = let one : first ≡ event = cc in ap (λ e. e ∷ take moment events) one
     at (first ∷ events) (suc moment) (suc i) low is = at events moment i (omega arith) is
-
-pub dropped_all : (events : List Event) (moment : ℕ) → drop moment (take moment events) ≡ []
-dropped_all [] zero = refl
-dropped_all [] (suc moment) = refl
-dropped_all (event ∷ events) zero = refl
-dropped_all (event ∷ events) (suc moment) = dropped_all events moment

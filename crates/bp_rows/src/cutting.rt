@@ -228,11 +228,24 @@ impl<'a> Cuts<'a> {
     fn cut_at(&mut self, moment: usize, report: &mut String) -> Result<bool, AllocError> {
         let barriers = barriers_of(self.events.get(..moment).unwrap_or(&[]));
         for epoch in 0..barriers.saturating_add(1) {
-            for mask in MASKS {
-                self.choose(moment, epoch, mask);
-                if !self.cut(report)? {
-                    return Ok(false);
-                }
+            if !self.cut_in(moment, epoch, report)? {
+                return Ok(false);
+            }
+        }
+        Ok(true)
+    }
+
+    /// Tries the cuts at a moment in an epoch. False is the answer where one is wrong.
+    fn cut_in(
+        &mut self,
+        moment: usize,
+        epoch: usize,
+        report: &mut String,
+    ) -> Result<bool, AllocError> {
+        for mask in MASKS {
+            self.choose(moment, epoch, mask);
+            if !self.cut(report)? {
+                return Ok(false);
             }
         }
         Ok(true)

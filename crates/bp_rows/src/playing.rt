@@ -12,6 +12,7 @@ const ROOM: usize = 4_194_304;
 /// What a run leaves.
 #[derive(Drop)]
 pub struct Ran {
+    /// The exit status.
     pub status: u8,
     /// What the sink took.
     pub told: Vec<u8>,

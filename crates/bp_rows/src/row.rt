@@ -16,8 +16,11 @@ const PIECE: usize = 65_536;
 /// The numbers of the calls that fail, device by device.
 #[derive(Drop)]
 pub struct Failing {
+    /// Those of the files.
     pub files: Vec<u64>,
+    /// Those of the sink.
     pub sink: Vec<u64>,
+    /// Those of the source.
     pub source: Vec<u64>,
 }
 
@@ -51,11 +54,13 @@ pub struct Row {
     pub file: Option<Vec<u8>>,
     /// What is run, where a line says it.
     words: Option<String>,
+    /// The script, with its copies spelled out.
     pub script: String,
     /// What is asked behind each cut of the power.
     pub asks: String,
     /// The most bytes of a piece of the source.
     pub piece: usize,
+    /// Which calls of the devices fail.
     pub failing: Failing,
 }
 

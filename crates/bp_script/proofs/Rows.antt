@@ -80,10 +80,6 @@ either_true : (t : Bool) → (t || true) ≡ true
 either_true true = refl
 either_true false = refl
 
-pub second_empty : (verb word : List ℕ) (more : List (List ℕ)) → length word ≡ 0 → asked_by (verb ∷ word ∷ more) ≡ bad_syntax
-second_empty verb (w ∷ word) more none = absurd (omega (arith, none))
-second_empty verb [] more none = rw (either_true (is_empty_word verb)) refl
-
 -- ---- a fourth word with a space: there are more words, and it is neither a number nor bytes
 
 number_with_space : (word : List ℕ) (i : ℕ) → i < length word → slice_index word i ≡ 32 → number_spelled word ≡ None

@@ -36,7 +36,7 @@ pub struct Decoded {
 }
 
 impl Decoded {
-    /// Memory for lines of at most `room` bytes, and of less than 4 GiB.
+    /// Memory for lines of at most `room` bytes, and of less than 4 GiB. Fails only for want of memory.
     pub fn new(alloc: Global, room: usize) -> Result<Decoded, AllocError>
         ensures { IfOk result (λ decoded. decoded_room decoded ≡ min room most_room) }
     {

@@ -10,17 +10,8 @@ use Rattle.bp_tree.specs.Leaves.{HasNoLeafFrom, IsNextLeaf}
 use Rattle.bp_tree.proofs.Below.{HasBelow, below, null_below}
 use Rattle.bp_tree.proofs.NullLeaves.{leaf_in, live_back, live_out, low_in, power_some}
 
-pub none_in_nothing : (image : Image) (root size from : ℕ) → size ≡ 0 → HasNoLeafFrom image root size from
-none_in_nothing image root size from none leaf behind live = absurd (omega (arith, none, live))
-
 pub none_below_null : (image : Image) (root size from : ℕ) → block_of root ≡ 0 → HasNoLeafFrom image root size from
 none_below_null image root size from null leaf behind live = null_below image root null (height_of root) leaf
-
--- a tree that is a leaf
-only_leaf : (image : Image) (root size : ℕ) → IsSound image root size → height_of root ≡ 0 → (leaf : ℕ) → 4096 * leaf < size → leaf ≡ 0
-only_leaf image root size sound flat leaf live =
-    let fits : size ≤ span 0 = subst (λ h. size ≤ span h) flat sound.fits in
-    omega (arith, live, fits)
 
 pub leaf_itself : (image : Image) (root size from : ℕ) → height_of root ≡ 0 → block_of root ≢ 0 → 0 < size → from ≡ 0 → IsNextLeaf image root size from 0
 leaf_itself image root size from flat present some first = record {
@@ -30,33 +21,9 @@ leaf_itself image root size from flat present some first = record {
   first = λ other behind low. absurd (omega (arith, low));
 }
 
-pub none_behind_leaf : (image : Image) (root size from : ℕ) → IsSound image root size → height_of root ≡ 0 → from ≢ 0 → HasNoLeafFrom image root size from
-none_behind_leaf image root size from sound flat later leaf behind live =
-    let only = only_leaf image root size sound flat leaf live in
-    absurd (later (omega (arith, only, behind)))
-
 -- each leaf from one on that is below the slots before one is null
 abbrev pub NoLeafBefore : Image → ℕ → ℕ → ℕ → ℕ → ℕ → Type 0
 NoLeafBefore image root size level from slot = (leaf : ℕ) → from ≤ leaf → leaf / 512 ^ level < slot → 4096 * leaf < size → node image root (height_of root) leaf ≡ 0
-
-div_mono : (a b q : ℕ) → 0 < q → a ≤ b → a / q ≤ b / q
-div_mono a b q some low =
-    let floor : a / q * q ≤ a = div-mul-le_self a q in
-    let ceiling : b < b / q * q + q = lt-div-mul-add {a = b} {b = q} some in
-    go (cases_lt (b / q) (a / q)) floor ceiling
-  where
-    go : (b / q < a / q) ⊎ (a / q ≤ b / q) → a / q * q ≤ a → b < b / q * q + q → a / q ≤ b / q
-    go (inr fine) floor ceiling = fine
-    go (inl under) floor ceiling =
-        let more : (b / q + 1) * q ≤ a / q * q = mul-le-mul_right q (omega (arith, under)) in
-        let whole : (b / q + 1) * q ≡ b / q * q + q = omega arith in
-        absurd (omega (arith, low, floor, ceiling, more, whole))
-
-pub none_before_first : (image : Image) (root size level from q : ℕ) → q ≡ 512 ^ level → NoLeafBefore image root size level from (from / q)
-none_before_first image root size level from q is leaf behind low live =
-    let same : from / q ≡ from / 512 ^ level = ap (λ n. from / n) is in
-    let mono = div_mono from leaf (512 ^ level) (power_some level) behind in
-    absurd (omega (arith, low, same, mono))
 
 module _ (image : Image) (root size level slot from : ℕ) (has : HasBelow image root size level slot) (sub part rest : ℕ) (root_is : sub ≡ child image (block_of root) level slot) (size_is : part ≡ piece size level slot)
     (rest_is : rest ≡ from - slot * 512 ^ level) (none : NoLeafBefore image root size level from slot) where

@@ -79,35 +79,3 @@ module _ (caches : Caches) (core word : ℕ) where
       let one : by ≡ owner = cc in
       let not : true ≡ false = sym (up_to_itself by) ∙ ap (λ (o : Owner). is_up_to by o.core o.epoch) one ∙ before.1 in
       cc
-
-  load_if : (test : Bool) (by owner : Owner) (other : ℕ) → eqb by.core core ≡ test → Each (Some by) → IsDirtyUnder (cond test caches (settled caches by)) other owner → line_at other ≡ line_at word → owner.core ≡ core
-  load_if true by owner other is each under line =
-      let same : Some by ≡ Some owner = each other owner under line in
-      let one : by ≡ owner = cc in
-      ap (λ (o : Owner). o.core) (sym one) ∙ eqb-true by.core core is
-  load_if false by owner other is each under line = absurd (gone_by by owner other each under line)
-
-  pub load_ready : (found : Option Owner) → Each found → (other : ℕ) (owner : Owner) → IsDirtyUnder (ready_to_load caches core found) other owner → line_at other ≡ line_at word → owner.core ≡ core
-  load_ready None each other owner under line = let nothing : None ≡ Some owner = each other owner under line in cc
-  load_ready (Some by) each other owner under line = load_if (eqb by.core core) by owner other refl each under line
-
-  abbrev now : Owner
-  now = record { core = core; epoch = core_barriers core caches.log }
-
-  store_if : (test : Bool) (by owner : Owner) (other : ℕ) → (eqb by.core core && leb (core_barriers core caches.log) by.epoch) ≡ test → by.epoch ≤ core_barriers by.core caches.log → Each (Some by) → IsDirtyUnder (cond test caches (settled caches by)) other owner → line_at other ≡ line_at word → owner ≡ now
-  store_if true by owner other is most each under line =
-      let same : Some by ≡ Some owner = each other owner under line in
-      let one : by ≡ owner = cc in
-      let parts = and_parts (eqb by.core core) (leb (core_barriers core caches.log) by.epoch) is in
-      let core_is : by.core ≡ core = eqb-true by.core core parts.0 in
-      let least = leb-true (core_barriers core caches.log) by.epoch parts.1 in
-      let same_most = ap (λ c. core_barriers c caches.log) core_is in
-      let epoch_is : by.epoch ≡ core_barriers core caches.log = omega arith in
-      let core_step : by ≡ record { core = core; epoch = by.epoch } = ap (λ (n : ℕ). let o : Owner = record { core = n; epoch = by.epoch } in o) core_is in
-      let epoch_step : record { core = core; epoch = by.epoch } ≡ now = ap (λ (n : ℕ). let o : Owner = record { core = core; epoch = n } in o) epoch_is in
-      sym one ∙ core_step ∙ epoch_step
-  store_if false by owner other is most each under line = absurd (gone_by by owner other each under line)
-
-  pub store_ready : (found : Option Owner) → IfSome found (λ owner. owner.epoch ≤ core_barriers owner.core caches.log) → Each found → (other : ℕ) (owner : Owner) → IsDirtyUnder (ready_to_store caches core (core_barriers core caches.log) found) other owner → line_at other ≡ line_at word → owner ≡ now
-  store_ready None most each other owner under line = let nothing : None ≡ Some owner = each other owner under line in cc
-  store_ready (Some by) most each other owner under line = store_if (eqb by.core core && leb (core_barriers core caches.log) by.epoch) by owner other refl most each under line

@@ -68,19 +68,6 @@ last_value-other log entry none now word = last_value-append now log (entry ∷ 
 pub last_value-stored : (log : List Entry) (core place value now word : ℕ) → last_value now (log ++ Store core place value ∷ []) word ≡ cond (eqb place word) value (last_value now log word)
 last_value-stored log core place value now word = last_value-append now log (Store core place value ∷ []) word
 
--- behind a store to the word nothing matters of what was before
-pub last_value-any : (log : List Entry) (place core word value one two : ℕ) → slice_get log place ≡ Some (Store core word value) → last_value one log word ≡ last_value two log word
-last_value-any [] place core word value one two is = cc
-last_value-any (entry ∷ log) zero core word value one two is =
-    let same : entry ≡ Store core word value = cc in
-    elim (eqb_tells word word) [
-      | inl hit ↦ rw (same, hit.0) refl
-      | inr miss ↦ absurd (miss.1 refl)
-    ]
-last_value-any (Load other at ∷ log) (suc place) core word value one two is = last_value-any log place core word value one two is
-last_value-any (Store other at its ∷ log) (suc place) core word value one two is = last_value-any log place core word value (cond (eqb at word) its one) (cond (eqb at word) its two) is
-last_value-any (Barrier other ∷ log) (suc place) core word value one two is = last_value-any log place core word value one two is
-
 pub core_barriers-most : (core : ℕ) (log : List Entry) → core_barriers core log ≤ length log
 core_barriers-most core [] = omega arith
 core_barriers-most core (Load other word ∷ log) = let most = core_barriers-most core log in omega arith

@@ -66,10 +66,6 @@ seen_under since log epochs word owner is = elim (cases_lt word (length since)) 
       cc
 ]
 
-pub suc_of : (n : ℕ) → n ≢ 0 → (m : ℕ) × (n ≡ suc m)
-suc_of zero differ = absurd (differ refl)
-suc_of (suc m) differ = (m, refl)
-
 pub first_owner_at : (owners : List (Option Owner)) (owner : Owner) → first_owner owners ≡ Some owner → (k : ℕ) × (slice_get owners k ≡ Some (Some owner))
 first_owner_at [] owner is = cc
 first_owner_at (None ∷ owners) owner is = let at = first_owner_at owners owner is in (suc at.0, at.1)

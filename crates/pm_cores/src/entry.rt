@@ -15,6 +15,8 @@ pub enum Entry {
 /// core's barriers before it.
 #[derive(Clone, Copy, Debug, PartialEq, Eq)]
 pub struct Owner {
+    /// The number of the core.
     pub core: u32,
+    /// The number of the epoch among those of the core.
     pub epoch: u32,
 }

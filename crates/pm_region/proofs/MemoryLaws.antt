@@ -73,14 +73,3 @@ module _ (words : List ℕ) (first : ℕ) where
   with_values-none =
       let here : first + 0 ≡ first = omega arith in
       rw here (take-append-drop first words)
-
-  pub length-with_values : (values : List ℕ) → first + length values ≤ length words → length (with_values words first values) ≡ length words
-  length-with_values values fits =
-      let behind = drop (first + length values) words in
-      omega (
-        arith,
-        length-append (take first words) (values ++ behind),
-        length-append values behind,
-        length-take-le first words (omega arith),
-        length-drop (first + length values) words,
-      )

@@ -13,9 +13,6 @@ within-none count events none = subst (AreWithin count) (sym none) tt
 pub within-append : (count : ℕ) (events more : List Event) → AreWithin count events → AreWithin count more → AreWithin count (events ++ more)
 within-append count = StoresMay-append (λ word value. word < count)
 
-pub within-store : (count word value : ℕ) → word < count → AreWithin count (Store word value ∷ [])
-within-store count word value low = (low, tt)
-
 -- a run of stores
 pub within-run : (count first : ℕ) (values : List ℕ) → first + length values ≤ count → AreWithin count (stores_from first values)
 within-run count first values fits = StoresMay-run (λ word value. word < count) first values (λ i low. omega arith)

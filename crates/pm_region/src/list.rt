@@ -8,9 +8,9 @@ use pm_epochs::{BadChoice, Choice, Event, EventKind, Kept, kept_calls};
 use std::alloc::{AllocError, Global};
 use std::marker::Model;
 
-/// A region in ordinary memory, for tests, simulations and files that are read whole. A drain, a crash and a look at a word of
-/// the past take time for the events of the log, and none for words that no event stores to. Each other call takes constant
-/// time.
+/// A region in ordinary memory, for tests, simulations and files that are read whole. A drain, a crash, a look at a word of the
+/// past and the questions about barriers take time for the events of the log, and such a look none for a word that no event
+/// stores to. A store of several words takes time for these. Each other call takes constant time.
 #[derive(Drop)]
 pub struct ListRegion {
     base: Vec<u64>,

@@ -16,7 +16,9 @@ pub const HEAD_WORDS: u32 = 8;
 
 /// What an event of a log is, and how many from it on, itself among them, are stores to words in a row: one where it is no store.
 pub struct Row {
+    /// What the event is.
     pub kind: EventKind,
+    /// How many events the row has.
     pub len: usize,
 }
 

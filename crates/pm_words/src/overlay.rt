@@ -11,6 +11,7 @@ use crate::{low_bytes, read_word};
 pub struct Overlay<'a> {
     /// The offset of the first one.
     pub from: u64,
+    /// They themselves, one behind the other.
     pub bytes: &'a [u8],
 }
 

@@ -1,11 +1,12 @@
 #!/usr/bin/env python3
 """Tells what each crate costs the gate from nothing: processor seconds of its proofs, of its tests and of its must-fail edits.
 
-    gate_price.py watch FILE     notes in FILE what the provers of this machine use while they run, until it is stopped
-    gate_price.py table FILE     prints what FILE has as a table for docs/gate.md
+    gate_price.py watch FILE [PID]   notes in FILE what the provers of this machine use while they run, until it is stopped; with the
+                                     process of a gate, only those that it started
+    gate_price.py table FILE         prints what FILE has as a table for docs/gate.md
 
-It looks at the processes twice a second and starts none, so it costs a gate nothing. Only a gate that has kept nothing tells the whole price, and only where
-no other check is at work: the first gate of a machine, say, or `rt ci --anew`. A process that ends between two looks is noted up to the first of them.
+It looks at the processes twice a second and starts none, so it costs a gate nothing. Only a gate that has kept nothing tells the whole price: the first one of
+a machine, say, or `rt ci --anew`. A process that ends between two looks is noted up to the first of them. With no PID, each check of the machine counts.
 """
 import collections
 import json
@@ -32,32 +33,47 @@ def kind_of(words, folder):
     return "tests" if "--test" in words else "proofs"
 
 
-def look():
-    """The provers that run now: by process and start, the crate, the part, and the processor seconds so far."""
+def status_of(pid):
+    """What /proc tells of a process behind its name: its parent is the second field."""
+    with open(f"/proc/{pid}/stat", encoding="ascii", errors="replace") as it:
+        return it.read().rpartition(")")[2].split()
+
+
+def is_below(pid, gate):
+    """Whether a process is one that the gate started, or that one of those did. With no gate, each is."""
+    while gate and pid != gate:
+        if pid in ("0", "1"):
+            return False
+        pid = status_of(pid)[1]
+    return True
+
+
+def look(gate):
+    """The provers of a gate that run now: by process and start, the crate, the part, and the processor seconds so far."""
     found = {}
     for pid in filter(str.isdigit, os.listdir("/proc")):
         try:
             with open(f"/proc/{pid}/cmdline", "rb") as it:
                 words = it.read().decode(errors="replace").split("\0")
             kind = kind_of(words, os.readlink(f"/proc/{pid}/cwd"))
-            with open(f"/proc/{pid}/stat", encoding="ascii", errors="replace") as it:
-                fields = it.read().rpartition(")")[2].split()
+            if not kind or "--crate-name" not in words or not is_below(pid, gate):
+                continue
+            fields = status_of(pid)
         except OSError:
             continue
-        if kind and "--crate-name" in words:
-            # (user and system time of the process, and not of its children, which are noted themselves)
-            seconds = sum(int(it) for it in fields[11:13]) / TICKS
-            found[f"{pid}.{fields[19]}"] = [words[words.index("--crate-name") + 1], kind, seconds]
+        # (user and system time of the process, and not of its children, which are noted themselves)
+        seconds = sum(int(it) for it in fields[11:13]) / TICKS
+        found[f"{pid}.{fields[19]}"] = [words[words.index("--crate-name") + 1], kind, seconds]
     return found
 
 
-def watch(file):
+def watch(file, gate=None):
     noted = {}
     if os.path.exists(file):
         with open(file, encoding="utf-8") as it:
             noted = json.load(it)
     while True:
-        noted.update(look())
+        noted.update(look(gate))
         with open(f"{file}.new", "w", encoding="utf-8") as it:
             json.dump(noted, it)
         os.replace(f"{file}.new", file)
@@ -93,10 +109,13 @@ def table(file):
 
 
 def main():
-    words = {"watch": watch, "table": table}
-    if len(sys.argv) != 3 or sys.argv[1] not in words:
-        sys.exit(__doc__)
-    words[sys.argv[1]](sys.argv[2])
+    match sys.argv[1:]:
+        case ["watch", file, *gate] if len(gate) < 2:
+            watch(file, *gate)
+        case ["table", file]:
+            table(file)
+        case _:
+            sys.exit(__doc__)
 
 
 main()

@@ -40,9 +40,3 @@ snapshot-formatted image formatted = record {
   marked = snapshot-word image 0 (λ e. omega (arith, e)) (λ e. omega (arith, e)) ∙ formatted.marked ∙ ap magic (sym (snapshot-version image));
   counted = snapshot-word image 1 (λ e. omega (arith, e)) (λ e. omega (arith, e)) ∙ formatted.counted ∙ ap (λ n. n / 512) (sym (length-snapshot image));
 }
-
-unfolding tree_word
-snapshot-tree_word image root zero index = refl
-snapshot-tree_word image root (suc depth) index =
-    snapshot-slot image (block_of (tree_word (snapshot_of image) root depth (index / 512))) (index % 512)
-    ∙ ap (λ p. slot_word image (block_of p) (index % 512)) (snapshot-tree_word image root depth (index / 512))

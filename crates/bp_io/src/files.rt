@@ -135,12 +135,14 @@ pub trait Files {
     ///
     /// # Errors
     ///
-    /// `Failed` only where the outside failed in this call.
+    /// `Failed` only where the outside failed in this call. What was not known to be flushed still is
+    /// not then.
     fn flush(&mut self) -> Result<(), Failed>
         requires attached { (name : List ℕ) × ((view self.old).is_attached name ≡ true) }
         requires may_write { (view self.old).may_write ≡ true }
         ensures contents { KeepsFiles (view self.old) (view self.new) }
         ensures attached { StaysAttached (view self.old) (view self.new) }
         ensures flushed { OnOk result ((view self.new).is_flushed ≡ true) }
+        ensures failed { OnErr result ((view self.new).is_flushed ≡ (view self.old).is_flushed) }
         ensures cause { HasCause (view self.old).faults (view self.new).faults result };
 }

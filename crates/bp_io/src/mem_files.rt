@@ -228,6 +228,7 @@ impl Files for MemFiles<'_> {
         ensures contents { KeepsFiles (mem_view self.old) (mem_view self.new) }
         ensures attached { StaysAttached (mem_view self.old) (mem_view self.new) }
         ensures flushed { OnOk result ((mem_view self.new).is_flushed ≡ true) }
+        ensures failed { OnErr result ((mem_view self.new).is_flushed ≡ (mem_view self.old).is_flushed) }
         ensures cause { HasCause (mem_view self.old).faults (mem_view self.new).faults result }
 
         // A call fails exactly where the plan says.

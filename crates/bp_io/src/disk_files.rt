@@ -118,6 +118,7 @@ impl<R: rt::Files<File = File> + Drop> DiskFiles<R> {
         ensures blocks { self.new.blocks ≡ length / block_size }
         ensures may_write { self.new.may_write ≡ may_change access }
         ensures flushed { makes access ≡ false → self.new.is_flushed ≡ self.old.is_flushed }
+        ensures flushed_before { self.new.is_flushed ≡ true → self.old.is_flushed ≡ true }
         ensures faults { self.new.faults.count ≡ self.old.faults.count }
     {
         // A file whose names cannot be made out is written in place.

@@ -39,7 +39,10 @@ pub trait Files {
             Becomes (λ bytes. bytes) ((view self.old).contents other) ((view self.new).contents other) }
         ensures made { (other : List ℕ) →
             StaysOrIsMade (makes access) ((view self.old).contents other) ((view self.new).contents other) }
+
+        // No attach makes a file flushed that was not known to be.
         ensures flushed { makes access ≡ false → (view self.new).is_flushed ≡ (view self.old).is_flushed }
+        ensures flushed_before { (view self.new).is_flushed ≡ true → (view self.old).is_flushed ≡ true }
         ensures cause { HasCause (view self.old).faults (view self.new).faults result };
 
     /// Reads as many blocks of the attached file as `into` has room for, from the block `first` on,

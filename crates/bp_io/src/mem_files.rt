@@ -94,7 +94,10 @@ impl Files for MemFiles<'_> {
             Becomes (λ bytes. bytes) (Some (mem_image self.old)) (Some (mem_image self.new)) }
         ensures made { (other : List ℕ) →
             StaysOrIsMade (makes access) (Some (mem_image self.old)) (Some (mem_image self.new)) }
+
+        // No attach makes a file flushed that was not known to be.
         ensures flushed { makes access ≡ false → (mem_view self.new).is_flushed ≡ (mem_view self.old).is_flushed }
+        ensures flushed_before { (mem_view self.new).is_flushed ≡ true → (mem_view self.old).is_flushed ≡ true }
         ensures cause { HasCause (mem_view self.old).faults (mem_view self.new).faults result }
 
         // A call fails exactly where the plan says, and changes no byte then.

@@ -1,4 +1,4 @@
-// What a file is attached for.
+//! What a file is attached for.
 
 /// What a file is attached for.
 #[derive(Clone, Copy, Debug, PartialEq, Eq)]

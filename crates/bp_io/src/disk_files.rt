@@ -1,4 +1,5 @@
-// Files on the disk. They tell no bytes.
+//! Files on the disk. They tell no bytes.
+
 ghost use Rattle.std.specs.Prelude.{◌≡◌, ◌/◌, List, ℕ, IfOk, None, true, false, is_some, if◌then◌else◌};
 ghost use Rattle.bp_io.specs.Files.{makes, may_change};
 ghost use Rattle.bp_limits.specs.Limits.{block_size};

@@ -1,4 +1,5 @@
-// A file in memory that has every name and never fails.
+//! A file in memory that has every name and never fails.
+
 ghost use Rattle.std.specs.Prelude.{◌≡◌, false, true, IfOk};
 
 use crate::files::Files;

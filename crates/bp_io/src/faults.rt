@@ -1,4 +1,5 @@
-// Faults of the outside, and how they are counted.
+//! Faults of the outside, and how they are counted.
+
 ghost use Rattle.std.specs.Prelude.{◌≡◌, ◌≤◌, ◌↔◌, IsErr};
 ghost use Rattle.bp_io.specs.Causes.{HasCause, Rose};
 

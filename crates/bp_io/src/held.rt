@@ -1,4 +1,5 @@
-// What the blocks of a second file hold.
+//! What the blocks of a second file hold.
+
 ghost use Rattle.std.specs.Prelude.{◌≡◌, ◌<◌, ◌≤◌, ◌+◌, ◌^◌, IfSome, vec_len};
 
 use bp_limits::{BLOCK_SIZE, MAX_BLOCKS};

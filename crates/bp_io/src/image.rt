@@ -1,4 +1,5 @@
-// The bytes of a file in memory.
+//! The bytes of a file in memory.
+
 ghost use Rattle.std.specs.Prelude.{◌≡◌, ◌≤◌, ◌<◌, ◌+◌, ◌*◌, ◌/◌, ◌%◌, vec_capacity, length, IfOk};
 ghost use Rattle.bp_limits.specs.Limits.{block_size, max_blocks};
 ghost use Rattle.bp_io.specs.Files.{blocks_of, with_block, with_blocks, resized_file};

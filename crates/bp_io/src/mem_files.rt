@@ -1,4 +1,5 @@
-// A file in memory that has every name, or none until it is made, and of which chosen calls fail.
+//! A file in memory that has every name, or none until it is made, and of which chosen calls fail.
+
 ghost use Rattle.std.specs.Prelude.{◌<◌, ◌+◌, ◌/◌, ◌%◌, ◌⊎◌, List, ℕ, OnOk, OnErr, IfNone, ◌≡◌, ◌≤◌, Some, true, false, length, IfOk, IfSome};
 ghost use Rattle.std.specs.Option.{option_copied};
 ghost use Rattle.bp_io.specs.Plans.{new_plan, FollowsPlan};

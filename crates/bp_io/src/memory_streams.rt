@@ -1,4 +1,5 @@
-// Sources and sinks over memory.
+//! Sources and sinks over memory.
+
 ghost use Rattle.std.specs.Prelude.{[], IsErr, IfOk, OnErr, ◌≡◌, ◌≤◌, ◌<◌, ◌+◌, ◌-◌, ◌^◌, ◌↔◌, ◌⊎◌, min, length, vec_len, vec_capacity, Some, None};
 ghost use Rattle.std.specs.Io.{ReadsAtMost, WritesAtMost};
 ghost use Rattle.std.specs.Io.KnownBytes.{ReadConsumes, WriteAppends};

@@ -1,4 +1,4 @@
-// Opening a file on the disk, for one process at a time.
+//! Opening a file on the disk, for one process at a time.
 
 use crate::Access;
 use std::fs::{File, OpenOptions, TryLockError};

@@ -1,4 +1,5 @@
-// How what is written comes to a file on the disk.
+//! How what is written comes to a file on the disk.
+
 ghost use Rattle.std.specs.Prelude.{◌≡◌, ◌<◌, ◌+◌, ◌^◌, is_some, length};
 
 use crate::Access;

@@ -1,4 +1,5 @@
-// A second file, which takes the place of the first once it is whole.
+//! A second file, which takes the place of the first once it is whole.
+
 ghost use Rattle.std.specs.Prelude.{◌<◌, ◌≤◌, ◌+◌, ◌^◌, length};
 
 use crate::Access;

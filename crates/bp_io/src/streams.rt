@@ -1,4 +1,5 @@
-// Where bytes come from, and where they go.
+//! Where bytes come from, and where they go.
+
 ghost use Rattle.std.specs.Io.{ReadsAtMost, WritesAtMost};
 ghost use Rattle.std.specs.Io.KnownBytes.{ReadConsumes, WriteAppends};
 ghost use Rattle.bp_io.specs.Causes.{HasCause};

@@ -1,4 +1,5 @@
-// Blocks of a file on the disk that wait to be written.
+//! Blocks of a file on the disk that wait to be written.
+
 ghost use Rattle.std.specs.Prelude.{◌≡◌, ◌<◌, ◌≤◌, ◌^◌, true, length, vec_len};
 
 use bp_limits::BLOCK_SIZE;

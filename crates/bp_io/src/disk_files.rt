@@ -8,7 +8,7 @@ use crate::faults::SystemFaults;
 use crate::opening::open;
 use crate::saving::Saver;
 use crate::second_file::Names;
-use crate::{Access, Failed, files};
+use crate::{Access, BLOCK, Failed, files};
 use bp_limits::BLOCK_SIZE;
 use std::alloc::{AllocError, Global};
 use std::fs::File;
@@ -203,7 +203,7 @@ impl<R: rt::Files<File = File> + Drop> files::Files for DiskFiles<R> {
         self.faults.or_fault(done)
     }
 
-    fn write_block(&mut self, i: u32, from: &[u8; 4096]) -> Result<(), Failed> {
+    fn write_block(&mut self, i: u32, from: &[u8; BLOCK]) -> Result<(), Failed> {
         self.is_flushed = false;
         let file = attached(&self.file);
         let done = self.saver.write_block(&self.runtime, file, i, from);

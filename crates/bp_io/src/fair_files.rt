@@ -4,7 +4,7 @@ ghost use Rattle.std.specs.Prelude.{◌≡◌, false, true, IfOk};
 
 use crate::files::Files;
 use crate::image::Image;
-use crate::{Access, Failed};
+use crate::{Access, BLOCK, Failed};
 use std::alloc::{AllocError, Global};
 
 /// A file in memory that has every name, and never fails: whatever is attached is this file. It has
@@ -70,7 +70,7 @@ impl Files for FairFiles {
         Ok(())
     }
 
-    fn write_block(&mut self, i: u32, from: &[u8; 4096]) -> Result<(), Failed> {
+    fn write_block(&mut self, i: u32, from: &[u8; BLOCK]) -> Result<(), Failed> {
         self.is_flushed = false;
         self.image.write_block(i, from);
         Ok(())

@@ -7,6 +7,9 @@ ghost use Rattle.bp_io.specs.Files.{View, StaysAttached, StaysOrIsMade, Becomes,
 use crate::{Access, Failed};
 use bp_limits::{BLOCK_SIZE, MAX_BLOCKS};
 
+/// The bytes of a block, as a length.
+pub const BLOCK: usize = BLOCK_SIZE as usize;
+
 /// Files of blocks of 4,096 bytes, of which one at a time is attached.
 ///
 /// What an implementation does not tell of a file stays untold. A call fails only where the outside
@@ -65,7 +68,7 @@ pub trait Files {
     ///
     /// `Failed` only where the outside failed in this call. The block is as before then, or the one
     /// that was to be written.
-    fn write_block(&mut self, i: u32, from: &[u8; 4096]) -> Result<(), Failed>
+    fn write_block(&mut self, i: u32, from: &[u8; BLOCK]) -> Result<(), Failed>
         requires inside { i < (view self.old).blocks }
         requires may_write { (view self.old).may_write ≡ true }
         ensures written { OnOk result (ChangesBytes (with_block i from.now) (view self.old) (view self.new)) }

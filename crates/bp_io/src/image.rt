@@ -4,11 +4,9 @@ ghost use Rattle.std.specs.Prelude.{◌≡◌, ◌≤◌, ◌<◌, ◌+◌, ◌*
 ghost use Rattle.bp_limits.specs.Limits.{block_size, max_blocks};
 ghost use Rattle.bp_io.specs.Files.{blocks_of, with_block, with_blocks, resized_file};
 
-use bp_limits::{BLOCK_SIZE, MAX_BLOCKS};
+use crate::BLOCK;
+use bp_limits::MAX_BLOCKS;
 use std::alloc::{AllocError, Global};
-
-/// The bytes of a block, as a length.
-const BLOCK: usize = BLOCK_SIZE as usize;
 
 /// The bytes of the most blocks.
 const ROOM: usize = BLOCK * MAX_BLOCKS as usize;
@@ -50,7 +48,7 @@ impl Image {
         into.copy_from_slice(&self.bytes[at..at + into.len()]);
     }
 
-    pub(crate) fn write_block(&mut self, i: u32, from: &[u8; 4096])
+    pub(crate) fn write_block(&mut self, i: u32, from: &[u8; BLOCK])
         requires { i < length self.old.bytes.items / block_size }
         ensures block { self.new.bytes.items ≡ with_block i from.now self.old.bytes.items }
         ensures length { length self.new.bytes.items ≡ length self.old.bytes.items }

@@ -22,7 +22,7 @@ pub use access::Access;
 pub use disk_files::DiskFiles;
 pub use fair_files::FairFiles;
 pub use faults::Failed;
-pub use files::Files;
+pub use files::{BLOCK, Files};
 pub use mem_files::MemFiles;
 pub use memory_streams::{FairSource, MemSink, MemSource, NullSink};
 pub use std_streams::{StdSink, StdSource};

@@ -9,7 +9,7 @@ ghost use Rattle.bp_io.specs.Files.{StaysAttached, StaysOrIsMade, Becomes, Answe
 use crate::faults::CallPlan;
 use crate::files::Files;
 use crate::image::Image;
-use crate::{Access, Failed};
+use crate::{Access, BLOCK, Failed};
 use bp_limits::{BLOCK_SIZE, MAX_BLOCKS};
 use std::alloc::{AllocError, Global};
 
@@ -133,7 +133,7 @@ impl Files for MemFiles<'_> {
         Ok(())
     }
 
-    fn write_block(&mut self, i: u32, from: &[u8; 4096]) -> Result<(), Failed>
+    fn write_block(&mut self, i: u32, from: &[u8; BLOCK]) -> Result<(), Failed>
         requires inside { i < (mem_view self.old).blocks }
         requires may_write { (mem_view self.old).may_write ≡ true }
         ensures written { OnOk result (ChangesBytes (with_block i from.now) (mem_view self.old) (mem_view self.new)) }

@@ -2,11 +2,11 @@
 
 ghost use Rattle.std.specs.Prelude.{◌≡◌, ◌<◌, ◌+◌, ◌^◌, is_some, length};
 
-use crate::Access;
 use crate::held::HeldBlocks;
 use crate::opening::{check_length, lock};
 use crate::second_file::{Names, SecondFile, Waiting, fill_in_place, has_room, lacks_room};
 use crate::window::Window;
+use crate::{Access, BLOCK};
 use bp_limits::BLOCK_SIZE;
 use std::alloc::{AllocError, Global};
 use std::fs::File;
@@ -237,7 +237,7 @@ impl Saver {
         runtime: &R,
         file: &File,
         i: u32,
-        from: &[u8; 4096],
+        from: &[u8; BLOCK],
     ) -> io::Result<()> {
         self.begin(runtime, file, BLOCK_SIZE * (u64::from(i) + 1))?;
         if !self.window.takes(i) {
@@ -377,7 +377,7 @@ impl Saver {
         runtime: &R,
         file: &File,
         i: u32,
-        from: &[u8; 4096],
+        from: &[u8; BLOCK],
     ) -> io::Result<()> {
         let done = self.try_write_block(runtime, file, i, from);
         self.or_lose(runtime, done)

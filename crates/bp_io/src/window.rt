@@ -2,14 +2,12 @@
 
 ghost use Rattle.std.specs.Prelude.{◌≡◌, ◌<◌, ◌≤◌, ◌^◌, true, length, vec_len};
 
+use crate::BLOCK;
 use bp_limits::BLOCK_SIZE;
 use std::alloc::{AllocError, Global};
 use std::fs::File;
 use std::io;
 use std::os::unix::fs::FileExt;
-
-/// The bytes of a block, as a length.
-const BLOCK: usize = BLOCK_SIZE as usize;
 
 /// The most blocks that a window has.
 const ROOM: usize = 64;
@@ -81,7 +79,7 @@ impl Window {
     }
 
     /// Puts a block behind those that wait.
-    pub(crate) fn push(&mut self, from: &[u8; 4096])
+    pub(crate) fn push(&mut self, from: &[u8; BLOCK])
         requires { self.old.count < 64 }
     {
         let at = BLOCK * self.count;

@@ -77,6 +77,7 @@ impl Replies {
             (K.view out.old).taken (K.view out.new).taken) }
         ensures some { OnErr result (TakesPart (waiting self.old) (K.view out.old).taken (K.view out.new).taken) }
         ensures few { OnOk result (length (waiting self.new) ≤ most) }
+        ensures none { OnErr result (waiting self.new ≡ []) }
         ensures cause { HasCause (K.view out.old).faults (K.view out.new).faults result }
     {
         if self.count > most {
@@ -106,6 +107,7 @@ impl Replies {
             (K.view out.old).taken (K.view out.new).taken) }
         ensures some { OnErr result (TakesPart (waiting self.old ++ said_text said.now)
             (K.view out.old).taken (K.view out.new).taken) }
+        ensures none { OnErr result (waiting self.new ≡ []) }
         ensures cause { HasCause (K.view out.old).faults (K.view out.new).faults result }
     {
         self.hand_over_above(GATHERED, out)?;

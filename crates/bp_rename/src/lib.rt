@@ -12,4 +12,4 @@ mod touching;
 mod within;
 
 pub use moving::Move;
-pub use renaming::{rename, rename_in};
+pub use renaming::rename;

@@ -14,23 +14,10 @@ ghost use Rattle.pm_region.specs.Memory.{current_words};
 use crate::moving::Move;
 use bp_calls::{Targets, entry_path, push_end, thaw_before};
 use bp_cow::{FoundWays, Touched, copies_below, cover, find_ways};
-use bp_dirs::free_slot;
 use bp_free::{NoSpace, Parts};
 use bp_inodes::{root_path, tree_of};
 use bp_thaw::thaw_need;
 use pm_region::Region;
-
-/// The least empty slot of the new directory. It is sought only where the name moves across, and is new there.
-pub(crate) fn slot_across<R: Region>(region: &R, to_move: &Move<'_>) -> Option<u64>
-    requires { CanRename (current_words (R.memory region.now)) to_move.now }
-    ensures { IsSlotAcross (current_words (R.memory region.now)) to_move.now result }
-{
-    match to_move.to_slot {
-        Some(_) => None,
-        None if to_move.from_dir == to_move.to_dir => None,
-        None => free_slot(region, tree_of(region, to_move.to_dir)),
-    }
-}
 
 /// Adds the words near which a name comes to another directory, given the least empty slot of that directory.
 fn push_new<R: Region>(near: &mut Targets, region: &R, to_move: &Move<'_>, empty: Option<u64>)
@@ -48,8 +35,8 @@ fn push_new<R: Region>(near: &mut Targets, region: &R, to_move: &Move<'_>, empty
     }
 }
 
-/// The words near which a rename stores, given what [`slot_across`] tells, and what it touches: that of the cover, and those
-/// of an entry that is new in another directory.
+/// The words near which a rename stores, given the least empty slot where a name is new in another directory, and what it
+/// touches: that of the cover, and those of such an entry.
 fn targets_of<R: Region>(
     region: &R,
     to_move: &Move<'_>,
@@ -125,8 +112,8 @@ fn thaw_ways<R: Region>(
     }
 }
 
-/// Finds the ways to what a rename touches, once nothing that is kept is left on them, given what [`slot_across`] tells, and
-/// how many blocks it takes besides those that are copied.
+/// Finds the ways to what a rename touches, once nothing that is kept is left on them, given the least empty slot where the
+/// name is new in another directory, and how many blocks it takes besides those that are copied.
 ///
 /// # Errors
 ///

@@ -10,19 +10,22 @@ ghost use Rattle.pm_region.specs.Memory.{current_words};
 use crate::across::rename_into;
 use crate::behind::rename_behind;
 use crate::moving::Move;
-use crate::needing::slot_across;
 use crate::onto::rename_onto;
 use crate::within::rename_within;
 use bp_free::{NoSpace, Parts};
 use pm_region::Region;
 
-/// What [`rename`] does, for a caller that has found the least empty slot of the new directory, None where no entry is
-/// empty. Where the new name is there, or the name stays in its directory, the slot is not looked at.
+/// Moves a name, by one store alone in its epoch. Where the new name stood, that file or empty directory has a name less.
+/// Where it has none left its inode comes back, and so do its blocks that are not kept.
+///
+/// The caller has found the least empty slot of the new directory, None where no entry is empty. Where the new name is
+/// there, or the name stays in its directory, the slot is not looked at.
 ///
 /// # Errors
 ///
-/// As those of [`rename`].
-pub fn rename_in<R: Region>(
+/// `NoSpace` exactly where fewer blocks are free than it needs, those that are thawed among them. Nothing has changed
+/// then.
+pub fn rename<R: Region>(
     parts: &mut Parts<R>,
     to_move: &Move<'_>,
     empty: Option<u64>,
@@ -41,21 +44,4 @@ pub fn rename_in<R: Region>(
             None => rename_behind(parts, to_move),
         },
     }
-}
-
-/// Moves a name, by one store alone in its epoch. Where the new name stood, that file or empty directory has a name less.
-/// Where it has none left its inode comes back, and so do its blocks that are not kept.
-///
-/// # Errors
-///
-/// `NoSpace` exactly where fewer blocks are free than it needs, those that are thawed among them. Nothing has changed
-/// then.
-pub fn rename<R: Region>(parts: &mut Parts<R>, to_move: &Move<'_>) -> Result<(), NoSpace>
-    requires can { CanRename (current_words (R.memory parts.old.region)) to_move.now }
-    requires exact { IsExact (current_words (R.memory parts.old.region)) parts.old }
-    requires room { HasRoomWhereFree (R.memory parts.old.region) (kept_of parts.old) parts.old.blocks (change_of to_move.now) }
-    ensures { CommitsOrLacksSpace R.memory parts.old parts.new result (change_of to_move.now) (RenamesEntry to_move.now) }
-{
-    let empty = slot_across(&parts.region, to_move);
-    rename_in(parts, to_move, empty)
 }

@@ -58,6 +58,8 @@ fn move_into<R: Region>(
     let target = tree_of(&parts.region, to_move.to_dir);
     let entry = entry_place(&parts.region, target, slot, 0);
     put_name(&mut parts.region, entry, to_move.name);
+    // The store of `commit_at` has a barrier before it anyway. But what it tells of a crash begins with the words that it
+    // finds, so all stores before it are written back first.
     parts.region.barrier();
     commit_at(parts, touched, found);
 }

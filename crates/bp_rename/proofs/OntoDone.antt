@@ -65,6 +65,25 @@ module _ {kept : ℕ → Bool} (memory : Memory) (move : Move) (r : ℕ) (can : 
       let few = copied_few (current_words memory) (size_of (current_words memory)) touched (has blocks) can.well_formed ready in
       omega (arith, few, count, leaves, onto_need (current_words memory) move r can onto touched is, room)
 
+-- What stands once a name has moved onto another one, where the inode of that one is `t`.
+pub record IsReplaced (kept : ℕ → Bool) (old new : Memory) (move : Move) (r t : ℕ) (inodes left : Set) : Type 0 where
+  pub well_formed : IsWellFormed (current_words new)
+  pub whole : length (current_words new) ≡ length (current_words old)
+  pub performs : PerformsThawed kept old new (replaces move.from_dir move.from_slot move.to_dir r)
+      (λ image image_after. MovesEntry image image_after move.from_dir move.from_slot move.to_dir r (moved_inode image move))
+  pub there : t < inode_count (current_words new)
+  pub kind : (1 ≤ kind_of (current_words new) t) × (kind_of (current_words new) t ≤ 2)
+  pub gives : CanGiveBack (current_words new) (root_of (current_words new) t) (size_of (current_words new) t) left
+  pub in_room : t < length inodes
+  pub taken : has inodes t ≡ false
+  -- the sets are exact where it has another name, and else once it has come back with its blocks
+  pub other : HasOtherName (current_words old) move.to_dir r t → AreExact (current_words new) kept left inodes
+  pub last : (final : Set) → GivesBack kept (IsGivenUp (current_words new) (root_of (current_words new) t) (size_of (current_words new) t) 0) left final →
+      IsLastName (current_words old) move.to_dir r t → AreExact (current_words new) kept final (with inodes t)
+  -- it has a name less
+  pub counts : (before : List ℕ) → AreCounts (current_words old) before → t < length before → (rest : ℕ) →
+      slice_index before t ≡ rest + 1 → AreCounts (current_words new) (set before t rest)
+
 module _ {kept : ℕ → Bool} (old new : Memory) (move : Move) (r : ℕ) (can : CanRename (current_words old) move) (onto : move.to_slot ≡ Some r) (touched : Touched)
     (is : TouchesTwo (current_words old) AnyTree touched (inumber_path (current_words old) move.from_dir move.from_slot) (inumber_path (current_words old) move.to_dir r) 0 (moved_inode (current_words old) move))
     (blocks inodes left : Set) (exact : AreExact (current_words old) kept blocks inodes) (room : room_for (need (current_words old) (replaces move.from_dir move.from_slot move.to_dir r)) ≤ room_in old + 2)
@@ -110,7 +129,7 @@ module _ {kept : ℕ → Bool} (old new : Memory) (move : Move) (r : ℕ) (can :
   value = words_value (current_words old) (size_of (current_words old)) (wf_forest (current_words old) can.well_formed) touched (pick move.from_dir move.to_dir) (pick (32 * move.from_slot + 0) (32 * r + 0))
       (are (current_words old) move r can onto touched is) (has blocks) can.well_formed commits
 
-  pub onto_moves : MovesEntry (current_words old) (current_words new) move.from_dir move.from_slot move.to_dir r (moved_inode (current_words old) move)
+  onto_moves : MovesEntry (current_words old) (current_words new) move.from_dir move.from_slot move.to_dir r (moved_inode (current_words old) move)
   onto_moves =
       commit_moves (current_words old) (current_words new) (changes_of (current_words old) (job_of touched)) move.from_dir move.from_slot move.to_dir r (moved_inode (current_words old) move)
       (onto_can (current_words old) move r can onto) only
@@ -120,10 +139,10 @@ module _ {kept : ℕ → Bool} (old new : Memory) (move : Move) (r : ℕ) (can :
   moved_can : CanMoveEntry (current_words old) move.from_dir move.from_slot move.to_dir r (moved_inode (current_words old) move)
   moved_can = onto_can (current_words old) move r can onto
 
-  pub onto_well_formed : IsWellFormed (current_words new)
+  onto_well_formed : IsWellFormed (current_words new)
   onto_well_formed = moved_well_formed (current_words old) (current_words new) can.well_formed move.from_dir move.from_slot move.to_dir r (moved_inode (current_words old) move) moved_can onto_moves
 
-  pub onto_performs : PerformsThawed kept old new (replaces move.from_dir move.from_slot move.to_dir r)
+  onto_performs : PerformsThawed kept old new (replaces move.from_dir move.from_slot move.to_dir r)
       (λ image image_after. MovesEntry image image_after move.from_dir move.from_slot move.to_dir r (moved_inode image move))
   onto_performs =
       commit_performs old new (replaces move.from_dir move.from_slot move.to_dir r) (λ image image_after. MovesEntry image image_after move.from_dir move.from_slot move.to_dir r (moved_inode image move))
@@ -143,23 +162,23 @@ module _ {kept : ℕ → Bool} (old new : Memory) (move : Move) (r : ℕ) (can :
   some : inumber_at (current_words old) move.to_dir r ≢ 0
   some = replaced_some (current_words old) move r can onto
 
-  pub inode_low : inumber_at (current_words old) move.to_dir r < inode_count (current_words old)
+  inode_low : inumber_at (current_words old) move.to_dir r < inode_count (current_words old)
   inode_low = reached-in_file (current_words old) can.well_formed (inumber_at (current_words old) move.to_dir r) was_there
 
-  pub inode_there : inumber_at (current_words old) move.to_dir r < inode_count (current_words new)
+  inode_there : inumber_at (current_words old) move.to_dir r < inode_count (current_words new)
   inode_there = rw (size_stays 0 inode_file) inode_low
 
   kind_is : kind_of (current_words new) (inumber_at (current_words old) move.to_dir r) ≡ kind_of (current_words old) (inumber_at (current_words old) move.to_dir r)
   kind_is = onto_moves.kind (inumber_at (current_words old) move.to_dir r) inode_low
 
-  pub kind_some : (1 ≤ kind_of (current_words new) (inumber_at (current_words old) move.to_dir r)) × (kind_of (current_words new) (inumber_at (current_words old) move.to_dir r) ≤ 2)
+  kind_some : (1 ≤ kind_of (current_words new) (inumber_at (current_words old) move.to_dir r)) × (kind_of (current_words new) (inumber_at (current_words old) move.to_dir r) ≤ 2)
   kind_some = rw kind_is (kinds (inumber_at (current_words old) move.to_dir r) was_there some)
     where
       kinds : (t : ℕ) → IsReached (current_words old) t → t ≢ 0 → (1 ≤ kind_of (current_words old) t) × (kind_of (current_words old) t ≤ 2)
       kinds zero reached other = absurd (other refl)
       kinds (suc n) reached other = can.well_formed.kinds n reached
 
-  pub onto_gives : CanGiveBack (current_words new) (root_of (current_words new) (inumber_at (current_words old) move.to_dir r)) (size_of (current_words new) (inumber_at (current_words old) move.to_dir r)) left
+  onto_gives : CanGiveBack (current_words new) (root_of (current_words new) (inumber_at (current_words old) move.to_dir r)) (size_of (current_words new) (inumber_at (current_words old) move.to_dir r)) left
   onto_gives = record {
     sound = onto_moves.trees.sound (inumber_at (current_words old) move.to_dir r) was_there;
     room = rw onto_moves.trees.whole (as_long ∙ exact.block_room);
@@ -172,13 +191,13 @@ module _ {kept : ℕ → Bool} (old new : Memory) (move : Move) (r : ℕ) (can :
       go b held (inl e) = absurd ((done.exact.free b e).free held)
       go b held (inr e) = e
 
-  pub inode_in_room : inumber_at (current_words old) move.to_dir r < length inodes
+  inode_in_room : inumber_at (current_words old) move.to_dir r < length inodes
   inode_in_room =
       let few : size_of (current_words old) 0 / 64 ≤ 64 * block_count (current_words old) =
       few_inodes (current_words old) (root_of (current_words old) 0) (size_of (current_words old) 0) (can.well_formed.sound 0 inode_file) can.well_formed.full_inode_file (omega (arith, can.well_formed.formatted.sized.at_least)) can.well_formed.inode_blocks in
       omega (arith, inode_low, few, exact.inode_room)
 
-  pub inode_taken : has inodes (inumber_at (current_words old) move.to_dir r) ≡ false
+  inode_taken : has inodes (inumber_at (current_words old) move.to_dir r) ≡ false
   inode_taken = go (cases_Bool (has inodes (inumber_at (current_words old) move.to_dir r)))
     where
       go : (has inodes (inumber_at (current_words old) move.to_dir r) ≡ true) ⊎ (has inodes (inumber_at (current_words old) move.to_dir r) ≡ false) → has inodes (inumber_at (current_words old) move.to_dir r) ≡ false
@@ -206,7 +225,7 @@ module _ {kept : ℕ → Bool} (old new : Memory) (move : Move) (r : ℕ) (can :
         go (inl e) = subst (IsReached (current_words new)) (sym e) (named more.slot (stays more.directory more.reached not_itself) still_named)
         go (inr other) = stays t was other
 
-    pub named_exact : AreExact (current_words new) kept left inodes
+    named_exact : AreExact (current_words new) kept left inodes
     named_exact =
         same_reach_exact (current_words old) (current_words new) (size_of (current_words old)) kept onto_moves.trees.whole (size_stays 0 inode_file) size_stays
         (reached_back (current_words old) (current_words new) can.well_formed move.from_dir move.from_slot move.to_dir r (moved_inode (current_words old) move) moved_can onto_moves) still_reached
@@ -219,7 +238,7 @@ module _ {kept : ℕ → Bool} (old new : Memory) (move : Move) (r : ℕ) (can :
         (λ b gone. gone.has) (λ b held. record { has = held; past = omega arith }) gives
 
     -- where it was the last name
-    pub onto_exact : IsLastName (current_words old) move.to_dir r (inumber_at (current_words old) move.to_dir r) → AreExact (current_words new) kept final (with inodes (inumber_at (current_words old) move.to_dir r))
+    onto_exact : IsLastName (current_words old) move.to_dir r (inumber_at (current_words old) move.to_dir r) → AreExact (current_words new) kept final (with inodes (inumber_at (current_words old) move.to_dir r))
     onto_exact last = record {
       block_room = rw onto_moves.trees.whole (gives.room ∙ as_long ∙ exact.block_room);
       inode_room = rw onto_moves.trees.whole (length-set inodes (inumber_at (current_words old) move.to_dir r) true ∙ exact.inode_room);
@@ -234,11 +253,23 @@ module _ {kept : ℕ → Bool} (old new : Memory) (move : Move) (r : ℕ) (can :
 
   -- ---- how many names it has
 
-  pub onto_counts : (counts : List ℕ) → AreCounts (current_words old) counts → inumber_at (current_words old) move.to_dir r < length counts → (rest : ℕ) →
+  onto_counts : (counts : List ℕ) → AreCounts (current_words old) counts → inumber_at (current_words old) move.to_dir r < length counts → (rest : ℕ) →
       slice_index counts (inumber_at (current_words old) move.to_dir r) ≡ rest + 1 → AreCounts (current_words new) (set counts (inumber_at (current_words old) move.to_dir r) rest)
   onto_counts counts are low rest is =
       replaced_counts (current_words old) (current_words new) can.well_formed move.from_dir move.from_slot move.to_dir r (moved_inode (current_words old) move) moved_can onto_moves can.outside
       (can.apart r onto) counts are some low rest is
 
-  pub onto_whole : length (current_words new) ≡ length (current_words old)
-  onto_whole = onto_moves.trees.whole
+  pub onto_done : IsReplaced kept old new move r (inumber_at (current_words old) move.to_dir r) inodes left
+  onto_done = record {
+    well_formed = onto_well_formed;
+    whole = onto_moves.trees.whole;
+    performs = onto_performs;
+    there = inode_there;
+    kind = kind_some;
+    gives = onto_gives;
+    in_room = inode_in_room;
+    taken = inode_taken;
+    other = named_exact;
+    last = onto_exact;
+    counts = onto_counts;
+  }

@@ -31,7 +31,7 @@ use Rattle.bp_cow.proofs.FewCopies.{few_copies}
 use Rattle.bp_cow.proofs.RunLaws.{run_word-inside}
 use Rattle.pm_region.specs.Memory.{Memory, current_words, room_in}
 use Rattle.bp_calls.proofs.EnteredLaws.{not_named}
-use Rattle.bp_calls.proofs.RunCommits.{few_leaves, run_open}
+use Rattle.bp_calls.proofs.RunCommits.{IsRunOf, few_leaves, run_open}
 use Rattle.bp_rename.specs.Respelled.{TouchesName, respelled_byte}
 use Rattle.bp_rename.proofs.NameRun.{run_commit, run_given, run_only, run_words}
 use Rattle.bp_rename.proofs.WithinLaws.{CanRespell, few_words, name_end, name_run, no_words, within_cover, within_need, within_shape}
@@ -76,6 +76,12 @@ module _ {kept : ℕ → Bool} (memory : Memory) (n s j : ℕ) (name : Name) (ca
 module _ {kept : ℕ → Bool} (old new : Memory) (n s j : ℕ) (name : Name) (can : CanRespell (current_words old) (suc n) s j name) (touched : Touched) (is : TouchesName (current_words old) (suc n) s name touched)
     (blocks inodes left : Set) (exact : AreExact (current_words old) kept blocks inodes) (room : room_for (need (current_words old) (respells (suc n) s (length name))) ≤ room_in old + 2)
     (done : CommitsTouched (size_of (current_words old)) kept touched old new blocks left) (as_long : length left ≡ length blocks) where
+  bare : length touched.words.now ≡ 0
+  bare = no_words (current_words old) n s j name can touched is
+
+  run_there : IsRunOf (current_words old) (suc n) is.run
+  run_there = name_run (current_words old) n s j name can touched is
+
   few_of : (length name + 7) / 8 ≤ 30
   few_of = few_words (current_words old) n s j name can touched is
 
@@ -88,7 +94,7 @@ module _ {kept : ℕ → Bool} (old new : Memory) (n s j : ℕ) (name : Name) (c
   -- the word of the length
   length_word : entry_word (current_words new) (suc n) s 1 ≡ length name
   length_word =
-      run_words (current_words old) can.well_formed n can.reached touched is.run is.one (no_words (current_words old) n s j name can touched is) is.no_trees (name_run (current_words old) n s j name can touched is)
+      run_words (current_words old) can.well_formed n can.reached touched is.run is.one bare is.no_trees run_there
       (has blocks) exact.free_blocks can.names.directory (current_words new) (IsTurned (job_of touched) (length (commit_cover (current_words old) touched))) done.words
       (32 * s + 1) (omega (arith, is.is.from)) (omega (arith, ends)) (omega (arith, can.names.in_size))
       ∙ sym (run_word-inside is.run (32 * s + 1) (content_word (current_words old) (root_of (current_words old) (suc n)) (32 * s + 1)) (word_bytes (length name)) (omega (arith, is.is.from)) (omega (arith, ends)) refl same)
@@ -105,7 +111,7 @@ module _ {kept : ℕ → Bool} (old new : Memory) (n s j : ℕ) (name : Name) (c
       each : (o : ℕ) → o < length name → byte (current_words new) (root_of (current_words new) (suc n)) (256 * s + 16 + o) ≡ get_or name o 0
       each o low =
           let at : 256 * s + 16 + o - is.run.off ≡ 8 + o = omega (arith, is.is.from) in
-          run_given (current_words old) can.well_formed n can.reached touched is.run is.one (no_words (current_words old) n s j name can touched is) is.no_trees (name_run (current_words old) n s j name can touched is)
+          run_given (current_words old) can.well_formed n can.reached touched is.run is.one bare is.no_trees run_there
           (has blocks) exact.free_blocks can.names.directory (current_words new) (IsTurned (job_of touched) (length (commit_cover (current_words old) touched))) done.words
           (256 * s + 16 + o) is.is.small (omega (arith, is.is.from)) (omega (arith, ends, low)) (omega (arith, low, can.form.short, can.names.in_size))
           ∙ ap (slice_index is.run.bytes.now) at ∙ is.is.bytes_are (8 + o) (omega (arith, low)) ∙ name_byte name o
@@ -116,7 +122,7 @@ module _ {kept : ℕ → Bool} (old new : Memory) (n s j : ℕ) (name : Name) (c
   pub within_respells : RespellsEntry (current_words old) (current_words new) (suc n) s j
   within_respells =
       commit_respells (current_words old) (current_words new) (changes_of (current_words old) (job_of touched)) (suc n) s j can.well_formed can.reached can.names
-      (run_only (current_words old) can.well_formed n can.reached touched is.run is.one (no_words (current_words old) n s j name can touched is) is.no_trees (name_run (current_words old) n s j name can touched is)
+      (run_only (current_words old) can.well_formed n can.reached touched is.run is.one bare is.no_trees run_there
       (has blocks) exact.free_blocks can.names.directory (current_words new) (IsTurned (job_of touched) (length (commit_cover (current_words old) touched))) done.words
       (λ t l. (t ≡ suc n) × (32 * s + 1 ≤ l) × (l < 32 * s + 32))
       (λ k first last. (refl, omega (arith, first, is.is.from), omega (arith, last, ends, few_of))))
@@ -128,8 +134,8 @@ module _ {kept : ℕ → Bool} (old new : Memory) (n s j : ℕ) (name : Name) (c
       commit_performs old new (respells (suc n) s (length name)) Effect (size_of (current_words old)) touched blocks left done
       (within_cover (current_words old) n s j name can touched is) (within_need (current_words old) n s j name can touched is)
       (let stores = stores_few (current_words old) (size_of (current_words old)) touched (has blocks) can.well_formed ready in
-      omega (arith, stores, ap leaves_of is.one, few old n s j name can touched is blocks inodes exact room, no_words (current_words old) n s j name can touched is, within_need (current_words old) n s j name can touched is))
-      (run_open (current_words old) can.well_formed n can.reached is.run (name_run (current_words old) n s j name can touched is) kept touched (within_shape (current_words old) n s j name can touched is) (subst (λ runs. Has runs is.run) (sym is.one) (inl refl)) done.loose done.taken)
+      omega (arith, stores, ap leaves_of is.one, few old n s j name can touched is blocks inodes exact room, bare, within_need (current_words old) n s j name can touched is))
+      (run_open (current_words old) can.well_formed n can.reached is.run run_there kept touched (within_shape (current_words old) n s j name can touched is) (subst (λ runs. Has runs is.run) (sym is.one) (inl refl)) done.loose done.taken)
       (respelled_well_formed (current_words old) (current_words new) can.well_formed (suc n) s j within_respells)
       (so within_respells within_name)
 

@@ -2,6 +2,7 @@ use Rattle.std.proofs.Common.{◌+◌, ◌*◌, refl, arith}
 use Rattle.pm_epochs.specs.May.{AnyAt}
 use Rattle.bp_shapes.specs.Sets.{kept_of}
 use Rattle.pm_region.specs.Memory.{Memory, current_words}
+use Rattle.bp_layout.specs.Inode.{ContentStandsAt}
 use Rattle.bp_tree.specs.Within.{IsWithin}
 use Rattle.bp_calls.proofs.InSlot.{entry_stands}
 use Rattle.bp_calls.proofs.Refusals.{found_empty}
@@ -11,7 +12,18 @@ use Rattle.bp_rename.proofs.IntoLaws.{mid_formed, mid_whole}
 use Rattle.bp_rename.proofs.IntoMoved.{into_copies, into_counts, into_exact, into_fits, into_mid_loose, into_performs, into_ready, into_room, into_ways, into_whole_image}
 use Rattle.bp_rename.proofs.KeptCounts.{exact_kept}
 use Rattle.bp_rename.proofs.RenameTargets.{slot_loose}
+use Rattle.bp_rename.proofs.across.move_into.Given.{Over}
+use Rattle.bp_rename.proofs.across.move_into.Goals.{After-entry_place-entry}
 use Rattle.bp_rename.proofs.across.move_into.Goals as goal
+
+-- the entry stands at the place that was found
+stands_at : (g : Over) (c : After-entry_place-entry g)
+    → ContentStandsAt (current_words (g.R.Region.memory c.args.parts.now.region)) c.args.to_move.now.to_dir (32 * c.args.slot + 0) c.entry_place-entry.result
+stands_at g c =
+    let found = c.entry_place-entry.ensures in
+    let target = c.tree_of-target in
+    entry_stands (current_words (g.R.Region.memory c.args.parts.now.region)) c.args.to_move.now.to_dir c.args.slot c.entry_place-entry.result
+    target.result.root target.ensures.root found.place found.present
 
 pub entry_place-entry-requires-clause-live : goal.entry_place-entry-requires-clause-live
 entry_place-entry-requires-clause-live g c =
@@ -41,7 +53,7 @@ pub put_name-requires-clause-in_range : goal.put_name-requires-clause-in_range
 put_name-requires-clause-in_range g c =
     let old : Memory = g.R.Region.memory c.args.parts.now.region in
     let move = c.args.to_move.now in
-    let stands = entry_stands (current_words old) move.to_dir c.args.slot c.entry_place-entry.result c.tree_of-target.result.root c.tree_of-target.ensures.root c.entry_place-entry.ensures.place c.entry_place-entry.ensures.present in
+    let stands = stands_at g (goal.at.put_name-requires-clause-in_range g c).After-entry_place-entry in
     let low = (found_empty (current_words old) move.to_dir c.args.slot c.requires.empty).0 in
     let first = row_in_range old c.requires.can.well_formed move.to_dir (32 * c.args.slot + 0) c.entry_place-entry.result 32 c.requires.can.target (omega (arith, low)) (omega arith) stands in
     omega (arith, first)
@@ -60,7 +72,7 @@ commit_at-requires g c κs inside =
     let third : Memory = g.R.Region.memory c.put_name.new.region in
     let mid : Memory = g.R.Region.memory c.barrier.new.self in
     let move = c.args.to_move.now in
-    let stands = entry_stands (current_words old) move.to_dir c.args.slot c.entry_place-entry.result c.tree_of-target.result.root c.tree_of-target.ensures.root c.entry_place-entry.ensures.place c.entry_place-entry.ensures.present in
+    let stands = stands_at g (goal.at.commit_at-requires g c).After-entry_place-entry in
     let loose = slot_loose (current_words old) move c.requires.can c.args.slot c.requires.empty (kept_of c.args.parts.now) c.requires.thawed.clear c.entry_place-entry.result stands in
     let ready = into_ready old third mid move c.args.slot c.entry_place-entry.result c.requires.can c.requires.new c.requires.other c.requires.empty stands c.put_name.ensures.stores c.put_name.ensures.name c.barrier.ensures
     c.args.touched.now touches c.args.parts.now.blocks c.args.parts.now.inodes c.requires.exact.sets c.requires.thawed.room loose in
@@ -86,7 +98,7 @@ returns g c =
     let mid : Memory = g.R.Region.memory c.barrier.new.self in
     let new : Memory = g.R.Region.memory c.commit_at.new.parts.region in
     let move = c.args.to_move.now in
-    let stands = entry_stands (current_words old) move.to_dir c.args.slot c.entry_place-entry.result c.tree_of-target.result.root c.tree_of-target.ensures.root c.entry_place-entry.ensures.place c.entry_place-entry.ensures.present in
+    let stands = stands_at g (goal.at.returns g c).After-entry_place-entry in
     let loose = slot_loose (current_words old) move c.requires.can c.args.slot c.requires.empty (kept_of c.args.parts.now) c.requires.thawed.clear c.entry_place-entry.result stands in
     record {
       performs = into_performs old third mid move c.args.slot c.entry_place-entry.result c.requires.can c.requires.new c.requires.other c.requires.empty stands c.put_name.ensures.stores c.put_name.ensures.name c.barrier.ensures

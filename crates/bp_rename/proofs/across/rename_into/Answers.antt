@@ -5,24 +5,38 @@ use Rattle.bp_calls.proofs.Refusals.{found_empty}
 use Rattle.bp_calls.proofs.TargetPaths.{directory_some}
 use Rattle.bp_shapes.specs.Sets.{kept_of}
 use Rattle.pm_region.specs.Memory.{current_words}
+use Rattle.bp_rename.specs.Planned.{TouchesInto}
 use Rattle.bp_rename.specs.TouchesTwo.{AnyTree}
 use Rattle.bp_rename.proofs.Plans.{into_empty, into_needs, into_over, into_planned}
 use Rattle.bp_rename.proofs.Renames.{across_change, across_renames}
 use Rattle.bp_rename.proofs.TwoWords.{touches_two}
+use Rattle.bp_rename.proofs.across.rename_into.Given.{Over}
+use Rattle.bp_rename.proofs.across.rename_into.Goals.{After-touched_two-touched}
 use Rattle.bp_rename.proofs.across.rename_into.Goals as goal
+
+-- the inumbers of the empty entry and of the entry that moves are touched
+touches : (g : Over) (c : After-touched_two-touched g)
+    → TouchesInto (current_words (g.R.Region.memory c.args.parts.now.region)) c.args.to_move.now c.args.slot c.touched_two-touched.result
+touches g c =
+    let image = current_words (g.R.Region.memory c.args.parts.now.region) in
+    let made = c.touched_two-touched.ensures in
+    touches_two image AnyTree c.touched_two-touched.result c.words_into-words.result c.trees_of_both-trees.result
+    made.words made.none made.trees c.trees_of_both-trees.ensures c.words_into-words.ensures
 
 pub ready_ways-requires-clause-empty : goal.ready_ways-requires-clause-empty
 ready_ways-requires-clause-empty g c = λ none other. sym c.requires.empty
 
 pub ready_ways-requires-clause-planned : goal.ready_ways-requires-clause-planned
 ready_ways-requires-clause-planned g c =
-    let touches = touches_two (current_words (g.R.Region.memory c.args.parts.now.region)) AnyTree c.touched_two-touched.result c.words_into-words.result c.trees_of_both-trees.result c.touched_two-touched.ensures.words c.touched_two-touched.ensures.none c.touched_two-touched.ensures.trees c.trees_of_both-trees.ensures c.words_into-words.ensures in
-    into_planned (current_words (g.R.Region.memory c.args.parts.now.region)) c.args.to_move.now c.requires.can c.requires.new c.requires.other c.args.slot c.requires.empty c.touched_two-touched.result touches
+    let image = current_words (g.R.Region.memory c.args.parts.now.region) in
+    into_planned image c.args.to_move.now c.requires.can c.requires.new c.requires.other c.args.slot c.requires.empty c.touched_two-touched.result
+    (touches g (goal.at.ready_ways-requires-clause-planned g c).After-touched_two-touched)
 
 pub ready_ways-requires-clause-needs : goal.ready_ways-requires-clause-needs
 ready_ways-requires-clause-needs g c =
-    let touches = touches_two (current_words (g.R.Region.memory c.args.parts.now.region)) AnyTree c.touched_two-touched.result c.words_into-words.result c.trees_of_both-trees.result c.touched_two-touched.ensures.words c.touched_two-touched.ensures.none c.touched_two-touched.ensures.trees c.trees_of_both-trees.ensures c.words_into-words.ensures in
-    into_needs (current_words (g.R.Region.memory c.args.parts.now.region)) c.args.to_move.now c.requires.can c.requires.new c.requires.other c.args.slot c.requires.empty c.touched_two-touched.result touches
+    let image = current_words (g.R.Region.memory c.args.parts.now.region) in
+    into_needs image c.args.to_move.now c.requires.can c.requires.new c.requires.other c.args.slot c.requires.empty c.touched_two-touched.result
+    (touches g (goal.at.ready_ways-requires-clause-needs g c).After-touched_two-touched)
 
 pub move_into-requires-clause-thawed : goal.move_into-requires-clause-thawed
 move_into-requires-clause-thawed g c =
@@ -30,13 +44,15 @@ move_into-requires-clause-thawed g c =
 
 pub move_into-requires-clause-touches : goal.move_into-requires-clause-touches
 move_into-requires-clause-touches g c =
-    let touches = touches_two (current_words (g.R.Region.memory c.args.parts.now.region)) AnyTree c.touched_two-touched.result c.words_into-words.result c.trees_of_both-trees.result c.touched_two-touched.ensures.words c.touched_two-touched.ensures.none c.touched_two-touched.ensures.trees c.trees_of_both-trees.ensures c.words_into-words.ensures in
-    into_over (current_words (g.R.Region.memory c.args.parts.now.region)) c.args.to_move.now c.requires.can c.requires.new c.requires.other c.args.slot c.requires.empty c.touched_two-touched.result touches (current_words (g.R.Region.memory c.ready_ways.new.parts.region)) c.in-Ok.ensures.ready.shape
+    let image = current_words (g.R.Region.memory c.args.parts.now.region) in
+    into_over image c.args.to_move.now c.requires.can c.requires.new c.requires.other c.args.slot c.requires.empty c.touched_two-touched.result
+    (touches g (goal.at.move_into-requires-clause-touches g c).After-touched_two-touched) (current_words (g.R.Region.memory c.ready_ways.new.parts.region)) c.in-Ok.ensures.ready.shape
 
 pub move_into-requires-clause-empty : goal.move_into-requires-clause-empty
 move_into-requires-clause-empty g c =
-    let touches = touches_two (current_words (g.R.Region.memory c.args.parts.now.region)) AnyTree c.touched_two-touched.result c.words_into-words.result c.trees_of_both-trees.result c.touched_two-touched.ensures.words c.touched_two-touched.ensures.none c.touched_two-touched.ensures.trees c.trees_of_both-trees.ensures c.words_into-words.ensures in
-    into_empty (current_words (g.R.Region.memory c.args.parts.now.region)) c.args.to_move.now c.requires.can c.requires.new c.requires.other c.args.slot c.requires.empty c.touched_two-touched.result touches (current_words (g.R.Region.memory c.ready_ways.new.parts.region)) c.in-Ok.ensures.ready.shape
+    let image = current_words (g.R.Region.memory c.args.parts.now.region) in
+    into_empty image c.args.to_move.now c.requires.can c.requires.new c.requires.other c.args.slot c.requires.empty c.touched_two-touched.result
+    (touches g (goal.at.move_into-requires-clause-empty g c).After-touched_two-touched) (current_words (g.R.Region.memory c.ready_ways.new.parts.region)) c.in-Ok.ensures.ready.shape
 
 pub returns-in-Ok : goal.returns-in-Ok
 returns-in-Ok g c =

@@ -6,11 +6,25 @@ use Rattle.bp_calls.proofs.PutsLaws.{small_directory}
 use Rattle.bp_calls.proofs.TargetPaths.{directory_some}
 use Rattle.bp_shapes.specs.Sets.{kept_of}
 use Rattle.pm_region.specs.Memory.{current_words}
+use Rattle.bp_rename.specs.Planned.{TouchesBehind}
 use Rattle.bp_rename.specs.TouchesTwo.{OtherTree}
 use Rattle.bp_rename.proofs.Plans.{behind_needs, behind_none, behind_over, behind_planned}
 use Rattle.bp_rename.proofs.Renames.{across_change, across_renames}
 use Rattle.bp_rename.proofs.TwoWords.{touches_two}
+use Rattle.bp_rename.proofs.behind.rename_behind.Given.{Over}
+use Rattle.bp_rename.proofs.behind.rename_behind.Goals.{After-touched_two-touched}
 use Rattle.bp_rename.proofs.behind.rename_behind.Goals as goal
+
+-- the size of the new directory and the inumber of the entry that moves are touched
+touches : (g : Over) (c : After-touched_two-touched g)
+    → TouchesBehind (current_words (g.R.Region.memory c.args.parts.now.region)) c.args.to_move.now c.touched_two-touched.result
+touches g c =
+    let image = current_words (g.R.Region.memory c.args.parts.now.region) in
+    let to = c.args.to_move.now.to_dir in
+    let made = c.touched_two-touched.ensures in
+    let lists = c.trees_of_one-trees.ensures to (directory_some image to c.requires.can.directory) c.requires.other in
+    touches_two image (OtherTree to) c.touched_two-touched.result c.words_behind-words.result c.trees_of_one-trees.result
+    made.words made.none made.trees lists c.words_behind-words.ensures
 
 pub overflow_add-target : goal.overflow_add-target
 overflow_add-target g c =
@@ -29,14 +43,16 @@ ready_ways-requires-clause-empty g c = λ none other. sym c.requires.none
 
 pub ready_ways-requires-clause-planned : goal.ready_ways-requires-clause-planned
 ready_ways-requires-clause-planned g c =
-    let touches = touches_two (current_words (g.R.Region.memory c.args.parts.now.region)) (OtherTree c.args.to_move.now.to_dir) c.touched_two-touched.result c.words_behind-words.result c.trees_of_one-trees.result c.touched_two-touched.ensures.words c.touched_two-touched.ensures.none c.touched_two-touched.ensures.trees (c.trees_of_one-trees.ensures c.args.to_move.now.to_dir (directory_some (current_words (g.R.Region.memory c.args.parts.now.region)) c.args.to_move.now.to_dir c.requires.can.directory) c.requires.other) c.words_behind-words.ensures in
-    behind_planned (current_words (g.R.Region.memory c.args.parts.now.region)) c.args.to_move.now c.requires.can c.requires.new c.requires.other c.requires.none c.touched_two-touched.result touches
+    let image = current_words (g.R.Region.memory c.args.parts.now.region) in
+    behind_planned image c.args.to_move.now c.requires.can c.requires.new c.requires.other c.requires.none c.touched_two-touched.result
+    (touches g (goal.at.ready_ways-requires-clause-planned g c).After-touched_two-touched)
 
 pub ready_ways-requires-clause-needs : goal.ready_ways-requires-clause-needs
 ready_ways-requires-clause-needs g c =
-    let touches = touches_two (current_words (g.R.Region.memory c.args.parts.now.region)) (OtherTree c.args.to_move.now.to_dir) c.touched_two-touched.result c.words_behind-words.result c.trees_of_one-trees.result c.touched_two-touched.ensures.words c.touched_two-touched.ensures.none c.touched_two-touched.ensures.trees (c.trees_of_one-trees.ensures c.args.to_move.now.to_dir (directory_some (current_words (g.R.Region.memory c.args.parts.now.region)) c.args.to_move.now.to_dir c.requires.can.directory) c.requires.other) c.words_behind-words.ensures in
-    behind_needs (current_words (g.R.Region.memory c.args.parts.now.region)) c.args.to_move.now c.requires.can c.requires.new c.requires.other c.requires.none c.touched_two-touched.result touches c.need_prep-behind.result
-    (c.need_prep-behind.ensures ∙ entry_need_is (current_words (g.R.Region.memory c.args.parts.now.region)) c.args.to_move.now.to_dir c.tree_of-target.result.root c.tree_of-target.result.size c.tree_of-target.ensures.root c.tree_of-target.ensures.size)
+    let image = current_words (g.R.Region.memory c.args.parts.now.region) in
+    behind_needs image c.args.to_move.now c.requires.can c.requires.new c.requires.other c.requires.none c.touched_two-touched.result
+    (touches g (goal.at.ready_ways-requires-clause-needs g c).After-touched_two-touched) c.need_prep-behind.result
+    (c.need_prep-behind.ensures ∙ entry_need_is image c.args.to_move.now.to_dir c.tree_of-target.result.root c.tree_of-target.result.size c.tree_of-target.ensures.root c.tree_of-target.ensures.size)
 
 pub move_behind-requires-clause-thawed : goal.move_behind-requires-clause-thawed
 move_behind-requires-clause-thawed g c =
@@ -44,13 +60,15 @@ move_behind-requires-clause-thawed g c =
 
 pub move_behind-requires-clause-touches : goal.move_behind-requires-clause-touches
 move_behind-requires-clause-touches g c =
-    let touches = touches_two (current_words (g.R.Region.memory c.args.parts.now.region)) (OtherTree c.args.to_move.now.to_dir) c.touched_two-touched.result c.words_behind-words.result c.trees_of_one-trees.result c.touched_two-touched.ensures.words c.touched_two-touched.ensures.none c.touched_two-touched.ensures.trees (c.trees_of_one-trees.ensures c.args.to_move.now.to_dir (directory_some (current_words (g.R.Region.memory c.args.parts.now.region)) c.args.to_move.now.to_dir c.requires.can.directory) c.requires.other) c.words_behind-words.ensures in
-    behind_over (current_words (g.R.Region.memory c.args.parts.now.region)) c.args.to_move.now c.requires.can c.requires.new c.requires.other c.requires.none c.touched_two-touched.result touches (current_words (g.R.Region.memory c.ready_ways.new.parts.region)) c.in-Ok.ensures.ready.shape
+    let image = current_words (g.R.Region.memory c.args.parts.now.region) in
+    behind_over image c.args.to_move.now c.requires.can c.requires.new c.requires.other c.requires.none c.touched_two-touched.result
+    (touches g (goal.at.move_behind-requires-clause-touches g c).After-touched_two-touched) (current_words (g.R.Region.memory c.ready_ways.new.parts.region)) c.in-Ok.ensures.ready.shape
 
 pub move_behind-requires-clause-none : goal.move_behind-requires-clause-none
 move_behind-requires-clause-none g c =
-    let touches = touches_two (current_words (g.R.Region.memory c.args.parts.now.region)) (OtherTree c.args.to_move.now.to_dir) c.touched_two-touched.result c.words_behind-words.result c.trees_of_one-trees.result c.touched_two-touched.ensures.words c.touched_two-touched.ensures.none c.touched_two-touched.ensures.trees (c.trees_of_one-trees.ensures c.args.to_move.now.to_dir (directory_some (current_words (g.R.Region.memory c.args.parts.now.region)) c.args.to_move.now.to_dir c.requires.can.directory) c.requires.other) c.words_behind-words.ensures in
-    behind_none (current_words (g.R.Region.memory c.args.parts.now.region)) c.args.to_move.now c.requires.can c.requires.new c.requires.other c.requires.none c.touched_two-touched.result touches (current_words (g.R.Region.memory c.ready_ways.new.parts.region)) c.in-Ok.ensures.ready.shape
+    let image = current_words (g.R.Region.memory c.args.parts.now.region) in
+    behind_none image c.args.to_move.now c.requires.can c.requires.new c.requires.other c.requires.none c.touched_two-touched.result
+    (touches g (goal.at.move_behind-requires-clause-none g c).After-touched_two-touched) (current_words (g.R.Region.memory c.ready_ways.new.parts.region)) c.in-Ok.ensures.ready.shape
 
 pub returns-in-Ok : goal.returns-in-Ok
 returns-in-Ok g c =

@@ -4,25 +4,39 @@ use Rattle.bp_calls.proofs.CommitLaws.{lacking_space}
 use Rattle.bp_calls.proofs.TargetPaths.{directory_some}
 use Rattle.bp_shapes.specs.Sets.{kept_of}
 use Rattle.pm_region.specs.Memory.{current_words}
+use Rattle.bp_rename.specs.Planned.{TouchesOnto}
 use Rattle.bp_rename.specs.TouchesTwo.{AnyTree}
 use Rattle.bp_rename.proofs.OntoLaws.{replaced}
 use Rattle.bp_rename.proofs.Plans.{onto_needs, onto_over, onto_planned}
 use Rattle.bp_rename.proofs.Renames.{onto_change, onto_renames}
 use Rattle.bp_rename.proofs.TwoWords.{touches_two}
+use Rattle.bp_rename.proofs.onto.rename_onto.Given.{Over}
+use Rattle.bp_rename.proofs.onto.rename_onto.Goals.{After-touched_two-touched}
 use Rattle.bp_rename.proofs.onto.rename_onto.Goals as goal
+
+-- the inumbers of the entry that moves and of the one that has the new name are touched
+touches : (g : Over) (c : After-touched_two-touched g)
+    → TouchesOnto (current_words (g.R.Region.memory c.args.parts.now.region)) c.args.to_move.now c.args.slot c.touched_two-touched.result
+touches g c =
+    let image = current_words (g.R.Region.memory c.args.parts.now.region) in
+    let made = c.touched_two-touched.ensures in
+    touches_two image AnyTree c.touched_two-touched.result c.words_onto-words.result c.trees_of_both-trees.result
+    made.words made.none made.trees c.trees_of_both-trees.ensures c.words_onto-words.ensures
 
 pub ready_ways-requires-clause-empty : goal.ready_ways-requires-clause-empty
 ready_ways-requires-clause-empty g c = λ none other. absurd (cc)
 
 pub ready_ways-requires-clause-planned : goal.ready_ways-requires-clause-planned
 ready_ways-requires-clause-planned g c =
-    let touches = touches_two (current_words (g.R.Region.memory c.args.parts.now.region)) AnyTree c.touched_two-touched.result c.words_onto-words.result c.trees_of_both-trees.result c.touched_two-touched.ensures.words c.touched_two-touched.ensures.none c.touched_two-touched.ensures.trees c.trees_of_both-trees.ensures c.words_onto-words.ensures in
-    onto_planned (current_words (g.R.Region.memory c.args.parts.now.region)) c.args.to_move.now c.requires.can c.args.slot c.requires.onto c.touched_two-touched.result touches
+    let image = current_words (g.R.Region.memory c.args.parts.now.region) in
+    onto_planned image c.args.to_move.now c.requires.can c.args.slot c.requires.onto c.touched_two-touched.result
+    (touches g (goal.at.ready_ways-requires-clause-planned g c).After-touched_two-touched)
 
 pub ready_ways-requires-clause-needs : goal.ready_ways-requires-clause-needs
 ready_ways-requires-clause-needs g c =
-    let touches = touches_two (current_words (g.R.Region.memory c.args.parts.now.region)) AnyTree c.touched_two-touched.result c.words_onto-words.result c.trees_of_both-trees.result c.touched_two-touched.ensures.words c.touched_two-touched.ensures.none c.touched_two-touched.ensures.trees c.trees_of_both-trees.ensures c.words_onto-words.ensures in
-    onto_needs (current_words (g.R.Region.memory c.args.parts.now.region)) c.args.to_move.now c.requires.can c.args.slot c.requires.onto c.touched_two-touched.result touches
+    let image = current_words (g.R.Region.memory c.args.parts.now.region) in
+    onto_needs image c.args.to_move.now c.requires.can c.args.slot c.requires.onto c.touched_two-touched.result
+    (touches g (goal.at.ready_ways-requires-clause-needs g c).After-touched_two-touched)
 
 pub move_onto-requires-clause-thawed : goal.move_onto-requires-clause-thawed
 move_onto-requires-clause-thawed g c =
@@ -30,8 +44,9 @@ move_onto-requires-clause-thawed g c =
 
 pub move_onto-requires-clause-touches : goal.move_onto-requires-clause-touches
 move_onto-requires-clause-touches g c =
-    let touches = touches_two (current_words (g.R.Region.memory c.args.parts.now.region)) AnyTree c.touched_two-touched.result c.words_onto-words.result c.trees_of_both-trees.result c.touched_two-touched.ensures.words c.touched_two-touched.ensures.none c.touched_two-touched.ensures.trees c.trees_of_both-trees.ensures c.words_onto-words.ensures in
-    onto_over (current_words (g.R.Region.memory c.args.parts.now.region)) c.args.to_move.now c.requires.can c.args.slot c.requires.onto c.touched_two-touched.result touches (current_words (g.R.Region.memory c.ready_ways.new.parts.region)) c.in-Ok.ensures.ready.shape
+    let image = current_words (g.R.Region.memory c.args.parts.now.region) in
+    onto_over image c.args.to_move.now c.requires.can c.args.slot c.requires.onto c.touched_two-touched.result
+    (touches g (goal.at.move_onto-requires-clause-touches g c).After-touched_two-touched) (current_words (g.R.Region.memory c.ready_ways.new.parts.region)) c.in-Ok.ensures.ready.shape
 
 pub returns-in-Ok : goal.returns-in-Ok
 returns-in-Ok g c =

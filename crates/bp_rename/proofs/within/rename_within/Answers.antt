@@ -7,6 +7,7 @@ use Rattle.bp_shapes.specs.Sets.{kept_of}
 use Rattle.pm_region.specs.Memory.{Memory, current_words, room_in}
 use Rattle.bp_calls.proofs.CommitLaws.{lacking_space}
 use Rattle.bp_rename.specs.CanRename.{moved_inode}
+use Rattle.bp_rename.specs.Planned.{TouchesWithin}
 use Rattle.bp_rename.specs.RenamesEntry.{RenamesEntry}
 use Rattle.bp_rename.specs.RenamesEntry.RenamesEntry.{within}
 use Rattle.bp_rename.proofs.KeptCounts.{exact_kept}
@@ -14,7 +15,16 @@ use Rattle.bp_rename.proofs.Plans.{within_needs, within_over, within_planned}
 use Rattle.bp_rename.proofs.Renames.{within_change, within_renames}
 use Rattle.bp_rename.proofs.WithinDone.{within_counts_at, within_exact_at, within_performs_at, within_ready_at, within_room_at, within_whole_at}
 use Rattle.bp_rename.proofs.WithinLaws.{respells_can, within_loose_at, within_need_at}
+use Rattle.bp_rename.proofs.within.rename_within.Given.{Over}
+use Rattle.bp_rename.proofs.within.rename_within.Goals.{After-touched_by-touched}
 use Rattle.bp_rename.proofs.within.rename_within.Goals as goal
+
+-- the words of the new name are touched
+named : (g : Over) (c : After-touched_by-touched g)
+    → TouchesWithin (current_words (g.R.Region.memory c.args.parts.now.region)) c.args.to_move.now c.touched_by-touched.result
+named g c =
+    let made = c.touched_by-touched.ensures in
+    record { run = c.name_run.result; one = made.runs; no_words = made.words; no_trees = made.trees; is = c.name_run.ensures }
 
 pub ready_ways-requires-clause-empty : goal.ready_ways-requires-clause-empty
 ready_ways-requires-clause-empty g c = λ none other. absurd (other c.requires.here)
@@ -22,21 +32,23 @@ ready_ways-requires-clause-empty g c = λ none other. absurd (other c.requires.h
 pub ready_ways-requires-clause-planned : goal.ready_ways-requires-clause-planned
 ready_ways-requires-clause-planned g c =
     within_planned (current_words (g.R.Region.memory c.args.parts.now.region)) c.args.to_move.now c.requires.can c.requires.new c.requires.here c.touched_by-touched.result
-    (record { run = c.name_run.result; one = c.touched_by-touched.ensures.runs; no_words = c.touched_by-touched.ensures.words; no_trees = c.touched_by-touched.ensures.trees; is = c.name_run.ensures })
+    (named g (goal.at.ready_ways-requires-clause-planned g c).After-touched_by-touched)
 
 pub ready_ways-requires-clause-needs : goal.ready_ways-requires-clause-needs
 ready_ways-requires-clause-needs g c =
     within_needs (current_words (g.R.Region.memory c.args.parts.now.region)) c.args.to_move.now c.requires.can c.requires.new c.requires.here c.touched_by-touched.result
-    (record { run = c.name_run.result; one = c.touched_by-touched.ensures.runs; no_words = c.touched_by-touched.ensures.words; no_trees = c.touched_by-touched.ensures.trees; is = c.name_run.ensures })
+    (named g (goal.at.ready_ways-requires-clause-needs g c).After-touched_by-touched)
 
 pub commit_at-requires : goal.commit_at-requires
 commit_at-requires g c κs inside =
+    let old : Memory = g.R.Region.memory c.args.parts.now.region in
     let middle : Memory = g.R.Region.memory c.ready_ways.new.parts.region in
     let move = c.args.to_move.now in
     let ready = c.in-Ok.ensures.ready in
     let j = moved_inode (current_words middle) move in
     let can = respells_can (current_words middle) move ready.can c.requires.new c.requires.here in
-    let touches = within_over (current_words (g.R.Region.memory c.args.parts.now.region)) move c.requires.can (current_words middle) ready.shape c.touched_by-touched.result (record { run = c.name_run.result; one = c.touched_by-touched.ensures.runs; no_words = c.touched_by-touched.ensures.words; no_trees = c.touched_by-touched.ensures.trees; is = c.name_run.ensures }) in
+    let touches = within_over (current_words old) move c.requires.can (current_words middle) ready.shape c.touched_by-touched.result
+    (named g (goal.at.commit_at-requires g c).After-touched_by-touched) in
     let change = within_change move c.requires.new c.requires.here in
     let room = subst (λ ch. room_for (need (current_words middle) ch) ≤ room_in middle + 2) change ready.thawed.room in
     let clear = subst (λ ch. thawed (current_words middle) (kept_of c.ready_ways.new.parts) ch ≡ []) change ready.thawed.clear in
@@ -58,12 +70,14 @@ commit_at-requires g c κs inside =
 
 pub returns-in-Ok : goal.returns-in-Ok
 returns-in-Ok g c =
+    let old : Memory = g.R.Region.memory c.args.parts.now.region in
     let middle : Memory = g.R.Region.memory c.ready_ways.new.parts.region in
     let move = c.args.to_move.now in
     let ready = c.in-Ok.ensures.ready in
     let j = moved_inode (current_words middle) move in
     let can = respells_can (current_words middle) move ready.can c.requires.new c.requires.here in
-    let touches = within_over (current_words (g.R.Region.memory c.args.parts.now.region)) move c.requires.can (current_words middle) ready.shape c.touched_by-touched.result (record { run = c.name_run.result; one = c.touched_by-touched.ensures.runs; no_words = c.touched_by-touched.ensures.words; no_trees = c.touched_by-touched.ensures.trees; is = c.name_run.ensures }) in
+    let touches = within_over (current_words old) move c.requires.can (current_words middle) ready.shape c.touched_by-touched.result
+    (named g (goal.at.returns-in-Ok g c).After-touched_by-touched) in
     let change = within_change move c.requires.new c.requires.here in
     let room = subst (λ ch. room_for (need (current_words middle) ch) ≤ room_in middle + 2) change ready.thawed.room in
     let new : Memory = g.R.Region.memory c.commit_at.new.parts.region in

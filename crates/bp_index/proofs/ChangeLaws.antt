@@ -9,7 +9,6 @@ use Rattle.bp_layout.specs.Directory.{Name, inumber_in, name_in}
 use Rattle.bp_index.specs.declared.index.Index.{Index}
 use Rattle.bp_index.specs.Entries.{HasName, KeepsName, KeepsNames}
 use Rattle.bp_index.specs.Hashes.{hash_of}
-use Rattle.bp_index.specs.Slots.{SetsSlot}
 use Rattle.bp_index.specs.Index.{EntersSlot, IsIndexed, IsIndexOf, KeepsIndexed, LeavesSlot}
 
 -- ---- one entry
@@ -51,20 +50,6 @@ module _ (image : Image) (root : ℕ) (before after : Index) (name : Name) (slot
     room = omega (arith, room, leaves.room);
     named = λ live. absurd (live none);
     empty = λ _. (leaves.empties room).here;
-  }
-
-  pub indexed_put : slot < length before.empties → SetsSlot before.empties after.empties slot true → inumber_in image root slot ≡ 0 → IsIndexed image root slot after
-  indexed_put room sets none = record {
-    room = omega (arith, room, sets.room);
-    named = λ live. absurd (live none);
-    empty = λ _. sets.here;
-  }
-
-  pub others_put : after.slots ≡ before.slots → SetsSlot before.empties after.empties slot true → KeepsIndexed image root slot before after
-  others_put same sets other apart is = record {
-    room = omega (arith, is.room, sets.room);
-    named = λ live. ap (λ table. get nat_eq table (hash_of (name_in image root other))) same ∙ is.named live;
-    empty = λ none. sets.others other apart ∙ is.empty none;
   }
 
   pub others_entered : EntersSlot before after name slot → KeepsIndexed image root slot before after

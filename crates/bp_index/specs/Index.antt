@@ -46,8 +46,9 @@ pub record CanEnter (index : Index) (name : Name) (slot : ℕ) : Type 0 where
   pub free : get nat_eq index.slots (hash_of name) ≡ None
   pub spare : 0 < spare index.slots
 
--- a name leaves its slot: its hash leads nowhere now, and the slot may be empty
+-- a name leaves its slot: its hash leads nowhere now, and the slot may be empty, where there is room for it
 pub record LeavesSlot (old new : Index) (name : Name) (slot : ℕ) : Type 0 where
   pub slots : Updates nat_eq old.slots new.slots (hash_of name) None
   pub room : length new.empties ≡ length old.empties
   pub empties : slot < length old.empties → SetsSlot old.empties new.empties slot true
+  pub beyond : length old.empties ≤ slot → new.empties ≡ old.empties

@@ -1,4 +1,5 @@
 pub mod BelowLaws
+pub mod BesideLaws
 pub mod PartsLaws
 pub mod PlainBytes
 pub mod WalkLaws

@@ -22,11 +22,6 @@ module _ (p : ℕ → Bool) where
   each_passes (x ∷ xs) all zero low = (and_parts _ _ all).0
   each_passes (x ∷ xs) all (suc k) low = each_passes xs (and_parts _ _ all).1 k (omega (arith, low))
 
-  pub all_pass_behind : (xs : List ℕ) (n : ℕ) → list_all p xs ≡ true → list_all p (drop n xs) ≡ true
-  all_pass_behind xs zero all = all
-  all_pass_behind [] (suc n) all = refl
-  all_pass_behind (x ∷ xs) (suc n) all = all_pass_behind xs n (and_parts _ _ all).1
-
   -- the first place that passes
 
   pub position_there : (xs : List ℕ) (i : ℕ) → i < length xs → p (slice_index xs i) ≡ true → ((k : ℕ) → k < i → p (slice_index xs k) ≡ false) → position p xs ≡ Some i

@@ -87,7 +87,8 @@ impl<'a> Path<'a> {
     pub fn is_beside(&self, other: &Path<'_>) -> bool
         requires below { self.now ≢ [] }
         requires other { other.now ≢ [] }
-        ensures { IsTrue result → AreBeside self.now other.now }
+        ensures beside { IsTrue result → AreBeside self.now other.now }
+        ensures told { AreBeside self.now other.now → IsTrue result }
     {
         split_last(self.text()).0 == split_last(other.text()).0
     }

@@ -3,6 +3,10 @@ use Rattle.std.specs.Prelude.{◌≡◌, ℕ, ◌+◌, ◌/◌, ◌%◌, ◌<◌
 use Rattle.bp_layout.specs.Directory.{Name}
 use Rattle.bp_layout.specs.Words.{Image, word, byte_of}
 
+-- how many words a name takes: one for its length, and one for each eight bytes or what is left of them
+abbrev pub taken_words : Name → ℕ
+taken_words name = 1 + (length name + 7) / 8
+
 -- the length and the bytes of a name stand in the entry at this place
 pub record HasNameAt (image : Image) (place : ℕ) (name : Name) : Type 0 where
   pub count : word image (place + 1) ≡ length name

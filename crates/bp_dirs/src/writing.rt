@@ -1,7 +1,7 @@
 //! Stores of a name.
 
 ghost use Rattle.std.specs.Prelude.{◌+◌, ◌≤◌, length};
-ghost use Rattle.bp_dirs.specs.Written.{HasNameAt};
+ghost use Rattle.bp_dirs.specs.Written.{HasNameAt, taken_words};
 ghost use Rattle.bp_limits.specs.Limits.{entry_words, max_name};
 ghost use Rattle.bp_tree.specs.Within.{IsWithin};
 ghost use Rattle.pm_epochs.specs.May.{AnyAt};
@@ -17,6 +17,8 @@ pub fn put_name<R: Region>(region: &mut R, place: u32, name: &[u8])
     requires short { length name.now ≤ max_name }
     requires room { 31 ≤ room_in (R.memory region.old) }
     ensures stores { AddsMay (AnyAt (IsWithin (place + 1) 31)) 0 31 (R.memory region.old) (R.memory region.new) }
+    ensures taken { AddsMay (AnyAt (IsWithin (place + 1) (taken_words name.now))) 0 (taken_words name.now)
+        (R.memory region.old) (R.memory region.new) }
     ensures name { HasNameAt (current_words (R.memory region.new)) place name.now }
 {
     let _words = region.words();

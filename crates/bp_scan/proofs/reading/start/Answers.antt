@@ -6,53 +6,57 @@ use Rattle.bp_walk.proofs.Pointers.{on_ok_then}
 use Rattle.bp_scan.specs.Scanned.{HasAllBlocks}
 use Rattle.bp_scan.proofs.InodeFaults.{err_then}
 use Rattle.bp_scan.proofs.Starting.{file_sound, file_full, file_few, file_not_first, root_fails, reading_starts, all_blocks, filled_inodes}
+use Rattle.bp_scan.proofs.reading.start.Goals.{After-inode_file-count}
+use Rattle.bp_scan.proofs.reading.start.Given as given
 use Rattle.bp_scan.proofs.reading.start.Goals as goal
+
+-- the set that was filled has all blocks but the first
+all_there : (g : given.Over) (c : goal.After-inode_file-count g) → HasAllBlocks (current_words (g.R.Region.memory c.args.region.now)) c.fill.new.self
+all_there g c =
+    all_blocks (current_words (g.R.Region.memory c.args.region.now)) c.args.work.now.blocks c.fill.new.self c.room-room.result
+    (omega (arith, c.requires.formatted.sized.at_least)) c.requires.unread.blocks c.room-room.ensures c.fill.ensures
+
+-- there are no more inodes than blocks could hold
+count_fits : (g : given.Over) (c : goal.After-inode_file-count g) →
+    c.inode_file-count.result.size / 64 ≤ 64 * block_count (current_words (g.R.Region.memory c.args.region.now))
+count_fits g c =
+    let image = current_words (g.R.Region.memory c.args.region.now) in
+    let few : size_of image 0 / 64 ≤ 64 * block_count image =
+    file_few image c.in_ok-enter_inode_file.ensures.ready c.fill.new.self c.enter_inode_file.new.blocks (all_there g c) c.in_ok-enter_inode_file.ensures.entered in
+    subst (λ x. x / 64 ≤ 64 * block_count image) (sym c.inode_file-count.ensures.size) few
 
 pub overflow_cast-count : goal.overflow_cast-count
 overflow_cast-count g c =
-    let image = current_words (g.R.Region.memory c.args.region.now) in
-    let whole : HasAllBlocks image c.fill.new.self =
-    all_blocks image c.args.work.now.blocks c.fill.new.self c.room-room.result (omega (arith, c.requires.formatted.sized.at_least)) c.requires.unread.blocks c.room-room.ensures c.fill.ensures in
-    let few : size_of image 0 / 64 ≤ 64 * block_count image = file_few image c.in_ok-enter_inode_file.ensures.ready c.fill.new.self c.enter_inode_file.new.blocks whole c.in_ok-enter_inode_file.ensures.entered in
-    let count : c.inode_file-count.result.size / 64 ≤ 64 * block_count image = subst (λ x. x / 64 ≤ 64 * block_count image) (sym c.inode_file-count.ensures.size) few in
+    let count = count_fits g (goal.at.overflow_cast-count g c).After-inode_file-count in
     let small : c.inode_file-count.result.size / 64 < 4294967296 = omega (arith, count, c.requires.formatted.sized.at_most) in
     search (rules, small)
 
 pub fill-requires-2-clause-in_range : goal.fill-requires-2-clause-in_range
 fill-requires-2-clause-in_range g c =
-    let image = current_words (g.R.Region.memory c.args.region.now) in
-    let whole : HasAllBlocks image c.fill.new.self =
-    all_blocks image c.args.work.now.blocks c.fill.new.self c.room-room.result (omega (arith, c.requires.formatted.sized.at_least)) c.requires.unread.blocks c.room-room.ensures c.fill.ensures in
-    let few : size_of image 0 / 64 ≤ 64 * block_count image = file_few image c.in_ok-enter_inode_file.ensures.ready c.fill.new.self c.enter_inode_file.new.blocks whole c.in_ok-enter_inode_file.ensures.entered in
-    let count : c.inode_file-count.result.size / 64 ≤ 64 * block_count image = subst (λ x. x / 64 ≤ 64 * block_count image) (sym c.inode_file-count.ensures.size) few in
-    omega (arith, count, c.requires.unread.room.inodes)
+    omega (arith, count_fits g (goal.at.fill-requires-2-clause-in_range g c).After-inode_file-count, c.requires.unread.room.inodes)
 
 pub enter-requires-clause-sound : goal.enter-requires-clause-sound
 enter-requires-clause-sound g c =
     let image = current_words (g.R.Region.memory c.args.region.now) in
-    let whole : HasAllBlocks image c.fill.new.self =
-    all_blocks image c.args.work.now.blocks c.fill.new.self c.room-room.result (omega (arith, c.requires.formatted.sized.at_least)) c.requires.unread.blocks c.room-room.ensures c.fill.ensures in
+    let whole = all_there g (goal.at.enter-requires-clause-sound g c).After-inode_file-count in
     file_sound image c.in_ok-enter_inode_file.ensures.ready c.fill.new.self c.enter_inode_file.new.blocks whole c.in_ok-enter_inode_file.ensures.entered
 
 pub enter-requires-clause-full : goal.enter-requires-clause-full
 enter-requires-clause-full g c =
     let image = current_words (g.R.Region.memory c.args.region.now) in
-    let whole : HasAllBlocks image c.fill.new.self =
-    all_blocks image c.args.work.now.blocks c.fill.new.self c.room-room.result (omega (arith, c.requires.formatted.sized.at_least)) c.requires.unread.blocks c.room-room.ensures c.fill.ensures in
+    let whole = all_there g (goal.at.enter-requires-clause-full g c).After-inode_file-count in
     file_full image c.in_ok-enter_inode_file.ensures.ready c.fill.new.self c.enter_inode_file.new.blocks whole c.in_ok-enter_inode_file.ensures.entered
 
 pub enter-requires-clause-not_first : goal.enter-requires-clause-not_first
 enter-requires-clause-not_first g c =
     let image = current_words (g.R.Region.memory c.args.region.now) in
-    let whole : HasAllBlocks image c.fill.new.self =
-    all_blocks image c.args.work.now.blocks c.fill.new.self c.room-room.result (omega (arith, c.requires.formatted.sized.at_least)) c.requires.unread.blocks c.room-room.ensures c.fill.ensures in
+    let whole = all_there g (goal.at.enter-requires-clause-not_first g c).After-inode_file-count in
     file_not_first image c.in_ok-enter_inode_file.ensures.ready c.fill.new.self c.enter_inode_file.new.blocks whole c.in_ok-enter_inode_file.ensures.entered
 
 pub returns-clause-started : goal.returns-clause-started
 returns-clause-started g c =
     let image = current_words (g.R.Region.memory c.args.region.now) in
-    let whole : HasAllBlocks image c.fill.new.self =
-    all_blocks image c.args.work.now.blocks c.fill.new.self c.room-room.result (omega (arith, c.requires.formatted.sized.at_least)) c.requires.unread.blocks c.room-room.ensures c.fill.ensures in
+    let whole = all_there g (goal.at.returns-clause-started g c).After-inode_file-count in
     on_ok_then c.enter.result (λ enters.
     reading_starts image c.in_ok-enter_inode_file.ensures.ready c.fill.new.self c.enter_inode_file.new.blocks whole c.in_ok-enter_inode_file.ensures.entered
     c.args.work.now.inodes _ c.enter.new.work c.enter.ensures.room c.requires.unread.inodes
@@ -61,7 +65,6 @@ returns-clause-started g c =
 pub returns-clause-fault : goal.returns-clause-fault
 returns-clause-fault g c =
     let image = current_words (g.R.Region.memory c.args.region.now) in
-    let whole : HasAllBlocks image c.fill.new.self =
-    all_blocks image c.args.work.now.blocks c.fill.new.self c.room-room.result (omega (arith, c.requires.formatted.sized.at_least)) c.requires.unread.blocks c.room-room.ensures c.fill.ensures in
+    let whole = all_there g (goal.at.returns-clause-fault g c).After-inode_file-count in
     err_then c.enter.result (λ f fails.
     root_fails image c.in_ok-enter_inode_file.ensures.ready c.fill.new.self c.enter_inode_file.new.blocks whole c.in_ok-enter_inode_file.ensures.entered f.check f.place fails) c.enter.ensures.err

@@ -50,10 +50,12 @@ pub(crate) fn store_links<R: Region>(region: &mut R, links: &Links)
     requires room { length links.now.items + 2 ≤ room_in (R.memory region.old) }
     ensures { Adds (R.memory region.old) (R.memory region.new) (Barrier ∷ links_of links.now.items ++ Barrier ∷ []) }
 {
+    // A crash could keep a pointer and lose words of the copy to which it leads.
     region.barrier();
     for i in 0..links.len() {
         let (place, value) = links[i];
         region.store(place, value);
     }
+    // What a call stores next is right where all pointers are turned: a crash could keep it and turn only some of them.
     region.barrier();
 }

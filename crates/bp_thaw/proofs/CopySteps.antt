@@ -35,6 +35,9 @@ has-item [] i d low = absurd (omega (arith, low))
 has-item (x ∷ xs) zero d low = inl refl
 has-item (x ∷ xs) (suc i) d low = inr (has-item xs i d (omega (arith, low)))
 
+pub item_here : {A : Type 0} (xs : List A) (i : ℕ) (d item : A) → i < length xs → get_or xs i d ≡ item → Has xs item
+item_here xs i d item low is = subst (Has xs) is (has-item xs i d low)
+
 pub length-taken : {A : Type 0} (xs : List A) (n : ℕ) → n ≤ length xs → length (take n xs) ≡ n
 length-taken [] zero low = refl
 length-taken [] (suc n) low = absurd (omega (arith, low))
@@ -177,7 +180,7 @@ module _ (copies : Copies) (i : ℕ) (c : ℕ × ℕ) (old now : Memory) (can : 
   done = take i copies
 
   here : Has copies c
-  here = subst (Has copies) is (has-item copies i (0, 0) low)
+  here = item_here copies i (0, 0) c low is
 
   has_block : Has (blocks_of copies) c.1
   has_block = has-mapped (λ (x : ℕ × ℕ). x.1) copies c c.1 here refl

@@ -55,10 +55,6 @@ copy_on-has (n ∷ marks) m once has = go (cases_trail n.0 m.0) has (λ later. c
     go (inr other) (inl e) rest = absurd (other (ap (λ (x : Trail × ℕ). x.0) e))
     go (inr other) (inr later) rest = rw (trail_differs n.0 m.0 other) (rest later)
 
-pub copy_on-none : (marks : Marks) (p : Trail) → ((m : Trail × ℕ) → Has marks m → m.0 ≢ p) → copy_on marks p ≡ None
-copy_on-none [] p none = refl
-copy_on-none (m ∷ marks) p none = rw (trail_differs m.0 p (none m (inl refl))) (copy_on-none marks p (λ n has. none n (inr has)))
-
 -- ---- places
 
 -- below a null there are nulls

@@ -1,14 +1,13 @@
-use Rattle.std.proofs.Common.{◌≡◌, ℕ, ◌+◌, ◌<◌, List, [], ◌∷◌, ◌++◌, get_or, length, map, take, refl, rules, sym, ◌∙◌, ap, subst, arith}
+use Rattle.std.proofs.Common.{◌≡◌, ℕ, ◌+◌, ◌<◌, List, [], ◌∷◌, ◌++◌, get_or, length, map, take, refl, rules, sym, ◌∙◌, ap, arith}
 use Rattle.std.proofs.lemmas.List.{take_more}
 use Rattle.std.proofs.Math.Seq.{take-length}
 use Rattle.arrayvec.specs.ArrayVec.{ArrayVec}
 use Rattle.pm_region.specs.Memory.{current_words}
 use Rattle.bp_free.specs.Set.{has}
-use Rattle.bp_layout.specs.Members.{Has}
 use Rattle.bp_layout.specs.WordPaths.{WordPath, address}
 use Rattle.bp_layout.proofs.MemberLaws.{has-map}
 use Rattle.bp_thaw.specs.Fronts.{found_in}
-use Rattle.bp_thaw.proofs.CopySteps.{has-item, map-more}
+use Rattle.bp_thaw.proofs.CopySteps.{item_here, map-more}
 use Rattle.bp_thaw.proofs.FindSteps.{found_in-more}
 use Rattle.bp_thaw.proofs.finding.find.Goals as goal
 
@@ -25,7 +24,7 @@ find_on-requires-clause-way g c =
     let low : c.loop-i.i < length ways = omega (arith, c.loop-i-test.true, c.len-i-end.ensures.value) in
     let way = c.index-deref-i.result in
     let is : get_or ways c.loop-i.i way ≡ way = ap (λ ws. get_or ws c.loop-i.i way) (sym c.deref.ensures.0) ∙ sym c.index-deref-i.is in
-    c.requires.ways way.items (has-map (λ (path : ArrayVec ℕ). path.items) ways way (subst (Has ways) is (has-item ways c.loop-i.i way low)))
+    c.requires.ways way.items (has-map (λ (path : ArrayVec ℕ). path.items) ways way (item_here ways c.loop-i.i way way low is))
 
 pub loop-i-preserved : goal.loop-i-preserved
 loop-i-preserved g c =

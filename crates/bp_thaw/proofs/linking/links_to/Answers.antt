@@ -1,17 +1,13 @@
-use Rattle.std.proofs.Common.{◌≡◌, ℕ, ◌<◌, ◌/◌, [], ◌∷◌, ◌++◌, true, false, get_or, length, take, sym, ◌∙◌, ap, subst, refl, arith, rules}
+use Rattle.std.proofs.Common.{◌≡◌, ℕ, ◌<◌, ◌/◌, [], ◌∷◌, ◌++◌, true, false, get_or, length, take, sym, ◌∙◌, ap, refl, arith, rules}
 use Rattle.std.proofs.Math.Seq.{take-length}
 use Rattle.pm_region.specs.Memory.{current_words}
 use Rattle.bp_tree.proofs.RegionWords.{length_now}
-use Rattle.bp_layout.specs.Members.{Has}
 use Rattle.bp_cow.specs.Copies.{pointing_to}
-use Rattle.bp_thaw.specs.Copies.{Copies, is_copied, links_among}
-use Rattle.bp_thaw.proofs.CopySteps.{has-item, one_more_taken}
+use Rattle.bp_thaw.specs.Copies.{is_copied, links_among}
+use Rattle.bp_thaw.proofs.CopySteps.{item_here, one_more_taken}
 use Rattle.bp_thaw.proofs.LinkSteps.{link_more, link_none}
 use Rattle.bp_thaw.proofs.linking.links_to.Goals as goal
 use Rattle.bp_thaw.proofs.linking.links_to.Goals.{then-not-is_copied, else-not-is_copied}
-
-item_here : (copies : Copies) (i : ℕ) (item : ℕ × ℕ) → i < length copies → get_or copies i (0, 0) ≡ item → Has copies item
-item_here copies i item low is = subst (Has copies) is (has-item copies i (0, 0) low)
 
 pub loop-i-init : goal.loop-i-init
 loop-i-init g c = rw c.new-links.ensures (record { links = refl; count = search rules })
@@ -20,7 +16,7 @@ pub load-requires : goal.load-requires
 load-requires g c =
     let copies = c.args.copies.now.items in
     let low : c.loop-i.i < length copies = omega (arith, c.loop-i-test.true, c.len-i-end.ensures.value) in
-    omega (arith, c.requires _ (item_here copies c.loop-i.i _ low (ap (λ cs. get_or cs c.loop-i.i (0, 0)) (sym c.deref.ensures.0))), length_now (g.R.Region.memory c.args.region.now))
+    omega (arith, c.requires _ (item_here copies c.loop-i.i (0, 0) _ low (ap (λ cs. get_or cs c.loop-i.i (0, 0)) (sym c.deref.ensures.0))), length_now (g.R.Region.memory c.args.region.now))
 
 pub loop-i-preserved : goal.loop-i-preserved
 loop-i-preserved g c =

@@ -5,14 +5,9 @@ use Rattle.pm_epochs.specs.May.{links_of}
 use Rattle.pm_region.specs.Memory.{Adds}
 use Rattle.pm_region.proofs.MemoryLaws.{adds_both, base-adds}
 use Rattle.bp_tree.proofs.RegionWords.{length_now}
-use Rattle.bp_layout.specs.Members.{Has}
-use Rattle.bp_thaw.specs.Copies.{Copies}
-use Rattle.bp_thaw.proofs.CopySteps.{has-item, length-taken, one_more_taken}
+use Rattle.bp_thaw.proofs.CopySteps.{item_here, length-taken, one_more_taken}
 use Rattle.bp_thaw.proofs.LinkSteps.{room_stored, store_more}
 use Rattle.bp_thaw.proofs.linking.store_links.Goals as goal
-
-item_here : (copies : Copies) (i : ℕ) (item : ℕ × ℕ) → i < length copies → get_or copies i (0, 0) ≡ item → Has copies item
-item_here copies i item low is = subst (Has copies) is (has-item copies i (0, 0) low)
 
 pub loop-i-init : goal.loop-i-init
 loop-i-init g c = record { adds = c.barrier.ensures }
@@ -21,7 +16,7 @@ pub store-requires-clause-in_range : goal.store-requires-clause-in_range
 store-requires-clause-in_range g c =
     let links = c.args.links.now.items in
     let low : c.loop-i.i < length links = omega (arith, c.loop-i-test.true, c.len-i-end.ensures.value) in
-    let here = item_here links c.loop-i.i _ low (ap (λ cs. get_or cs c.loop-i.i (0, 0)) (sym c.deref.ensures.0)) in
+    let here = item_here links c.loop-i.i (0, 0) _ low (ap (λ cs. get_or cs c.loop-i.i (0, 0)) (sym c.deref.ensures.0)) in
     let base = ap length (base-adds (g.R.Region.memory c.args.region.now) (g.R.Region.memory c.loop-i.region) _ c.loop-i.invariant.adds) in
     omega (arith, c.requires.places _ here, length_now (g.R.Region.memory c.args.region.now), base)
 

@@ -12,7 +12,7 @@ ghost use Rattle.bp_calls.specs.ThawedFor.{AreThawedFor};
 ghost use Rattle.bp_calls.specs.ThawsFor.{ThawsBefore};
 ghost use Rattle.bp_free.specs.Set.{IsLeast, members};
 ghost use Rattle.bp_layout.specs.Directory.{IsName, empty_slot, slot_named};
-ghost use Rattle.bp_layout.specs.Inode.{IsDirectory, root_of, size_of};
+ghost use Rattle.bp_layout.specs.Inode.{IsDirectory};
 ghost use Rattle.bp_layout.specs.Need.{need};
 ghost use Rattle.bp_layout.specs.Need.Change.{enters};
 ghost use Rattle.bp_layout.specs.Need.Entrant.{grown};
@@ -34,24 +34,25 @@ use bp_free::{Inodes, NoSpace, Parts};
 use bp_inodes::{inode_file, tree_of};
 use bp_layout::Kind;
 use bp_limits::{ENTRY_SIZE, INODE_SIZE};
-use bp_tree::{Slots, Tree, word_path};
+use bp_tree::{Slots, word_path};
 use pm_region::Region;
 
-/// How many blocks a name takes where its inode is there, given its directory's tree and least empty slot: those that
-/// the tree lacks for one entry more, where no slot is empty.
-pub(crate) fn entry_need<R: Region>(region: &R, dir: u32, tree: Tree, slot: Option<u64>) -> u32
+/// How many blocks a name takes where its inode is there, given its directory's least empty slot: those that the tree lacks
+/// for one entry more, where no slot is empty.
+pub(crate) fn entry_need<R: Region>(region: &R, dir: u32, slot: Option<u64>) -> u32
     requires well_formed { IsWellFormed (current_words (R.memory region.now)) }
     requires reached { IsReached (current_words (R.memory region.now)) dir }
     requires directory { IsDirectory (current_words (R.memory region.now)) dir }
-    requires root { tree.root ≡ root_of (current_words (R.memory region.now)) dir }
-    requires size { tree.size ≡ size_of (current_words (R.memory region.now)) dir }
     requires slot { slot ≡ empty_slot (current_words (R.memory region.now)) dir }
     ensures need { result ≡ name_need (current_words (R.memory region.now)) dir }
     ensures few { result ≤ 18 + 3 * max_height }
 {
     match slot {
         Some(_) => 0,
-        None => need_prep(region, tree, tree.size, tree.size + ENTRY_SIZE),
+        None => {
+            let tree = tree_of(region, dir);
+            need_prep(region, tree, tree.size, tree.size + ENTRY_SIZE)
+        }
     }
 }
 
@@ -66,8 +67,7 @@ fn new_need<R: Region>(parts: &Parts<R>, dir: u32, slot: Option<u64>) -> u32
         (λ change. need (current_words (R.memory parts.now.region)) change ≡ result) }
     ensures few { result < 2 ^ 31 }
 {
-    let tree = tree_of(&parts.region, dir);
-    let entry = entry_need(&parts.region, dir, tree, slot);
+    let entry = entry_need(&parts.region, dir, slot);
     if parts.inodes.count() > 0 {
         return entry;
     }

@@ -79,8 +79,7 @@ fn thaw_linked<R: Region>(parts: &mut Parts<R>, dir: u32, slot: Option<u64>) -> 
         (enters dir linked) lacks) }
     ensures same { OnErr result (parts.new ≡ parts.old) }
 {
-    let tree = tree_of(&parts.region, dir);
-    let need = entry_need(&parts.region, dir, tree, slot);
+    let need = entry_need(&parts.region, dir, slot);
     if parts.frozen.count() == 0 {
         let free = parts.blocks.count();
         if free < need {

@@ -1,15 +1,9 @@
 use Rattle.std.proofs.Common.{arith}
 use Rattle.pm_region.specs.Memory.{current_words}
 use Rattle.bp_free.specs.Set.{members}
-use Rattle.bp_calls.proofs.EnteredLaws.{directory_inode}
 use Rattle.bp_calls.proofs.NewNames.{none_needs, some_needs}
 use Rattle.bp_calls.proofs.Refusals.{no_members, some_members}
 use Rattle.bp_calls.proofs.creating.new_need.Goals as goal
-
-pub tree_of-tree-requires-clause-some : goal.tree_of-tree-requires-clause-some
-tree_of-tree-requires-clause-some g c =
-    let some = directory_inode (current_words (g.R.Region.memory c.args.parts.now.region)) c.args.dir c.requires.directory in
-    omega (arith, some)
 
 pub entry_need-entry-requires-clause-slot : goal.entry_need-entry-requires-clause-slot
 entry_need-entry-requires-clause-slot g c = c.requires.slot

@@ -4,7 +4,6 @@ use Rattle.bp_layout.specs.Need.Entrant.{linked}
 use Rattle.pm_region.specs.Memory.{current_words}
 use Rattle.bp_calls.proofs.CommitResults.{by_one, ok_both, ok_one}
 use Rattle.bp_calls.proofs.EnterTargets.{enter_ways}
-use Rattle.bp_calls.proofs.EnteredLaws.{directory_inode}
 use Rattle.bp_calls.proofs.ThawedNeed.{IsPlanned, few_unthawed, lacks_both, leads_in, ready_behind, ready_unthawed, room_for_both, thaws_before, thaws_unthawed}
 use Rattle.bp_calls.proofs.linking.thaw_linked.Given.{Over}
 use Rattle.bp_calls.proofs.linking.thaw_linked.Goals.{After-entry_need-need}
@@ -59,11 +58,6 @@ pub returns-clause-refused : goal.returns-clause-refused
 returns-clause-refused g c =
     let planned = plan g (goal.at.returns-clause-refused g c).After-entry_need-need in
     by_one c.thaw_before.result c.thaw_before.ensures.refused (lacks_both planned c.entering-targets.ensures.paths)
-
-pub tree_of-tree-requires-clause-some : goal.tree_of-tree-requires-clause-some
-tree_of-tree-requires-clause-some g c =
-    let some = directory_inode (current_words (g.R.Region.memory c.args.parts.now.region)) c.args.dir c.requires.directory in
-    omega (arith, some)
 
 pub entry_need-need-requires-clause-slot : goal.entry_need-need-requires-clause-slot
 entry_need-need-requires-clause-slot g c = c.requires.slot

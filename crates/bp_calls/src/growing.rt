@@ -42,6 +42,8 @@ pub(crate) fn grow<R: Region>(parts: &mut Parts<R>)
     let end = size + BLOCK_SIZE;
     prep(parts, &Slots::new(), size, &[], end);
     parts.region.store(SUPER_SIZE, end);
+    // The size is in memory before any store to an inode of the new leaf: so no crash leaves such a store behind the end of
+    // the inode file, and what a caller stores next is told of the longer file alone.
     parts.region.barrier();
     let from = (size / INODE_SIZE) as u32;
     let to = (end / INODE_SIZE) as u32;

@@ -19,6 +19,7 @@ pub mod ThawsFor
 pub mod ThawedFor
 pub mod CanWrite
 pub mod WritesFile
+pub mod FewBlocks
 pub mod Growth
 pub mod Entries
 pub mod TouchedAcross

@@ -27,6 +27,7 @@ use arrayvec::ArrayVec;
 use bp_cow::{Run, Touched, cover, need_cover};
 use bp_free::{NoSpace, Parts};
 use bp_inodes::tree_of;
+use bp_limits::MAX_PIECES;
 use pm_region::Region;
 
 /// Bytes for a file, below its size.
@@ -51,7 +52,7 @@ fn run_of<'a, R: Region>(region: &R, patch: &Patch<'a>) -> Run<'a>
 }
 
 /// The runs of those patches that have bytes, in their order.
-fn runs_of<'a, R: Region>(region: &R, patches: &[Patch<'a>]) -> ArrayVec<Run<'a>, 16>
+fn runs_of<'a, R: Region>(region: &R, patches: &[Patch<'a>]) -> ArrayVec<Run<'a>, MAX_PIECES>
     requires well_formed { IsWellFormed (current_words (R.memory region.now)) }
     requires few { length patches.now ≤ max_pieces }
     requires each { Each (IsPatchIn (current_words (R.memory region.now))) (patches_seen patches.now) }

@@ -1,9 +1,10 @@
 //! New names.
 
-ghost use Rattle.std.specs.Prelude.{◌≡◌, ◌+◌, ◌*◌, ◌<◌, ◌≤◌, ◌^◌, [], None, IfErr, MatchOption, OnErr, OnOk};
+ghost use Rattle.std.specs.Prelude.{◌≡◌, ◌<◌, ◌≤◌, ◌^◌, [], None, IfErr, MatchOption, OnErr, OnOk};
 ghost use Rattle.bp_calls.specs.Commits.{CommitsChange, CreatesOrLacksSpace};
 ghost use Rattle.bp_calls.specs.Created.{EntersName};
 ghost use Rattle.bp_calls.specs.Entrant.{ForCreation};
+ghost use Rattle.bp_calls.specs.FewBlocks.{most_for_leaf};
 ghost use Rattle.bp_calls.specs.Mounted.{IsMounted};
 ghost use Rattle.bp_calls.specs.NewEntry.{EntersLeastFree, PerformsCreation};
 ghost use Rattle.bp_calls.specs.Space.{HasRoomToCreate, LacksSpaceToCreate};
@@ -19,7 +20,6 @@ ghost use Rattle.bp_layout.specs.Need.Entrant.{grown};
 ghost use Rattle.bp_layout.specs.Reached.{IsReached};
 ghost use Rattle.bp_layout.specs.Thaw.{targets};
 ghost use Rattle.bp_layout.specs.WellFormed.{IsWellFormed};
-ghost use Rattle.bp_limits.specs.Limits.{max_height};
 ghost use Rattle.bp_shapes.specs.Sets.{IsExact, kept_of};
 ghost use Rattle.bp_thaw.specs.Thaws.{paths_in};
 ghost use Rattle.pm_region.specs.Memory.{current_words};
@@ -45,7 +45,7 @@ pub(crate) fn entry_need<R: Region>(region: &R, dir: u32, slot: Option<u64>) -> 
     requires directory { IsDirectory (current_words (R.memory region.now)) dir }
     requires slot { slot ≡ empty_slot (current_words (R.memory region.now)) dir }
     ensures need { result ≡ name_need (current_words (R.memory region.now)) dir }
-    ensures few { result ≤ 18 + 3 * max_height }
+    ensures few { result ≤ most_for_leaf }
 {
     match slot {
         Some(_) => 0,

@@ -23,9 +23,15 @@ use bp_free::Parts;
 use bp_inodes::{fill, place, root_path, size_path, tree_of};
 use bp_inplace::commit_word;
 use bp_layout::Kind;
-use bp_limits::{ENTRY_SIZE, SIZE_FIELD};
+use bp_limits::{ENTRY_SIZE, SIZE_FIELD, WORD_SIZE};
 use bp_tree::{Tree, content_word};
 use pm_region::Region;
+
+/// The bytes of a word of an entry: of the inumber, and of the length of the name behind it.
+const WORD: usize = WORD_SIZE as usize;
+
+/// Where the name begins in an entry, in bytes: behind these two words.
+const NAME_AT: usize = 2 * WORD;
 
 /// Where a name comes into a directory, given its least empty slot: at the inumber of the entry there, or else at the
 /// size, which takes in an entry behind the last one.
@@ -77,12 +83,12 @@ pub(crate) fn enter_slot<R: Region>(
 fn entry_byte(inode: u32, name: &[u8], at: usize) -> u8
     ensures { result ≡ entry_byte inode name.now at }
 {
-    if at < 8 {
+    if at < WORD {
         u64::from(inode).to_le_bytes()[at]
-    } else if at < 16 {
-        (name.len() as u64).to_le_bytes()[at - 8]
-    } else if at - 16 < name.len() {
-        name[at - 16]
+    } else if at < NAME_AT {
+        (name.len() as u64).to_le_bytes()[at - WORD]
+    } else if at - NAME_AT < name.len() {
+        name[at - NAME_AT]
     } else {
         0
     }
@@ -119,8 +125,8 @@ pub fn put_behind<R: Region>(parts: &mut Parts<R>, dir: u32, tree: Tree, inode: 
         size: end,
     };
     // A preparation tells of bytes. What two words are follows once they are read, as words of 64 bits.
-    let inumber = content_word(&parts.region, prepared, tree.size / 8);
-    let length = content_word(&parts.region, prepared, tree.size / 8 + 1);
+    let inumber = content_word(&parts.region, prepared, tree.size / WORD_SIZE);
+    let length = content_word(&parts.region, prepared, tree.size / WORD_SIZE + 1);
     prove_eq!(inumber, u64::from(inode));
     prove_eq!(length, name.len() as u64);
 }

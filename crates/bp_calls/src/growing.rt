@@ -1,10 +1,10 @@
 //! The inode file gets one more leaf of inodes.
 
-ghost use Rattle.std.specs.Prelude.{◌≡◌, ◌+◌, ◌*◌, ◌≤◌, length};
+ghost use Rattle.std.specs.Prelude.{◌≡◌, ◌+◌, ◌≤◌, length};
+ghost use Rattle.bp_calls.specs.FewBlocks.{most_for_leaf};
 ghost use Rattle.bp_calls.specs.Growth.{CanGrowInodes, GrowsInodes, growth_need};
 ghost use Rattle.bp_free.specs.Set.{members};
 ghost use Rattle.bp_layout.specs.WellFormed.{IsWellFormed};
-ghost use Rattle.bp_limits.specs.Limits.{max_height};
 ghost use Rattle.bp_shapes.specs.Sets.{IsExact, kept_of};
 ghost use Rattle.pm_region.specs.Memory.{current_words};
 
@@ -19,7 +19,7 @@ use pm_region::Region;
 pub(crate) fn grow_need<R: Region>(region: &R) -> u32
     requires { IsWellFormed (current_words (R.memory region.now)) }
     ensures need { result ≡ growth_need (current_words (R.memory region.now)) }
-    ensures few { result ≤ 18 + 3 * max_height }
+    ensures few { result ≤ most_for_leaf }
 {
     let inodes = inode_file(region);
     need_prep(region, inodes, inodes.size, inodes.size + BLOCK_SIZE)

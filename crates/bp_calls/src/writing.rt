@@ -3,6 +3,7 @@
 ghost use Rattle.std.specs.Prelude.{◌≡◌, ◌+◌, ◌<◌, ◌≤◌, [], length, true, IfErr, OnErr, OnOk};
 ghost use Rattle.bp_calls.specs.Commits.{CommitsChange, CommitsOrLacksBlocks, CommitsOrLacksSpace};
 ghost use Rattle.bp_calls.specs.CanWrite.{CanWrite, CanWriteThawed};
+ghost use Rattle.bp_calls.specs.FewBlocks.{most_for_write};
 ghost use Rattle.bp_calls.specs.Mounted.{IsMounted};
 ghost use Rattle.bp_shapes.specs.Sets.{IsExact, kept_of};
 ghost use Rattle.bp_calls.specs.Space.{HasRoomThawed, HasRoomWhereFree, LacksSpace};
@@ -39,7 +40,7 @@ fn need_behind<R: Region>(parts: &Parts<R>, i: u32, tree: Tree, off: u64, bytes:
     requires can { CanWrite (current_words (R.memory parts.now.region)) i off bytes.now }
     requires behind { size_of (current_words (R.memory parts.now.region)) i ≤ off }
     ensures need { result ≡ need (current_words (R.memory parts.now.region)) (writes i off (length bytes.now)) }
-    ensures few { result ≤ 320 }
+    ensures few { result ≤ most_for_write }
 {
     need_prep(&parts.region, tree, off, off + bytes.len() as u64)
 }
@@ -53,7 +54,7 @@ fn need_below<R: Region>(parts: &Parts<R>, i: u32, tree: Tree, off: u64, bytes: 
     requires can { CanWrite (current_words (R.memory parts.now.region)) i off bytes.now }
     requires below { off + length bytes.now ≤ size_of (current_words (R.memory parts.now.region)) i }
     ensures need { result ≡ need (current_words (R.memory parts.now.region)) (writes i off (length bytes.now)) }
-    ensures few { result ≤ 320 }
+    ensures few { result ≤ most_for_write }
 {
     let runs = [run_for(&parts.region, i, tree, off, bytes)];
     need_cover(&parts.region, &touched_by(&runs))
@@ -66,7 +67,7 @@ fn need_write<R: Region>(parts: &Parts<R>, i: u32, tree: Tree, off: u64, bytes: 
     requires mounted { IsMounted (current_words (R.memory parts.now.region)) parts.now }
     requires can { CanWrite (current_words (R.memory parts.now.region)) i off bytes.now }
     ensures need { result ≡ need (current_words (R.memory parts.now.region)) (writes i off (length bytes.now)) }
-    ensures few { result ≤ 320 }
+    ensures few { result ≤ most_for_write }
 {
     if tree.size <= off {
         return need_behind(parts, i, tree, off, bytes);

@@ -4,6 +4,7 @@
 ghost use Rattle.std.specs.Prelude.{◌≡◌, ◌+◌, ◌<◌, ◌≤◌, ◌∷◌, [], ℕ, length, slice_index};
 ghost use Rattle.bp_calls.specs.Commits.{CommitsChange, CommitsOrLacksBlocks};
 ghost use Rattle.bp_calls.specs.CanWrite.{CanWrite, CanWriteThawed};
+ghost use Rattle.bp_calls.specs.FewBlocks.{most_for_write};
 ghost use Rattle.bp_calls.specs.Mounted.{IsMounted};
 ghost use Rattle.bp_calls.specs.Space.{HasRoomThawed};
 ghost use Rattle.bp_cow.specs.Found.{AreWaysIn};
@@ -115,7 +116,7 @@ fn need_found<R: Region>(
     requires size { plan.now.tree.size ≡ size_of (current_words (R.memory parts.now.region)) plan.now.inode }
     requires found { AreWaysIn (current_words (R.memory parts.now.region)) touched.now found.now }
     ensures need { result ≡ need (current_words (R.memory parts.now.region)) (planned_change plan.now) }
-    ensures few { result ≤ 320 }
+    ensures few { result ≤ most_for_write }
 {
     let end = plan.off + plan.bytes.len() as u64;
     let copied = copies_below(touched, found);
@@ -137,7 +138,7 @@ pub(crate) fn need_across<R: Region>(
     requires below { off < size_of (current_words (R.memory parts.now.region)) i }
     requires past { size_of (current_words (R.memory parts.now.region)) i < off + length bytes.now }
     ensures need { result ≡ need (current_words (R.memory parts.now.region)) (writes i off (length bytes.now)) }
-    ensures few { result ≤ 320 }
+    ensures few { result ≤ most_for_write }
 {
     let plan = plan_write(&parts.region, i, tree, off, bytes);
     let touched = touched_across(&plan);

@@ -28,6 +28,7 @@ use Rattle.pm_region.specs.Memory.{Memory, Adds, current_words, room_in}
 use Rattle.pm_region.proofs.MemoryLaws.{current_words-adds, room_in-piece}
 use Rattle.bp_calls.specs.Growth.{AddsInodes, GrowsInodes, growth_need, growth_stores}
 use Rattle.bp_calls.proofs.GrowthImage.{adds_inodes}
+use Rattle.bp_calls.proofs.Trees.{has_more}
 
 -- looser bounds
 taking_more : {kept : ℕ → Bool} (taken : List ℕ) (most_barriers most barriers stores : ℕ) (old new : Memory) → most_barriers ≤ barriers → most ≤ stores → AddsTaking kept taken most_barriers most old new → AddsTaking kept taken barriers stores old new
@@ -40,16 +41,6 @@ taking_more taken most_barriers most barriers stores old new low few adds = reco
     piece = IsPiece-more most_barriers most barriers stores adds.part.added low few adds.part.piece;
   };
   takes = adds.takes;
-}
-
--- a block stays where the size is greater
-block_wider : (image : Image) (root size more b : ℕ) → HasBlock image root size b → HasBlock image root (size + more) b
-block_wider image root size more b has = record {
-  depth = has.depth;
-  index = has.index;
-  pointer = record { level = has.pointer.level; height = has.pointer.height; live = omega (arith, has.pointer.live) };
-  named = has.named;
-  not_null = has.not_null;
 }
 
 -- the nodes that are made for one more leaf of the inode file
@@ -108,7 +99,7 @@ module _ {kept : ℕ → Bool} (old middle new : Memory) (free_old free_new : Li
   live_cases t b reached has (inl e) =
       let here : HasBlock mid (root_of mid 0) (size_of image 0) b =
       subst (λ s. HasBlock mid (root_of mid 0) s b) (prepared.ready.sizes 0 inode_file) (subst (λ u. HasBlock mid (root_of mid u) (size_of mid u) b) e has) in
-      elim (prepared.ready.blocks b (block_wider mid (root_of mid 0) (size_of image 0) block_size b here)) [
+      elim (prepared.ready.blocks b (has_more mid (root_of mid 0) (size_of image 0) block_size b here)) [
         | inl was ↦ inl (record { tree = 0; reached = inode_file; has = was })
         | inr took ↦ inr took
       ]

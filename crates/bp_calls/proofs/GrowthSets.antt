@@ -15,13 +15,7 @@ use Rattle.bp_limits.specs.Limits.{block_size, inode_size}
 use Rattle.bp_shapes.specs.Sets.{AreExact}
 use Rattle.bp_calls.specs.Growth.{AddsInodes}
 use Rattle.bp_calls.proofs.GrowthLaws.{longer_live, longer_stays, longer_taken, longer_reached, shorter_reached}
-use Rattle.bp_calls.proofs.TakenBlocks.{in_members, members_apart, of_members}
-
--- a member of two lists in a row is in one of them
-has_either : (xs ys : List ℕ) (b : ℕ) → Has (xs ++ ys) b → Has xs b ⊎ Has ys b
-has_either [] ys b there = inr there
-has_either (x ∷ xs) ys b (inl e) = inl (inl e)
-has_either (x ∷ xs) ys b (inr later) = elim (has_either xs ys b later) [ inl early ↦ inl (inr early) | inr late ↦ inr late ]
+use Rattle.bp_calls.proofs.TakenBlocks.{has_either, in_members, members_apart, of_members}
 
 module _ {kept : ℕ → Bool} (old new : Image) (taken : List ℕ) (wf : IsWellFormed old) (adds : AddsInodes old new taken) (blocks after inodes filled : Set) (exact : AreExact old kept blocks inodes)
     (takes : members blocks ≡ taken ++ members after) (room : length after ≡ length blocks) (fills : Fills (size_of old 0 / inode_size) ((size_of old 0 + block_size) / inode_size) inodes filled) where

@@ -111,7 +111,8 @@ module _ {kept : ℕ → Bool} (old : Memory) (blocks inodes : Set) (n size : �
 
 -- ---- by the number of the inode
 
-no_file : (image : Image) → kind_of image 0 ≡ 1 → ⊥
+-- the inode file is no file
+pub no_file : (image : Image) → kind_of image 0 ≡ 1 → ⊥
 no_file image one = omega (arith, one)
 
 -- a file that got longer

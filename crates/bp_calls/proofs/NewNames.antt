@@ -1,6 +1,5 @@
 -- A name is entered: what it needs, and that there is what it needs, also where the inode file grows first.
 use Rattle.std.proofs.Common.{◌≡◌, ◌≢◌, ◌⊎◌, ℕ, Bool, false, inl, inr, ◌+◌, ◌<◌, ◌≤◌, [], length, Option, None, Some, refl, sym, ◌∙◌, ap, subst, arith}
-use Rattle.std.specs.Prelude.{Result, Ok, Err, OnErr, OnOk}
 use Rattle.bp_append.specs.Prepared.{need_for}
 use Rattle.bp_free.specs.Set.{Set, IsLeast, members}
 use Rattle.bp_layout.specs.Directory.{Name, empty_slot}
@@ -269,11 +268,3 @@ lacks_on old new shape i name lacks =
       form = lacks.form;
       missing = slot_named_over old new lacks.well_formed shape.meaning i name lacks.reached lacks.directory ∙ lacks.missing;
     }
-
--- whether the name comes in or not, a file system is left
-pub left_well_formed : {T E : Type 0} {kept : ℕ → Bool} (result : Result T E) (old new : Memory) (blocks inodes : Set) (i : ℕ) (Effect : Image → Image → Type 0) (Kept : Type 0) → AreExact (current_words old) kept blocks inodes →
-    OnOk result ((free : Option ℕ) → IsLeastFree (current_words old) free → Performs kept old new (enters i (entrant_of free)) Effect) → OnErr result Kept → (Kept → IsWellFormed (current_words new)) →
-    IsWellFormed (current_words new)
-left_well_formed (Ok value) old new blocks inodes i Effect Kept exact performs same kept =
-    let told = tells (current_words old) blocks inodes exact in (performs told.0 told.1).well_formed
-left_well_formed (Err fault) old new blocks inodes i Effect Kept exact performs same kept = kept same

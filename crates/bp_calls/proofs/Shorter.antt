@@ -6,6 +6,7 @@ use Rattle.std.proofs.lemmas.List.FromFn.{get_or-map-range_with_len}
 use Rattle.bp_calls.specs.GivenBack.{GivesBack}
 use Rattle.bp_calls.specs.Resized.{ResizesFile}
 use Rattle.bp_calls.proofs.GivenUpLaws.{gives_as, has_larger}
+use Rattle.bp_calls.proofs.Longer.{no_file}
 use Rattle.bp_calls.proofs.OpenPlaces.{content_live, inode_address, root_word_stays, stands_stored}
 use Rattle.bp_calls.proofs.SetLaws.{free_inodes_stay}
 use Rattle.bp_changes.specs.Effects.{ChangesFile}
@@ -227,9 +228,6 @@ module _ {kept : ℕ → Bool} (old new : Memory) (blocks inodes : Set) (n size 
       (rw stored (resizes_last (current_words old) blocks inodes n size place shrinks))
 
 -- ---- told of any number
-
-no_file : (image : Image) → kind_of image 0 ≡ 1 → ⊥
-no_file image one = omega (arith, one)
 
 -- what giving back asks after the store
 pub record CanGiveBack (image : Image) (root size : ℕ) (blocks : Set) : Type 0 where

@@ -99,16 +99,6 @@ root_then : (h t d k : ℕ) → tree_path h t 0 0 ++ digits d k ≡ tree_path h 
 root_then h zero d k = refl
 root_then h (suc i) d k = ap (λ (p : WordPath). p ++ digits d k) (append-nil (inode_path h (suc i) 1))
 
--- of a tree that is empty or too low for the byte
-pub end_at_root : (image : Image) (t root size : ℕ) → root ≡ root_of image t → size ≡ size_of image t → (size ≡ 0) ⊎ (span (height_of root) ≤ size) → root_path_now image t ≡ end_path_now image t
-end_at_root image t root size is long (inl none) = rw (le-ltb 0 (size_of image t) (omega (arith, none, long))) refl
-end_at_root image t root size is long (inr past) =
-    by (nat_lt 0 (size_of image t)) _ _ (le-ltb (size_of image t) (span (heights_now image t)) (subst (λ s. span (heights_now image t) ≤ s) long (subst (λ r. span (height_of r) ≤ size) is past)))
-  where
-    by : (a : Bool) {b : Bool} (deep above : WordPath) → b ≡ false → above ≡ (if a && b then deep else above)
-    by true deep above e = rw e refl
-    by false deep above e = refl
-
 -- and of another
 pub end_below_root : (image : Image) (t root size : ℕ) → root ≡ root_of image t → size ≡ size_of image t → size ≢ 0 → size < span (height_of root) →
     root_path_now image t ++ digits (suc (height_of root)) (size / 8) ≡ end_path_now image t

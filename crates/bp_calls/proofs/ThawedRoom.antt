@@ -1,21 +1,20 @@
 -- The blocks and the room of a change whose kept blocks are thawed first: what is asked of both together is enough for each.
 use Rattle.std.proofs.Common.{◌≡◌, ◌⊎◌, ℕ, ◌+◌, ◌/◌, ◌<◌, ◌≤◌, List, [], ◌∷◌, ◌++◌, length, true, sym, ◌∙◌, ap, subst, arith, inl, inr}
-use Rattle.std.specs.List.{range_with_len}
 use Rattle.std.proofs.lemmas.Bool.{cases_eq}
 use Rattle.std.proofs.lemmas.List.{length-append}
-use Rattle.bp_calls.proofs.SetLaws.{in_room}
+use Rattle.bp_calls.proofs.TakenBlocks.{in_members, members_apart, of_members}
 use Rattle.bp_calls.specs.Mounted.{IsMounted}
 use Rattle.bp_calls.specs.Space.{HasRoomWhereFree, LacksBlocks, LacksSpace}
 use Rattle.bp_calls.specs.ThawsFor.{HasRoomToThaw, ThawsFor, thaw_count}
 use Rattle.bp_calls.proofs.ThawedParts.{nothing_kept, room_thawed, thaws_none}
 use Rattle.bp_changes.proofs.ShapeLaws.{IsOfReached}
 use Rattle.bp_commit.specs.Performs.{room_for}
-use Rattle.bp_free.specs.Set.{Set, has, members}
+use Rattle.bp_free.specs.Set.{has, members}
 use Rattle.bp_free.specs.declared.parts.NoSpace.{NoSpace}
 use Rattle.bp_free.specs.declared.parts.Parts.{Parts}
-use Rattle.bp_layout.specs.Members.{AreApart, Has}
+use Rattle.bp_layout.specs.Members.{Has}
 use Rattle.bp_layout.specs.Reached.{IsFreeBlock}
-use Rattle.bp_layout.proofs.MemberLaws.{apart-filter, apart-range, apart-within, filter-has, has-behind, has-filter, has-front, has-range}
+use Rattle.bp_layout.proofs.MemberLaws.{apart-within, has-behind, has-front}
 use Rattle.bp_layout.specs.Need.{Change, need}
 use Rattle.bp_layout.specs.Thaw.{full_need, targets}
 use Rattle.bp_layout.specs.WordPaths.{WordPath}
@@ -34,15 +33,6 @@ has_or (x ∷ xs) b = go (cases_eq x b) (has_or xs b)
     go (inl e) rest = inl (inl e)
     go (inr other) (inl later) = inl (inr later)
     go (inr other) (inr none) = inr (λ found. elim found [ inl e ↦ other e | inr later ↦ none later ])
-
-member_has : (s : Set) (b : ℕ) → has s b ≡ true → Has (members s) b
-member_has s b is = has-filter (has s) (range_with_len 0 (length s)) b (has-range 0 (length s) b (omega arith) (let low = in_room s b is in omega (arith, low))) is
-
-has_member : (s : Set) (b : ℕ) → Has (members s) b → has s b ≡ true
-has_member s b found = (filter-has (has s) (range_with_len 0 (length s)) b found).1
-
-members_apart : (s : Set) → AreApart (members s)
-members_apart s = apart-filter (has s) (range_with_len 0 (length s)) (apart-range 0 (length s))
 
 module _ {R : Type 0} (memory : R → Memory) (change : Change) (more : ℕ) (old : Parts R) (needs : need (current_words (memory old.region)) change ≡ more) (room : HasRoomWhereFree (memory old.region) (kept_of old) old.blocks change) where
   abbrev image : Image
@@ -88,7 +78,7 @@ module _ {R : Type 0} (memory : R → Memory) (change : Change) (more : ℕ) (ol
         inside : (b : ℕ) → Has (members old.blocks) b → Has (done.thaws.taken ++ members new.blocks) b
         inside b found = elim (has_or done.thaws.taken b) [
           | inl took ↦ has-front done.thaws.taken (members new.blocks) b took
-          | inr not ↦ has-behind done.thaws.taken (members new.blocks) b (member_has new.blocks b (still b (has_member old.blocks b found) not))
+          | inr not ↦ has-behind done.thaws.taken (members new.blocks) b (in_members new.blocks b (still b (of_members old.blocks b found) not))
         ]
 
     -- where nothing is kept

@@ -1,7 +1,8 @@
-use Rattle.std.proofs.Common.{sym, ◌∙◌, ap, subst}
+use Rattle.std.proofs.Common.{ℕ, Option, sym, ◌∙◌, ap, subst}
 use Rattle.pm_region.specs.Memory.{current_words}
 use Rattle.bp_changes.proofs.ShapeLaws.{empty-same}
 use Rattle.bp_free.specs.declared.parts.Parts.{Parts}
+use Rattle.bp_layout.specs.Free.{IsLeastFree}
 use Rattle.bp_layout.specs.Need.Change.{enters}
 use Rattle.bp_shapes.specs.Sets.{IsExact}
 use Rattle.bp_calls.specs.Created.{EntersName}
@@ -9,26 +10,33 @@ use Rattle.bp_calls.specs.Entrant.{entrant_of}
 use Rattle.bp_calls.proofs.EnterThawed.{least_back, least_on}
 use Rattle.bp_calls.proofs.NewNames.{is_told, lacks_on}
 use Rattle.bp_calls.proofs.ThawedParts.{performed_thawed}
+use Rattle.bp_calls.proofs.creating.create_in.Given.{Over}
+use Rattle.bp_calls.proofs.creating.create_in.Goals.{Start}
 use Rattle.bp_calls.proofs.creating.create_in.Goals as goal
 
 pub thaw_new-requires-clause-slot : goal.thaw_new-requires-clause-slot
 thaw_new-requires-clause-slot g c = c.requires.slot
+
+-- some inode is the least free one, or none is free
+least : (g : Over) (c : Start g) → (free : Option ℕ) × IsLeastFree (current_words (g.R.Region.memory c.args.parts.now.region)) free
+least g c =
+    let parts = c.args.parts.now in
+    let mounted = c.requires.mounted in
+    is_told (current_words (g.R.Region.memory parts.region)) mounted.well_formed parts.blocks parts.inodes mounted.exact.sets c.args.dir
+    c.requires.reached c.requires.directory
 
 pub enter_new-requires-clause-lacks : goal.enter_new-requires-clause-lacks
 enter_new-requires-clause-lacks g c =
     let memory = g.R.Region.memory in
     let parts = c.args.parts.now in
     let image = current_words (memory parts.region) in
-    let told = is_told image c.requires.mounted.well_formed parts.blocks parts.inodes c.requires.mounted.exact.sets c.args.dir c.requires.reached c.requires.directory in
+    let told = least g (goal.at.enter_new-requires-clause-lacks g c).Start in
     lacks_on image (current_words (memory c.thaw_new.new.parts.region)) (c.in-Ok.ensures.thaws told.0 told.1).thaws.shape c.args.dir c.args.name.now
     (record { well_formed = c.requires.mounted.well_formed; reached = c.requires.reached; directory = c.requires.directory; form = c.requires.name; missing = c.requires.new })
 
 pub enter_new-requires-clause-exact : goal.enter_new-requires-clause-exact
 enter_new-requires-clause-exact g c =
-    let memory = g.R.Region.memory in
-    let parts = c.args.parts.now in
-    let image = current_words (memory parts.region) in
-    let told = is_told image c.requires.mounted.well_formed parts.blocks parts.inodes c.requires.mounted.exact.sets c.args.dir c.requires.reached c.requires.directory in
+    let told = least g (goal.at.enter_new-requires-clause-exact g c).Start in
     (c.in-Ok.ensures.thaws told.0 told.1).exact
 
 pub enter_new-requires-clause-slot : goal.enter_new-requires-clause-slot
@@ -36,7 +44,7 @@ enter_new-requires-clause-slot g c =
     let memory = g.R.Region.memory in
     let parts = c.args.parts.now in
     let image = current_words (memory parts.region) in
-    let told = is_told image c.requires.mounted.well_formed parts.blocks parts.inodes c.requires.mounted.exact.sets c.args.dir c.requires.reached c.requires.directory in
+    let told = least g (goal.at.enter_new-requires-clause-slot g c).Start in
     c.requires.slot ∙ sym (empty-same image (current_words (memory c.thaw_new.new.parts.region)) (c.in-Ok.ensures.thaws told.0 told.1).thaws.shape c.args.dir c.requires.reached c.requires.directory)
 
 pub enter_new-requires-clause-thawed : goal.enter_new-requires-clause-thawed
@@ -44,7 +52,7 @@ enter_new-requires-clause-thawed g c =
     let memory = g.R.Region.memory in
     let parts = c.args.parts.now in
     let image = current_words (memory parts.region) in
-    let told = is_told image c.requires.mounted.well_formed parts.blocks parts.inodes c.requires.mounted.exact.sets c.args.dir c.requires.reached c.requires.directory in
+    let told = least g (goal.at.enter_new-requires-clause-thawed g c).Start in
     let shape = (c.in-Ok.ensures.thaws told.0 told.1).thaws.shape in
     λ free least. c.in-Ok.ensures.thawed free (least_back image (current_words (memory c.thaw_new.new.parts.region)) c.requires.mounted.well_formed shape free least)
 
@@ -53,7 +61,7 @@ returns-in-Ok g c =
     let memory = g.R.Region.memory in
     let parts = c.args.parts.now in
     let image = current_words (memory parts.region) in
-    let told = is_told image c.requires.mounted.well_formed parts.blocks parts.inodes c.requires.mounted.exact.sets c.args.dir c.requires.reached c.requires.directory in
+    let told = least g (goal.at.returns-in-Ok g c).Start in
     record {
       performs = λ free least.
           let done = c.in-Ok.ensures.thaws free least in

@@ -1,6 +1,6 @@
-use Rattle.std.proofs.Common.{arith}
+use Rattle.std.proofs.Common.{◌≤◌, arith}
 use Rattle.pm_epochs.specs.May.{AnyAt}
-use Rattle.pm_region.specs.Memory.{current_words}
+use Rattle.pm_region.specs.Memory.{current_words, room_in}
 use Rattle.pm_region.proofs.MemoryLaws.{length-current_words}
 use Rattle.bp_layout.specs.Reached.IsReached.{inode_file}
 use Rattle.bp_layout.proofs.Reached.{reached-in_file}
@@ -10,6 +10,8 @@ use Rattle.bp_calls.proofs.BehindStores.{put_base, put_room, put_well_formed_beh
 use Rattle.bp_calls.proofs.InBehind.{behind_counts, behind_performs, behind_exact, put_free}
 use Rattle.bp_calls.proofs.PutsLaws.{small_directory}
 use Rattle.bp_calls.proofs.Rooms.{base_after, room_after}
+use Rattle.bp_calls.proofs.entering.enter_behind.Given.{Over}
+use Rattle.bp_calls.proofs.entering.enter_behind.Goals.{After-put_behind}
 use Rattle.bp_calls.proofs.entering.enter_behind.Goals as goal
 
 pub tree_of-tree-requires-clause-some : goal.tree_of-tree-requires-clause-some
@@ -35,10 +37,16 @@ fill-requires-clause-free g c =
     let memory = g.R.Region.memory in
     put_free (memory c.args.parts.now.region) (memory c.put_behind.new.parts.region) c.args.parts.now.blocks c.put_behind.new.parts.blocks c.args.dir c.args.inode c.args.name.now c.requires.can c.put_behind.ensures.puts
 
+-- the log has room for the inode and the size once the entry is written
+room : (g : Over) (c : After-put_behind g) → 6 ≤ room_in (g.R.Region.memory c.put_behind.new.parts.region)
+room g c =
+    let memory = g.R.Region.memory in
+    put_room (memory c.args.parts.now.region) (memory c.put_behind.new.parts.region) c.args.parts.now.blocks c.put_behind.new.parts.blocks c.args.dir c.args.inode
+    c.args.name.now c.requires.can.can c.put_behind.ensures.puts
+
 pub fill-requires-clause-room : goal.fill-requires-clause-room
 fill-requires-clause-room g c =
-    let memory = g.R.Region.memory in
-    let left = put_room (memory c.args.parts.now.region) (memory c.put_behind.new.parts.region) c.args.parts.now.blocks c.put_behind.new.parts.blocks c.args.dir c.args.inode c.args.name.now c.requires.can.can c.put_behind.ensures.puts in
+    let left = room g (goal.at.fill-requires-clause-room g c).After-put_behind in
     omega (arith, left)
 
 pub overflow_add-tree : goal.overflow_add-tree
@@ -57,7 +65,7 @@ commit_word-requires-clause-in_range g c =
 pub commit_word-requires-clause-room : goal.commit_word-requires-clause-room
 commit_word-requires-clause-room g c =
     let memory = g.R.Region.memory in
-    let left = put_room (memory c.args.parts.now.region) (memory c.put_behind.new.parts.region) c.args.parts.now.blocks c.put_behind.new.parts.blocks c.args.dir c.args.inode c.args.name.now c.requires.can.can c.put_behind.ensures.puts in
+    let left = room g (goal.at.commit_word-requires-clause-room g c).After-put_behind in
     let less = room_after (AnyAt (IsWithin c.fill.ensures.place 3)) 3 (memory c.put_behind.new.parts.region) (memory c.fill.new.region) c.fill.ensures.stores in
     omega (arith, left, less)
 

@@ -7,6 +7,8 @@ use Rattle.bp_layout.proofs.Reached.{reached-in_file}
 use Rattle.bp_shapes.specs.Sets.{kept_of}
 use Rattle.bp_append.specs.Prepared.{CanPrepare}
 use Rattle.bp_calls.proofs.WriteBehind.{behind_can, prepared_base, prepared_room, behind_performs_at, behind_exact_at}
+use Rattle.bp_calls.proofs.writing.write_behind.Given.{Over}
+use Rattle.bp_calls.proofs.writing.write_behind.Goals.{After-root_path-root}
 use Rattle.bp_calls.proofs.writing.write_behind.Goals as goal
 use Rattle.bp_calls.proofs.CountLaws.{exact_file}
 
@@ -16,47 +18,44 @@ place-size_place-requires-clause-sound g c = c.requires.can.into.well_formed.sou
 pub place-size_place-requires-clause-there : goal.place-size_place-requires-clause-there
 place-size_place-requires-clause-there g c = reached-in_file (current_words (g.R.Region.memory c.args.parts.now.region)) c.requires.can.into.well_formed c.args.i c.requires.can.into.can.reached
 
+-- the file may be prepared for the bytes
+prepares : (g : Over) (c : After-root_path-root g) →
+    CanPrepare (kept_of c.args.parts.now) (g.R.Region.memory c.args.parts.now.region) (members c.args.parts.now.blocks) c.args.i c.root_path-root.result.items c.args.off (c.args.off + length c.args.bytes.now)
+prepares g c =
+    behind_can (g.R.Region.memory c.args.parts.now.region) c.args.parts.now.blocks c.args.parts.now.inodes c.args.off c.args.bytes.now c.args.i c.root_path-root.result.items
+    c.requires.can c.requires.behind c.requires.enough c.root_path-root.ensures
+
 pub prep-requires : goal.prep-requires
-prep-requires g c =
-    let memory = g.R.Region.memory in
-    record {
-      can = (
-        c.args.i,
-        behind_can (memory c.args.parts.now.region) c.args.parts.now.blocks c.args.parts.now.inodes c.args.off c.args.bytes.now c.args.i c.root_path-root.result.items c.requires.can c.requires.behind c.requires.enough c.root_path-root.ensures,
-      );
-    }
+prep-requires g c = record { can = (c.args.i, prepares g (goal.at.prep-requires g c).After-root_path-root) }
 
 pub commit_word-requires-clause-in_range : goal.commit_word-requires-clause-in_range
 commit_word-requires-clause-in_range g c =
     let memory = g.R.Region.memory in
-    let prepares : CanPrepare (kept_of c.args.parts.now) (memory c.args.parts.now.region) (members c.args.parts.now.blocks) c.args.i c.root_path-root.result.items c.args.off (c.args.off + length c.args.bytes.now) =
-    behind_can (memory c.args.parts.now.region) c.args.parts.now.blocks c.args.parts.now.inodes c.args.off c.args.bytes.now c.args.i c.root_path-root.result.items c.requires.can c.requires.behind c.requires.enough c.root_path-root.ensures in
+    let can = prepares g (goal.at.commit_word-requires-clause-in_range g c).After-root_path-root in
     let same = prepared_base (memory c.args.parts.now.region) c.args.parts.now.blocks c.args.parts.now.inodes c.args.off c.args.bytes.now (memory c.prep.new.parts.region) c.prep.new.parts.blocks c.args.i
-    (c.prep.ensures.prepares c.args.i prepares) in
+    (c.prep.ensures.prepares c.args.i can) in
     omega (arith, same, c.place-size_place.ensures.in_range, length-current_words (memory c.args.parts.now.region))
 
 pub commit_word-requires-clause-room : goal.commit_word-requires-clause-room
 commit_word-requires-clause-room g c =
     let memory = g.R.Region.memory in
-    let prepares : CanPrepare (kept_of c.args.parts.now) (memory c.args.parts.now.region) (members c.args.parts.now.blocks) c.args.i c.root_path-root.result.items c.args.off (c.args.off + length c.args.bytes.now) =
-    behind_can (memory c.args.parts.now.region) c.args.parts.now.blocks c.args.parts.now.inodes c.args.off c.args.bytes.now c.args.i c.root_path-root.result.items c.requires.can c.requires.behind c.requires.enough c.root_path-root.ensures in
+    let can = prepares g (goal.at.commit_word-requires-clause-room g c).After-root_path-root in
     prepared_room (memory c.args.parts.now.region) c.args.parts.now.blocks c.args.parts.now.inodes c.args.off c.args.bytes.now (memory c.prep.new.parts.region) c.prep.new.parts.blocks c.args.i c.requires.can c.requires.behind
-    (c.prep.ensures.prepares c.args.i prepares)
+    (c.prep.ensures.prepares c.args.i can)
 
 pub returns : goal.returns
 returns g c =
     let memory = g.R.Region.memory in
-    let prepares : CanPrepare (kept_of c.args.parts.now) (memory c.args.parts.now.region) (members c.args.parts.now.blocks) c.args.i c.root_path-root.result.items c.args.off (c.args.off + length c.args.bytes.now) =
-    behind_can (memory c.args.parts.now.region) c.args.parts.now.blocks c.args.parts.now.inodes c.args.off c.args.bytes.now c.args.i c.root_path-root.result.items c.requires.can c.requires.behind c.requires.enough c.root_path-root.ensures in
+    let can = prepares g (goal.at.returns g c).After-root_path-root in
     let done =
     behind_performs_at (memory c.args.parts.now.region) c.args.parts.now.blocks c.args.parts.now.inodes c.args.off c.args.bytes.now (memory c.prep.new.parts.region) c.prep.new.parts.blocks (memory c.commit_word.new.region)
-    c.root_path-root.result.items c.place-size_place.result c.args.i c.requires.can c.requires.behind prepares c.place-size_place.ensures.place (c.prep.ensures.prepares c.args.i prepares) c.commit_word.ensures in
+    c.root_path-root.result.items c.place-size_place.result c.args.i c.requires.can c.requires.behind can c.place-size_place.ensures.place (c.prep.ensures.prepares c.args.i can) c.commit_word.ensures in
     record {
       performs = done;
       frozen = c.prep.ensures.frozen;
       exact = exact_file _ _ c.args.parts.now _ c.requires.exact
           (rw c.prep.ensures.inodes
           (behind_exact_at (memory c.args.parts.now.region) c.args.parts.now.blocks c.args.parts.now.inodes c.args.off c.args.bytes.now (memory c.prep.new.parts.region) c.prep.new.parts.blocks (memory c.commit_word.new.region)
-          c.root_path-root.result.items c.place-size_place.result c.args.i c.requires.can c.requires.behind prepares c.place-size_place.ensures.place (c.prep.ensures.prepares c.args.i prepares) c.commit_word.ensures c.prep.ensures.room))
+          c.root_path-root.result.items c.place-size_place.result c.args.i c.requires.can c.requires.behind can c.place-size_place.ensures.place (c.prep.ensures.prepares c.args.i can) c.commit_word.ensures c.prep.ensures.room))
           c.prep.ensures.frozen c.prep.ensures.counts c.args.i c.requires.can.into.well_formed done.effect.changes;
     }

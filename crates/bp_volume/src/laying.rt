@@ -34,8 +34,10 @@ pub fn lay_front<R: Region>(region: &mut R, version: Version, blocks: u32)
     region.store(FIRST_INODE, DIRECTORY_KIND);
     region.store(FIRST_INODE + ROOT_FIELD, 0);
     region.store(FIRST_INODE + SIZE_FIELD, 0);
+    // The mark tells that all of these are there, so it must not be written back before one of them.
     region.barrier();
     region.store(SUPER_MAGIC, version.magic());
+    // A crash must not keep a store of a later call and lose the mark.
     region.barrier();
 }
 

@@ -63,8 +63,10 @@ fn store_second<R: Region>(region: &mut R)
     let root = region.load(SUPER_ROOT);
     let size = region.load(SUPER_SIZE);
     region.store(SUPER_SECOND_ROOT, root);
+    // The size tells that there is a second tree, so a crash must not leave it with another root word.
     region.barrier();
     region.store(SUPER_SECOND_SIZE, size);
+    // A crash must not keep a store of a later call and lose the snapshot.
     region.barrier();
 }
 
@@ -77,6 +79,7 @@ fn drop_second<R: Region>(region: &mut R)
     // The store stands alone in its epoch, as the last one of each change does.
     region.barrier();
     region.store(SUPER_SECOND_SIZE, 0);
+    // Later calls may store to the blocks that it had: a crash must not keep such a store and leave the snapshot there.
     region.barrier();
 }
 

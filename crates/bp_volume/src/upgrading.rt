@@ -21,7 +21,9 @@ pub(crate) fn upgrade_region<R: Region>(region: &mut R)
     }
     region.store(SUPER_SECOND_ROOT, 0);
     region.store(SUPER_SECOND_SIZE, 0);
+    // In version 2 these words tell of a snapshot, so the mark must not be written back before them.
     region.barrier();
     region.store(SUPER_MAGIC, Version::Two.magic());
+    // A crash must not keep a store of a later call and lose the mark.
     region.barrier();
 }

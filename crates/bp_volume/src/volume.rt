@@ -113,6 +113,7 @@ impl<R: Region> Volume<R> {
         };
         let mut region = region;
         lay_out(&mut region, version);
+        // From here on no crash may leave the words that were there before: what it leaves is always a file system.
         region.drain();
         match Volume::scanned(region, sets, cache) {
             Ok(volume) => Ok(volume),

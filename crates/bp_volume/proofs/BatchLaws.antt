@@ -138,9 +138,6 @@ module _ (image : Image) where
 -- ---- the call
 
 module _ (image : Image) (pieces : List Piece) where
-  abbrev a_bad_path : Bool
-  a_bad_path = list_any (λ piece. is_none (parse piece.path)) pieces
-
   abbrev all_bytes : ℕ
   all_bytes = sum_by (λ piece. length piece.bytes) pieces
 

@@ -16,24 +16,17 @@ use Rattle.bp_layout.proofs.Below.{same_path-is, same_path-self}
 use Rattle.bp_layout.proofs.LookupLaws.{lookup_in-found}
 use Rattle.bp_layout.proofs.Paths.{ByLast, LastStep, by_last, last_step, lookup_from-append, path_once}
 use Rattle.bp_layout.proofs.Paths.ByLast.{none, more}
-use Rattle.bp_plain.specs.Plain.{parent_of, path_count}
+use Rattle.bp_plain.specs.Plain.{path_count}
 use Rattle.bp_plain.specs.PlainTree.{FileTree, is_one}
 use Rattle.bp_plain.specs.Stands.{Stands}
 use Rattle.bp_plain.proofs.Kernels.{any_path, by_bools}
 use Rattle.bp_plain.proofs.LinkCounts.{AreOnce, count_is}
+use Rattle.bp_plain.proofs.Rooted.{same_above}
 
-parent_front : (path : Path) (name : Name) → parent_of (path ++ name ∷ []) ≡ path
-parent_front [] name = refl
-parent_front (first ∷ []) name = refl
-parent_front (first ∷ second ∷ path) name = ap (λ p. first ∷ p) (parent_front (second ∷ path) name)
-
--- paths that are one have one parent and one last name
-fronts_same : (p q : Path) (a b : Name) → p ++ a ∷ [] ≡ q ++ b ∷ [] → p ≡ q
-fronts_same p q a b e = sym (parent_front p a) ∙ ap parent_of e ∙ parent_front q b
-
+-- paths that are one have one last name
 names_same : (p q : Path) (a b : Name) → p ++ a ∷ [] ≡ q ++ b ∷ [] → a ≡ b
 names_same p q a b e =
-    let lasts : ◌≡◌ {A = Path} (a ∷ []) (b ∷ []) = append_cancel_left p (a ∷ []) (b ∷ []) (e ∙ ap (λ front. front ++ b ∷ []) (sym (fronts_same p q a b e))) in
+    let lasts : ◌≡◌ {A = Path} (a ∷ []) (b ∷ []) = append_cancel_left p (a ∷ []) (b ∷ []) (e ∙ ap (λ front. front ++ b ∷ []) (sym (same_above p q a b e))) in
     cc
 
 module _ (image : Image) (wf : IsWellFormed image) where
@@ -79,7 +72,7 @@ module _ (image : Image) (wf : IsWellFormed image) where
     -- two entries have two paths
     by_apart : (a b : ℕ × ℕ) (one : IsNamed image j a) (two : IsNamed image j b) → path_by a one ≡ path_by b two → a ≡ b
     by_apart a b one two same =
-        let fronts : (above_entry a one).path ≡ (above_entry b two).path = fronts_same _ _ _ _ same in
+        let fronts : (above_entry a one).path ≡ (above_entry b two).path = same_above _ _ _ _ same in
         let dirs : ◌≡◌ {A = Option ℕ} (Some a.0) (Some b.0) = sym (above_entry a one).found ∙ ap (lookup image) fronts ∙ (above_entry b two).found in
         let dir : a.0 ≡ b.0 = cc in
         let names : name_at image a.0 a.1 ≡ name_at image a.0 b.1 = names_same _ _ _ _ same ∙ ap (λ i. name_at image i b.1) (sym dir) in

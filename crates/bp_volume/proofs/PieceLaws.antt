@@ -78,9 +78,6 @@ module _ (image : Image) (text : List ℕ) (pieces : List GivenPiece) (i : ℕ) 
       go true e both = absurd (true≢false (rw e at both))
       go false e both = (e, rw e at both)
 
-  pub path_here : list_any (λ piece. is_none (parse piece.path)) (map (piece_in text) (drop i pieces)) ≡ false → is_none (parse (piece_in text piece).path) ≡ false
-  path_here none = (paths_split none).0
-
   pub paths_behind : list_any (λ piece. is_none (parse piece.path)) (map (piece_in text) (drop i pieces)) ≡ false → list_any (λ piece. is_none (parse piece.path)) (map (piece_in text) (drop (i + 1) pieces)) ≡ false
   paths_behind none = (paths_split none).1
 

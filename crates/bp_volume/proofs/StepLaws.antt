@@ -40,12 +40,6 @@ module _ (image : Image) (tree : FileTree) where
 
 -- ---- refusals by the path
 
--- the first two of some refusals
-pub first_two : (one two : Option Refusal) (rest : List (Option Refusal)) (why : Refusal) → first (one ∷ two ∷ []) ≡ Some why → first (one ∷ two ∷ rest) ≡ Some why
-first_two (Some other) two rest why e = e
-first_two None (Some other) rest why e = e
-first_two None None rest why e = absurd (cc)
-
 module _ (tree : FileTree) (text : List ℕ) where
   -- the refusal of the walk comes before others
   walk_first : (others : Path → List (Option Refusal)) (why : Refusal) → on_path text (walk tree.now.nodes) ≡ Some why → on_path text (λ p. first (walk tree.now.nodes p ∷ others p)) ≡ Some why

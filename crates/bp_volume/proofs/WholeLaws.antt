@@ -71,14 +71,6 @@ snapshot_shows : (old new : Image) → SameSnapshot old new → (snap : Option P
 snapshot_shows old new same None none = same.there ∙ none
 snapshot_shows old new same (Some map) shows = (same.there ∙ shows.0, shows_same (snapshot_of old) (snapshot_of new) (same.same shows.0) map shows.1)
 
--- images that mean the same stand for one tree
-pub stands_same : (old new : Image) → SameFiles old new → (tree : FileTree) → Stands old tree → Stands new tree
-stands_same old new same tree stands = record {
-  version = stands.version ∙ sym same.first.version;
-  now = shows_same old new same.first tree.now stands.now;
-  snap = snapshot_shows old new same.second tree.snap stands.snap;
-}
-
 -- ---- stores at open words
 
 module _ (old : Image) (kept : ℕ → Bool) (taken : List ℕ) (free : (b : ℕ) → Has taken b → IsFreeBlock old kept b) (long : 4 ≤ length old) (fs : IsFileSystem old) (frozen : AreFrozen old kept) where

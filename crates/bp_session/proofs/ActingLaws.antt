@@ -23,7 +23,7 @@ use Rattle.bp_script.specs.Commands.{Command, command_of, in_grammar, mask_in}
 use Rattle.bp_script.specs.Commands.Command.{file_call, sync, space, crash, storm, cache, log, too_long}
 use Rattle.bp_script.specs.Texts.LineReply.{synced}
 use Rattle.bp_session.specs.Files.{Holds, HoldsBytes}
-use Rattle.bp_session.specs.Acting.{CrashesByCaches, CrashesTo, Does, HasCrashed, reply_of, state, to_save}
+use Rattle.bp_session.specs.Acting.{CrashesByCaches, CrashesTo, Does, HasCrashed, may_come_to, reply_of, state, to_save}
 use Rattle.bp_session.specs.Serving.{Acts, SyncFails}
 use Rattle.bp_session.specs.Session.{Crashes, SessionLine, caches_cut}
 use Rattle.bp_session.specs.declared.outcome.Outcome.{Outcome}
@@ -67,9 +67,7 @@ does_call old new call answer done = record {
   line = λ saved. record { answer = answer; told = refl; does = done; saved = refl };
   size = size-file_call old call answer new done;
   capacity = capacity-file_call old call answer new done;
-  is_sync = λ e. absurd (let no : ◌≡◌ {A = Outcome} Answered Synced = e in cc);
-  synced = λ e. absurd (let no : file_call call ≡ sync = e in cc);
-  others = λ _ saved. refl;
+  comes = refl;
   base = ap (λ (m : Memory). m.base) done.adds;
 }
 
@@ -78,9 +76,7 @@ does_sync old new answer done = record {
   line = λ saved. record { told = refl; done = ap (λ m. state m (current_words old)) done };
   size = ap (λ (m : Memory). length m.base) done ∙ size-drained old;
   capacity = ap (λ (m : Memory). m.capacity) done;
-  is_sync = λ _. refl;
-  synced = λ _. refl;
-  others = λ other. absurd (other refl);
+  comes = refl;
   base = tt;
 }
 
@@ -89,17 +85,15 @@ does_space memory free live answer has_free has_live = record {
   line = λ saved. record { free = free; live = live; told = refl; has_free = has_free; has_live = has_live; same = refl };
   size = refl;
   capacity = refl;
-  is_sync = λ e. absurd (let no : ◌≡◌ {A = Outcome} (Counted free live) Synced = e in cc);
-  synced = λ e. absurd (let no : space ≡ sync = e in cc);
-  others = λ _ saved. refl;
+  comes = refl;
   base = refl;
 }
 
 -- a crash to a cut, by whatever command
 module _ (old new : Memory) (cut : PowerCut) (outcome : Outcome) (answer : Answer) where
   does_crashed : (command : Command) → HasCrashed old cut outcome new → ((saved : Image) → Crashes (state old saved) cut (reply_of outcome answer) (state new saved) → SessionLine (state old saved) command (reply_of outcome answer) (state new (to_save command old saved)))
-      → ¬ (command ≡ sync) → ((saved : Image) → to_save command old saved ≡ saved) → Does old command outcome answer new
-  does_crashed command does line other same = record {
+      → ((c n : ℕ) → may_come_to command (Kept c n) ≡ true) → Does old command outcome answer new
+  does_crashed command does line comes = record {
     line = λ saved. line saved (record {
       right = does.right;
       told = ap (λ o. reply_of o answer) does.told;
@@ -107,22 +101,18 @@ module _ (old new : Memory) (cut : PowerCut) (outcome : Outcome) (answer : Answe
     });
     size = ap (λ (m : Memory). length m.base) does.left ∙ size-crashed old cut;
     capacity = ap (λ (m : Memory). m.capacity) does.left;
-    is_sync = λ e. absurd (let no : ◌≡◌ {A = Outcome} (Kept (kept_calls old.events cut) (marks old.events)) Synced = sym does.told ∙ e in cc);
-    synced = λ e. absurd (other e);
-    others = λ _ saved. same saved;
+    comes = rw does.told (comes (kept_calls old.events cut) (marks old.events));
     base = rw does.told tt;
   }
 
 pub does_crash : (old new : Memory) (wanted : Wanted) (outcome : Outcome) (answer : Answer) → CrashesTo old (cut_for old.events wanted) outcome new → Does old (crash wanted) outcome answer new
 does_crash old new wanted outcome answer (inl does) =
-    does_crashed old new (cut_for old.events wanted) outcome answer (crash wanted) does (λ saved line. inl line) (λ e. let no : crash wanted ≡ sync = e in cc) (λ saved. refl)
+    does_crashed old new (cut_for old.events wanted) outcome answer (crash wanted) does (λ saved line. inl line) (λ c n. refl)
 does_crash old new wanted outcome answer (inr does) = record {
   line = λ saved. inr (record { wrong = does.wrong; told = ap (λ o. reply_of o answer) does.told; same = ap (λ m. state m saved) does.same });
   size = ap (λ (m : Memory). length m.base) does.same;
   capacity = ap (λ (m : Memory). m.capacity) does.same;
-  is_sync = λ e. absurd (let no : ◌≡◌ {A = Outcome} BadChoice Synced = sym does.told ∙ e in cc);
-  synced = λ e. absurd (let no : crash wanted ≡ sync = e in cc);
-  others = λ _ saved. refl;
+  comes = rw does.told refl;
   base = rw does.told (ap (λ (m : Memory). m.base) does.same);
 }
 
@@ -134,18 +124,16 @@ mask_fits (At moment epoch mask) most low fits = omega (arith, low, fits)
 
 pub does_storm : (old new : Memory) (seed : ℕ) (outcome : Outcome) (answer : Answer) → HasCrashed old (storm_cut old.events seed) outcome new → Does old (storm seed) outcome answer new
 does_storm old new seed outcome answer does =
-    does_crashed old new (storm_cut old.events seed) outcome answer (storm seed) does (λ saved line. line) (λ e. let no : storm seed ≡ sync = e in cc) (λ saved. refl)
+    does_crashed old new (storm_cut old.events seed) outcome answer (storm seed) does (λ saved line. line) (λ c n. refl)
 
 pub does_cache : (old new : Memory) (seed : ℕ) (outcome : Outcome) (answer : Answer) → CrashesByCaches old seed outcome new → Does old (cache seed) outcome answer new
 does_cache old new seed outcome answer (inl does) =
-    does_crashed old new (caches_cut old seed) outcome answer (cache seed) does (λ saved line. inl line) (λ e. let no : cache seed ≡ sync = e in cc) (λ saved. refl)
+    does_crashed old new (caches_cut old seed) outcome answer (cache seed) does (λ saved line. inl line) (λ c n. refl)
 does_cache old new seed outcome answer (inr lacks) = record {
   line = λ saved. inr (record { told = ap (λ o. reply_of o answer) lacks.told; same = ap (λ m. state m saved) lacks.same });
   size = ap (λ (m : Memory). length m.base) lacks.same;
   capacity = ap (λ (m : Memory). m.capacity) lacks.same;
-  is_sync = λ e. absurd (let no : ◌≡◌ {A = Outcome} NoMemory Synced = sym lacks.told ∙ e in cc);
-  synced = λ e. absurd (let no : cache seed ≡ sync = e in cc);
-  others = λ _ saved. refl;
+  comes = rw lacks.told refl;
   base = rw lacks.told (ap (λ (m : Memory). m.base) lacks.same);
 }
 
@@ -154,9 +142,7 @@ does_log memory outcome answer is = record {
   line = λ saved. record { told = ap (λ o. reply_of o answer) is; same = refl };
   size = refl;
   capacity = refl;
-  is_sync = λ e. absurd (let no : ◌≡◌ {A = Outcome} (Logged (length memory.events) (barriers memory.events) (marks memory.events)) Synced = sym is ∙ e in cc);
-  synced = λ e. absurd (let no : log ≡ sync = e in cc);
-  others = λ _ saved. refl;
+  comes = rw is refl;
   base = rw is refl;
 }
 
@@ -175,13 +161,23 @@ does_long memory answer = record {
   line = λ saved. record { told = refl; same = refl };
   size = refl;
   capacity = refl;
-  is_sync = λ e. absurd (let no : ◌≡◌ {A = Outcome} TooLong Synced = e in cc);
-  synced = λ e. absurd (let no : too_long ≡ sync = e in cc);
-  others = λ _ saved. refl;
+  comes = refl;
   base = refl;
 }
 
--- ---- what is no sync
+-- ---- what is a sync, and what is none
+
+comes_synced : (command : Command) → may_come_to command Synced ≡ true → command ≡ sync
+comes_synced sync comes = refl
+comes_synced command comes = absurd (let no : false ≡ true = comes in cc)
+
+synced_comes : (outcome : Outcome) → may_come_to sync outcome ≡ true → outcome ≡ Synced
+synced_comes Synced comes = refl
+synced_comes outcome comes = absurd (let no : false ≡ true = comes in cc)
+
+to_save_other : (command : Command) (outcome : Outcome) (memory : Memory) (saved : Image) → may_come_to command outcome ≡ true → ¬ (outcome ≡ Synced) → to_save command memory saved ≡ saved
+to_save_other sync outcome memory saved comes other = absurd (other (synced_comes outcome comes))
+to_save_other command outcome memory saved comes other = refl
 
 -- a crash comes to none
 pub crash_not_left : {P : Type 0} (old new : Memory) (cut : PowerCut) (outcome : Outcome) → CrashesTo old cut outcome new → outcome ≡ Synced → P
@@ -200,7 +196,14 @@ no_sync_log e = cc
 module _ (old new : Memory) (command : Command) (answer : Answer) where
   -- only a sync comes to one
   pub not_left : {outcome : Outcome} {P : Type 0} → Does old command outcome answer new → ¬ (command ≡ sync) → outcome ≡ Synced → P
-  not_left does other e = absurd (other (does.is_sync e))
+  not_left does other e = absurd (other (comes_synced command (rw e at does.comes)))
+
+  -- and a sync comes to nothing else
+  pub is_synced : {outcome : Outcome} → Does old command outcome answer new → command ≡ sync → outcome ≡ Synced
+  is_synced {outcome} does e = synced_comes outcome (rw e at does.comes)
+
+  pub saves_nothing : {outcome : Outcome} → Does old command outcome answer new → ¬ (outcome ≡ Synced) → (saved : Image) → to_save command old saved ≡ saved
+  saves_nothing {outcome} does other saved = to_save_other command outcome old saved does.comes other
 
   -- ---- a sync
 

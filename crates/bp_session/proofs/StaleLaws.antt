@@ -12,7 +12,7 @@ use Rattle.bp_session.specs.Changed.{AreMarked, AreUnmarked, MarksDrain}
 use Rattle.bp_session.specs.Files.{Holds, HoldsAs}
 use Rattle.bp_session.specs.declared.outcome.Outcome.{Outcome}
 use Rattle.bp_session.specs.declared.outcome.Outcome.TheVariants.{Answered, Synced, Counted, Kept, Logged, BadChoice, BadSyntax, TooLong, NoMemory}
-use Rattle.bp_session.proofs.ActingLaws.{size-with_room}
+use Rattle.bp_session.proofs.ActingLaws.{saves_nothing, size-with_room}
 use Rattle.bp_session.proofs.ChangedLaws.{holds_drained, holds_lost, holds_more}
 
 -- ---- which blocks may
@@ -66,7 +66,7 @@ module _ (old new : Memory) (command : Command) (answer : Answer) (before after 
   holds_behind TooLong does other leaves = stays (leaves.others refl other) does.base
 
   pub acts_done : (outcome : Outcome) → Does old command outcome answer new → ¬ (outcome ≡ Synced) → LeavesStale outcome old before after → HoldsAs after files new.base name (to_save command old saved)
-  acts_done outcome does other leaves = rw (does.others other saved) (holds_behind outcome does other leaves)
+  acts_done outcome does other leaves = rw (saves_nothing old new command answer does other saved) (holds_behind outcome does other leaves)
 
 -- ---- a sync
 

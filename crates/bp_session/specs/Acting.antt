@@ -37,6 +37,21 @@ outcome_text outcome answer = reply_text (reply_of outcome answer)
 abbrev pub state : Memory → Image → State
 state memory saved = record { memory = memory; saved = saved }
 
+-- whether a command may come to this
+abbrev pub may_come_to : Command → Outcome → Bool
+may_come_to (file_call call) Answered = true
+may_come_to sync Synced = true
+may_come_to space (Counted free live) = true
+may_come_to (crash wanted) (Kept c n) = true
+may_come_to (crash wanted) BadChoice = true
+may_come_to (storm seed) (Kept c n) = true
+may_come_to (cache seed) (Kept c n) = true
+may_come_to (cache seed) NoMemory = true
+may_come_to log (Logged events barriers calls) = true
+may_come_to bad_syntax BadSyntax = true
+may_come_to too_long TooLong = true
+may_come_to command outcome = false
+
 -- what the file is to hold after a command: a sync saves the words
 abbrev pub to_save : Command → Memory → Image → Image
 to_save (file_call call) memory saved = saved
@@ -81,9 +96,7 @@ pub record Does (old : Memory) (command : Command) (outcome : Outcome) (answer :
       → SessionLine (state old saved) command (reply_of outcome answer) (state new (to_save command old saved))
   pub size : length new.base ≡ length old.base
   pub capacity : new.capacity ≡ old.capacity
-  pub is_sync : outcome ≡ Synced → command ≡ sync
-  pub synced : command ≡ sync → outcome ≡ Synced
-  pub others : ¬ (outcome ≡ Synced) → (saved : Image) → to_save command old saved ≡ saved
+  pub comes : may_come_to command outcome ≡ true
   pub base : KeepsBase outcome old new
 
 -- A crash to this cut: the calls that are kept are counted, and the memory is what it leaves.

@@ -14,7 +14,7 @@ ghost use Rattle.bp_session.specs.Held.{ClearsHeld, DoesHeld, StopsBy};
 ghost use Rattle.bp_session.specs.Saving.{KeepsUnmarked};
 ghost use Rattle.bp_session.specs.Serving.{CanServe};
 ghost use Rattle.bp_session.specs.declared.broken.Broken.TheVariants as cause;
-ghost use Rattle.bp_session.specs.declared.outcome.Outcome.TheVariants.{Logged, Synced};
+ghost use Rattle.bp_session.specs.declared.outcome.Outcome.TheVariants.{Answered, Logged, Synced};
 ghost use Rattle.bp_session.specs.Work.{answer_in, line_in, waiting_in};
 
 use crate::broken::Broken;
@@ -120,6 +120,7 @@ fn act_but_sync<R: Region>(
     ensures left { result ≡ Synced → (command_of (line_in buffers.old) ≡ sync) × (volume.new ≡ volume.old) }
     ensures notes { NotesDrain result volume.old stale.old stale.new }
     ensures line { line_in buffers.new ≡ line_in buffers.old }
+    ensures answer { ¬ (result ≡ Answered) → answer_in buffers.new ≡ answer_in buffers.old }
     ensures waiting { waiting_in buffers.new ≡ waiting_in buffers.old }
 {
     if buffers.line.len() > MAX_LINE {
@@ -162,6 +163,7 @@ pub fn act<R: Region>(alloc: Global, volume: &mut Volume<R>, buffers: &mut LineB
     requires { volume.old.capacity ≤ log_events }
     ensures does { Does volume.old (command_of (line_in buffers.old)) result (answer_in buffers.new) volume.new }
     ensures line { line_in buffers.new ≡ line_in buffers.old }
+    ensures answer { ¬ (result ≡ Answered) → answer_in buffers.new ≡ answer_in buffers.old }
     ensures waiting { waiting_in buffers.new ≡ waiting_in buffers.old }
 {
     match act_but_sync(alloc, volume, buffers, &mut []) {

@@ -56,7 +56,8 @@ impl LineBuffers {
 
     /// Sets the line. Of one above the limit only that it is too long is kept.
     pub fn set_line(&mut self, bytes: &[u8])
-        ensures { line_in self.new ≡ take (max_line + 1) bytes.now }
+        ensures line { line_in self.new ≡ take (max_line + 1) bytes.now }
+        ensures answer { answer_in self.new ≡ answer_in self.old }
     {
         self.line.clear();
         self.add(bytes);
@@ -65,6 +66,7 @@ impl LineBuffers {
     /// Adds bytes to the line. Of one above the limit only that it is too long is kept.
     pub(crate) fn add(&mut self, bytes: &[u8])
         ensures line { line_in self.new ≡ take (max_line + 1) (line_in self.old ++ bytes.now) }
+        ensures answer { answer_in self.new ≡ answer_in self.old }
         ensures waiting { waiting_in self.new ≡ waiting_in self.old }
     {
         let kept = bytes.len().min(MAX_LINE + 1 - self.line.len());

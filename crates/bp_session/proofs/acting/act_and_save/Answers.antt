@@ -1,6 +1,6 @@
 use Rattle.std.proofs.Common.{refl, inl, ap, ◌∙◌}
 use Rattle.pm_region.specs.Memory.{drained}
-use Rattle.bp_session.proofs.ActingLaws.{acts_synced, fails_synced, size-drained}
+use Rattle.bp_session.proofs.ActingLaws.{acts_synced, fails_synced, is_synced, size-drained}
 use Rattle.bp_session.proofs.AheadLaws.{line_unheard, line_unsaved}
 use Rattle.bp_session.proofs.OthersLaws.{others_same, stays_same}
 use Rattle.bp_session.proofs.SavingLaws.{still_attached}
@@ -67,10 +67,10 @@ returns-in_default g c =
       };
       stale = leaves;
       kept = λ _ _ _ name. stays_same ((g.F.Files.view c.args.files.now).contents name);
-      clears = inl (λ e. other (does.synced e), c.act_but_sync.ensures.waiting, refl, refl);
+      clears = inl (λ e. other (is_synced _ _ _ _ does e), c.act_but_sync.ensures.waiting, refl, refl);
       stops = tt;
       heard = tt;
-      synced = λ e. absurd (other (does.synced e));
+      synced = λ e. absurd (other (is_synced _ _ _ _ does e));
       flushed = λ e. e;
       sink = refl;
       files = refl;

@@ -1,6 +1,6 @@
 -- One line, by its case.
-use Rattle.std.proofs.Common.{zero, suc, refl, sym, ◌∙◌, ap, arith, ◌≡◌, ◌≤◌, ◌<◌, ◌+◌, ◌*◌, ℕ, List, [], ◌∷◌, ◌++◌, length, take, true, false, inl, inr}
-use Rattle.std.specs.Prelude.{None, Some, nat_lt, slice_get, if◌then◌else◌}
+use Rattle.std.proofs.Common.{refl, sym, ◌∙◌, ap, arith, ◌≡◌, ◌≤◌, ◌<◌, ◌+◌, ◌*◌, ℕ, List, [], ◌∷◌, length, take, true, false, inl, inr}
+use Rattle.std.specs.Prelude.{Some, nat_lt, slice_get, if◌then◌else◌}
 use Rattle.pm_epochs.proofs.CrashLaws.{barriers-append, length-words_after, marks-append}
 use Rattle.pm_epochs.specs.declared.event.Event.{Event}
 use Rattle.pm_epochs.specs.Log.{barriers, marks}
@@ -15,6 +15,7 @@ use Rattle.bp_layout.specs.Whole.{HasSpace}
 use Rattle.bp_limits.specs.Limits.{call_room, max_line, max_mask}
 use Rattle.bp_volume.specs.FileCall.{FileCall}
 use Rattle.std.proofs.lemmas.Bool.{le-ltb, lt-ltb}
+use Rattle.bp_replay.proofs.CachePlayed.{taken_more}
 use Rattle.bp_replay.specs.Wanted.{Wanted, cut_for, mask_places, wanted_by}
 use Rattle.bp_replay.specs.declared.cut.Cut.{Cut as Asked}
 use Rattle.bp_replay.specs.declared.cut.Cut.TheVariants.{All, Nothing, At}
@@ -27,7 +28,7 @@ use Rattle.bp_session.specs.Acting.{CrashesByCaches, CrashesTo, Does, HasCrashed
 use Rattle.bp_session.specs.Serving.{Acts, SyncFails}
 use Rattle.bp_session.specs.Session.{Crashes, SessionLine, caches_cut}
 use Rattle.bp_session.specs.declared.outcome.Outcome.{Outcome}
-use Rattle.bp_session.specs.declared.outcome.Outcome.TheVariants.{Answered, Synced, Counted, Kept, Logged, BadChoice, TooLong, NoMemory}
+use Rattle.bp_session.specs.declared.outcome.Outcome.TheVariants.{Answered, Synced, Counted, Kept, Logged, BadChoice, TooLong}
 use Rattle.bp_session.proofs.BlockLaws.{length-image_bytes}
 
 -- ---- sizes
@@ -52,13 +53,6 @@ capacity-file_call old call answer new done = ap (λ (m : Memory). m.capacity) d
 
 pub size-file_call : (old : Memory) (call : Call) (answer : Answer) (new : Memory) → FileCall old call answer new → length new.base ≡ length old.base
 size-file_call old call answer new done = ap (λ (m : Memory). length m.base) done.adds ∙ size-with_room call_room old
-
--- ---- what leaves the words of the last drain as they are
-
-pub one_more_event : (events : List Event) (i : ℕ) (event : Event) → slice_get events i ≡ Some event → take (i + 1) events ≡ take i events ++ event ∷ []
-one_more_event [] i event at = absurd (let no : None ≡ Some event = at in cc)
-one_more_event (first ∷ events) zero event at = let same : first ≡ event = cc in rw same refl
-one_more_event (first ∷ events) (suc i) event at = let next : suc i + 1 ≡ suc (i + 1) = omega arith in rw next (ap (λ l. first ∷ l) (one_more_event events i event at))
 
 -- ---- what a line did
 
@@ -149,10 +143,10 @@ does_log memory outcome answer is = record {
 -- ---- the counts of a log
 
 pub one_more_barrier : (events : List Event) (i : ℕ) (event : Event) → slice_get events i ≡ Some event → barriers (take (i + 1) events) ≡ barriers (take i events) + barriers (event ∷ [])
-one_more_barrier events i event at = ap barriers (one_more_event events i event at) ∙ barriers-append (take i events) (event ∷ [])
+one_more_barrier events i event at = ap barriers (taken_more events i event at) ∙ barriers-append (take i events) (event ∷ [])
 
 pub one_more_mark : (events : List Event) (i : ℕ) (event : Event) → slice_get events i ≡ Some event → marks (take (i + 1) events) ≡ marks (take i events) + marks (event ∷ [])
-one_more_mark events i event at = ap marks (one_more_event events i event at) ∙ marks-append (take i events) (event ∷ [])
+one_more_mark events i event at = ap marks (taken_more events i event at) ∙ marks-append (take i events) (event ∷ [])
 
 -- ---- more of what a line did
 
@@ -218,9 +212,6 @@ module _ (old new : Memory) (command : Command) (answer : Answer) where
 
 pub holds_bytes : (files : View) (name : List ℕ) (image : Image) → Holds files name image → HoldsBytes files name (image_bytes image)
 holds_bytes files name image file = record { attached = file.attached; size = omega (arith, length-image_bytes image, file.size); has = file.bytes }
-
-pub holds_image : (files : View) (name : List ℕ) (image : Image) → HoldsBytes files name (image_bytes image) → Holds files name image
-holds_image files name image file = record { attached = file.attached; size = omega (arith, length-image_bytes image, file.size); bytes = file.has }
 
 -- ---- commands
 

@@ -5,7 +5,7 @@ use Rattle.pm_region.specs.Safe.{IsSafe}
 use Rattle.bp_layout.specs.Whole.{SameFiles}
 use Rattle.bp_layout.specs.Words.{block_count}
 use Rattle.bp_session.specs.Caching.{AreLines}
-use Rattle.bp_session.proofs.SavingLaws.{size-current}
+use Rattle.pm_region.proofs.MemoryLaws.{length-current_words}
 
 -- they are whole blocks, and so whole lines
 pub lines_of : (memory : Memory) → IsSafe SameFiles memory → AreLines (length memory.base)
@@ -14,4 +14,4 @@ lines_of memory safe =
     let blocks = block_count (current_words memory) in
     let whole : length (current_words memory) ≡ 512 * blocks = sized.whole in
     let some : 8 ≤ blocks = sized.at_least in
-    record { lines = 64 * blocks; some = omega (arith, some); whole = omega (arith, whole, size-current memory) }
+    record { lines = 64 * blocks; some = omega (arith, some); whole = omega (arith, whole, length-current_words memory) }

@@ -6,12 +6,12 @@ use Rattle.std.proofs.lemmas.List.{append-nil, append_assoc, drop-drop, length-a
 use Rattle.std.specs.Prelude.{Result, Ok, Err, OnOk, OnErr}
 use Rattle.bp_layout.specs.Bytes.{image_bytes}
 use Rattle.pm_region.specs.Memory.{Memory, current_words}
-use Rattle.pm_epochs.proofs.CrashLaws.{length-words_after}
+use Rattle.pm_region.proofs.MemoryLaws.{length-current_words}
 use Rattle.bp_io.specs.Files.{block_bytes, blocks_of, with_blocks, IsMixed, Known, Becomes, BecomesMixed, Stays, StaysAttached, View}
 use Rattle.bp_session.proofs.BlockLaws.{length-image_bytes}
 use Rattle.bp_layout.specs.Words.{Image}
 use Rattle.bp_session.specs.Changed.{AreUnmarked, HasChanged, IsChanged, is_marked}
-use Rattle.bp_session.specs.Files.{HasBytes, HasBlocksOf, CanSave}
+use Rattle.bp_session.specs.Files.{HasBlocksOf, CanSave}
 
 -- ---- bytes before, within and behind those that are written
 
@@ -98,23 +98,6 @@ module _ (found run second : List ℕ) (i n : ℕ) (low : 4096 * (i + n) ≤ len
 -- ---- a file whose marked blocks are written
 
 module _ (marks : List Bool) (first second : List ℕ) where
-  pub none_changed : IsChanged marks 0 first second first
-  none_changed = record { size = refl; marked = λ i less. absurd (omega (arith, less)); others = λ i inside other. refl }
-
-  -- a block that isn't marked is left
-  pub one_left : (found : List ℕ) (i : ℕ) → is_marked marks i ≡ false → IsChanged marks i first second found → IsChanged marks (i + 1) first second found
-  one_left found i off is = record {
-    size = is.size;
-    marked = λ k less inside on. go k (nat_lt k i) refl less inside on;
-    others = λ k inside other. is.others k inside (elim other [ inl high ↦ inl (omega (arith, high)) | inr e ↦ inr e ]);
-  }
-    where
-      go : (k : ℕ) (b : Bool) → nat_lt k i ≡ b → k < i + 1 → 4096 * k < length found → is_marked marks k ≡ true → block_bytes found k ≡ block_bytes second k
-      go k true e less inside on = is.marked k (ltb-true k i e) inside on
-      go k false e less inside on =
-          let here : k ≡ i = omega (arith, less, ltb-false k i e) in
-          absurd (let no : true ≡ false = sym (rw here at on) ∙ off in cc)
-
   pub changed_mixed : (found : List ℕ) (n : ℕ) → IsChanged marks n first second found → IsMixed found first second
   changed_mixed found n is = record { size = is.size; blocks = λ k inside. go k inside (nat_lt k n) refl (is_marked marks k) refl }
     where
@@ -182,16 +165,6 @@ mixed_then found a b first second mixed one other = record {
 -- ---- what is known of a file
 
 module _ (marks : List Bool) (first second : List ℕ) where
-  pub known_unchanged : (known : Known) → HasBytes known first → HasChanged known marks 0 first second
-  known_unchanged None has = tt
-  known_unchanged (Some None) has = absurd has
-  known_unchanged (Some (Some found)) has = rw has (none_changed marks first second)
-
-  pub known_left : (known : Known) (i : ℕ) → is_marked marks i ≡ false → HasChanged known marks i first second → HasChanged known marks (i + 1) first second
-  known_left None i off has = tt
-  known_left (Some None) i off has = absurd has
-  known_left (Some (Some found)) i off has = one_left marks first second found i off has
-
   pub known_stays : (known new : Known) (i : ℕ) → HasChanged known marks i first second → Stays known new → HasChanged new marks i first second
   known_stays None new i has stays = rw stays tt
   known_stays (Some known) new i has stays = rw stays has
@@ -217,10 +190,6 @@ module _ (marks : List Bool) (first second : List ℕ) where
         mixed_then now found (with_blocks i run found) first second becomes (changed_mixed marks first second found i has)
         (changed_mixed marks first second (with_blocks i run found) (i + n) (run_written marks first second found run i n low same are on has))
 
-pub stays_known : (known new : Known) (bytes : List ℕ) → HasBytes known bytes → Stays known new → HasBytes new bytes
-stays_known None new bytes has stays = rw stays tt
-stays_known (Some known) new bytes has stays = rw stays has
-
 -- what is told stays told
 pub stays_told : (known new : Known) → Stays known new → is_some new ≡ is_some known
 stays_told None new stays = rw stays refl
@@ -230,13 +199,6 @@ pub becomes_told : (known new : Known) (f : List ℕ → List ℕ) (marks : List
 becomes_told None new f marks i first second has becomes = rw becomes refl
 becomes_told (Some None) new f marks i first second has becomes = absurd has
 becomes_told (Some (Some found)) new f marks i first second has becomes = rw becomes refl
-
-pub mixed_told : (known new : Known) (f : List ℕ → List ℕ) (marks : List Bool) (i : ℕ) (first second : List ℕ) → HasChanged known marks i first second → BecomesMixed f known new → is_some new ≡ is_some known
-mixed_told None new f marks i first second has becomes = rw becomes refl
-mixed_told (Some None) new f marks i first second has becomes = absurd has
-mixed_told (Some (Some found)) None f marks i first second has becomes = absurd becomes
-mixed_told (Some (Some found)) (Some None) f marks i first second has becomes = absurd becomes
-mixed_told (Some (Some found)) (Some (Some now)) f marks i first second has becomes = refl
 
 -- ---- the attached file
 
@@ -259,9 +221,6 @@ still_ready base next a b ready size stays = record {
 
 -- ---- sizes
 
-pub size-current : (memory : Memory) → length (current_words memory) ≡ length memory.base
-size-current memory = length-words_after memory.base memory.events
-
 -- the two lists of bytes, by the sizes of their images
 pub record AreSizes (first second : List ℕ) (blocks : ℕ) : Type 0 where
   pub same : length first ≡ length second
@@ -269,8 +228,8 @@ pub record AreSizes (first second : List ℕ) (blocks : ℕ) : Type 0 where
 
 pub are_sizes : (was : List ℕ) (memory : Memory) (blocks : ℕ) → length was ≡ 4096 * blocks → length memory.base ≡ 512 * blocks → AreSizes was (image_bytes (current_words memory)) blocks
 are_sizes was memory blocks first second = record {
-  same = omega (arith, length-image_bytes (current_words memory), size-current memory, first, second);
-  whole = omega (arith, length-image_bytes (current_words memory), size-current memory, second);
+  same = omega (arith, length-image_bytes (current_words memory), length-current_words memory, first, second);
+  whole = omega (arith, length-image_bytes (current_words memory), length-current_words memory, second);
 }
 
 -- ---- what is said whatever the result
@@ -282,14 +241,6 @@ on_ok (Err e) p = tt
 pub on_err : {T E P : Type 0} (r : Result T E) → P → OnErr r P
 on_err (Ok x) p = tt
 on_err (Err e) p = p
-
-pub ok_then : {T E P Q : Type 0} (r : Result T E) → (P → Q) → OnOk r P → OnOk r Q
-ok_then (Ok done) f p = f p
-ok_then (Err e) f p = tt
-
-pub err_then : {T E P Q : Type 0} (r : Result T E) → (P → Q) → OnErr r P → OnErr r Q
-err_then (Ok done) f p = tt
-err_then (Err e) f p = f p
 
 -- ---- a run of marked blocks is none where no block is marked
 pub unmarked_run : (marks : List Bool) (first run : ℕ) → AreUnmarked marks → first < length marks → (run ≡ 0 → ⊥) → ((k : ℕ) → k < run → is_marked marks (first + k) ≡ true) → ⊥

@@ -4,9 +4,9 @@ use Rattle.std.proofs.lemmas.List.{append_assoc, append-nil, take_all}
 use Rattle.std.proofs.lemmas.List.Elements.{All-nil}
 use Rattle.std.proofs.lemmas.Bool.{lt-ltb, ltb-true, ltb-false}
 use Rattle.std.proofs.Math.Seq.{take-suc}
-use Rattle.std.proofs.KnownBytes.{Appends-trans}
+use Rattle.std.proofs.KnownBytes.{Appends-nil, Appends-trans}
 use Rattle.std.specs.Prelude.{Option, Some, None}
-use Rattle.std.specs.Io.KnownBytes.{Appends, Consumes, Keeps}
+use Rattle.std.specs.Io.KnownBytes.{Appends, Consumes}
 use Rattle.bp_limits.specs.Limits.{max_line}
 use Rattle.pm_region.specs.Memory.{Memory}
 use Rattle.bp_layout.specs.Words.{Image}
@@ -39,12 +39,8 @@ pub text_none : text_of [] ≡ []
 unfolding text_of
 text_none = refl
 
-pub appends_none : (a : Option (List ℕ)) → Appends a a []
-appends_none None = tt
-appends_none (Some xs) = sym (append-nil xs)
-
 pub told_none : (s : State) (t : Option (List ℕ)) → Told s s [] t t
-told_none s t = record { replies = []; session = refl; taken = rw text_none (appends_none t) }
+told_none s t = record { replies = []; session = refl; taken = rw text_none (Appends-nil t) }
 
 pub told_then : (a b c : State) (xs ys : List Command) (t u v : Option (List ℕ)) → Told a b xs t u → Told b c ys u v → Told a c (xs ++ ys) t v
 told_then a b c xs ys t u v first rest = record {
@@ -310,17 +306,6 @@ split_at (x ∷ xs) rest (suc i) b low is = let next : suc i + 1 ≡ suc (i + 1)
 
 pub take_next : (xs : List ℕ) (i b : ℕ) → i < length xs → b ≡ get_or xs i 0 → take (i + 1) xs ≡ take i xs ++ b ∷ []
 take_next xs i b low e = ap (λ n. take n xs) (let n : i + 1 ≡ suc i = omega arith in n) ∙ take-suc xs i 0 low ∙ ap (λ x. take i xs ++ x ∷ []) (sym e)
-
-pub consumes_nothing : (a : Option (List ℕ)) → Consumes a a []
-consumes_nothing None = tt
-consumes_nothing (Some xs) = refl
-
--- a read that failed consumed nothing
-pub consumes_kept : (a b c : Option (List ℕ)) (xs : List ℕ) → Consumes a b xs → Keeps b c → Consumes a c xs
-consumes_kept None b c xs read kept = tt
-consumes_kept (Some us) None c xs read kept = absurd read
-consumes_kept (Some us) (Some vs) None xs read kept = absurd kept
-consumes_kept (Some us) (Some vs) (Some ws) xs read kept = rw kept read
 
 pub take_more : (xs : List ℕ) (n m : ℕ) → n ≤ m → take n xs ++ drop n (take m xs) ≡ take m xs
 take_more [] zero zero low = refl

@@ -2,7 +2,7 @@ use Rattle.std.proofs.Common.{◌≡◌, ◌++◌, [], ◌∷◌, ◌∙◌, ap,
 use Rattle.std.proofs.lemmas.List.{length-set, take_more, take_more_set}
 use Rattle.std.proofs.Math.Seq.{take-length}
 use Rattle.pm_region.specs.Memory.{current_words}
-use Rattle.bp_session.proofs.SavingLaws.{size-current}
+use Rattle.pm_region.proofs.MemoryLaws.{length-current_words}
 use Rattle.bp_session.proofs.blocks.head_words.Goals as goal
 
 pub loop-k-preserved : goal.loop-k-preserved
@@ -16,7 +16,7 @@ loop-k-preserved g c =
       front = take_more_set words k c.load.result (omega (arith, c.loop-k.invariant.size))
           ∙ ap (λ l. l ++ c.load.result ∷ []) c.loop-k.invariant.front
           ∙ ap (λ w. take k image ++ w ∷ []) c.load.ensures
-          ∙ sym (take_more image k 0 (omega (arith, c.requires, size-current memory)));
+          ∙ sym (take_more image k 0 (omega (arith, c.requires, length-current_words memory)));
     }
 
 pub returns : goal.returns

@@ -3,7 +3,7 @@ use Rattle.std.proofs.lemmas.List.{length-drop, length-take-le}
 use Rattle.bp_layout.specs.Bytes.{image_bytes}
 use Rattle.pm_region.specs.Memory.{current_words}
 use Rattle.bp_session.proofs.BlockLaws.{blocks-image_bytes}
-use Rattle.bp_session.proofs.SavingLaws.{size-current}
+use Rattle.pm_region.proofs.MemoryLaws.{length-current_words}
 use Rattle.bp_session.proofs.blocks.read_blocks.Goals as goal
 
 pub encode-requires : goal.encode-requires
@@ -13,7 +13,7 @@ encode-requires g c =
     let count = length c.args.into.now / 8 in
     let width : (512 * c.args.first + count) - 512 * c.args.first ≡ count = omega arith in
     let long = ap length (c.load_words.ensures ∙ ap (λ n. take n rest) width)
-    ∙ length-take-le count rest (omega (arith, length-drop (512 * c.args.first) (current_words memory), size-current memory, c.requires.inside)) in
+    ∙ length-take-le count rest (omega (arith, length-drop (512 * c.args.first) (current_words memory), length-current_words memory, c.requires.inside)) in
     omega (arith, long, c.requires.whole)
 
 pub returns : goal.returns

@@ -3,7 +3,7 @@ use Rattle.std.proofs.lemmas.List.{length-drop, length-take-le}
 use Rattle.bp_layout.specs.Bytes.{image_bytes}
 use Rattle.pm_region.specs.Memory.{current_words}
 use Rattle.bp_session.proofs.BlockLaws.{front_rest}
-use Rattle.bp_session.proofs.SavingLaws.{size-current}
+use Rattle.pm_region.proofs.MemoryLaws.{length-current_words}
 use Rattle.bp_session.proofs.blocks.read_front.Goals as goal
 
 pub encode-requires-2 : goal.encode-requires-2
@@ -12,7 +12,7 @@ encode-requires-2 g c =
     let rest = drop 8 (current_words memory) in
     let count = length c.args.into.now / 8 in
     let long = ap length c.load_words.ensures
-    ∙ length-take-le ((8 + (count - 8)) - 8) rest (omega (arith, length-drop 8 (current_words memory), size-current memory, c.requires.inside)) in
+    ∙ length-take-le ((8 + (count - 8)) - 8) rest (omega (arith, length-drop 8 (current_words memory), length-current_words memory, c.requires.inside)) in
     omega (arith, long, c.requires.whole, c.requires.some, c.split_at_mut-head.ensures.back_len)
 
 pub returns : goal.returns

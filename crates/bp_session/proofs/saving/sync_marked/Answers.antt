@@ -4,7 +4,8 @@ use Rattle.pm_region.specs.Memory.{Memory, current_words}
 use Rattle.bp_session.proofs.ActingLaws.{holds_bytes, size-drained}
 use Rattle.bp_session.proofs.ChangedLaws.{holds_more, saves_words}
 use Rattle.bp_session.proofs.MarkLaws.{all_marked, kept_still}
-use Rattle.bp_session.proofs.SavingLaws.{size-current, still_attached, still_ready}
+use Rattle.pm_region.proofs.MemoryLaws.{length-current_words}
+use Rattle.bp_session.proofs.SavingLaws.{still_attached, still_ready}
 use Rattle.bp_session.proofs.saving.sync_marked.Goals as goal
 
 pub save-requires : goal.save-requires
@@ -12,7 +13,7 @@ save-requires g c = rw (c.region-2.ensures.memory, c.sync.ensures.drained) (stil
 
 pub returns-in-Ok-clause-saved : goal.returns-in-Ok-clause-saved
 returns-in-Ok-clause-saved g c = λ name was held.
-    let size = size-current c.args.volume.now ∙ c.requires.size in
+    let size = length-current_words c.args.volume.now ∙ c.requires.size in
     saves_words c.mark_stored.new.marks (current_words c.args.volume.now) (g.F.Files.view c.args.files.now) (g.F.Files.view c.save.new.files) size
     c.save.ensures.told c.save.ensures.attached.blocks name was
     (holds_more c.args.stale.now c.mark_stored.new.marks c.args.volume.now.base (current_words c.args.volume.now) (g.F.Files.view c.args.files.now).blocks c.requires.size size

@@ -1,15 +1,15 @@
 use Rattle.std.proofs.Common.{arith, rules, refl, ◌++◌, [], drop, take, ◌∙◌, sym, ap, ◌≡◌, ◌≤◌, ◌+◌, length, length-append}
 use Rattle.std.proofs.lemmas.List.{append_assoc}
 use Rattle.std.proofs.lemmas.Result.{err_from_is_err_and}
-use Rattle.std.proofs.KnownBytes.{Consumes-trans}
+use Rattle.std.proofs.KnownBytes.{Consumes-kept, Consumes-nil, Consumes-trans}
 use Rattle.std.specs.Io.KnownBytes.{Consumes}
 use Rattle.bp_session.proofs.OutcomeLaws.{never_whole, piece_nothing, piece_then, piece_stops, serve_part, serve_long, serve_ended, serve_end}
-use Rattle.bp_session.proofs.ServingLaws.{consumes_nothing, consumes_kept, take_more, length_taken}
+use Rattle.bp_session.proofs.ServingLaws.{take_more, length_taken}
 use Rattle.bp_session.proofs.serving.serve_by.Goals as goal
 
 pub loop-count-init : goal.loop-count-init
 loop-count-init g c = record {
-  served = ([], consumes_nothing _, refl, rw c.clear.ensures.items (piece_nothing c.args.most _ []));
+  served = ([], Consumes-nil _, refl, rw c.clear.ensures.items (piece_nothing c.args.most _ []));
   source = refl;
   taken = search rules;
 }
@@ -17,7 +17,7 @@ loop-count-init g c = record {
 pub returns-in-Err-clause-outcome : goal.returns-in-Err-clause-outcome
 returns-in-Err-clause-outcome g c =
     let before = c.loop-count.invariant.served in
-    serve_part _ _ _ _ _ before.0 _ (consumes_kept _ _ _ _ before.1 c.in-Err.ensures.bytes) before.3 (rw c.loop-count.invariant.source at c.in-Err.ensures.cause.failed)
+    serve_part _ _ _ _ _ before.0 _ (Consumes-kept _ _ _ _ before.1 c.in-Err.ensures.bytes) before.3 (rw c.loop-count.invariant.source at c.in-Err.ensures.cause.failed)
 
 pub loop-count-preserved : goal.loop-count-preserved
 loop-count-preserved g c =

@@ -1,7 +1,7 @@
 //! Lines of a source in any pieces, each with its reply to a sink.
 
 ghost use Rattle.memchr.specs.Find.{IsFirst, Nowhere, Passes, is_byte};
-ghost use Rattle.std.specs.Prelude.{◌≡◌, ◌≤◌, [], OnOk, length, slice_range, true, vec_len};
+ghost use Rattle.std.specs.Prelude.{◌≡◌, ◌≤◌, [], Err, OnOk, length, slice_range, true, vec_len};
 ghost use Rattle.std.specs.Io.{ReadsAtMost};
 ghost use Rattle.std.specs.Io.KnownBytes.{ReadConsumes};
 ghost use Rattle.bp_io.specs.Causes.{HasCause};
@@ -12,7 +12,7 @@ ghost use Rattle.bp_session.specs.Lines.{EndsNoLine};
 ghost use Rattle.bp_session.specs.Held.{EndsHeld, GathersHeld, ServesAlone, ServesAtOnce, ServesBy, ServesGathered, ServesHeld, TakesPiece};
 ghost use Rattle.bp_session.specs.Pieces.{piece_size};
 ghost use Rattle.bp_session.specs.Serving.{CanServe, ServesAgain};
-ghost use Rattle.bp_session.specs.Statuses.{status_of};
+ghost use Rattle.bp_session.specs.declared.broken.Broken.TheVariants as cause;
 ghost use Rattle.bp_session.specs.Work.{held_line, held_replies, read_piece};
 
 use crate::acting::act_and_save;
@@ -43,7 +43,7 @@ fn answer_line<R: Region, K: Sink, F: Files>(
         work.old stale.old volume.old files.old out.old
         work.new stale.new volume.new files.new out.new }
     ensures few { OnOk result (length (held_replies work.new) ≤ most) }
-    ensures synced { held_replies work.old ≡ [] → ¬ (status_of result ≡ 5) → command_of (held_line work.old) ≡ sync →
+    ensures synced { held_replies work.old ≡ [] → ¬ (result ≡ Err cause.Files) → command_of (held_line work.old) ≡ sync →
         (F.view files.new).is_flushed ≡ true }
     ensures ready { CanSave volume.new.base (F.view files.new) }
     ensures line { held_line work.new ≡ held_line work.old }
@@ -70,7 +70,7 @@ fn answer_alone<R: Region, K: Sink, F: Files>(
     ensures outcome { ServesAlone result F.view K.view work.old
         stale.old volume.old files.old out.old
         stale.new volume.new files.new out.new }
-    ensures synced { ¬ (status_of result ≡ 5) → command_of (held_line work.old) ≡ sync → (F.view files.new).is_flushed ≡ true }
+    ensures synced { ¬ (result ≡ Err cause.Files) → command_of (held_line work.old) ≡ sync → (F.view files.new).is_flushed ≡ true }
     ensures again { ServesAgain volume.old volume.new (F.view files.new) }
     ensures line { held_line work.new ≡ held_line work.old }
     ensures piece { read_piece work.new ≡ read_piece work.old }
@@ -93,7 +93,7 @@ pub fn serve_line<R: Region, K: Sink, F: Files>(
     ensures outcome { ServesHeld result F.view K.view work.old
         volume.old files.old out.old
         volume.new files.new out.new }
-    ensures synced { ¬ (status_of result ≡ 5) → command_of (held_line work.old) ≡ sync → (F.view files.new).is_flushed ≡ true }
+    ensures synced { ¬ (result ≡ Err cause.Files) → command_of (held_line work.old) ≡ sync → (F.view files.new).is_flushed ≡ true }
     ensures again { ServesAgain volume.old volume.new (F.view files.new) }
     ensures line { held_line work.new ≡ held_line work.old }
     ensures piece { read_piece work.new ≡ read_piece work.old }

@@ -6,7 +6,7 @@ use Rattle.std.proofs.lemmas.Slice.{drop-append-drop}
 use Rattle.std.proofs.Math.Seq.{take-append_seam}
 use Rattle.pm_epochs.specs.declared.event.Event.{Event}
 use Rattle.pm_epochs.specs.declared.event.Event.TheVariants.{Store, Barrier, Mark}
-use Rattle.pm_epochs.specs.Kind.{event_value}
+use Rattle.pm_epochs.specs.Kind.{event_value, value_at}
 use Rattle.pm_region.specs.Memory.{AreInRow, Follows, stores_from}
 use Rattle.pm_runs.specs.Runs.{TellsRun}
 use Rattle.pm_runs.specs.declared.pieces.Run.TheVariants as run
@@ -81,9 +81,9 @@ pub row-front : (events : List Event) (first len count : ℕ) → count ≤ len 
 row-front events first len count fits row i event next low at after = row i event next (omega arith) at after
 
 -- a run of a log, whose values are copied in front of these
-pub told-row : (events : List Event) (first len count word value : ℕ) (old values new : List ℕ) → slice_get events first ≡ Some (Store word value) → 0 < len → first + len ≤ length events → AreInRow events first len
+pub told-row : (events : List Event) (first len count word : ℕ) (old values new : List ℕ) → slice_get events first ≡ Some (Store word (value_at events first)) → 0 < len → first + len ≤ length events → AreInRow events first len
     → values ≡ take len (drop first (map event_value events)) → count ≡ min (length values) (length old) → new ≡ take count values ++ drop count old → TellsRun events first old (run.Stores word count) new
-told-row events first len count word value old values new is some fits row values_are count_is copied =
+told-row events first len count word old values new is some fits row values_are count_is copied =
     let brought = drop first (map event_value events) in
     let long : length values ≡ len = ap length values_are ∙ length-take-le len brought (omega (arith, length-drop first (map event_value events), length-map events event_value)) in
     let few : count ≤ len = omega (arith, count_is, long) in
@@ -91,9 +91,10 @@ told-row events first len count word value old values new is some fits row value
     let seam : take count new ≡ take count values = ap (take count) copied ∙ ap (λ n. take n (take count values ++ drop count old)) (sym front) ∙ take-append_seam (take count values) (drop count old) in
     let of_log : take count values ≡ take count brought = ap (take count) values_are ∙ take-take count len brought few in
     record {
-      told = row-stores events first count word value is (omega (arith, fits, few)) (row-front events first len count few row) ∙ ap (stores_from word) (sym (seam ∙ of_log));
+      told = row-stores events first count word (value_at events first) is (omega (arith, fits, few)) (row-front events first len count few row) ∙ ap (stores_from word) (sym (seam ∙ of_log));
       within = omega (arith, fits, few);
       begun = λ room. omega (arith, count_is, long, some, room);
+      kind = is;
       fits = omega (arith, count_is);
       rest = ap (drop count) copied ∙ drop-append-drop count old (take count values) count (omega (arith, front)) front;
     }

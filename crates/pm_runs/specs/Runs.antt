@@ -1,7 +1,10 @@
 -- Pieces of a log: stores to words in a row, a barrier, or a mark.
-use Rattle.std.specs.Prelude.{◌≡◌, ◌≤◌, ◌<◌, ◌+◌, ℕ, List, [], ◌∷◌, ◌++◌, drop, length, take}
+use Rattle.std.specs.Prelude.{◌≡◌, ◌≤◌, ◌<◌, ◌+◌, ℕ, List, [], ◌∷◌, ◌++◌, Some, drop, length, slice_get, take}
+use Rattle.pm_epochs.specs.Kind.{event_of, value_at}
 use Rattle.pm_epochs.specs.declared.event.Event.{Event}
 use Rattle.pm_epochs.specs.declared.event.Event.TheVariants.{Barrier, Mark}
+use Rattle.pm_epochs.specs.declared.event.EventKind.{EventKind}
+use Rattle.pm_epochs.specs.declared.event.EventKind.TheVariants as kinds
 use Rattle.pm_epochs.specs.Log.{words_after}
 use Rattle.pm_region.specs.Memory.{stores_from, with_values}
 use Rattle.pm_runs.specs.declared.pieces.Run.{Run}
@@ -24,12 +27,19 @@ run_events (run.Stores word count) values = stores_from word (take count values)
 run_events run.Barrier values = Barrier ∷ []
 run_events run.Mark values = Mark ∷ []
 
--- The run tells just the events of a log from one on, as many as it has: at least one where there is room for a value.
--- No other value has changed.
+-- what the event is with which it begins: a store to its first word, also where it tells no value
+abbrev pub first_kind : Run → EventKind
+first_kind (run.Stores word count) = kinds.Store word
+first_kind run.Barrier = kinds.Barrier
+first_kind run.Mark = kinds.Mark
+
+-- The run tells just the events of a log from one on, as many as it has: at least one where there is room for a value. So a
+-- barrier and a mark are told in any room, and of stores at least the first one's word. No other value has changed.
 pub record TellsRun (events : List Event) (first : ℕ) (old : List ℕ) (run : Run) (new : List ℕ) : Type 0 where
   pub told : take (run_length run) (drop first events) ≡ run_events run new
   pub within : first + run_length run ≤ length events
   pub begun : 0 < length old → 0 < run_length run
+  pub kind : slice_get events first ≡ Some (event_of (first_kind run) (value_at events first))
   pub fits : value_count run ≤ length old
   pub rest : drop (value_count run) new ≡ drop (value_count run) old
 

@@ -12,7 +12,7 @@ returns-in-Store c =
     let len = row.result.len in
     let value = value_at events first in
     let exact : (first + len) - first ≡ len = omega arith in
-    told-row events first len c.copy_front.result c.in-Store.word value c.args.values.now _ c.copy_front.new.into
+    told-row events first len c.copy_front.result c.in-Store.word c.args.values.now _ c.copy_front.new.into
     (row.ensures.get ∙ ap (λ kind. Some (event_of kind value)) c.in-Store.is)
     row.ensures.some row.ensures.inside row.ensures.row
     (ap (λ n. take n (drop first c.values.result.now)) exact ∙ ap (λ values. take len (drop first values)) c.values.ensures)
@@ -22,10 +22,12 @@ pub returns-in-Barrier : goal.returns-in-Barrier
 returns-in-Barrier c =
     let events = c.args.region.now.events in
     let value = value_at events c.args.first in
+    let begins = c.row-kind.ensures.get ∙ ap (λ kind. Some (event_of kind value)) c.in-Barrier.is in
     record {
-      told = told-one events c.args.first Barrier (c.row-kind.ensures.get ∙ ap (λ kind. Some (event_of kind value)) c.in-Barrier.is);
+      told = told-one events c.args.first Barrier begins;
       within = omega (arith, c.requires);
       begun = λ room. omega arith;
+      kind = begins;
       fits = omega arith;
       rest = refl;
     }
@@ -34,10 +36,12 @@ pub returns-in-Mark : goal.returns-in-Mark
 returns-in-Mark c =
     let events = c.args.region.now.events in
     let value = value_at events c.args.first in
+    let begins = c.row-kind.ensures.get ∙ ap (λ kind. Some (event_of kind value)) c.in-Mark.is in
     record {
-      told = told-one events c.args.first Mark (c.row-kind.ensures.get ∙ ap (λ kind. Some (event_of kind value)) c.in-Mark.is);
+      told = told-one events c.args.first Mark begins;
       within = omega (arith, c.requires);
       begun = λ room. omega arith;
+      kind = begins;
       fits = omega arith;
       rest = refl;
     }

@@ -71,8 +71,8 @@
  *   Where power fails at any moment while you carry, what persists is an image that mounts, and that shows the tree after a prefix of the
  *   calls. Each call that was durable is in the prefix. Many calls may be carried at once (a group commit): their order is what matters.
  *
- *   Carry before you drain: bpfs_drain forgets the events, and no other call does. An image that is changed otherwise than by its events, by
- *   a second volume for one, is no image any more. (BPFS_NOTE_WORD of carry.h is a word that no image uses.)
+ *   Carry before you drain or close: bpfs_drain and bpfs_close forget the events, and no other call does. An image that is changed otherwise
+ *   than by its events, by a second volume for one, is no image any more. (BPFS_NOTE_WORD of carry.h is a word that no image uses.)
  *
  * A FULL LOG
  *   A call that finds room for fewer than 262,144 events answers BPFS_LOG_FULL and does nothing, whatever it would need. Carry, drain, and
@@ -293,7 +293,7 @@ size_t bpfs_events(bpfs *fs, size_t first, bpfs_event *into, size_t capacity);
 
 /* Tells the run that begins with the event numbered `first`, and answers how many events it is made of; the next one begins at first and
  * that number. Of stores it copies their values, at most `capacity`: a longer run is told in parts. 0 where no event is left, for a closed
- * handle, and for stores where capacity is 0. */
+ * handle, and for stores where capacity is 0, of which it tells the first word. */
 size_t bpfs_run_at(bpfs *fs, size_t first, bpfs_run *run, uint64_t *values, size_t capacity);
 
 /* Forgets the events: the caller says that all of them persist. BPFS_HAS_NONE. */

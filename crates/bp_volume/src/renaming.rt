@@ -29,7 +29,7 @@ use bp_inodes::get;
 use bp_layout::Kind;
 use bp_path::{FoundEntry, Path, parse, walk_parent_by};
 use bp_plain::FsError;
-use bp_rename::{Move, rename_in};
+use bp_rename::{Move, rename};
 use bp_tree::Tree;
 use pm_region::Region;
 
@@ -302,7 +302,7 @@ fn move_name<R: Region>(
 {
     let to_move = move_of(ends);
     let target = target_at(&parts.region, ends);
-    rename_in(parts, &to_move, ends.target.empty).map_err(no_space)?;
+    rename(parts, &to_move, ends.target.empty).map_err(no_space)?;
     tell_move(cache, ends.source.at(), target, ends.target.there);
     Ok(())
 }

@@ -15,14 +15,14 @@ use Rattle.bp_volume.proofs.ToldNames.{name_moves_thawed}
 use Rattle.bp_volume.proofs.WalkLaws.{reached_at}
 use Rattle.bp_volume.proofs.renaming.move_name.Goals as goal
 
-pub rename_in-requires-clause-can : goal.rename_in-requires-clause-can
-rename_in-requires-clause-can g c = may_rename _ c.args.from.now c.args.to.now c.args.ends.now c.requires.may c.requires.ready.well_formed.first c.move_of-to_move.result c.move_of-to_move.ensures
+pub rename-requires-clause-can : goal.rename-requires-clause-can
+rename-requires-clause-can g c = may_rename _ c.args.from.now c.args.to.now c.args.ends.now c.requires.may c.requires.ready.well_formed.first c.move_of-to_move.result c.move_of-to_move.ensures
 
-pub rename_in-requires-clause-room : goal.rename_in-requires-clause-room
-rename_in-requires-clause-room g c = λ enough. few_room (kept_of c.args.parts.now) (g.R.Region.memory c.args.parts.now.region) (change_of c.move_of-to_move.result) (moving_few _ c.args.from.now c.args.to.now c.args.ends.now c.requires.may c.requires.ready.well_formed.first c.move_of-to_move.result c.move_of-to_move.ensures) c.requires.ready.room
+pub rename-requires-clause-room : goal.rename-requires-clause-room
+rename-requires-clause-room g c = λ enough. few_room (kept_of c.args.parts.now) (g.R.Region.memory c.args.parts.now.region) (change_of c.move_of-to_move.result) (moving_few _ c.args.from.now c.args.to.now c.args.ends.now c.requires.may c.requires.ready.well_formed.first c.move_of-to_move.result c.move_of-to_move.ensures) c.requires.ready.room
 
-pub rename_in-requires-clause-empty : goal.rename_in-requires-clause-empty
-rename_in-requires-clause-empty g c = slot_handed (current_words (g.R.Region.memory c.args.parts.now.region)) c.args.ends.now c.move_of-to_move.result c.move_of-to_move.ensures c.requires.may.found.are.target.empty
+pub rename-requires-clause-empty : goal.rename-requires-clause-empty
+rename-requires-clause-empty g c = slot_handed (current_words (g.R.Region.memory c.args.parts.now.region)) c.args.ends.now c.move_of-to_move.result c.move_of-to_move.ensures c.requires.may.found.are.target.empty
 
 pub target_at-target-requires-clause-reached : goal.target_at-target-requires-clause-reached
 target_at-target-requires-clause-reached g c = reached_at _ c.requires.ready.well_formed.first _ c.args.ends.now.target.dir c.requires.may.found.are.target.parent
@@ -31,16 +31,16 @@ pub returns-in_err-map_err-clause-called : goal.returns-in_err-map_err-clause-ca
 returns-in_err-map_err-clause-called g c =
     let p = err_from_is_err_and c.from_residual.result c.from_residual.ensures.1 in
     let makes = moving_makes _ c.args.from.now c.args.to.now c.args.ends.now c.requires.may c.requires.ready.well_formed.first c.move_of-to_move.result c.move_of-to_move.ensures in
-    rw (p.1, p.2) (carried_lacks _ _ _ c.rename_in.result _ c.in_err-map_err.ensures.cases
-    (on_err_weaker c.rename_in.result (ap (λ (parts : Parts g.row.R.Denot). g.R.Region.memory parts.region)) c.rename_in.ensures.same)
-    (MatchResult-weaker c.rename_in.result c.rename_in.ensures.refused (λ _ nothing. nothing)
+    rw (p.1, p.2) (carried_lacks _ _ _ c.rename.result _ c.in_err-map_err.ensures.cases
+    (on_err_weaker c.rename.result (ap (λ (parts : Parts g.row.R.Denot). g.R.Region.memory parts.region)) c.rename.ensures.same)
+    (MatchResult-weaker c.rename.result c.rename.ensures.refused (λ _ nothing. nothing)
     (lacks_space _ _ (change_of c.move_of-to_move.result) makes (kept_of c.args.parts.now) c.requires.ready.frozen)))
 
 pub returns-clause-called : goal.returns-clause-called
 returns-clause-called g c =
     let makes = moving_makes _ c.args.from.now c.args.to.now c.args.ends.now c.requires.may c.requires.ready.well_formed.first c.move_of-to_move.result c.move_of-to_move.ensures in
     let can = may_rename _ c.args.from.now c.args.to.now c.args.ends.now c.requires.may c.requires.ready.well_formed.first c.move_of-to_move.result c.move_of-to_move.ensures in
-    let done = on_ok_was c.rename_in.result _ c.in_ok-map_err.ensures.cases c.rename_in.ensures.performs in
+    let done = on_ok_was c.rename.result _ c.in_ok-map_err.ensures.cases c.rename.ensures.performs in
     changed (performs_call (kept_of c.args.parts.now) _ _ _ (change_of c.move_of-to_move.result) _ c.requires.ready.well_formed c.requires.ready.frozen makes done
     (λ renames. moving_shows _ c.args.from.now c.args.to.now c.args.ends.now c.requires.may c.requires.ready.well_formed.first c.move_of-to_move.result c.move_of-to_move.ensures _
     (path_moves _ _ c.requires.ready.well_formed.first c.move_of-to_move.result can renames))
@@ -49,7 +49,7 @@ returns-clause-called g c =
 pub returns-clause-right : goal.returns-clause-right
 returns-clause-right g c =
     let can = may_rename _ c.args.from.now c.args.to.now c.args.ends.now c.requires.may c.requires.ready.well_formed.first c.move_of-to_move.result c.move_of-to_move.ensures in
-    let done = on_ok_was c.rename_in.result _ c.in_ok-map_err.ensures.cases c.rename_in.ensures.performs in
+    let done = on_ok_was c.rename.result _ c.in_ok-map_err.ensures.cases c.rename.ensures.performs in
     c.tell_move.ensures _ _ (cache_thawed _ _ _ c.requires.ready.well_formed.first done.effect.thawed c.requires.right)
     (name_moves_thawed _ _ c.args.ends.now c.requires.may.found.are.named c.move_of-to_move.result c.move_of-to_move.ensures can _ (record { dir = c.at.ensures.dir; name = c.at.ensures.name; slot = c.at.ensures.slot })
     _ c.target_at-target.ensures done.effect)

@@ -7,7 +7,8 @@ use Rattle.pm_epochs.specs.declared.event.Event.TheVariants.{Store, Barrier, Mar
 use Rattle.pm_epochs.specs.Log.{barriers, marks}
 use Rattle.pm_region.specs.Epochs.{epoch_start}
 use Rattle.pm_region.specs.Memory.{stores_from}
-use Rattle.pm_raw.specs.Places.{Placed, noted, places_where, is_barrier, is_mark, count_below}
+use Rattle.pm_region.proofs.EpochLaws.{epoch_start-low}
+use Rattle.pm_raw.specs.Places.{Placed, noted, places_where, is_barrier, is_mark, count_below, start_behind}
 
 noted-append : (is_one : Bool) (at : ℕ) (places more : List ℕ) → noted is_one at (places ++ more) ≡ noted is_one at places ++ more
 noted-append true at places more = refl
@@ -81,8 +82,16 @@ start-at zero at (Barrier ∷ log) begun = omega arith
 start-at (suc epoch) at (Barrier ∷ log) begun = let rest = start-at epoch (suc at) log (omega arith) in omega arith
 start-at epoch at (Mark ∷ log) begun = let rest = start-at epoch (suc at) log begun in omega arith
 
-pub start-behind : (epoch : ℕ) (log : List Event) (places : List ℕ) → places ≡ places_where is_barrier 0 log → epoch < barriers log → epoch_start (suc epoch) log ≡ suc (get_or places epoch 0)
-start-behind epoch log places are begun = omega (arith, start-at epoch 0 log begun, ap (λ ps. get_or ps epoch 0) are)
+-- so the places of a log's barriers tell where each of its epochs begins, which is no later than its end
+pub start-places : (epoch : ℕ) (log : List Event) (places : List ℕ) → places ≡ places_where is_barrier 0 log → epoch ≤ barriers log → start_behind places epoch ≡ epoch_start epoch log
+start-places zero log places are begun = refl
+start-places (suc epoch) log places are begun = omega (arith, start-at epoch 0 log (omega arith), ap (λ ps. get_or ps epoch 0) are)
+
+pub epochs-places : (epoch : ℕ) (log : List Event) (places : List ℕ) → places ≡ places_where is_barrier 0 log → epoch ≤ barriers log → epoch ≤ length places
+epochs-places epoch log places are begun = omega (arith, ap length are, barriers-places 0 log)
+
+pub start-small : (epoch : ℕ) (log : List Event) (places : List ℕ) → places ≡ places_where is_barrier 0 log → epoch ≤ barriers log → start_behind places epoch ≤ length log
+start-small epoch log places are begun = omega (arith, start-places epoch log places are begun, epoch_start-low epoch log)
 
 -- stores have no place
 pub places-stores : (is_one : Event → Bool) (at word : ℕ) (values : List ℕ) → ((place value : ℕ) → is_one (Store place value) ≡ false) → places_where is_one at (stores_from word values) ≡ []

@@ -1,6 +1,6 @@
 -- Where the events of one kind stand in a log.
-use Rattle.std.specs.Prelude.{ℕ, Bool, true, false, nat_lt, if◌then◌else◌, List, [], ◌∷◌}
-use Rattle.std.proofs.Common.{suc}
+use Rattle.std.specs.Prelude.{ℕ, Bool, true, false, nat_lt, if◌then◌else◌, List, [], ◌∷◌, slice_index}
+use Rattle.std.proofs.Common.{zero, suc}
 use Rattle.pm_epochs.specs.declared.event.Event.{Event}
 use Rattle.pm_epochs.specs.declared.event.Event.TheVariants.{Store, Barrier, Mark}
 
@@ -29,6 +29,11 @@ abbrev pub is_mark : Event → Bool
 is_mark (Store word value) = false
 is_mark Barrier = false
 is_mark Mark = true
+
+-- where an epoch begins, in a log with barriers at these places: behind the barrier before it
+abbrev pub start_behind : List ℕ → ℕ → ℕ
+start_behind places zero = 0
+start_behind places (suc epoch) = suc (slice_index places epoch)
 
 -- how many of these numbers are less than the bound
 abbrev pub count_below : ℕ → List ℕ → ℕ

@@ -1,12 +1,12 @@
 //! What a cut of the power leaves of a log, and how many calls it keeps.
 
 ghost use Rattle.std.specs.Prelude.{◌≡◌, ◌^◌, ◌<◌, ◌≤◌, ◌↔◌, true, false, IsOk, IfOk, length, slice_set};
-ghost use Rattle.pm_epochs.specs.Log.{barriers, epoch_stores, marks, words_after};
+ghost use Rattle.pm_epochs.specs.Log.{epoch_stores, marks, words_after};
 ghost use Rattle.pm_epochs.specs.Replay.{IsRight, kept_calls as kept_calls_of, marks_of, stores_of};
 ghost use Rattle.pm_region.specs.Epochs.{epoch_start};
 ghost use Rattle.pm_region.specs.Memory.{stores_from};
 ghost use Rattle.pm_raw.specs.Pieces.{all_kept, keeps};
-ghost use Rattle.pm_raw.specs.Places.{is_barrier, is_mark, places_where};
+ghost use Rattle.pm_raw.specs.Places.{is_barrier, is_mark, places_where, start_behind};
 
 use super::log::{Log, Piece};
 use super::places::Places;
@@ -77,11 +77,10 @@ fn calls_of(log: Log<'_>, mask: &[bool]) -> usize
 }
 
 /// Where an epoch begins, in a log with these barriers.
-pub fn start_of_epoch(log: &Log<'_>, barrier_places: &Places, epoch: usize) -> usize
-    requires places { barrier_places.now.items ≡ places_where is_barrier 0 log.now }
-    requires begun { epoch ≤ barriers log.now }
-    requires small { length log.now < 2 ^ 64 }
-    ensures { result ≡ epoch_start epoch log.now }
+pub fn start_of_epoch(barrier_places: &Places, epoch: usize) -> usize
+    requires begun { epoch ≤ length barrier_places.now.items }
+    requires small { start_behind barrier_places.now.items epoch < 2 ^ 64 }
+    ensures { result ≡ start_behind barrier_places.now.items epoch }
 {
     if epoch == 0 {
         0
@@ -102,7 +101,7 @@ pub fn start_of(log: &Log<'_>, barrier_places: &Places, choice: &Choice) -> Resu
     if moment > log.len() || epoch > barrier_places.before(moment) {
         return Err(BadChoice);
     }
-    let start = start_of_epoch(log, barrier_places, epoch);
+    let start = start_of_epoch(barrier_places, epoch);
     if choice.mask().len() > first_stores(log.front(moment).behind(start)) {
         return Err(BadChoice);
     }

@@ -194,7 +194,7 @@ impl Region for RawRegion {
     }
 
     fn start_of_epoch(&self, epoch: usize) -> usize {
-        start_of_epoch(&self.entries.log(), &self.barriers, epoch)
+        start_of_epoch(&self.barriers, epoch)
     }
 
     fn crash_to(&mut self, choice: &Choice) -> Result<Kept, BadChoice> {

@@ -1,10 +1,12 @@
-use Rattle.std.proofs.Common.{◌≡◌, ◌≤◌, ◌∙◌, ap, arith, drop, length, refl, take}
+use Rattle.std.proofs.Common.{◌≡◌, ◌≤◌, ◌∙◌, ℕ, List, ap, arith, drop, length, refl, take}
 use Rattle.std.proofs.lemmas.List.{length-take-le}
+use Rattle.pm_epochs.specs.declared.event.Event.{Event}
 use Rattle.pm_epochs.specs.Log.{barriers, epoch_stores}
 use Rattle.pm_epochs.specs.Replay.{IsRight}
 use Rattle.pm_region.specs.Epochs.{epoch_start}
 use Rattle.pm_region.proofs.EpochLaws.{barriers-front, epoch_start-taken, stores-at}
-use Rattle.pm_raw.proofs.PlaceLaws.{barriers-below}
+use Rattle.pm_raw.specs.Places.{is_barrier, places_where, start_behind, count_below}
+use Rattle.pm_raw.proofs.PlaceLaws.{barriers-below, epochs-places, start-places, start-small}
 use Rattle.pm_raw.proofs.crash.start_of.Goals as goal
 use Rattle.pm_raw.proofs.crash.start_of.Goals.{then-moment-len-via-then-moment-len, then-moment-len-via-else-moment-len+then-epoch-before}
 
@@ -30,17 +32,30 @@ returns-then-moment-len-clause-right c =
       ]),
     )
 
+-- an epoch that has begun before a moment, by the places of the barriers
+begun-by : (log : List Event) (places : List ℕ) (moment epoch count : ℕ) → count ≡ count_below moment places → places ≡ places_where is_barrier 0 log → epoch ≤ count → epoch ≤ barriers (take moment log)
+begun-by log places moment epoch count is are low = omega (arith, is, low, barriers-below log places moment are)
+
+-- and where it begins
+start-by : (log : List Event) (places : List ℕ) (moment epoch start : ℕ) → start ≡ start_behind places epoch → places ≡ places_where is_barrier 0 log → epoch ≤ barriers (take moment log) → start ≡ epoch_start epoch log
+start-by log places moment epoch start is are begun = is ∙ start-places epoch log places are (omega (arith, begun, barriers-front moment log))
+
 pub start_of_epoch-start-requires-clause-begun : goal.start_of_epoch-start-requires-clause-begun
 start_of_epoch-start-requires-clause-begun c =
     let log = c.args.log.now in
+    let places = c.args.barrier_places.now.items in
     let moment = c.moment-moment.result in
-    omega (
-      arith,
-      c.if-epoch-before.false,
-      c.before-else-moment-len.ensures,
-      barriers-below log c.args.barrier_places.now.items moment c.requires.places,
-      barriers-front moment log,
-    )
+    let begun = begun-by log places moment c.epoch-epoch.result _ c.before-else-moment-len.ensures c.requires.places (omega (arith, c.if-epoch-before.false)) in
+    epochs-places c.epoch-epoch.result log places c.requires.places (omega (arith, begun, barriers-front moment log))
+
+pub start_of_epoch-start-requires-clause-small : goal.start_of_epoch-start-requires-clause-small
+start_of_epoch-start-requires-clause-small c =
+    let log = c.args.log.now in
+    let places = c.args.barrier_places.now.items in
+    let moment = c.moment-moment.result in
+    let begun = begun-by log places moment c.epoch-epoch.result _ c.before-else-moment-len.ensures c.requires.places (omega (arith, c.if-epoch-before.false)) in
+    let early = start-small c.epoch-epoch.result log places c.requires.places (omega (arith, begun, barriers-front moment log)) in
+    omega (arith, early, c.requires.small)
 
 pub behind-requires : goal.behind-requires
 behind-requires c =
@@ -50,7 +65,7 @@ behind-requires c =
     let begun : c.epoch-epoch.result ≤ barriers (take moment log) = omega (arith, c.if-epoch-before.false, c.before-else-moment-len.ensures, barriers-below log c.args.barrier_places.now.items moment c.requires.places) in
     omega (
       arith,
-      c.start_of_epoch-start.ensures,
+      start-by log c.args.barrier_places.now.items moment c.epoch-epoch.result _ c.start_of_epoch-start.ensures c.requires.places begun,
       epoch_start-taken moment c.epoch-epoch.result log begun,
       ap length c.front.ensures,
       length-take-le moment log fits,
@@ -61,7 +76,10 @@ returns-then-mask-first_stores-clause-right c =
     let log = c.args.log.now in
     let cut = c.args.choice.now.cut in
     let front_is = c.front.ensures ∙ ap (λ n. take n log) c.moment-moment.ensures in
-    let start_is = c.start_of_epoch-start.ensures ∙ ap (λ n. epoch_start n log) c.epoch-epoch.ensures in
+    let places = c.args.barrier_places.now.items in
+    let moment = c.moment-moment.result in
+    let early = begun-by log places moment c.epoch-epoch.result _ c.before-else-moment-len.ensures c.requires.places (omega (arith, c.if-epoch-before.false)) in
+    let start_is = start-by log places moment c.epoch-epoch.result _ c.start_of_epoch-start.ensures c.requires.places early ∙ ap (λ n. epoch_start n log) c.epoch-epoch.ensures in
     let stores =
     c.first_stores.ensures
     ∙ ap (epoch_stores 0) c.behind.ensures
@@ -82,9 +100,11 @@ pub returns-clause-right : goal.returns-clause-right
 returns-clause-right c =
     let log = c.args.log.now in
     let cut = c.args.choice.now.cut in
-    let moment = c.moment-moment.result in
     let front_is = c.front.ensures ∙ ap (λ n. take n log) c.moment-moment.ensures in
-    let start_is = c.start_of_epoch-start.ensures ∙ ap (λ n. epoch_start n log) c.epoch-epoch.ensures in
+    let places = c.args.barrier_places.now.items in
+    let moment = c.moment-moment.result in
+    let early = begun-by log places moment c.epoch-epoch.result _ c.before-else-moment-len.ensures c.requires.places (omega (arith, c.if-epoch-before.false)) in
+    let start_is = start-by log places moment c.epoch-epoch.result _ c.start_of_epoch-start.ensures c.requires.places early ∙ ap (λ n. epoch_start n log) c.epoch-epoch.ensures in
     let stores =
     c.first_stores.ensures
     ∙ ap (epoch_stores 0) c.behind.ensures
@@ -110,4 +130,12 @@ returns-clause-taken c =
     let log = c.args.log.now in
     let moment = c.moment-moment.result in
     let begun : c.epoch-epoch.result ≤ barriers (take moment log) = omega (arith, c.if-epoch-before.false, c.before-else-moment-len.ensures, barriers-below log c.args.barrier_places.now.items moment c.requires.places) in
-    omega (arith, c.start_of_epoch-start.ensures, epoch_start-taken moment c.epoch-epoch.result log begun, c.moment-moment.ensures)
+    omega (arith, start-by log c.args.barrier_places.now.items moment c.epoch-epoch.result _ c.start_of_epoch-start.ensures c.requires.places begun, epoch_start-taken moment c.epoch-epoch.result log begun, c.moment-moment.ensures)
+
+pub returns-clause-start : goal.returns-clause-start
+returns-clause-start c =
+    let log = c.args.log.now in
+    let places = c.args.barrier_places.now.items in
+    let moment = c.moment-moment.result in
+    let begun = begun-by log places moment c.epoch-epoch.result _ c.before-else-moment-len.ensures c.requires.places (omega (arith, c.if-epoch-before.false)) in
+    start-by log places moment c.epoch-epoch.result _ c.start_of_epoch-start.ensures c.requires.places begun ∙ ap (λ n. epoch_start n log) c.epoch-epoch.ensures

@@ -1,7 +1,7 @@
 //! Rows over the devices in memory show the rest (docs/rows.md): here are real files.
 
 use bp_io::{DiskFiles, FairSource, MemSink, StdSink, StdSource};
-use bp_shell::run;
+use bp_shell::{Status, run};
 use std::fs;
 
 #[test]
@@ -12,9 +12,15 @@ fn real_files_are_served(rt: HostRuntime) {
     let mut sink = StdSink::new(fs::create(&rt, "replies").expect(&rt, "it is made"));
     let mut source = StdSource::new(fs::open(&rt, "script").expect(&rt, "it is there"));
     let words = ["bpfs", "format", "real.img", "--blocks", "8"];
-    assert_eq!(rt; run(alloc, &words, &mut source, &mut sink, &mut files), 0);
+    assert_eq!(rt;
+        run(alloc, &words, &mut source, &mut sink, &mut files),
+        Status::Done
+    );
     let words = ["bpfs", "run", "real.img"];
-    assert_eq!(rt; run(alloc, &words, &mut source, &mut sink, &mut files), 0);
+    assert_eq!(rt;
+        run(alloc, &words, &mut source, &mut sink, &mut files),
+        Status::Done
+    );
     let told = fs::read(&rt, "replies").expect(&rt, "they are there");
     assert_eq!(rt;
         told.as_slice(),
@@ -34,10 +40,16 @@ fn real_files_are_refused(rt: HostRuntime) {
     let mut source = FairSource::new(b"");
     let mut sink = MemSink::new(alloc, 128, &[]).expect(&rt, "there is memory");
     let words = ["bpfs", "run", "missing.img"];
-    assert_eq!(rt; run(alloc, &words, &mut source, &mut sink, &mut files), 1);
+    assert_eq!(rt;
+        run(alloc, &words, &mut source, &mut sink, &mut files),
+        Status::Missing
+    );
     fs::write(&rt, "short.img", "no image").expect(&rt, "it is written");
     let words = ["bpfs", "run", "short.img"];
-    assert_eq!(rt; run(alloc, &words, &mut source, &mut sink, &mut files), 7);
+    assert_eq!(rt;
+        run(alloc, &words, &mut source, &mut sink, &mut files),
+        Status::Refused
+    );
     assert_eq!(rt;
         sink.bytes(),
         b"err 34 nofile\nerr 31 badsize 8 32768\n".as_slice()

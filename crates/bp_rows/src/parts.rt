@@ -27,7 +27,7 @@ fn count(
 ) -> Result<(), AllocError> {
     let mut source = FairSource::new(b"");
     let mut sink = NullSink::new();
-    let status = run(alloc, words, &mut source, &mut sink, files);
+    let status = run(alloc, words, &mut source, &mut sink, files).code();
     let told = sink.count();
     let length = files.image().len();
     write!(report, "status {status}, {told} bytes told")?;

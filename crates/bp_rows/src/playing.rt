@@ -3,7 +3,7 @@
 use crate::row::Row;
 use bp_io::{FairSource, MemFiles, MemSink, MemSource, NullSink};
 use bp_limits::Version;
-use bp_shell::run;
+use bp_shell::{Status, run};
 use std::alloc::{AllocError, Global};
 
 /// The room of the sink, in bytes.
@@ -59,7 +59,7 @@ fn format_over(
     let mut source = FairSource::new(b"");
     let mut sink = NullSink::new();
     match run(alloc, words, &mut source, &mut sink, files) {
-        0 => image_of(alloc, files),
+        Status::Done => image_of(alloc, files),
         _ => Ok(None),
     }
 }
@@ -87,7 +87,7 @@ fn play_over(
     let mut source = MemSource::new(row.script.as_bytes(), row.piece.max(1), &failing.source);
     let mut sink = MemSink::new(alloc, ROOM, &failing.sink)?;
     let status = run(alloc, words, &mut source, &mut sink, files);
-    left(alloc, status, &sink, files)
+    left(alloc, status.code(), &sink, files)
 }
 
 /// Runs these words over a row's devices.

@@ -14,4 +14,5 @@ mod stop;
 
 pub use opening::open;
 pub use running::run;
+pub use status::Status;
 pub use stop::Stop;

@@ -35,20 +35,20 @@ fn serve_and_save<R: Region, S: Source, K: Sink, F: Files>(
     alloc: Global,
     volume: &mut Volume<R>,
     work: &mut Work,
-    src: &mut S,
+    source: &mut S,
     out: &mut K,
     files: &mut F,
 ) -> Status
     requires { CanServe volume.old (F.view files.old) }
     // From whichever file it was mounted.
     ensures outcome { RunsMounted (code_of result) S.view K.view F.view
-        src.old out.old files.old volume.old src.new out.new files.new }
-    ensures unread { (code_of result ≡ 1) ⊎ (code_of result ≡ 7) ⊎ (code_of result ≡ 8) → src.new ≡ src.old }
+        source.old out.old files.old volume.old source.new out.new files.new }
+    ensures unread { (code_of result ≡ 1) ⊎ (code_of result ≡ 7) ⊎ (code_of result ≡ 8) → source.new ≡ source.old }
     ensures attached { StaysAttached (F.view files.old) (F.view files.new) }
     ensures others { KeepsOthers (F.view files.old) (F.view files.new) }
 {
     let mut stale = Stale::none(volume.region().words() / BLOCK_WORDS);
-    if let Err(broken) = serve_gathered(alloc, volume, work, &mut stale, src, out, files) {
+    if let Err(broken) = serve_gathered(alloc, volume, work, &mut stale, source, out, files) {
         return Status::from(broken);
     }
     match sync_and_save(volume, &mut stale, files) {
@@ -61,20 +61,20 @@ fn serve_and_save<R: Region, S: Source, K: Sink, F: Files>(
 fn run_over<R: Region, S: Source, K: Sink, F: Files>(
     alloc: Global,
     volume: &mut Volume<R>,
-    src: &mut S,
+    source: &mut S,
     out: &mut K,
     files: &mut F,
 ) -> Status
     requires { CanServe volume.old (F.view files.old) }
     // From whichever file it was mounted.
     ensures outcome { RunsMounted (code_of result) S.view K.view F.view
-        src.old out.old files.old volume.old src.new out.new files.new }
-    ensures unread { (code_of result ≡ 1) ⊎ (code_of result ≡ 7) ⊎ (code_of result ≡ 8) → src.new ≡ src.old }
+        source.old out.old files.old volume.old source.new out.new files.new }
+    ensures unread { (code_of result ≡ 1) ⊎ (code_of result ≡ 7) ⊎ (code_of result ≡ 8) → source.new ≡ source.old }
     ensures attached { StaysAttached (F.view files.old) (F.view files.new) }
     ensures others { KeepsOthers (F.view files.old) (F.view files.new) }
 {
     match Work::new(alloc) {
-        Ok(mut work) => serve_and_save(alloc, volume, &mut work, src, out, files),
+        Ok(mut work) => serve_and_save(alloc, volume, &mut work, source, out, files),
         Err(_) => Status::Memory,
     }
 }
@@ -83,17 +83,17 @@ fn run_over<R: Region, S: Source, K: Sink, F: Files>(
 fn run_file<S: Source, K: Sink, F: Files>(
     alloc: Global,
     name: &str,
-    src: &mut S,
+    source: &mut S,
     out: &mut K,
     files: &mut F,
 ) -> Status
     ensures outcome { EndsAs (RunOutcome (code_of result)) name.now S.view K.view F.view
-        src.old out.old files.old src.new out.new files.new }
-    ensures unread { (code_of result ≡ 1) ⊎ (code_of result ≡ 7) ⊎ (code_of result ≡ 8) → src.new ≡ src.old }
+        source.old out.old files.old source.new out.new files.new }
+    ensures unread { (code_of result ≡ 1) ⊎ (code_of result ≡ 7) ⊎ (code_of result ≡ 8) → source.new ≡ source.old }
     ensures files { OnlyWrites name.now (F.view files.old) (F.view files.new) }
 {
     match open(alloc, name, files) {
-        Ok(mut volume) => run_over(alloc, &mut volume, src, out, files),
+        Ok(mut volume) => run_over(alloc, &mut volume, source, out, files),
         Err(stop) => tell_stop(stop, out),
     }
 }
@@ -102,15 +102,15 @@ fn run_file<S: Source, K: Sink, F: Files>(
 fn run_program<S: Source, K: Sink, F: Files>(
     alloc: Global,
     program: &Program<'_>,
-    src: &mut S,
+    source: &mut S,
     out: &mut K,
     files: &mut F,
 ) -> Status
     requires { HasNumbersInRange (program_of program.now) }
     ensures outcome { ProgramEnds (program_of program.now) (code_of result) S.view K.view F.view
-        src.old out.old files.old src.new out.new files.new }
+        source.old out.old files.old source.new out.new files.new }
     ensures unread { (code_of result ≡ 1) ⊎ (code_of result ≡ 7) ⊎ (code_of result ≡ 8) ⊎ (code_of result ≡ 9)
-        → src.new ≡ src.old }
+        → source.new ≡ source.old }
     ensures asked { ¬ (code_of result ≡ 2) }
     ensures files { LeavesFiles (program_of program.now) (F.view files.old) (F.view files.new) }
 {
@@ -120,44 +120,37 @@ fn run_program<S: Source, K: Sink, F: Files>(
             blocks,
             version,
         } => format_file(alloc, name, blocks, version, out, files),
-        Program::Run { name } => run_file(alloc, name, src, out, files),
+        Program::Run { name } => run_file(alloc, name, source, out, files),
         Program::Check { name } => check_file(alloc, name, out, files),
         Program::Play { name, seed, count } => play_file(alloc, name, seed, count, out, files),
         Program::Export { name } => export_file(alloc, name, out, files),
     }
 }
 
-/// Does what the words ask for, the name under which the program was called first, and answers its status:
-///
-/// - 0 where all was done;
-/// - 1 where `run`, `check`, `play` or `export` finds no file of the name;
-/// - 2 where the command takes no such words;
-/// - 3, 4, 5 where the source, the sink or the files failed;
-/// - 6 where the source has more than 1,073,741,824 bytes;
-/// - 7 where `run`, `check`, `play` or `export` refuses the file;
-/// - 8 for want of memory, before a line is read or told, but for a front of an export;
-/// - 9 where `export` meets a path that no call can spell, before any other line is told.
+/// Does what the words ask for, the name under which the program was called first, and answers how that ends. `Status` tells when
+/// each way to end comes.
 pub fn run<S: Source, K: Sink, F: Files>(
     alloc: Global,
     words: &[&str],
-    src: &mut S,
+    source: &mut S,
     out: &mut K,
     files: &mut F,
-) -> u8
-    ensures usage { result ≡ 2 → ¬ IsTaken (texts_of words.now) }
-    ensures not_taken { ¬ IsTaken (texts_of words.now) → (result ≡ 2) ⊎ (result ≡ 8) }
-    ensures told { result ≡ 2 → Prints (notice_text Usage) (K.view out.old).taken (K.view out.new).taken
+) -> Status
+    ensures usage { code_of result ≡ 2 → ¬ IsTaken (texts_of words.now) }
+    ensures not_taken { ¬ IsTaken (texts_of words.now) → (code_of result ≡ 2) ⊎ (code_of result ≡ 8) }
+    ensures told { code_of result ≡ 2 → Prints (notice_text Usage) (K.view out.old).taken (K.view out.new).taken
         (K.view out.old).faults (K.view out.new).faults }
-    ensures unread { (result ≡ 1) ⊎ (result ≡ 2) ⊎ (result ≡ 7) ⊎ (result ≡ 8) ⊎ (result ≡ 9) → src.new ≡ src.old }
-    ensures untouched { result ≡ 2 → files.new ≡ files.old }
+    ensures unread { (code_of result ≡ 1) ⊎ (code_of result ≡ 2) ⊎ (code_of result ≡ 7) ⊎ (code_of result ≡ 8)
+        ⊎ (code_of result ≡ 9) → source.new ≡ source.old }
+    ensures untouched { code_of result ≡ 2 → files.new ≡ files.old }
 
     // Words that ask for a program in the plain way.
-    ensures plain { AnswersAsAsked (texts_of words.now) result S.view K.view F.view
-        src.old out.old files.old src.new out.new files.new }
+    ensures plain { AnswersAsAsked (texts_of words.now) (code_of result) S.view K.view F.view
+        source.old out.old files.old source.new out.new files.new }
 
     // All other words that are taken. Want of memory may come before they are read.
-    ensures others { ¬ (result ≡ 2) → RunsOrLacksMemory (texts_of words.now) result S.view K.view F.view
-        src.old out.old files.old src.new out.new files.new }
+    ensures others { ¬ (code_of result ≡ 2) → RunsOrLacksMemory (texts_of words.now) (code_of result) S.view K.view F.view
+        source.old out.old files.old source.new out.new files.new }
 
     // What whichever words leave of the files, FILE and others.
     ensures files { (program : Asked) → Requests (texts_of words.now) program →
@@ -165,13 +158,12 @@ pub fn run<S: Source, K: Sink, F: Files>(
 {
     plain_words_are_taken();
     words_ask_for_one_program();
-    let status = match read_words(alloc, words) {
-        Ok(program) => run_program(alloc, &program, src, out, files),
+    match read_words(alloc, words) {
+        Ok(program) => run_program(alloc, &program, source, out, files),
         Err(WordsFault::Usage(_)) => {
             tell_notice(&Notice::Usage, out);
             Status::Usage
         }
         Err(WordsFault::Memory) => Status::Memory,
-    };
-    status.code()
+    }
 }

@@ -13,18 +13,13 @@ use crate::reasons::{Reason, tell_reason, tell_untold, tell_usage};
 use crate::streams::{leads_to, output_file, take_streams};
 use bp_command::{Program, read_words};
 use bp_io::{DiskFiles, StdSink, StdSource};
-use bp_shell::run;
+use bp_shell::{Status, run};
 use std::alloc::{AllocError, Global};
 use std::env::{self, Env};
 use std::fs::File;
 use std::io::ErrorKind;
 use std::process::ExitCode;
 use std::{io, rt};
-
-/// The status of a fault of the files, and the one for want of memory.
-const FILES_FAILED: u8 = 5;
-
-const NO_MEMORY: u8 = 8;
 
 /// The words as text.
 fn texts(alloc: Global, words: &[String]) -> Result<Vec<&str>, AllocError>
@@ -67,11 +62,11 @@ fn known_name<'a>(alloc: Global, words: &'a [&'a str]) -> &'a str {
 }
 
 /// The words of the call, the name under which the program was called first. None where one of them is no text.
-fn program_words<R: Env + AllocGlobal>(rt: &R) -> Result<Vec<String>, AllocError> {
-    match env::args(rt) {
-        Ok(args) => args.collect(rt.alloc()),
+fn program_words<R: Env + AllocGlobal>(runtime: &R) -> Result<Vec<String>, AllocError> {
+    match env::args(runtime) {
+        Ok(args) => args.collect(runtime.alloc()),
         Err(error) if error.kind() == ErrorKind::OutOfMemory => Err(AllocError),
-        Err(_) => Ok(Vec::new(rt.alloc())),
+        Err(_) => Ok(Vec::new(runtime.alloc())),
     }
 }
 
@@ -101,61 +96,74 @@ struct LastErrors {
     files: Option<io::Error>,
 }
 
-/// Tells why the program ended with a status, where standard output does not tell it.
-fn tell_end<E: Eprint>(rt: &E, alloc: Global, status: u8, texts: &[&str], last: LastErrors) {
+/// Tells why the program ended so, where standard output does not tell it.
+fn tell_end<E: Eprint>(
+    runtime: &E,
+    alloc: Global,
+    status: Status,
+    texts: &[&str],
+    last: LastErrors,
+) {
     let LastErrors {
         input,
         output,
         files,
     } = last;
     match status {
-        2 if texts.is_empty() => tell_reason(rt, Reason::NoText),
-        2 => tell_usage(rt, alloc, texts),
-        3 => tell_reason(rt, Reason::Input(input)),
-        4 => tell_reason(rt, Reason::Output(output)),
-        5 => tell_reason(rt, Reason::File(known_name(alloc, texts), files)),
-        6 => tell_reason(rt, Reason::LongInput),
-        8 => tell_reason(rt, Reason::Memory),
-        _ if output.is_some() => tell_untold(rt, status, known_name(alloc, texts)),
-        _ => {}
+        Status::Usage if texts.is_empty() => tell_reason(runtime, Reason::NoText),
+        Status::Usage => tell_usage(runtime, alloc, texts),
+        Status::SourceFailed => tell_reason(runtime, Reason::Input(input)),
+        Status::SinkFailed => tell_reason(runtime, Reason::Output(output)),
+        Status::FilesFailed => tell_reason(runtime, Reason::File(known_name(alloc, texts), files)),
+        Status::LongInput => tell_reason(runtime, Reason::LongInput),
+        Status::Memory => tell_reason(runtime, Reason::Memory),
+        Status::Missing | Status::Refused | Status::Deep if output.is_some() => {
+            tell_untold(runtime, status, known_name(alloc, texts));
+        }
+        Status::Done | Status::Missing | Status::Refused | Status::Deep => {}
     }
 }
 
-/// Tells that memory is out, and gives the status of that.
-fn out_of_memory<E: Eprint>(rt: &E) -> ExitCode {
-    tell_reason(rt, Reason::Memory);
-    ExitCode::from(NO_MEMORY)
+/// Tells why nothing is done, and gives the exit status of that.
+fn refuse<E: Eprint>(runtime: &E, status: Status, reason: Reason<'_>) -> ExitCode {
+    tell_reason(runtime, reason);
+    ExitCode::from(status.code())
 }
 
-fn main(rt: HostRuntime) -> ExitCode {
-    let _streams = match take_streams(&rt) {
+/// Tells that memory is out, and gives the exit status of that.
+fn out_of_memory<E: Eprint>(runtime: &E) -> ExitCode {
+    refuse(runtime, Status::Memory, Reason::Memory)
+}
+
+fn main(runtime: HostRuntime) -> ExitCode {
+    let _streams = match take_streams(&runtime) {
         Ok(streams) => streams,
         Err(error) => {
-            tell_reason(&rt, Reason::File("/dev/null", Some(error)));
-            return ExitCode::from(FILES_FAILED);
+            let reason = Reason::File("/dev/null", Some(error));
+            return refuse(&runtime, Status::FilesFailed, reason);
         }
     };
-    let alloc = rt.alloc();
-    let Ok(words) = program_words(&rt) else {
-        return out_of_memory(&rt);
+    let alloc = runtime.alloc();
+    let Ok(words) = program_words(&runtime) else {
+        return out_of_memory(&runtime);
     };
     let Ok(texts) = texts(alloc, &words) else {
-        return out_of_memory(&rt);
+        return out_of_memory(&runtime);
     };
-    if refuses_output(&rt, alloc, &texts) {
-        return ExitCode::from(FILES_FAILED);
+    if refuses_output(&runtime, alloc, &texts) {
+        return ExitCode::from(Status::FilesFailed.code());
     }
-    let Ok(mut files) = DiskFiles::new(alloc, &rt) else {
-        return out_of_memory(&rt);
+    let Ok(mut files) = DiskFiles::new(alloc, &runtime) else {
+        return out_of_memory(&runtime);
     };
-    let mut source = StdSource::new(rt.stdin());
-    let mut sink = StdSink::new(rt.stdout());
+    let mut source = StdSource::new(runtime.stdin());
+    let mut sink = StdSink::new(runtime.stdout());
     let status = run(alloc, &texts, &mut source, &mut sink, &mut files);
     let last = LastErrors {
         input: source.last_error(),
         output: sink.last_error(),
         files: files.last_error(),
     };
-    tell_end(&rt, alloc, status, &texts, last);
-    ExitCode::from(status)
+    tell_end(&runtime, alloc, status, &texts, last);
+    ExitCode::from(status.code())
 }

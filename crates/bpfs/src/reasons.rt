@@ -2,6 +2,7 @@
 
 use bp_command::{WordsFault, mistake_line, read_words};
 use bp_limits::MAX_INPUT;
+use bp_shell::Status;
 use std::alloc::Global;
 use std::io;
 
@@ -33,51 +34,55 @@ pub(crate) enum Reason<'a> {
 }
 
 /// Writes what failed, with the system's word for it.
-fn tell_fault<E: Eprint>(rt: &E, device: &str, error: Option<io::Error>) -> io::Result<()> {
+fn tell_fault<E: Eprint>(runtime: &E, device: &str, error: Option<io::Error>) -> io::Result<()> {
     match error {
-        Some(error) => eprintln!(rt; "bpfs: {device}: {error}"),
-        None => eprintln!(rt; "bpfs: {device}: failed"),
+        Some(error) => eprintln!(runtime; "bpfs: {device}: {error}"),
+        None => eprintln!(runtime; "bpfs: {device}: failed"),
     }
 }
 
 /// Writes the reason as one line, as far as standard error takes it.
-pub(crate) fn tell_reason<E: Eprint>(rt: &E, reason: Reason<'_>) {
+pub(crate) fn tell_reason<E: Eprint>(runtime: &E, reason: Reason<'_>) {
     let _ = match reason {
-        Reason::Input(error) => tell_fault(rt, "standard input", error),
-        Reason::Output(error) => tell_fault(rt, "standard output", error),
-        Reason::File(name, error) => tell_fault(rt, name, error),
-        Reason::OwnOutput(name) => eprintln!(rt; "bpfs: {name}: standard output goes to this file"),
-        Reason::Missing(name) => eprintln!(rt; "bpfs: {name}: no such file"),
-        Reason::Refused(name) => eprintln!(rt; "bpfs: {name}: not a file system"),
-        Reason::Deep(name) => eprintln!(rt; "bpfs: {name}: a path is too long to be exported"),
-        Reason::LongInput => eprintln!(rt; "bpfs: standard input: more than {MAX_INPUT} bytes"),
-        Reason::Memory => eprintln!(rt; "bpfs: not enough memory"),
-        Reason::NoText => eprintln!(rt; "bpfs: a word is no UTF-8 text"),
-        Reason::Words(mistake) => eprintln!(rt; "bpfs: {mistake}"),
+        Reason::Input(error) => tell_fault(runtime, "standard input", error),
+        Reason::Output(error) => tell_fault(runtime, "standard output", error),
+        Reason::File(name, error) => tell_fault(runtime, name, error),
+        Reason::OwnOutput(name) => eprintln!(runtime;
+            "bpfs: {name}: standard output goes to this file"
+        ),
+        Reason::Missing(name) => eprintln!(runtime; "bpfs: {name}: no such file"),
+        Reason::Refused(name) => eprintln!(runtime; "bpfs: {name}: not a file system"),
+        Reason::Deep(name) => eprintln!(runtime; "bpfs: {name}: a path is too long to be exported"),
+        Reason::LongInput => eprintln!(runtime;
+            "bpfs: standard input: more than {MAX_INPUT} bytes"
+        ),
+        Reason::Memory => eprintln!(runtime; "bpfs: not enough memory"),
+        Reason::NoText => eprintln!(runtime; "bpfs: a word is no UTF-8 text"),
+        Reason::Words(mistake) => eprintln!(runtime; "bpfs: {mistake}"),
     };
 }
 
-/// Tells what a status stands for whose one line standard output did not take.
-pub(crate) fn tell_untold<E: Eprint>(rt: &E, status: u8, name: &str) {
+/// Tells why the program ended so, where its one line says that and standard output did not take it.
+pub(crate) fn tell_untold<E: Eprint>(runtime: &E, status: Status, name: &str) {
     match status {
-        1 => tell_reason(rt, Reason::Missing(name)),
-        7 => tell_reason(rt, Reason::Refused(name)),
-        9 => tell_reason(rt, Reason::Deep(name)),
+        Status::Missing => tell_reason(runtime, Reason::Missing(name)),
+        Status::Refused => tell_reason(runtime, Reason::Refused(name)),
+        Status::Deep => tell_reason(runtime, Reason::Deep(name)),
         _ => {}
     }
 }
 
 /// Tells why the words are no command: the help that they ask for, or what is wrong with them. It tells nothing where there
 /// is no memory for that.
-pub(crate) fn tell_usage<E: Eprint>(rt: &E, alloc: Global, words: &[&str]) {
+pub(crate) fn tell_usage<E: Eprint>(runtime: &E, alloc: Global, words: &[&str]) {
     match read_words(alloc, words) {
         Err(WordsFault::Usage(mistake)) if mistake.use_stderr() => {
             if let Ok(line) = mistake_line(alloc, &mistake) {
-                tell_reason(rt, Reason::Words(line.as_str()));
+                tell_reason(runtime, Reason::Words(line.as_str()));
             }
         }
         Err(WordsFault::Usage(help)) => {
-            let _ = eprint!(rt; "{help}");
+            let _ = eprint!(runtime; "{help}");
         }
         Ok(_) | Err(WordsFault::Memory) => {}
     }

@@ -53,16 +53,20 @@ module _ (before after : Outside) (image : Image) (memory new : Memory) (found :
         plainly = plainly _ _ _ told.session;
       }
 
+  serves_from_start : (input keeps : List ℕ) (holds : Image → Type 0) → ((i : Image) → holds i → Saves after i) → Serves (state memory image) new holds [] input keeps before.taken after.taken
+      → Serves (start image) new (Saves after) [] input keeps before.taken after.taken
+  serves_from_start input keeps holds f serves = serves_as (start image) new before.taken after.taken holds (Saves after) f [] input keeps (rw same at serves)
+
   pub runs_part : (input keeps : List ℕ) (holds : Image → Type 0) → ((i : Image) → holds i → Saves after i) → Consumes before.left after.left input
       → Serves (state memory image) new holds [] input keeps before.taken after.taken → RunsPart before after
   runs_part input keeps holds f read serves =
-      let told : Serves (start image) new (Saves after) [] input keeps before.taken after.taken = serves_as (start image) new before.taken after.taken holds (Saves after) f [] input keeps (rw same at serves) in
+      let told = serves_from_start input keeps holds f serves in
       record { begins = begins input read; keeps = keeps; memory = new; serves = told; plainly = plainly _ _ _ told.told.session }
 
   pub runs_long : (input more keeps : List ℕ) (holds : Image → Type 0) → ((i : Image) → holds i → Saves after i) → Consumes before.left after.left (input ++ more) → length input ≡ 1073741824 → 1 ≤ length more → length more ≤ 65536
       → Serves (state memory image) new holds [] input keeps before.taken after.taken → RunsLong before after
   runs_long input more keeps holds f read most some few serves =
-      let told : Serves (start image) new (Saves after) [] input keeps before.taken after.taken = serves_as (start image) new before.taken after.taken holds (Saves after) f [] input keeps (rw same at serves) in
+      let told = serves_from_start input keeps holds f serves in
       record {
         begins = begins (input ++ more) read;
         served = input;

@@ -11,7 +11,7 @@ mod streams;
 
 use crate::reasons::{Reason, tell_reason, tell_untold, tell_usage};
 use crate::streams::{leads_to, output_file, take_streams};
-use bp_command::{Program, read_words};
+use bp_command::{Program, WordsFault, read_words};
 use bp_io::{DiskFiles, StdSink, StdSource};
 use bp_shell::{Status, run};
 use std::alloc::{AllocError, Global};
@@ -32,8 +32,8 @@ fn texts(alloc: Global, words: &[String]) -> Result<Vec<&str>, AllocError>
     Ok(texts)
 }
 
-/// The name of the file that the words speak of, where they are a command.
-fn file_name<'a>(alloc: Global, words: &'a [&'a str]) -> Option<&'a str> {
+/// The name of the file that the words speak of, `None` where they are no command.
+fn file_name<'a>(alloc: Global, words: &'a [&'a str]) -> Result<Option<&'a str>, AllocError> {
     match read_words(alloc, words) {
         Ok(
             Program::Format {
@@ -41,24 +41,28 @@ fn file_name<'a>(alloc: Global, words: &'a [&'a str]) -> Option<&'a str> {
                 blocks: _,
                 version: _,
             },
-        ) => Some(name),
-        Ok(Program::Run { name }) => Some(name),
-        Ok(Program::Check { name }) => Some(name),
+        ) => Ok(Some(name)),
+        Ok(Program::Run { name }) => Ok(Some(name)),
+        Ok(Program::Check { name }) => Ok(Some(name)),
         Ok(
             Program::Play {
                 name,
                 seed: _,
                 count: _,
             },
-        ) => Some(name),
-        Ok(Program::Export { name }) => Some(name),
-        Err(_) => None,
+        ) => Ok(Some(name)),
+        Ok(Program::Export { name }) => Ok(Some(name)),
+        Err(WordsFault::Usage(_)) => Ok(None),
+        Err(WordsFault::Memory) => Err(AllocError),
     }
 }
 
 /// What stands for the file of the program in a reason.
 fn known_name<'a>(alloc: Global, words: &'a [&'a str]) -> &'a str {
-    file_name(alloc, words).unwrap_or("FILE")
+    match file_name(alloc, words) {
+        Ok(Some(name)) => name,
+        Ok(None) | Err(AllocError) => "FILE",
+    }
 }
 
 /// The words of the call, the name under which the program was called first. None where one of them is no text.
@@ -70,21 +74,23 @@ fn program_words<R: Env + AllocGlobal>(runtime: &R) -> Result<Vec<String>, Alloc
     }
 }
 
-/// Whether standard output goes to the file of the program, which is then told: replies would be written over the image.
-fn refuses_output<R: rt::Files<File = File> + Eprint>(
+/// Why the file of the program may be the one to which standard output goes: replies would be written over the image. `None`
+/// where it is known to be another one, or nothing is known of standard output.
+fn own_output<'a, R: rt::Files<File = File>>(
     runtime: &R,
     alloc: Global,
-    texts: &[&str],
-) -> bool {
+    texts: &'a [&'a str],
+) -> Result<Option<Reason<'a>>, AllocError> {
     let Some(output) = output_file(runtime) else {
-        return false;
+        return Ok(None);
     };
-    match file_name(alloc, texts) {
-        Some(name) if leads_to(runtime, name, &output) => {
-            tell_reason(runtime, Reason::OwnOutput(name));
-            true
-        }
-        _ => false,
+    let Some(name) = file_name(alloc, texts)? else {
+        return Ok(None);
+    };
+    match leads_to(runtime, name, &output) {
+        Ok(false) => Ok(None),
+        Ok(true) => Ok(Some(Reason::OwnOutput(name))),
+        Err(error) => Ok(Some(Reason::File(name, Some(error)))),
     }
 }
 
@@ -150,8 +156,10 @@ fn main(runtime: HostRuntime) -> ExitCode {
     let Ok(texts) = texts(alloc, &words) else {
         return out_of_memory(&runtime);
     };
-    if refuses_output(&runtime, alloc, &texts) {
-        return ExitCode::from(Status::FilesFailed.code());
+    match own_output(&runtime, alloc, &texts) {
+        Ok(None) => {}
+        Ok(Some(reason)) => return refuse(&runtime, Status::FilesFailed, reason),
+        Err(AllocError) => return out_of_memory(&runtime),
     }
     let Ok(mut files) = DiskFiles::new(alloc, &runtime) else {
         return out_of_memory(&runtime);

@@ -1,6 +1,7 @@
 //! The standard streams of a program that was started without one of them.
 
 use std::fs::{File, Metadata, OpenOptions};
+use std::io::ErrorKind;
 use std::os::fd::AsRawFd;
 use std::os::unix::fs::MetadataExt;
 use std::{fs, io, rt};
@@ -55,15 +56,16 @@ pub(crate) fn output_file<R: rt::Files<File = File>>(runtime: &R) -> Option<Meta
     }
 }
 
-/// Whether a name leads to this file.
+/// Whether a name leads to this file. It does not where nothing has the name; any other error leaves that open.
 pub(crate) fn leads_to<R: rt::Files<File = File>>(
     runtime: &R,
     name: &str,
     file: &Metadata,
-) -> bool {
+) -> io::Result<bool> {
     match fs::metadata(runtime, name) {
-        Ok(found) => found.dev() == file.dev() && found.ino() == file.ino(),
-        Err(_) => false,
+        Ok(found) => Ok(found.dev() == file.dev() && found.ino() == file.ino()),
+        Err(error) if error.kind() == ErrorKind::NotFound => Ok(false),
+        Err(error) => Err(error),
     }
 }
 

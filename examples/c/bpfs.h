@@ -142,8 +142,9 @@ typedef struct bpfs_lack {
     uint32_t need, free;
 } bpfs_lack;
 
-/* BPFS_DAMAGED: the number of the check that fails (docs/format.md) and the word at which it does. BPFS_BAD_SIZE, where the image tells
- * another number of blocks: the bytes that there are and those that are wanted. Else it stays as it was. */
+/* BPFS_DAMAGED: the number of the check that fails (docs/format.md) and the word at which it does. BPFS_BAD_SIZE: the bytes that there are
+ * and those that are wanted, which are those of the blocks that the image tells; or, where no image has so many words, those of the image
+ * that is nearest in size. What is not told stays as it was. */
 typedef struct bpfs_fault {
     uint32_t check, place;
     uint64_t found, wanted;

@@ -11,8 +11,8 @@ seen_run (Stores word count) = record { kind = 0; word = word }
 seen_run Barrier = record { kind = 1; word = 0 }
 seen_run Mark = record { kind = 2; word = 0 }
 
--- A run of the log is told, which begins with an event, and how many events it has. Where there is no such event, these
--- are 0, and nothing is told.
+-- A run of the log is told, which begins with an event, and how many events it has: 0 of stores where there is room for no
+-- value. Where there is no such event, these are 0 too, and nothing is told.
 pub data HasPiece (events : List Event) (first : ℕ) (old : Told) (values : List ℕ) (count : ℕ) (new : Told) (new_values : List ℕ) : Type 0 where
   none : length events ≤ first → count ≡ 0 → new ≡ old → new_values ≡ values →
       HasPiece events first old values count new new_values

@@ -14,11 +14,13 @@ use bp_layout::Stat;
 use bp_plain::FsError;
 use std::alloc::Global;
 
-/// What stands at a path: a file and its size in bytes, or a directory and how many names it has.
+/// What stands at a path: a file or a directory.
 #[repr(C)]
 #[derive(Clone, Copy, Drop)]
 pub struct Found {
+    /// The bytes of a file, or how many names a directory has.
     pub size: u64,
+    /// Whether it is a directory.
     pub is_dir: bool,
 }
 

@@ -17,10 +17,15 @@ use std::alloc::Global;
 #[repr(C)]
 #[derive(Clone, Copy, Drop)]
 pub struct Patch {
+    /// Where the path begins in the text, in bytes.
     pub path_at: u32,
+    /// How many bytes the path has.
     pub path_length: u32,
+    /// The byte of the file at which the new ones begin.
     pub offset: u64,
+    /// Where the new bytes begin in the text, in bytes.
     pub bytes_at: u32,
+    /// How many new bytes there are.
     pub bytes_length: u32,
 }
 
@@ -57,7 +62,7 @@ fn lies_in(text: &[u8], piece: &Piece) -> bool
 }
 
 /// The pieces that patches are, where these are few and their parts lie in the text.
-fn pieces_in(text: &[u8], patches: &[Patch]) -> Option<ArrayVec<Piece, 16>>
+fn pieces_in(text: &[u8], patches: &[Patch]) -> Option<ArrayVec<Piece, MAX_PIECES>>
     ensures { MatchOption result (¬ AreFit text.now patches.now)
         (λ pieces. AreFit text.now patches.now × (pieces.items ≡ map piece_of patches.now)) }
 {

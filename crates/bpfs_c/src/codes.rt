@@ -35,11 +35,13 @@ pub const DAMAGED: u32 = 37;
 /// There is no such place in the words or in the listing, or the caller's array is too short or too long.
 pub const OUT_OF_RANGE: u32 = 38;
 
-/// The blocks that a call needs which is refused for want of space, and those that are free.
+/// Why a call is refused for want of space.
 #[repr(C)]
 #[derive(Clone, Copy, Drop)]
 pub struct Lack {
+    /// The blocks that the call needs.
     pub need: u32,
+    /// The blocks that are free.
     pub free: u32,
 }
 

@@ -19,14 +19,19 @@ pub extern "C" fn bpfs_format_events(
 ) -> u32
     ensures { TellsFormat blocks version into.old count.old result into.new count.new }
 {
-    if blocks < MIN_BLOCKS || MAX_BLOCKS < blocks || version < 1 || 2 < version {
+    let version = match version {
+        1 => Version::One,
+        2 => Version::Two,
+        _ => return OUT_OF_RANGE,
+    };
+    if blocks < MIN_BLOCKS || MAX_BLOCKS < blocks {
         return OUT_OF_RANGE;
     }
     let mut region = match RedoRegion::new(alloc, 2 * BLOCK_WORDS, 16) {
         Ok(region) => region,
         Err(_) => return NO_MEMORY,
     };
-    lay_front(&mut region, Version::numbered(version as u8), blocks);
+    lay_front(&mut region, version, blocks);
     *count = copy_events(&region, 0, into);
     OK
 }

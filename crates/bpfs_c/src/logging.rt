@@ -22,12 +22,15 @@ pub const BARRIER: u32 = 1;
 /// The kind of the end of a call.
 pub const MARK: u32 = 2;
 
-/// An event: 0 a store of a word, 1 a barrier, 2 the end of a call.
+/// An event: a store of a word, a barrier, or the end of a call.
 #[repr(C)]
 #[derive(Clone, Copy, Drop)]
 pub struct Logged {
+    /// `STORE`, `BARRIER` or `MARK`.
     pub kind: u32,
+    /// The word that is stored to, counted from the start of the image; 0 where nothing is stored.
     pub word: u32,
+    /// What is stored there; 0 where nothing is.
     pub value: u64,
 }
 

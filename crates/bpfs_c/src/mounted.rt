@@ -13,7 +13,9 @@ use pm_runs::RedoRegion;
 /// A volume, and the last listing that was made.
 #[derive(Drop)]
 pub struct Mounted {
+    /// The volume, over a copy of the caller's words.
     pub volume: Volume<RedoRegion>,
+    /// The names that the last listing found.
     pub listing: Option<Listing>,
 }
 

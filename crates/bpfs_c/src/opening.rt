@@ -1,27 +1,33 @@
 //! Opening and closing.
 
-ghost use Rattle.std.specs.Prelude.{[], ◌≡◌, ◌↔◌, IfOk, IsTrue, None};
+ghost use Rattle.std.specs.Prelude.{[], ◌≡◌, IfOk, None};
 ghost use Rattle.bp_layout.specs.Formatted.{IsSized};
 ghost use Rattle.bp_limits.specs.Limits.{log_events};
-ghost use Rattle.bpfs_c.specs.Opens.{Holds, IsMountFault, Mounts, Opens, TellsWhetherHeld};
+ghost use Rattle.bpfs_c.specs.Opens.{Holds, IsMountFault, IsSizedOr, Mounts, Opens, TellsWhetherHeld};
 
 use crate::codes::{BAD_SIZE, CLOSED, DAMAGED, NO_MEMORY, NOT_FORMATTED, OK, OPEN};
 use crate::handle::Handle;
 use crate::mounted::Mounted;
-use bp_limits::{BLOCK_WORDS, LOG_EVENTS, MAX_BLOCKS, MIN_BLOCKS};
+use bp_limits::LOG_EVENTS;
+use bp_scan::image_length;
 use bp_volume::{MountFault, Volume};
 use pm_raw::RawArray;
 use pm_runs::RedoRegion;
 use std::alloc::{AllocError, Global};
 
 /// Why words are no image: the check that fails and the word at which it does, or the bytes that there are and those that
-/// are wanted.
+/// are wanted. The two that are not told stay as they were.
 #[repr(C)]
 #[derive(Clone, Copy, Drop)]
 pub struct Fault {
+    /// The number of the check.
     pub check: u32,
+    /// The word, counted from the start of the image.
     pub place: u32,
+    /// How many bytes the words are, at most `u64::MAX`.
     pub found: u64,
+    /// How many bytes the image says that it has, at most `u64::MAX`. Where no image has so many words: how many the one
+    /// has that is nearest in size.
     pub wanted: u64,
 }
 
@@ -45,13 +51,12 @@ fn faulty(fault: MountFault, told: &mut Fault) -> u32
     }
 }
 
-/// Whether an image may have so many words.
-fn is_sized(words: &[u64]) -> bool
-    ensures { IsTrue result ↔ IsSized words.now }
+/// Tests whether an image may have so many words.
+fn test_size(words: &[u64]) -> Result<(), MountFault>
+    ensures { IsSizedOr words.now result }
 {
-    let block = BLOCK_WORDS as usize;
-    let blocks = words.len() / block;
-    words.len() == block * blocks && MIN_BLOCKS as usize <= blocks && blocks <= MAX_BLOCKS as usize
+    image_length((words.len() as u64).saturating_mul(8))?;
+    Ok(())
 }
 
 /// An array of these words.
@@ -81,9 +86,9 @@ fn copy(alloc: Global, words: &[u64]) -> Result<RedoRegion, AllocError>
 
 /// Mounts a copy of these words.
 fn mount(alloc: Global, words: &[u64]) -> Result<Volume<RedoRegion>, MountFault>
-    requires sized { IsSized words.now }
     ensures { Mounts words.now result }
 {
+    test_size(words)?;
     let Ok(region) = copy(alloc, words) else {
         return Err(MountFault::Memory);
     };
@@ -125,9 +130,6 @@ pub extern "C" fn bpfs_mount(
     if let Some(mounted) = handle.take(alloc) {
         handle.put(alloc, mounted);
         return OPEN;
-    }
-    if !is_sized(words) {
-        return BAD_SIZE;
     }
     match mount(alloc, words) {
         Ok(volume) => hold(alloc, handle, volume),

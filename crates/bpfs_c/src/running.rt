@@ -11,11 +11,13 @@ use pm_region::Region;
 use pm_runs::{RedoRegion, Run, run_at};
 use std::alloc::Global;
 
-/// A piece of the log: 0 stores to words in a row, from this one on; 1 a barrier; 2 the end of a call.
+/// A piece of the log: stores to words in a row, a barrier, or the end of a call.
 #[repr(C)]
 #[derive(Clone, Copy, Drop)]
 pub struct Told {
+    /// `STORE`, `BARRIER` or `MARK`.
     pub kind: u32,
+    /// The first word that is stored to, counted from the start of the image; 0 where nothing is stored.
     pub word: u32,
 }
 

@@ -13,18 +13,25 @@ use std::alloc::Global;
 #[repr(C)]
 #[derive(Clone, Copy, Drop)]
 pub struct Blocks {
+    /// The blocks that no tree has.
     pub free: u32,
+    /// The blocks that the trees have.
     pub live: u32,
 }
 
-/// What a volume holds in all; the bytes in two words.
+/// What a volume holds in all.
 #[repr(C)]
 #[derive(Clone, Copy, Drop)]
 pub struct Sums {
+    /// The files.
     pub files: u64,
+    /// The directories, the root directory among them.
     pub dirs: u64,
+    /// The bytes of all files, modulo 2^64.
     pub bytes: u64,
+    /// How many times 2^64 bytes they have beside these.
     pub bytes_above: u64,
+    /// The blocks in use, but the first.
     pub live: u32,
 }
 

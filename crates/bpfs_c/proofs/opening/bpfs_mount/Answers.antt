@@ -1,6 +1,7 @@
 use Rattle.std.proofs.Common.{inl, inr, rules, refl, subst}
+use Rattle.bp_scan.specs.declared.fault.MountFault.{MountFault}
 use Rattle.bpfs_c.specs.Opens.{IsMountFault}
-use Rattle.bpfs_c.specs.Opens.Opens.{faulty, holding, opened, short}
+use Rattle.bpfs_c.specs.Opens.Opens.{faulty, holding, odd, opened, short}
 use Rattle.bpfs_c.proofs.opening.bpfs_mount.Goals as goal
 
 pub returns-in-Some : goal.returns-in-Some
@@ -13,9 +14,12 @@ returns-in-Ok c = elim c.hold.ensures [
 ]
 
 pub returns-in-Err : goal.returns-in-Err
-returns-in-Err c = elim c.in-Err.ensures [
-  | inl lacking ↦
-      let told = subst (λ why. IsMountFault why c.args.fault.now c.faulty.result c.faulty.new.told) lacking c.faulty.ensures in
-      short (search rules) (search rules) told.0 (search rules) told.1
-  | inr wrong ↦ faulty c.in-Err.why (search rules) (search rules) wrong.0 wrong.1 c.faulty.ensures (search rules)
-]
+returns-in-Err c =
+    let Tells = λ (why : MountFault). IsMountFault why c.args.fault.now c.faulty.result c.faulty.new.told in
+    elim c.in-Err.ensures [
+      | inl missized ↦ odd (search rules) missized.0 (subst Tells missized.1 c.faulty.ensures) (search rules)
+      | inr whole ↦ elim whole.1 [
+        | inl lacking ↦ let told = subst Tells lacking c.faulty.ensures in short (search rules) whole.0 told.0 (search rules) told.1
+        | inr wrong ↦ faulty c.in-Err.why (search rules) whole.0 wrong.0 wrong.1 c.faulty.ensures (search rules)
+      ]
+    ]

@@ -15,7 +15,7 @@ use Rattle.bp_layout.specs.Words.{Image}
 use Rattle.bp_layout.specs.declared.fields.Kind.{Kind}
 use Rattle.bp_layout.proofs.Reached.{reached-in_file}
 use Rattle.bp_shapes.specs.Sets.{AreExact}
-use Rattle.bp_commit.specs.Performs.{Performs, PerformsThawed, PerformsWithin, most_stores_thawed, room_for}
+use Rattle.bp_commit.specs.Performs.{PerformsThawed, PerformsWithin, most_stores_thawed, room_for}
 use Rattle.pm_region.specs.Memory.{Memory, current_words, room_in}
 use Rattle.bp_calls.specs.Created.{EntersName}
 use Rattle.bp_calls.specs.Entrant.{entrant_of}

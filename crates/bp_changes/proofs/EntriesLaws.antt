@@ -9,17 +9,13 @@ use Rattle.bp_layout.specs.WellFormed.{IsWellFormed}
 use Rattle.bp_layout.proofs.Reached.{reached-in_file}
 use Rattle.bp_layout.proofs.View.{SameDirectories}
 use Rattle.bp_changes.specs.Effects.{AddsNames, CanMoveEntry, CanUnlink, CarriesEntry, IsNewEntry, IsOldEntry, LinksName, MovesEntry, RemovesEntry, RespellsEntry, SetsInumber}
-use Rattle.bp_changes.specs.KeepsDirectories.{KeepsDirectories}
 use Rattle.bp_changes.specs.KeepsEntries.{KeepsEntries, NoSlot, OneSlot, TwoSlots, WasEntry}
-use Rattle.bp_changes.specs.SameMeaning.{SameMeaning}
 use Rattle.bp_changes.proofs.AddsNames as adding
 use Rattle.bp_changes.proofs.Carry as carry
-use Rattle.bp_changes.proofs.KeepsDirectories.{directories-same}
 use Rattle.bp_changes.proofs.GainsEntry.{GainsEntry, adds_gain, links_gain}
 use Rattle.bp_changes.proofs.LinksName as linking
 use Rattle.bp_changes.proofs.Move as move
 use Rattle.bp_changes.proofs.Respell as respell
-use Rattle.bp_changes.proofs.SameMeaning as meaning
 use Rattle.bp_changes.proofs.Unlink as unlink
 use Rattle.bp_changes.proofs.SameEntries.{reached_back}
 use Rattle.bp_changes.proofs.SameShown.{name_by_words}

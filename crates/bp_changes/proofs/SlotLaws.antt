@@ -7,13 +7,11 @@ use Rattle.bp_layout.specs.WellFormed.{IsWellFormed}
 use Rattle.bp_layout.specs.Words.{Image}
 use Rattle.bp_layout.proofs.HintLaws.{IsEntryFor, entry_of_slot, slot_of_entry}
 use Rattle.bp_changes.specs.Effects.{AddsNames, CanMoveEntry, CanUnlink, CarriesEntry, IsAtOrBelow, LinksName, MovesEntry, RemovesEntry, RespellsEntry}
-use Rattle.bp_changes.specs.KeepsDirectories.{KeepsDirectories}
 use Rattle.bp_changes.specs.KeepsSlots.{KeepsSlots, KeepsOther, KeepsOthers}
 use Rattle.bp_changes.proofs.AddsNames.{adds_takes}
 use Rattle.bp_changes.proofs.Carry as carry
 use Rattle.bp_changes.proofs.EntryAdded as added
 use Rattle.bp_changes.proofs.EntryAdded.{TakesName}
-use Rattle.bp_changes.proofs.KeepsDirectories as directories
 use Rattle.bp_changes.proofs.GainsEntry.{GainsEntry, adds_gain, links_gain}
 use Rattle.bp_changes.proofs.LinksName.{links_takes}
 use Rattle.bp_changes.proofs.Move as move

@@ -1,10 +1,9 @@
 -- Stores of values that may stand at their places leave an image that shows the same.
-use Rattle.std.proofs.Common.{◌≡◌, ◌⊎◌, ℕ, ◌<◌, ◌≤◌, List, [], ◌∷◌, length, set, refl, sym, ◌∙◌, subst, get_or-set_same, get_or-set_other, inl, inr}
+use Rattle.std.proofs.Common.{◌≡◌, ◌⊎◌, ℕ, ◌<◌, ◌≤◌, length, set, refl, sym, ◌∙◌, subst, get_or-set_same, get_or-set_other, inl, inr}
 use Rattle.std.proofs.lemmas.List.{length-set, set_past}
 use Rattle.std.proofs.lemmas.Bool.{cases_eq, cases_lt}
 use Rattle.bp_layout.specs.Words.{Image, word}
 use Rattle.bp_changes.specs.Harmless.{IsHarmless, Agrees}
-use Rattle.bp_layout.specs.Stores.{after_stores}
 
 -- what stands there may stand there
 pub harmless_here : (image : Image) (place : ℕ) → IsHarmless image place (word image place)

@@ -13,11 +13,8 @@ use Rattle.bp_layout.specs.Directory.{Name, lookup_in}
 use Rattle.bp_layout.specs.Inode.{IsDirectory, IsFile}
 use Rattle.bp_layout.specs.Lookup.{Node, Path, lookup, node_of}
 use Rattle.bp_layout.specs.Lookup.Node.{dir, file}
-use Rattle.bp_layout.specs.Reached.{IsReached}
-use Rattle.bp_layout.specs.Reached.IsReached.{root_directory}
 use Rattle.bp_layout.specs.Words.{Image}
 use Rattle.bp_layout.proofs.Paths.{lookup_from-append}
-use Rattle.bp_layout.proofs.View.{lookup_from-reached}
 use Rattle.bp_plain.specs.Calls.{Call}
 use Rattle.bp_plain.specs.Export.{IsWalked, calls_at, entries_below, path_text}
 use Rattle.bp_plain.specs.Plain.{listing}

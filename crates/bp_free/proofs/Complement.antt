@@ -1,16 +1,15 @@
 -- The numbers that a set lacks, word by word.
-use Rattle.std.proofs.Common.{◌≡◌, ℕ, zero, suc, ◌+◌, ◌-◌, ◌*◌, ◌/◌, ◌%◌, ◌^◌, ◌<◌, ◌≤◌, ◌∷◌, min, List, length, Bool, true, false, not, cond, set, get_or, refl, sym, ◌∙◌, ap, subst, arith, inl, inr}
+use Rattle.std.proofs.Common.{◌≡◌, ℕ, zero, suc, ◌+◌, ◌-◌, ◌*◌, ◌/◌, ◌%◌, ◌^◌, ◌<◌, ◌≤◌, ◌∷◌, min, List, length, Bool, true, false, not, cond, set, get_or, refl, sym, ◌∙◌, ap, arith, inl, inr}
 use Rattle.std.specs.Prelude.{eqb}
 use Rattle.std.specs.Int.{bit_at, bit_not, w64}
 use Rattle.std.specs.Int.Bits.{bit_and}
 use Rattle.std.specs.List.{filter, range_with_len}
 use Rattle.std.proofs.lemmas.Bool.{cases_eq}
-use Rattle.std.proofs.lemmas.List.{get_or-set_same, get_or-set_other, length-set}
+use Rattle.std.proofs.lemmas.List.{get_or-set_same, length-set}
 use Rattle.std.proofs.lemmas.Nat.Bits.{bit_at_and, bit_at_not, bit_at_ones, bit_at_ones_above, bit_at-lt}
 use Rattle.bp_free.specs.Set.{Set, has, members, IsComplement}
 use Rattle.bp_free.specs.Words.{set_in, HoldRoom, IsTurnedOver, ComplementsWord, TellsEmpty, IsSummary, IsCounted}
 use Rattle.bp_free.proofs.Words.{length_in, has_in, room_seen, word_here, word_there, word_is, alone_by}
-use Rattle.bp_free.proofs.Summary.{has_low}
 
 -- ---- a word
 

@@ -1,10 +1,9 @@
 -- The image in which another tree is the first reads each tree as the image does.
-use Rattle.std.proofs.Common.{◌≡◌, ◌≢◌, ℕ, zero, suc, ◌+◌, ◌*◌, ◌/◌, ◌%◌, ◌≤◌, length, set, refl, sym, ◌∙◌, ap, subst, arith, get_or-set_same, get_or-set_other}
+use Rattle.std.proofs.Common.{◌≡◌, ◌≢◌, ℕ, ◌*◌, ◌/◌, ◌≤◌, length, set, sym, ◌∙◌, ap, subst, arith, get_or-set_same, get_or-set_other}
 use Rattle.std.proofs.lemmas.List.{length-set}
 use Rattle.bp_limits.specs.Limits.{magic, version_at}
 use Rattle.bp_layout.specs.Formatted.{IsFormatted, IsSized, version_of}
-use Rattle.bp_layout.specs.Words.{Image, word, block_of, slot_word}
-use Rattle.bp_layout.specs.Tree.{tree_word}
+use Rattle.bp_layout.specs.Words.{Image, word}
 use Rattle.bp_layout.specs.Trees.{snapshot_of}
 
 pub length-snapshot : (image : Image) → length (snapshot_of image) ≡ length image

@@ -1,7 +1,6 @@
 -- The bytes of a word that is made of eight of them.
-use Rattle.std.proofs.Common.{◌≡◌, ℕ, zero, suc, ◌<◌, List, length, get_or, refl, sym, ◌∙◌, ap, arith}
-use Rattle.std.specs.Int.{w64, to_le_bytes, from_le_bytes}
-use Rattle.std.proofs.lemmas.Nat.{le_bytes_8}
+use Rattle.std.proofs.Common.{◌≡◌, ℕ, zero, suc, ◌<◌, get_or, refl, arith}
+use Rattle.std.specs.Int.{w64, to_le_bytes}
 use Rattle.bp_layout.specs.Words.{byte_of}
 
 pub to_le-byte : (n c : ℕ) → c < 8 → get_or (to_le_bytes w64 n) c 0 ≡ byte_of n c

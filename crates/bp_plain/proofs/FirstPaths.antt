@@ -3,9 +3,9 @@ use Rattle.std.proofs.Common.{◌≡◌, Bool, true, false, cond, List, [], ◌�
 use Rattle.std.specs.Option.{unwrap_or}
 use Rattle.std.specs.Ordering.{eq_by_cmp, is_eq}
 use Rattle.std.specs.Cmp.{tied_itself}
-use Rattle.std.specs.FinMap.{get, entries, get-entries, keys}
+use Rattle.std.specs.FinMap.{entries, keys}
 use Rattle.std.specs.FinMap.Entries as entry
-use Rattle.bp_layout.specs.Lookup.{Path, Node}
+use Rattle.bp_layout.specs.Lookup.{Path}
 use Rattle.bp_plain.specs.Export.{first_of}
 use Rattle.bp_plain.specs.PlainTree.{IsPathMap, PathMap, is_one, path_cmp}
 use Rattle.bp_plain.proofs.PathOrder.{path_cmp-IsTotalOrder, same_path_from}

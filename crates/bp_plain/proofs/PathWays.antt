@@ -1,11 +1,11 @@
 -- Entries of a map in the order of their paths, and the way from the root to a path.
-use Rattle.std.proofs.Common.{◌≡◌, ◌&&◌, Bool, true, false, cond, T, List, [], ◌∷◌, ◌++◌, Option, None, Some, is_some, refl, sym, ◌∙◌, ap, subst, true≢false, append_assoc, Ordering, Less, Equal, Greater}
+use Rattle.std.proofs.Common.{◌≡◌, ◌&&◌, Bool, true, false, cond, T, List, [], ◌∷◌, ◌++◌, None, Some, is_some, refl, sym, ◌∙◌, ap, subst, true≢false, append_assoc, Ordering, Less, Equal, Greater}
 use Rattle.std.specs.Option.{is_none}
 use Rattle.std.specs.List.{list_all}
 use Rattle.std.specs.Ordering.{is_eq, is_lt, eq_by_cmp, ordering_reverse}
 use Rattle.std.specs.Cmp.{tied_itself}
 use Rattle.std.specs.Cmp.Lexicographic.{nat_list_cmp_total}
-use Rattle.std.specs.FinMap.{get, insert, entries, entries_sorted, get-entries, get-insert, same_map}
+use Rattle.std.specs.FinMap.{get, insert, entries, entries_sorted, get-entries, get-insert}
 use Rattle.std.specs.FinMap.Entries.{below_all, find, is_sorted}
 use Rattle.bp_layout.specs.Directory.{Name}
 use Rattle.bp_layout.specs.Lookup.{Path, Node}
@@ -13,7 +13,7 @@ use Rattle.bp_layout.specs.Lookup.Node.{dir}
 use Rattle.bp_layout.specs.PathText.{is_name}
 use Rattle.bp_plain.specs.Plain.{first_refusal_from, parent_of, walk, walk_parent}
 use Rattle.bp_plain.specs.PlainTree.{IsPathMap, Nodes, PathMap, path_cmp}
-use Rattle.bp_plain.proofs.PathOrder.{path_cmp-IsTotalOrder, path_cmp-IsAntisymmetric}
+use Rattle.bp_plain.proofs.PathOrder.{path_cmp-IsTotalOrder}
 use Rattle.bp_plain.proofs.PathTexts.{both_true, name_passes}
 
 abbrev pub Entry : Type 0

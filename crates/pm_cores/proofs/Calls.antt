@@ -1,12 +1,11 @@
 -- What a settle before a load or a store leaves.
 use Rattle.std.proofs.Common.{◌≡◌, ℕ, ◌≤◌, inl, inr, Bool, true, false, cond, eqb, leb, ◌&&◌, Option, Some, None, refl, sym, ◌∙◌, ap, arith}
-use Rattle.std.specs.Prelude.{IfSome}
 use Rattle.std.specs.List.{slice_get}
 use Rattle.std.specs.Option.{option_map}
-use Rattle.std.proofs.lemmas.Bool.{cases_Bool, and_parts, eqb-true, leb-true, eq-eqb, le-leb, and_from}
+use Rattle.std.proofs.lemmas.Bool.{cases_Bool, eq-eqb, le-leb, and_from}
 use Rattle.std.proofs.lemmas.Option.{slice_get-map}
 use Rattle.pm_cores.specs.declared.entry.Owner.{Owner}
-use Rattle.pm_cores.specs.Log.{core_barriers, line_at}
+use Rattle.pm_cores.specs.Log.{line_at}
 use Rattle.pm_cores.specs.Caches.{Caches, is_up_to, owner_is_up_to, settled, ready_to_load, ready_to_store, IsDirtyUnder}
 
 pub up_to_itself : (owner : Owner) → is_up_to owner owner.core owner.epoch ≡ true

@@ -1,7 +1,6 @@
 -- Logs whose stores go to some words.
 use Rattle.std.proofs.Common.{◌≡◌, ℕ, ◌+◌, ◌<◌, ◌≤◌, List, [], ◌∷◌, ◌++◌, length, subst, sym, arith}
 use Rattle.pm_epochs.specs.declared.event.Event.{Event}
-use Rattle.pm_epochs.specs.declared.event.Event.TheVariants.{Store}
 use Rattle.pm_epochs.proofs.MayLaws.{StoresMay-append}
 use Rattle.pm_region.specs.Memory.{AreWithin, stores_from}
 use Rattle.pm_region.proofs.RunLaws.{StoresMay-run}

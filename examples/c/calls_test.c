@@ -71,7 +71,11 @@ static void mounts(void) {
     IS(BPFS_OK, bpfs_close(&fs));
     IS(BPFS_HAS_NONE, bpfs_close(&fs));
     IS(BPFS_BAD_SIZE, bpfs_mount(&fs, words, WORDS - 1, &fault));
+    IS((WORDS - 1) * 8, fault.found);
+    IS(WORDS * 8, fault.wanted);
     IS(BPFS_BAD_SIZE, bpfs_mount(&fs, NULL, 0, &fault));
+    IS(0, fault.found);
+    IS(BPFS_MIN_BLOCKS * 4096, fault.wanted);
     IS(BPFS_BAD_SIZE, bpfs_mount(&fs, words, WORDS / 2, &fault));
     IS(WORDS / 2 * 8, fault.found);
     IS(WORDS * 8, fault.wanted);

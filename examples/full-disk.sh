@@ -67,7 +67,9 @@ for room in 0 1 500; do
   rm disk/filler disk/FILE
   cp --sparse=always old disk/FILE
   fill $room
-  "$program" run disk/FILE < script > out 2> err; expect "room for $room blocks, FILE lacks its own" 5 $? old
+  # A save leaves the holes that FILE has, so the second file takes the room of three blocks.
+  if [ $room -lt 3 ]; then status=5 wanted=old; else status=0 wanted=new; fi
+  "$program" run disk/FILE < script > out 2> err; expect "room for $room blocks, FILE lacks its own" $status $? $wanted
   # A new image takes the room of two blocks, and that of its zeros with the first save.
   if [ $room -lt 2 ]; then status=5 wanted=old; else status=0 wanted=twice; fi
   "$program" format disk/FILE --blocks 2048 > out 2> err; expect "room for $room blocks, a format to twice the size" $status $? $wanted

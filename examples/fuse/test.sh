@@ -139,7 +139,7 @@ is_whole() {
 
 # ok, how many rows there are, the last one, and the number that was changed with it
 look() {
-    sqlite3 "$load_at/base" "pragma integrity_check; select count(*) from t; select max(n) from t; select n from s;" | tr '\n' ' '
+    sqlite3 "$load_at/base" "pragma integrity_check; select count(*) from t; select coalesce(max(n),0) from t; select n from s;" | tr '\n' ' '
 }
 
 told() {

@@ -25,7 +25,7 @@ use Rattle.bp_session.proofs.OutcomeLaws.{no_fault, sink_fault}
 use Rattle.bp_shell.specs.Ending.{TellsStop}
 use Rattle.bp_shell.specs.Exporting.{ExportOutcome, Exports, ExportsFront, HoldsDeep, HoldsTree, IsExportComplete, TellsTree}
 use Rattle.bp_shell.specs.Opening.{RefusesFile}
-use Rattle.bp_shell.specs.Statuses.{code_of}
+use Rattle.bp_shell.specs.Statuses.{IsExportStatus, code_of}
 use Rattle.bp_shell.specs.Stops.{IsReason}
 use Rattle.bp_shell.specs.declared.status.Status.{Status}
 use Rattle.bp_shell.specs.declared.status.Status.TheVariants as status
@@ -91,26 +91,23 @@ module _ (tree : FileTree) (t u : SinkView) where
 pub stands_for_tree : (image : Image) → IsFileSystem image → (tree : FileTree) × Stands image tree
 stands_for_tree image whole = (tree_of image whole.first whole.second, stands_for image whole.first whole.second)
 
-abbrev Among : ℕ → Type 0
-Among status = (status ≡ 0) ⊎ (status ≡ 1) ⊎ (status ≡ 4) ⊎ (status ≡ 5) ⊎ (status ≡ 7) ⊎ (status ≡ 8) ⊎ (status ≡ 9)
-
-export_complete : (status : ℕ) (before after : Outside) → (status ≡ 1 → IsAbsent before.file) → (status ≡ 4 → SinkFailed before after) → (status ≡ 5 → FilesFailed before after) → (status ≡ 7 → (notice : Notice) × RefusesFile before.file notice)
-    → Among status → IsExportComplete status before after
-export_complete status before after one four five seven among image held words well sink files = elim among [
+export_complete : (answer : Status) (before after : Outside) → (answer ≡ status.Missing → IsAbsent before.file) → (answer ≡ status.SinkFailed → SinkFailed before after) → (answer ≡ status.FilesFailed → FilesFailed before after) → (answer ≡ status.Refused → (notice : Notice) × RefusesFile before.file notice)
+    → IsExportStatus answer → IsExportComplete answer before after
+export_complete answer before after missing sink files refused among image held words well no_sink no_files = elim among [
   | inl e ↦ inl e
-  | inr (inl e) ↦ absurd (rw held at (one e))
-  | inr (inr (inl e)) ↦ absurd (sink (four e))
-  | inr (inr (inr (inl e))) ↦ absurd (files (five e))
-  | inr (inr (inr (inr (inl e)))) ↦ let refused = seven e in absurd (not_refused image refused.0 words well (rw held at refused.1))
+  | inr (inl e) ↦ absurd (rw held at (missing e))
+  | inr (inr (inl e)) ↦ absurd (no_sink (sink e))
+  | inr (inr (inr (inl e))) ↦ absurd (no_files (files e))
+  | inr (inr (inr (inr (inl e)))) ↦ let why = refused e in absurd (not_refused image why.0 words well (rw held at why.1))
   | inr (inr (inr (inr (inr (inl e))))) ↦ inr (inl e)
   | inr (inr (inr (inr (inr (inr e))))) ↦ inr (inr e)
 ]
 
 module _ (before after : Outside) (untouched : IsUntouched before after) (flushed : after.is_flushed ≡ before.is_flushed) (source : after.faults.source ≡ before.faults.source) where
-  outcome : (status : ℕ) → (status ≡ 0 → (text : List ℕ) × Exports before.file text × Appends before.taken after.taken text) → (status ≡ 1 → IsAbsent before.file × TellsLine NoFile before after)
-      → (status ≡ 4 → (text : List ℕ) × Exports before.file text × TakesPart text before.taken after.taken) → (status ≡ 5 → IsIdle before after) → (status ≡ 7 → (notice : Notice) × RefusesFile before.file notice × TellsLine notice before after)
-      → (status ≡ 8 → IsIdle before after ⊎ ExportsFront before after) → (status ≡ 9 → HoldsDeep before.file × TellsLine Deep before after) → IsFirstFault status before.faults after.faults → Among status → ExportOutcome status before after
-  outcome status whole missing sink files refused memory deep first among = record {
+  outcome : (answer : Status) → (answer ≡ status.Done → (text : List ℕ) × Exports before.file text × Appends before.taken after.taken text) → (answer ≡ status.Missing → IsAbsent before.file × TellsLine NoFile before after)
+      → (answer ≡ status.SinkFailed → (text : List ℕ) × Exports before.file text × TakesPart text before.taken after.taken) → (answer ≡ status.FilesFailed → IsIdle before after) → (answer ≡ status.Refused → (notice : Notice) × RefusesFile before.file notice × TellsLine notice before after)
+      → (answer ≡ status.Memory → IsIdle before after ⊎ ExportsFront before after) → (answer ≡ status.Deep → HoldsDeep before.file × TellsLine Deep before after) → IsFirstFault (code_of answer) before.faults after.faults → IsExportStatus answer → ExportOutcome answer before after
+  outcome answer whole missing sink files refused memory deep first among = record {
     whole = whole;
     missing = missing;
     sink = sink;
@@ -121,25 +118,25 @@ module _ (before after : Outside) (untouched : IsUntouched before after) (flushe
     untouched = untouched;
     flushed = flushed;
     first = first;
-    complete = export_complete status before after (λ e. (missing e).0) first.sink first.files (λ e. let why = refused e in (why.0, why.1)) among;
+    complete = export_complete answer before after (λ e. (missing e).0) (λ e. first.sink (ap code_of e)) (λ e. first.files (ap code_of e)) (λ e. let why = refused e in (why.0, why.1)) among;
     one_of = among;
   }
 
   -- before the tree is told
-  pub export_stopped : (stop : Stop) (status : Status) → IsReason before.file stop → (stop ≡ s.Outside → Rose before.faults.files after.faults.files) → (¬ (stop ≡ s.Outside) → after.faults.files ≡ before.faults.files)
-      → TellsStop stop status before.taken after.taken before.faults.sink after.faults.sink → ExportOutcome (code_of status) before after
-  export_stopped stop status reason failed same told =
-      let among = stop_statuses stop status _ _ _ _ told in
-      let stops = stop_outcome before after untouched source stop status reason failed same told in
-      let never = λ (n : ℕ). never_among (code_of status) n among in
-      outcome (code_of status)
-      (λ e. absurd (never 0 (λ z. omega (arith, z)) (λ z. omega (arith, z)) (λ z. omega (arith, z)) (λ z. omega (arith, z)) e))
+  pub export_stopped : (stop : Stop) (answer : Status) → IsReason before.file stop → (stop ≡ s.Outside → Rose before.faults.files after.faults.files) → (¬ (stop ≡ s.Outside) → after.faults.files ≡ before.faults.files)
+      → TellsStop stop answer before.taken after.taken before.faults.sink after.faults.sink → ExportOutcome answer before after
+  export_stopped stop answer reason failed same told =
+      let among = stop_statuses stop answer _ _ _ _ told in
+      let stops = stop_outcome before after untouched source stop answer reason failed same told in
+      let never = λ (other : Status). never_among answer other among in
+      outcome answer
+      (λ e. absurd (never status.Done (λ z. cc) (λ z. cc) (λ z. cc) (λ z. cc) e))
       (λ e. let why = stops.missing e in (why.0, why.2))
-      (λ e. absurd (never 4 (λ z. omega (arith, z)) (λ z. omega (arith, z)) (λ z. omega (arith, z)) (λ z. omega (arith, z)) e))
-      (stop_idle before after untouched source stop status told)
+      (λ e. absurd (never status.SinkFailed (λ z. cc) (λ z. cc) (λ z. cc) (λ z. cc) e))
+      (stop_idle before after untouched source stop answer told)
       (λ e. let why = stops.refused e in (why.0, why.1, why.3))
       (λ e. inl (stops.memory e))
-      (λ e. absurd (never 9 (λ z. omega (arith, z)) (λ z. omega (arith, z)) (λ z. omega (arith, z)) (λ z. omega (arith, z)) e))
+      (λ e. absurd (never status.Deep (λ z. cc) (λ z. cc) (λ z. cc) (λ z. cc) e))
       stops.first
       (elim among [
         | inl e ↦ inr (inl e)
@@ -149,19 +146,19 @@ module _ (before after : Outside) (untouched : IsUntouched before after) (flushe
       ])
 
   -- the tree was told, or some part of it
-  pub export_told : (tree : FileTree) (status : Status) → HoldsTree before.file tree → TellsTree tree status before.taken after.taken before.faults.sink after.faults.sink → after.faults.files ≡ before.faults.files → ExportOutcome (code_of status) before after
+  pub export_told : (tree : FileTree) (answer : Status) → HoldsTree before.file tree → TellsTree tree answer before.taken after.taken before.faults.sink after.faults.sink → after.faults.files ≡ before.faults.files → ExportOutcome answer before after
   export_told tree status.Done holds told files =
-      outcome 0 (λ _. (_, record { tree = tree; holds = holds; short = told.0; told = refl }, told.1)) (λ e. absurd (omega (arith, e))) (λ e. absurd (omega (arith, e))) (λ e. absurd (omega (arith, e))) (λ e. absurd (omega (arith, e)))
-      (λ e. absurd (omega (arith, e))) (λ e. absurd (omega (arith, e))) (no_fault 0 _ _ (λ e. omega (arith, e)) (λ e. omega (arith, e)) (λ e. omega (arith, e)) source told.2 files) (inl refl)
+      outcome status.Done (λ _. (_, record { tree = tree; holds = holds; short = told.0; told = refl }, told.1)) (λ e. absurd cc) (λ e. absurd cc) (λ e. absurd cc) (λ e. absurd cc)
+      (λ e. absurd cc) (λ e. absurd cc) (no_fault 0 _ _ (λ e. omega (arith, e)) (λ e. omega (arith, e)) (λ e. omega (arith, e)) source told.2 files) (inl refl)
   export_told tree status.SinkFailed holds told files =
-      outcome 4 (λ e. absurd (omega (arith, e))) (λ e. absurd (omega (arith, e))) (λ _. (_, record { tree = tree; holds = holds; short = told.0; told = refl }, told.1)) (λ e. absurd (omega (arith, e))) (λ e. absurd (omega (arith, e)))
-      (λ e. absurd (omega (arith, e))) (λ e. absurd (omega (arith, e))) (sink_fault _ _ source told.2 files) (inr (inr (inl refl)))
+      outcome status.SinkFailed (λ e. absurd cc) (λ e. absurd cc) (λ _. (_, record { tree = tree; holds = holds; short = told.0; told = refl }, told.1)) (λ e. absurd cc) (λ e. absurd cc)
+      (λ e. absurd cc) (λ e. absurd cc) (sink_fault _ _ source told.2 files) (inr (inr (inl refl)))
   export_told tree status.Memory holds told files =
-      outcome 8 (λ e. absurd (omega (arith, e))) (λ e. absurd (omega (arith, e))) (λ e. absurd (omega (arith, e))) (λ e. absurd (omega (arith, e))) (λ e. absurd (omega (arith, e)))
-      (λ _. inr (record { text = _; exports = record { tree = tree; holds = holds; short = told.0; told = refl }; takes = told.1 })) (λ e. absurd (omega (arith, e)))
+      outcome status.Memory (λ e. absurd cc) (λ e. absurd cc) (λ e. absurd cc) (λ e. absurd cc) (λ e. absurd cc)
+      (λ _. inr (record { text = _; exports = record { tree = tree; holds = holds; short = told.0; told = refl }; takes = told.1 })) (λ e. absurd cc)
       (no_fault 8 _ _ (λ e. omega (arith, e)) (λ e. omega (arith, e)) (λ e. omega (arith, e)) source told.2 files) (inr (inr (inr (inr (inr (inl refl))))))
   export_told tree status.Deep holds told files =
-      outcome 9 (λ e. absurd (omega (arith, e))) (λ e. absurd (omega (arith, e))) (λ e. absurd (omega (arith, e))) (λ e. absurd (omega (arith, e))) (λ e. absurd (omega (arith, e))) (λ e. absurd (omega (arith, e)))
+      outcome status.Deep (λ e. absurd cc) (λ e. absurd cc) (λ e. absurd cc) (λ e. absurd cc) (λ e. absurd cc) (λ e. absurd cc)
       (λ _. (record { tree = tree; holds = holds; deep = told.0 }, told.1))
       (told_fault 9 _ _ (λ e. omega (arith, e)) (λ e. omega (arith, e)) (λ e. omega (arith, e)) (λ e. omega (arith, e)) (λ e. omega (arith, e)) (λ e. omega (arith, e)) source files) (inr (inr (inr (inr (inr (inr refl))))))
   export_told tree status.Missing holds told files = absurd told
@@ -174,16 +171,16 @@ module _ (before after : Outside) (untouched : IsUntouched before after) (flushe
 -- ---- before the words are read
 
 -- want of memory
-pub export_memory : (outside : Outside) → ExportOutcome 8 outside outside
+pub export_memory : (outside : Outside) → ExportOutcome status.Memory outside outside
 export_memory outside =
     export_stopped outside outside (record { left = refl; file = refl }) refl refl s.Memory status.Memory (memory_reason outside.file) (λ e. absurd (if_memory _ refl e)) (λ _. refl) (refl, (refl, refl))
 
 -- no export answers that the words are wrong
-pub export_asked : (status : ℕ) → Among status → status ≡ 2 → ⊥
-export_asked status (inl z) e = omega (arith, z, e)
-export_asked status (inr (inl z)) e = omega (arith, z, e)
-export_asked status (inr (inr (inl z))) e = omega (arith, z, e)
-export_asked status (inr (inr (inr (inl z)))) e = omega (arith, z, e)
-export_asked status (inr (inr (inr (inr (inl z))))) e = omega (arith, z, e)
-export_asked status (inr (inr (inr (inr (inr (inl z)))))) e = omega (arith, z, e)
-export_asked status (inr (inr (inr (inr (inr (inr z)))))) e = omega (arith, z, e)
+pub export_asked : (answer : Status) → IsExportStatus answer → answer ≡ status.Usage → ⊥
+export_asked answer (inl z) e = cc
+export_asked answer (inr (inl z)) e = cc
+export_asked answer (inr (inr (inl z))) e = cc
+export_asked answer (inr (inr (inr (inl z)))) e = cc
+export_asked answer (inr (inr (inr (inr (inl z))))) e = cc
+export_asked answer (inr (inr (inr (inr (inr (inl z)))))) e = cc
+export_asked answer (inr (inr (inr (inr (inr (inr z)))))) e = cc

@@ -11,7 +11,7 @@ use Rattle.bp_layout.specs.Bytes.{image_bytes}
 use Rattle.bp_session.specs.Files.{HasBlocksOf, HasBytes, Holds, HoldsAs}
 use Rattle.bp_shell.specs.Formatting.{HasPartly, new_image}
 use Rattle.bp_shell.specs.Opening.{HoldsFileSystem, start}
-use Rattle.bp_session.specs.Outside.{IsIdle, IsUntouched, Outside, counts, outside}
+use Rattle.bp_session.specs.Outside.{IsFirstFault, IsIdle, IsUntouched, Outside, counts, outside}
 use Rattle.bp_limits.specs.declared.version.Version.{Version}
 use Rattle.bp_shell.specs.Running.{FormatOutcome, RunOutcome, Runs, RunsBroken, RunsLong, RunsPart, RunsStopped, RunsUnsaved, format_text}
 use Rattle.bp_replies.specs.Room.{gathered_size}
@@ -20,9 +20,9 @@ use Rattle.bp_session.specs.Statuses.{broken_status}
 use Rattle.bp_session.specs.declared.broken.Broken.{Broken}
 use Rattle.bp_session.specs.declared.broken.Broken.TheVariants.{Source, Sink, Files, LongInput}
 use Rattle.bp_session.proofs.ChangedLaws.{holds_drained}
-use Rattle.bp_session.proofs.OutcomeLaws.{files_fault, first_then, no_fault, sink_fault}
+use Rattle.bp_session.proofs.OutcomeLaws.{files_fault, first_then, never_whole, no_fault, sink_fault}
 use Rattle.bp_shell.specs.Ending.{StopOutcome, TellsStop}
-use Rattle.bp_shell.specs.Statuses.{code_of}
+use Rattle.bp_shell.specs.Statuses.{IsFormatStatus, IsReadStatus, IsRunStatus, ReadsNothing, code_of, status_by}
 use Rattle.bp_shell.specs.Stops.{IsReason}
 use Rattle.bp_shell.specs.declared.status.Status.{Status}
 use Rattle.bp_shell.specs.declared.status.Status.TheVariants as status
@@ -34,34 +34,39 @@ use Rattle.bp_shell.proofs.RunningLaws.{complete, runs_broken, runs_long, runs_p
 
 -- ---- `run`
 
-among : (n status : ℕ) → ¬ (n ≡ 1) → ¬ (n ≡ 7) → ¬ (n ≡ 8) → status ≡ n → (status ≡ 1) ⊎ (status ≡ 7) ⊎ (status ≡ 8) → ⊥
-among n status one seven eight is (inl e) = one (sym is ∙ e)
-among n status one seven eight is (inr (inl e)) = seven (sym is ∙ e)
-among n status one seven eight is (inr (inr e)) = eight (sym is ∙ e)
+-- the number of each cause is that of its status
+code_by : (broken : Broken) → code_of (status_by broken) ≡ broken_status broken
+code_by Source = refl
+code_by Sink = refl
+code_by Files = refl
+code_by LongInput = refl
+
+-- the files failed at their number alone
+files_by : (broken : Broken) → broken_status broken ≡ 5 → status_by broken ≡ status.FilesFailed
+files_by Source e = absurd (omega (arith, e))
+files_by Sink e = absurd (omega (arith, e))
+files_by Files e = refl
+files_by LongInput e = absurd (omega (arith, e))
 
 -- no cause that breaks serving off ends a run that reads nothing
-pub broken_reads : (broken : Broken) (status : ℕ) → status ≡ broken_status broken → (status ≡ 1) ⊎ (status ≡ 7) ⊎ (status ≡ 8) → ⊥
-broken_reads Source status is unread = among 3 status (λ e. omega (arith, e)) (λ e. omega (arith, e)) (λ e. omega (arith, e)) is unread
-broken_reads Sink status is unread = among 4 status (λ e. omega (arith, e)) (λ e. omega (arith, e)) (λ e. omega (arith, e)) is unread
-broken_reads Files status is unread = among 5 status (λ e. omega (arith, e)) (λ e. omega (arith, e)) (λ e. omega (arith, e)) is unread
-broken_reads LongInput status is unread = among 6 status (λ e. omega (arith, e)) (λ e. omega (arith, e)) (λ e. omega (arith, e)) is unread
+pub broken_reads : (broken : Broken) → ReadsNothing (status_by broken) → ⊥
+broken_reads Source unread = elim unread [ inl e ↦ cc | inr (inl e) ↦ cc | inr (inr (inl e)) ↦ cc | inr (inr (inr (inl e))) ↦ cc | inr (inr (inr (inr e))) ↦ cc ]
+broken_reads Sink unread = elim unread [ inl e ↦ cc | inr (inl e) ↦ cc | inr (inr (inl e)) ↦ cc | inr (inr (inr (inl e))) ↦ cc | inr (inr (inr (inr e))) ↦ cc ]
+broken_reads Files unread = elim unread [ inl e ↦ cc | inr (inl e) ↦ cc | inr (inr (inl e)) ↦ cc | inr (inr (inr (inl e))) ↦ cc | inr (inr (inr (inr e))) ↦ cc ]
+broken_reads LongInput unread = elim unread [ inl e ↦ cc | inr (inl e) ↦ cc | inr (inr (inl e)) ↦ cc | inr (inr (inr (inl e))) ↦ cc | inr (inr (inr (inr e))) ↦ cc ]
 
--- no run answers that a path is long
-pub run_short : (status : ℕ) → (status ≡ 0) ⊎ (status ≡ 1) ⊎ (status ≡ 3) ⊎ (status ≡ 4) ⊎ (status ≡ 5) ⊎ (status ≡ 6) ⊎ (status ≡ 7) ⊎ (status ≡ 8) → status ≡ 9 → ⊥
-run_short status (inl z) e = omega (arith, z, e)
-run_short status (inr (inl z)) e = omega (arith, z, e)
-run_short status (inr (inr (inl z))) e = omega (arith, z, e)
-run_short status (inr (inr (inr (inl z)))) e = omega (arith, z, e)
-run_short status (inr (inr (inr (inr (inl z))))) e = omega (arith, z, e)
-run_short status (inr (inr (inr (inr (inr (inl z)))))) e = omega (arith, z, e)
-run_short status (inr (inr (inr (inr (inr (inr (inl z))))))) e = omega (arith, z, e)
-run_short status (inr (inr (inr (inr (inr (inr (inr z))))))) e = omega (arith, z, e)
+-- each ends one as a run may end
+broken_runs : (broken : Broken) → IsRunStatus (status_by broken)
+broken_runs Source = inr (inr (inl refl))
+broken_runs Sink = inr (inr (inr (inl refl)))
+broken_runs Files = inr (inr (inr (inr (inl refl))))
+broken_runs LongInput = inr (inr (inr (inr (inr (inl refl)))))
 
-module _ (status : ℕ) (before after : Outside) where
-  run_outcome : (status ≡ 0 → Runs before after) → (status ≡ 3 → RunsPart before after) → (status ≡ 4 → RunsBroken before after)
-      → (status ≡ 5 → IsIdle before after ⊎ RunsStopped before after ⊎ RunsUnsaved before after) → (status ≡ 6 → RunsLong before after) → StopOutcome status before after
-      → (¬ (status ≡ 5) → before.is_flushed ≡ true → after.is_flushed ≡ true)
-      → (status ≡ 0) ⊎ (status ≡ 1) ⊎ (status ≡ 3) ⊎ (status ≡ 4) ⊎ (status ≡ 5) ⊎ (status ≡ 6) ⊎ (status ≡ 7) ⊎ (status ≡ 8) → RunOutcome status before after
+module _ (answer : Status) (before after : Outside) where
+  run_outcome : (answer ≡ status.Done → Runs before after) → (answer ≡ status.SourceFailed → RunsPart before after) → (answer ≡ status.SinkFailed → RunsBroken before after)
+      → (answer ≡ status.FilesFailed → IsIdle before after ⊎ RunsStopped before after ⊎ RunsUnsaved before after) → (answer ≡ status.LongInput → RunsLong before after) → StopOutcome answer before after
+      → (¬ (answer ≡ status.FilesFailed) → before.is_flushed ≡ true → after.is_flushed ≡ true)
+      → IsRunStatus answer → RunOutcome answer before after
   run_outcome whole source sink files long stops flushed one_of = record {
     whole = whole;
     source = source;
@@ -70,22 +75,22 @@ module _ (status : ℕ) (before after : Outside) where
     long = long;
     stops = stops;
     flushed = flushed;
-    complete = complete status before after (λ e. (stops.missing e).0) stops.first.source stops.first.sink stops.first.files long (λ e. let why = stops.refused e in (why.0, why.1)) one_of;
+    complete = complete answer before after (λ e. (stops.missing e).0) (λ e. stops.first.source (ap code_of e)) (λ e. stops.first.sink (ap code_of e)) (λ e. stops.first.files (ap code_of e)) long (λ e. let why = stops.refused e in (why.0, why.1)) one_of;
     one_of = one_of;
   }
 
 -- before a line is read
 module _ (before after : Outside) (untouched : IsUntouched before after) (flushed : after.is_flushed ≡ before.is_flushed) (source : after.faults.source ≡ before.faults.source) where
-  pub run_stopped : (stop : Stop) (status : Status) → IsReason before.file stop → (stop ≡ s.Outside → Rose before.faults.files after.faults.files) → (¬ (stop ≡ s.Outside) → after.faults.files ≡ before.faults.files)
-      → TellsStop stop status before.taken after.taken before.faults.sink after.faults.sink → RunOutcome (code_of status) before after
-  run_stopped stop status reason failed same told =
-      let among = stop_statuses stop status _ _ _ _ told in
-      run_outcome (code_of status) before after (λ e. absurd (never_among (code_of status) 0 among (λ z. omega (arith, z)) (λ z. omega (arith, z)) (λ z. omega (arith, z)) (λ z. omega (arith, z)) e))
-      (λ e. absurd (never_among (code_of status) 3 among (λ z. omega (arith, z)) (λ z. omega (arith, z)) (λ z. omega (arith, z)) (λ z. omega (arith, z)) e))
-      (λ e. absurd (never_among (code_of status) 4 among (λ z. omega (arith, z)) (λ z. omega (arith, z)) (λ z. omega (arith, z)) (λ z. omega (arith, z)) e))
-      (λ e. inl (stop_idle before after untouched source stop status told e))
-      (λ e. absurd (never_among (code_of status) 6 among (λ z. omega (arith, z)) (λ z. omega (arith, z)) (λ z. omega (arith, z)) (λ z. omega (arith, z)) e))
-      (stop_outcome before after untouched source stop status reason failed same told) (λ _ e. flushed ∙ e)
+  pub run_stopped : (stop : Stop) (answer : Status) → IsReason before.file stop → (stop ≡ s.Outside → Rose before.faults.files after.faults.files) → (¬ (stop ≡ s.Outside) → after.faults.files ≡ before.faults.files)
+      → TellsStop stop answer before.taken after.taken before.faults.sink after.faults.sink → RunOutcome answer before after
+  run_stopped stop answer reason failed same told =
+      let among = stop_statuses stop answer _ _ _ _ told in
+      run_outcome answer before after (λ e. absurd (never_among answer status.Done among (λ z. cc) (λ z. cc) (λ z. cc) (λ z. cc) e))
+      (λ e. absurd (never_among answer status.SourceFailed among (λ z. cc) (λ z. cc) (λ z. cc) (λ z. cc) e))
+      (λ e. absurd (never_among answer status.SinkFailed among (λ z. cc) (λ z. cc) (λ z. cc) (λ z. cc) e))
+      (λ e. inl (stop_idle before after untouched source stop answer told e))
+      (λ e. absurd (never_among answer status.LongInput among (λ z. cc) (λ z. cc) (λ z. cc) (λ z. cc) e))
+      (stop_outcome before after untouched source stop answer reason failed same told) (λ _ e. flushed ∙ e)
       (elim among [
         | inl e ↦ inr (inl e)
         | inr (inl e) ↦ inr (inr (inr (inr (inl e))))
@@ -93,7 +98,7 @@ module _ (before after : Outside) (untouched : IsUntouched before after) (flushe
         | inr (inr (inr e)) ↦ inr (inr (inr (inr (inr (inr (inr e))))))
       ])
 
-  pub run_memory : after.taken ≡ before.taken → after.faults.sink ≡ before.faults.sink → after.faults.files ≡ before.faults.files → RunOutcome 8 before after
+  pub run_memory : after.taken ≡ before.taken → after.faults.sink ≡ before.faults.sink → after.faults.files ≡ before.faults.files → RunOutcome status.Memory before after
   run_memory taken sink files = run_stopped s.Memory status.Memory (memory_reason before.file) (λ e. absurd (if_memory _ refl e)) (λ _. files) (refl, (taken, sink))
 
 -- a file that was just read holds the words of a region whose log is empty
@@ -109,67 +114,53 @@ outside_at source now files name = outside source (record { taken = now.taken; f
 -- from the moment at which FILE is mounted
 module _ (i j : SourceView) (files : View) (a b : Moment) (name : List ℕ) (image : Image) (found : HoldsFileSystem (files.contents name) image) (same : a.memory ≡ (start image).memory) (holds : HoldsAt a name image)
     (flushed : a.files.is_flushed ≡ files.is_flushed) (calm : a.files.faults ≡ files.faults) where
-  pub run_served : (status : ℕ) → ¬ (status ≡ 0) → ServeOutcome status gathered_size i j a b → RunOutcome status (outside_at i a files name) (outside_at j b b.files name)
-  run_served status other served =
+  pub run_served : (broken : Broken) → ServeOutcome (broken_status broken) gathered_size i j a b → RunOutcome (status_by broken) (outside_at i a files name) (outside_at j b b.files name)
+  run_served broken served =
       let before = outside_at i a files name in
       let after = outside_at j b b.files name in
       let saves = λ (k : Image) (carried : Carries a b image k). (carried name holds).file.bytes in
-      run_outcome status before after (λ e. absurd (other e))
-      (λ e. let part = served.part e in runs_part before after image a.memory b.memory found same part.0 part.1 (Carries a b image) saves part.2 (part.3 image))
-      (λ e. let broken = served.broken e in runs_broken before after image a.memory b.memory found same broken.0 (Carries a b image) saves broken.1
-      (elim broken.2 [ inl all ↦ inl (λ rest. all rest image) | inr last ↦ inr (last.0, last.1 image) ]))
-      (λ e. let stop = served.stopped e in inr (inl (runs_stopped before after image a.memory b.memory found same stop.0 (CarriesPartly a b image) (λ k l carried. (carried name holds).bytes) stop.1
+      let code = code_by broken in
+      let quiet = λ (unread : ReadsNothing (status_by broken)). broken_reads broken unread in
+      run_outcome (status_by broken) before after (λ e. absurd (never_whole broken (sym code ∙ ap code_of e)))
+      (λ e. let part = served.part (sym code ∙ ap code_of e) in runs_part before after image a.memory b.memory found same part.0 part.1 (Carries a b image) saves part.2 (part.3 image))
+      (λ e. let told = served.broken (sym code ∙ ap code_of e) in runs_broken before after image a.memory b.memory found same told.0 (Carries a b image) saves told.1
+      (elim told.2 [ inl all ↦ inl (λ rest. all rest image) | inr last ↦ inr (last.0, last.1 image) ]))
+      (λ e. let stop = served.stopped (sym code ∙ ap code_of e) in inr (inl (runs_stopped before after image a.memory b.memory found same stop.0 (CarriesPartly a b image) (λ k l carried. (carried name holds).bytes) stop.1
       (elim stop.2 [ inl all ↦ inl (λ rest. (all rest).stops image) | inr last ↦ inr (last.0, last.1.stops image) ]))))
-      (λ e. let long = served.long e in runs_long before after image a.memory b.memory found same long.0 long.1 long.2 (Carries a b image) saves long.3 long.4 long.5 long.6 (long.7 image))
-      (record {
-        missing = λ e. absurd (never 1 (λ z. omega (arith, z)) (λ z. omega (arith, z)) (λ z. omega (arith, z)) (λ z. omega (arith, z)) (λ z. omega (arith, z)) e served.one_of);
-        refused = λ e. absurd (never 7 (λ z. omega (arith, z)) (λ z. omega (arith, z)) (λ z. omega (arith, z)) (λ z. omega (arith, z)) (λ z. omega (arith, z)) e served.one_of);
-        memory = λ e. absurd (never 8 (λ z. omega (arith, z)) (λ z. omega (arith, z)) (λ z. omega (arith, z)) (λ z. omega (arith, z)) (λ z. omega (arith, z)) e served.one_of);
-        first = first_then status (counts i.faults a.faults files) (counts i.faults a.faults a.files) (counts j.faults b.faults b.files) refl refl calm served.first;
-      })
-      (λ five e. served.keeps.flushed five (flushed ∙ e))
-      (elim served.one_of [
-        | inl e ↦ inl e
-        | inr (inl e) ↦ inr (inr (inl e))
-        | inr (inr (inl e)) ↦ inr (inr (inr (inl e)))
-        | inr (inr (inr (inl e))) ↦ inr (inr (inr (inr (inl e))))
-        | inr (inr (inr (inr e))) ↦ inr (inr (inr (inr (inr (inl e)))))
-      ])
-    where
-      never : (n : ℕ) → ¬ (n ≡ 0) → ¬ (n ≡ 3) → ¬ (n ≡ 4) → ¬ (n ≡ 5) → ¬ (n ≡ 6) → status ≡ n → (status ≡ 0) ⊎ (status ≡ 3) ⊎ (status ≡ 4) ⊎ (status ≡ 5) ⊎ (status ≡ 6) → ⊥
-      never n zero three four five six z (inl e) = zero (sym z ∙ e)
-      never n zero three four five six z (inr (inl e)) = three (sym z ∙ e)
-      never n zero three four five six z (inr (inr (inl e))) = four (sym z ∙ e)
-      never n zero three four five six z (inr (inr (inr (inl e)))) = five (sym z ∙ e)
-      never n zero three four five six z (inr (inr (inr (inr e)))) = six (sym z ∙ e)
+      (λ e. let long = served.long (sym code ∙ ap code_of e) in runs_long before after image a.memory b.memory found same long.0 long.1 long.2 (Carries a b image) saves long.3 long.4 long.5 long.6 (long.7 image))
+      (no_stop before after (status_by broken) (λ e. quiet (inl e)) (λ e. quiet (inr (inr (inl e)))) (λ e. quiet (inr (inr (inr (inl e)))))
+      (subst (λ (n : ℕ). IsFirstFault n before.faults after.faults) (sym code)
+      (first_then (broken_status broken) (counts i.faults a.faults files) (counts i.faults a.faults a.files) (counts j.faults b.faults b.files) refl refl calm served.first)))
+      (λ other e. served.keeps.flushed (λ five. other (files_by broken five)) (flushed ∙ e))
+      (broken_runs broken)
 
   -- the sync at the end saved, or couldn't
   module _ (now : View) (served : ServeOutcome 0 gathered_size i j a b) where
     pub run_whole : HasBytes (now.contents name) (image_bytes (current_words b.memory)) → now.is_flushed ≡ true → now.faults ≡ b.files.faults
-        → RunOutcome 0 (outside_at i a files name) (outside_at j b now name)
+        → RunOutcome status.Done (outside_at i a files name) (outside_at j b now name)
     run_whole saved done quiet =
         let before = outside_at i a files name in
         let after = outside_at j b now name in
         let all = served.whole refl in
-        run_outcome 0 before after (λ _. runs_whole before after image a.memory b.memory found same all.0 (Carries a b image) all.1 all.2 all.3 (all.4 image) saved done)
-        (λ e. absurd (omega (arith, e))) (λ e. absurd (omega (arith, e))) (λ e. absurd (omega (arith, e))) (λ e. absurd (omega (arith, e)))
-        (no_stop before after 0 (λ e. omega (arith, e)) (λ e. omega (arith, e)) (λ e. omega (arith, e))
+        run_outcome status.Done before after (λ _. runs_whole before after image a.memory b.memory found same all.0 (Carries a b image) all.1 all.2 all.3 (all.4 image) saved done)
+        (λ e. absurd cc) (λ e. absurd cc) (λ e. absurd cc) (λ e. absurd cc)
+        (no_stop before after status.Done (λ e. cc) (λ e. cc) (λ e. cc)
         (no_fault 0 _ _ (λ e. omega (arith, e)) (λ e. omega (arith, e)) (λ e. omega (arith, e)) (served.first.no_source (λ e. omega (arith, e))) (served.first.no_sink (inl refl))
         (quiet ∙ served.first.no_files (λ e. omega (arith, e)) ∙ calm)))
         (λ _ _. done)
         (inl refl)
 
     pub run_unsaved : (memory : Memory) → memory ≡ drained b.memory → ((was : Image) → Holds b.files name was → HasBlocksOf (now.contents name) (image_bytes was) (image_bytes (current_words b.memory))) → Rose b.files.faults now.faults
-        → RunOutcome 5 (outside_at i a files name) (outside_at j b now name)
+        → RunOutcome status.FilesFailed (outside_at i a files name) (outside_at j b now name)
     run_unsaved memory done partly rose =
         let before = outside_at i a files name in
         let after = outside_at j b now name in
         let all = served.whole refl in
         let told = all.4 image in
-        run_outcome 5 before after (λ e. absurd (omega (arith, e))) (λ e. absurd (omega (arith, e))) (λ e. absurd (omega (arith, e)))
+        run_outcome status.FilesFailed before after (λ e. absurd cc) (λ e. absurd cc) (λ e. absurd cc)
         (λ _. inr (inr (runs_unsaved before after image a.memory memory found same all.0 b.memory (Carries a b image) all.1 all.2 all.3 told done (partly told.after (told.file name holds).file))))
-        (λ e. absurd (omega (arith, e)))
-        (no_stop before after 5 (λ e. omega (arith, e)) (λ e. omega (arith, e)) (λ e. omega (arith, e))
+        (λ e. absurd cc)
+        (no_stop before after status.FilesFailed (λ e. cc) (λ e. cc) (λ e. cc)
         (first_then 5 (counts i.faults a.faults files) (counts j.faults b.faults b.files) (counts j.faults b.faults now) (served.first.no_source (λ e. omega (arith, e))) (served.first.no_sink (inl refl))
         (served.first.no_files (λ e. omega (arith, e)) ∙ calm) (files_fault _ _ refl refl rose)))
         (λ other. absurd (other refl))
@@ -178,49 +169,49 @@ module _ (i j : SourceView) (files : View) (a b : Moment) (name : List ℕ) (ima
 -- ---- `format`
 
 module _ (version : Version) (blocks : ℕ) (before after : Outside) (left : after.left ≡ before.left) (source : after.faults.source ≡ before.faults.source) where
-  pub format_done : HasBytes after.file (image_bytes (new_image version blocks)) → Appends before.taken after.taken (format_text blocks) → after.is_flushed ≡ true → after.faults.sink ≡ before.faults.sink → after.faults.files ≡ before.faults.files → FormatOutcome 0 version blocks before after
+  pub format_done : HasBytes after.file (image_bytes (new_image version blocks)) → Appends before.taken after.taken (format_text blocks) → after.is_flushed ≡ true → after.faults.sink ≡ before.faults.sink → after.faults.files ≡ before.faults.files → FormatOutcome status.Done version blocks before after
   format_done saved told flushed sink files = record {
     whole = λ _. (saved, told);
-    sink = λ e. absurd (omega (arith, e));
+    sink = λ e. absurd cc;
     flushed = λ _. flushed;
-    files = λ e. absurd (omega (arith, e));
-    memory = λ e. absurd (omega (arith, e));
+    files = λ e. absurd cc;
+    memory = λ e. absurd cc;
     unread = left;
     first = no_fault 0 _ _ (λ e. omega (arith, e)) (λ e. omega (arith, e)) (λ e. omega (arith, e)) source sink files;
     one_of = inl refl;
   }
 
   pub format_broken : HasBytes after.file (image_bytes (new_image version blocks)) → (count : ℕ) × (count < length (format_text blocks)) × Appends before.taken after.taken (take count (format_text blocks)) → after.is_flushed ≡ true → Rose before.faults.sink after.faults.sink
-      → after.faults.files ≡ before.faults.files → FormatOutcome 4 version blocks before after
+      → after.faults.files ≡ before.faults.files → FormatOutcome status.SinkFailed version blocks before after
   format_broken saved broken flushed rose files = record {
-    whole = λ e. absurd (omega (arith, e));
+    whole = λ e. absurd cc;
     sink = λ _. (saved, broken);
     flushed = λ _. flushed;
-    files = λ e. absurd (omega (arith, e));
-    memory = λ e. absurd (omega (arith, e));
+    files = λ e. absurd cc;
+    memory = λ e. absurd cc;
     unread = left;
     first = sink_fault _ _ source rose files;
     one_of = inr (inl refl);
   }
 
-  pub format_failed : HasPartly before.file (image_bytes (new_image version blocks)) after.file → after.taken ≡ before.taken → after.faults.sink ≡ before.faults.sink → Rose before.faults.files after.faults.files → FormatOutcome 5 version blocks before after
+  pub format_failed : HasPartly before.file (image_bytes (new_image version blocks)) after.file → after.taken ≡ before.taken → after.faults.sink ≡ before.faults.sink → Rose before.faults.files after.faults.files → FormatOutcome status.FilesFailed version blocks before after
   format_failed partly taken sink rose = record {
-    whole = λ e. absurd (omega (arith, e));
-    sink = λ e. absurd (omega (arith, e));
-    flushed = λ e. elim e [ inl z ↦ absurd (omega (arith, z)) | inr z ↦ absurd (omega (arith, z)) ];
+    whole = λ e. absurd cc;
+    sink = λ e. absurd cc;
+    flushed = λ e. elim e [ inl z ↦ absurd cc | inr z ↦ absurd cc ];
     files = λ _. (partly, taken);
-    memory = λ e. absurd (omega (arith, e));
+    memory = λ e. absurd cc;
     unread = left;
     first = files_fault _ _ source sink rose;
     one_of = inr (inr (inl refl));
   }
 
-  pub format_memory : after.file ≡ before.file → after.taken ≡ before.taken → after.faults.sink ≡ before.faults.sink → after.faults.files ≡ before.faults.files → FormatOutcome 8 version blocks before after
+  pub format_memory : after.file ≡ before.file → after.taken ≡ before.taken → after.faults.sink ≡ before.faults.sink → after.faults.files ≡ before.faults.files → FormatOutcome status.Memory version blocks before after
   format_memory file taken sink files = record {
-    whole = λ e. absurd (omega (arith, e));
-    sink = λ e. absurd (omega (arith, e));
-    flushed = λ e. elim e [ inl z ↦ absurd (omega (arith, z)) | inr z ↦ absurd (omega (arith, z)) ];
-    files = λ e. absurd (omega (arith, e));
+    whole = λ e. absurd cc;
+    sink = λ e. absurd cc;
+    flushed = λ e. elim e [ inl z ↦ absurd cc | inr z ↦ absurd cc ];
+    files = λ e. absurd cc;
     memory = λ _. (file, taken);
     unread = left;
     first = no_fault 8 _ _ (λ e. omega (arith, e)) (λ e. omega (arith, e)) (λ e. omega (arith, e)) source sink files;
@@ -229,16 +220,16 @@ module _ (version : Version) (blocks : ℕ) (before after : Outside) (left : aft
 
 -- ---- no program answers that the words are wrong
 
-pub format_asked : (status : ℕ) → (status ≡ 0) ⊎ (status ≡ 4) ⊎ (status ≡ 5) ⊎ (status ≡ 8) → status ≡ 2 → ⊥
-format_asked status (inl z) e = omega (arith, z, e)
-format_asked status (inr (inl z)) e = omega (arith, z, e)
-format_asked status (inr (inr (inl z))) e = omega (arith, z, e)
-format_asked status (inr (inr (inr z))) e = omega (arith, z, e)
+pub format_asked : (answer : Status) → IsFormatStatus answer → answer ≡ status.Usage → ⊥
+format_asked answer (inl z) e = cc
+format_asked answer (inr (inl z)) e = cc
+format_asked answer (inr (inr (inl z))) e = cc
+format_asked answer (inr (inr (inr z))) e = cc
 
-pub read_asked : (status : ℕ) → (status ≡ 0) ⊎ (status ≡ 1) ⊎ (status ≡ 4) ⊎ (status ≡ 5) ⊎ (status ≡ 7) ⊎ (status ≡ 8) → status ≡ 2 → ⊥
-read_asked status (inl z) e = omega (arith, z, e)
-read_asked status (inr (inl z)) e = omega (arith, z, e)
-read_asked status (inr (inr (inl z))) e = omega (arith, z, e)
-read_asked status (inr (inr (inr (inl z)))) e = omega (arith, z, e)
-read_asked status (inr (inr (inr (inr (inl z))))) e = omega (arith, z, e)
-read_asked status (inr (inr (inr (inr (inr z))))) e = omega (arith, z, e)
+pub read_asked : (answer : Status) → IsReadStatus answer → answer ≡ status.Usage → ⊥
+read_asked answer (inl z) e = cc
+read_asked answer (inr (inl z)) e = cc
+read_asked answer (inr (inr (inl z))) e = cc
+read_asked answer (inr (inr (inr (inl z)))) e = cc
+read_asked answer (inr (inr (inr (inr (inl z))))) e = cc
+read_asked answer (inr (inr (inr (inr (inr z))))) e = cc

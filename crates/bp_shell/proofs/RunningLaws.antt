@@ -25,6 +25,9 @@ use Rattle.bp_session.specs.Outside.{Outside, SourceFailed, SinkFailed, FilesFai
 use Rattle.bp_shell.specs.Ending.{IsReadComplete}
 use Rattle.bp_session.specs.Serving.{BreaksOff, OfLines, Serves, ServesAll, StopsAtSave, Told}
 use Rattle.bp_session.specs.Session.{Session, State}
+use Rattle.bp_shell.specs.Statuses.{IsReadStatus, IsRunStatus}
+use Rattle.bp_shell.specs.declared.status.Status.{Status}
+use Rattle.bp_shell.specs.declared.status.Status.TheVariants as status
 use Rattle.bp_session.proofs.BlockLaws.{image_once, length-image_bytes}
 use Rattle.bp_session.proofs.PlainLaws.{follows_tree}
 use Rattle.bp_session.proofs.ServingLaws.{breaks_as, not_long, serves_as, session_append, stops_as}
@@ -151,27 +154,27 @@ not_refused image line words well (damaged {image = other} {check = check} {plac
     let same = image_once image other words has.has.words has.has.bytes in
     none_fails_whole image well check place (rw same wrong)
 
-pub complete : (status : ℕ) (before after : Outside) → (status ≡ 1 → IsAbsent before.file) → (status ≡ 3 → SourceFailed before after) → (status ≡ 4 → SinkFailed before after) → (status ≡ 5 → FilesFailed before after)
-    → (status ≡ 6 → RunsLong before after) → (status ≡ 7 → (notice : Notice) × RefusesFile before.file notice)
-    → (status ≡ 0) ⊎ (status ≡ 1) ⊎ (status ≡ 3) ⊎ (status ≡ 4) ⊎ (status ≡ 5) ⊎ (status ≡ 6) ⊎ (status ≡ 7) ⊎ (status ≡ 8) → IsComplete status before after
-complete status before after one three four five six seven among image input held words well told few source sink files = elim among [
+pub complete : (answer : Status) (before after : Outside) → (answer ≡ status.Missing → IsAbsent before.file) → (answer ≡ status.SourceFailed → SourceFailed before after) → (answer ≡ status.SinkFailed → SinkFailed before after) → (answer ≡ status.FilesFailed → FilesFailed before after)
+    → (answer ≡ status.LongInput → RunsLong before after) → (answer ≡ status.Refused → (notice : Notice) × RefusesFile before.file notice)
+    → IsRunStatus answer → IsComplete answer before after
+complete answer before after missing source sink files long refused among image input held words well told few no_source no_sink no_files = elim among [
   | inl e ↦ inl e
-  | inr (inl e) ↦ absurd (rw held at (one e))
-  | inr (inr (inl e)) ↦ absurd (source (three e))
-  | inr (inr (inr (inl e))) ↦ absurd (sink (four e))
-  | inr (inr (inr (inr (inl e)))) ↦ absurd (files (five e))
-  | inr (inr (inr (inr (inr (inl e))))) ↦ let long = six e in absurd (not_long before.left after.left input long.served long.more told few (rw long.are at long.begins.read) long.most long.some)
-  | inr (inr (inr (inr (inr (inr (inl e)))))) ↦ let refused = seven e in absurd (not_refused image refused.0 words well (rw held at refused.1))
+  | inr (inl e) ↦ absurd (rw held at (missing e))
+  | inr (inr (inl e)) ↦ absurd (no_source (source e))
+  | inr (inr (inr (inl e))) ↦ absurd (no_sink (sink e))
+  | inr (inr (inr (inr (inl e)))) ↦ absurd (no_files (files e))
+  | inr (inr (inr (inr (inr (inl e))))) ↦ let run = long e in absurd (not_long before.left after.left input run.served run.more told few (rw run.are at run.begins.read) run.most run.some)
+  | inr (inr (inr (inr (inr (inr (inl e)))))) ↦ let why = refused e in absurd (not_refused image why.0 words well (rw held at why.1))
   | inr (inr (inr (inr (inr (inr (inr e)))))) ↦ inr e
 ]
 
-pub read_complete : (status : ℕ) (before after : Outside) → (status ≡ 1 → IsAbsent before.file) → (status ≡ 4 → SinkFailed before after) → (status ≡ 5 → FilesFailed before after)
-    → (status ≡ 7 → (notice : Notice) × RefusesFile before.file notice) → (status ≡ 0) ⊎ (status ≡ 1) ⊎ (status ≡ 4) ⊎ (status ≡ 5) ⊎ (status ≡ 7) ⊎ (status ≡ 8) → IsReadComplete status before after
-read_complete status before after one four five seven among image held words well sink files = elim among [
+pub read_complete : (answer : Status) (before after : Outside) → (answer ≡ status.Missing → IsAbsent before.file) → (answer ≡ status.SinkFailed → SinkFailed before after) → (answer ≡ status.FilesFailed → FilesFailed before after)
+    → (answer ≡ status.Refused → (notice : Notice) × RefusesFile before.file notice) → IsReadStatus answer → IsReadComplete answer before after
+read_complete answer before after missing sink files refused among image held words well no_sink no_files = elim among [
   | inl e ↦ inl e
-  | inr (inl e) ↦ absurd (rw held at (one e))
-  | inr (inr (inl e)) ↦ absurd (sink (four e))
-  | inr (inr (inr (inl e))) ↦ absurd (files (five e))
-  | inr (inr (inr (inr (inl e)))) ↦ let refused = seven e in absurd (not_refused image refused.0 words well (rw held at refused.1))
+  | inr (inl e) ↦ absurd (rw held at (missing e))
+  | inr (inr (inl e)) ↦ absurd (no_sink (sink e))
+  | inr (inr (inr (inl e))) ↦ absurd (no_files (files e))
+  | inr (inr (inr (inr (inl e)))) ↦ let why = refused e in absurd (not_refused image why.0 words well (rw held at why.1))
   | inr (inr (inr (inr (inr e)))) ↦ inr e
 ]

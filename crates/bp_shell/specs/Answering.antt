@@ -5,8 +5,12 @@ use Rattle.bp_command.specs.Programs.{Asks, Program}
 use Rattle.bp_io.specs.Files.{View}
 use Rattle.bp_io.specs.Streams.{SinkView, SourceView}
 use Rattle.bp_layout.specs.Words.{Image}
-use Rattle.bp_session.specs.Outside.{Outside, outside}
+use Rattle.bp_script.specs.Sayings.{notice_text}
+use Rattle.bp_script.specs.declared.notices.Notice.TheVariants.{Usage}
+use Rattle.bp_session.specs.Outside.{Outside, Prints, outside}
 use Rattle.bp_shell.specs.Running.{IsMountedFrom, ProgramOutcome, RunOutcome, RunsProgram, file_name}
+use Rattle.bp_shell.specs.declared.status.Status.{Status}
+use Rattle.bp_shell.specs.declared.status.Status.TheVariants as status
 use Rattle.pm_region.specs.Memory.{Memory}
 
 -- the texts of words that are lent
@@ -23,34 +27,40 @@ EndsAs Ends name source_of sink_of files_of source sink files source_now sink_no
     (outside (source_of source_now) (sink_of sink_now) (files_of files_now) name)
 
 -- what `run` answers over a volume, from whichever file it was mounted
-abbrev pub RunsMounted : {S K F : Type 0} → ℕ → (S → SourceView) → (K → SinkView) → (F → View)
+abbrev pub RunsMounted : {S K F : Type 0} → Status → (S → SourceView) → (K → SinkView) → (F → View)
     → S → K → F → Memory → S → K → F → Type 0
-RunsMounted status source_of sink_of files_of source sink files memory source_now sink_now files_now =
+RunsMounted answer source_of sink_of files_of source sink files memory source_now sink_now files_now =
     (before : View) (name : List ℕ) (image : Image) → IsMountedFrom name image before (files_of files) memory
-    → RunOutcome status (outside (source_of source) (sink_of sink) before name)
+    → RunOutcome answer (outside (source_of source) (sink_of sink) before name)
     (outside (source_of source_now) (sink_of sink_now) (files_of files_now) name)
 
 -- what a program answers
-abbrev pub ProgramEnds : {S K F : Type 0} → Program → ℕ → (S → SourceView) → (K → SinkView) → (F → View)
+abbrev pub ProgramEnds : {S K F : Type 0} → Program → Status → (S → SourceView) → (K → SinkView) → (F → View)
     → S → K → F → S → K → F → Type 0
-ProgramEnds program status source_of sink_of files_of source sink files source_now sink_now files_now =
-    EndsAs (ProgramOutcome program status) (file_name program) source_of sink_of files_of
+ProgramEnds program answer source_of sink_of files_of source sink files source_now sink_now files_now =
+    EndsAs (ProgramOutcome program answer) (file_name program) source_of sink_of files_of
     source sink files source_now sink_now files_now
 
 -- what the program answers for which these words ask in the plain way
-abbrev pub AnswersAsAsked : {S K F : Type 0} → List (List ℕ) → ℕ → (S → SourceView) → (K → SinkView) → (F → View)
+abbrev pub AnswersAsAsked : {S K F : Type 0} → List (List ℕ) → Status → (S → SourceView) → (K → SinkView) → (F → View)
     → S → K → F → S → K → F → Type 0
-AnswersAsAsked words status source_of sink_of files_of source sink files source_now sink_now files_now =
+AnswersAsAsked words answer source_of sink_of files_of source sink files source_now sink_now files_now =
     (program : Program) → Asks words program
-    → ProgramEnds program status source_of sink_of files_of source sink files source_now sink_now files_now
+    → ProgramEnds program answer source_of sink_of files_of source sink files source_now sink_now files_now
 
--- The words ask for a program, and this is what it answers; or there was no memory in which they are read, and nothing changed.
-abbrev pub RunsOrLacksMemory : {S K F : Type 0} → List (List ℕ) → ℕ → (S → SourceView) → (K → SinkView) → (F → View)
+-- Unless it answers with usage, the words ask for a program, and this is what it answers; or there was no memory in which they
+-- are read, and nothing changed.
+abbrev pub AnswersIfTaken : {S K F : Type 0} → List (List ℕ) → Status → (S → SourceView) → (K → SinkView) → (F → View)
     → S → K → F → S → K → F → Type 0
-RunsOrLacksMemory words status source_of sink_of files_of source sink files source_now sink_now files_now =
-    RunsProgram words status (λ name. outside (source_of source) (sink_of sink) (files_of files) name)
+AnswersIfTaken words answer source_of sink_of files_of source sink files source_now sink_now files_now =
+    ¬ (answer ≡ status.Usage)
+    → RunsProgram words answer (λ name. outside (source_of source) (sink_of sink) (files_of files) name)
     (λ name. outside (source_of source_now) (sink_of sink_now) (files_of files_now) name)
-    ⊎ ((status ≡ 8) × (source_now ≡ source) × (sink_now ≡ sink) × (files_now ≡ files))
+    ⊎ ((answer ≡ status.Memory) × (source_now ≡ source) × (sink_now ≡ sink) × (files_now ≡ files))
+
+-- The line of usage is told, as far as the sink takes it.
+abbrev pub TellsUsage : SinkView → SinkView → Type 0
+TellsUsage sink sink_now = Prints (notice_text Usage) sink.taken sink_now.taken sink.faults sink_now.faults
 
 -- ---- no source
 

@@ -10,6 +10,7 @@ use Rattle.bp_script.specs.declared.notices.Notice.{Notice}
 use Rattle.bp_script.specs.declared.notices.Notice.TheVariants.{Clean}
 use Rattle.bp_shell.specs.Ending.{ReadOutcome}
 use Rattle.bp_shell.specs.Opening.{HoldsFileSystem}
+use Rattle.bp_shell.specs.declared.status.Status.{Status}
 use Rattle.bp_session.specs.Outside.{Outside}
 
 -- The line tells what this image holds in all, and how many of its blocks are free.
@@ -33,5 +34,5 @@ pub record ChecksBy (known : Known) (text : List ℕ) : Type 0 where
   pub told : text ≡ notice_text notice
 
 -- What `check FILE` answers, and when.
-abbrev pub CheckOutcome : ℕ → Outside → Outside → Type 0
-CheckOutcome status before after = ReadOutcome (ChecksBy before.file) status before after
+abbrev pub CheckOutcome : Status → Outside → Outside → Type 0
+CheckOutcome answer before after = ReadOutcome (ChecksBy before.file) answer before after

@@ -12,6 +12,7 @@ use Rattle.bp_session.specs.Outside.{Outside, FilesFailed, SinkFailed}
 use Rattle.bp_session.specs.Outside.{IsFirstFault, IsIdle, IsUntouched, Prints, TellsLine}
 use Rattle.bp_replies.specs.Taking.{TakesPart}
 use Rattle.bp_shell.specs.Opening.{RefusesFile}
+use Rattle.bp_shell.specs.Statuses.{IsReadStatus, code_of}
 use Rattle.bp_shell.specs.declared.status.Status.{Status}
 use Rattle.bp_shell.specs.declared.status.Status.TheVariants as status
 use Rattle.bp_shell.specs.declared.stop.Stop.{Stop}
@@ -36,29 +37,29 @@ TellsStop stop.Memory answer taken taken_now faults faults_now =
 
 -- What `run`, `check` and `play` answer alike: FILE is not there, is refused, or memory is wanting, before a byte is
 -- read; and the first fault ends them.
-pub record StopOutcome (status : ℕ) (before after : Outside) : Type 0 where
-  pub missing : status ≡ 1 → IsAbsent before.file × IsUntouched before after × TellsLine NoFile before after
-  pub refused : status ≡ 7 → (notice : Notice) × RefusesFile before.file notice × IsUntouched before after
+pub record StopOutcome (answer : Status) (before after : Outside) : Type 0 where
+  pub missing : answer ≡ status.Missing → IsAbsent before.file × IsUntouched before after × TellsLine NoFile before after
+  pub refused : answer ≡ status.Refused → (notice : Notice) × RefusesFile before.file notice × IsUntouched before after
       × TellsLine notice before after
-  pub memory : status ≡ 8 → IsIdle before after
-  pub first : IsFirstFault status before.faults after.faults
+  pub memory : answer ≡ status.Memory → IsIdle before after
+  pub first : IsFirstFault (code_of answer) before.faults after.faults
 
 -- ---- a program that reads FILE alone
 
--- Where FILE is told to have the bytes of a file system, and nothing fails, the status is 0, or 8 for want of
--- memory.
-abbrev pub IsReadComplete : ℕ → Outside → Outside → Type 0
-IsReadComplete status before after =
+-- Where FILE is told to have the bytes of a file system, and nothing fails, all is done, or memory is wanting.
+abbrev pub IsReadComplete : Status → Outside → Outside → Type 0
+IsReadComplete answer before after =
     (image : Image) → before.file ≡ Some (Some (image_bytes image)) → AreWordsOf64Bits image
-    → IsFileSystem image → ¬ SinkFailed before after → ¬ FilesFailed before after → (status ≡ 0) ⊎ (status ≡ 8)
+    → IsFileSystem image → ¬ SinkFailed before after → ¬ FilesFailed before after
+    → (answer ≡ status.Done) ⊎ (answer ≡ status.Memory)
 
 -- What `check` and `play` answer, and when: they tell a text of this kind. They read no input, and FILE stays as it is.
-pub record ReadOutcome (Tells : List ℕ → Type 0) (status : ℕ) (before after : Outside) : Type 0 where
-  pub whole : status ≡ 0 → (text : List ℕ) × Tells text × Appends before.taken after.taken text
-  pub sink : status ≡ 4 → (text : List ℕ) × Tells text × TakesPart text before.taken after.taken
-  pub files : status ≡ 5 → IsIdle before after
-  pub stops : StopOutcome status before after
+pub record ReadOutcome (Tells : List ℕ → Type 0) (answer : Status) (before after : Outside) : Type 0 where
+  pub whole : answer ≡ status.Done → (text : List ℕ) × Tells text × Appends before.taken after.taken text
+  pub sink : answer ≡ status.SinkFailed → (text : List ℕ) × Tells text × TakesPart text before.taken after.taken
+  pub files : answer ≡ status.FilesFailed → IsIdle before after
+  pub stops : StopOutcome answer before after
   pub untouched : IsUntouched before after
   pub flushed : after.is_flushed ≡ before.is_flushed
-  pub complete : IsReadComplete status before after
-  pub one_of : (status ≡ 0) ⊎ (status ≡ 1) ⊎ (status ≡ 4) ⊎ (status ≡ 5) ⊎ (status ≡ 7) ⊎ (status ≡ 8)
+  pub complete : IsReadComplete answer before after
+  pub one_of : IsReadStatus answer

@@ -20,6 +20,7 @@ use Rattle.bp_session.specs.Files.{AreWordsOf64Bits, IsAbsent}
 use Rattle.bp_session.specs.Outside.{Outside, FilesFailed, SinkFailed}
 use Rattle.bp_session.specs.Outside.{IsFirstFault, IsIdle, IsUntouched, Prints, TellsLine}
 use Rattle.bp_shell.specs.Opening.{HoldsFileSystem, RefusesFile}
+use Rattle.bp_shell.specs.Statuses.{IsExportStatus, code_of}
 use Rattle.bp_shell.specs.declared.status.Status.{Status}
 use Rattle.bp_shell.specs.declared.status.Status.TheVariants as status
 
@@ -40,8 +41,8 @@ TellsTree tree _ taken taken_now faults faults_now = ⊥
 
 -- the tree for which an image stands is told so to a sink
 abbrev pub TellsTreeOf : Image → Status → SinkView → SinkView → Type 0
-TellsTreeOf image status sink sink_now = (tree : FileTree) → Stands image tree
-    → TellsTree tree status sink.taken sink_now.taken sink.faults sink_now.faults
+TellsTreeOf image answer sink sink_now = (tree : FileTree) → Stands image tree
+    → TellsTree tree answer sink.taken sink_now.taken sink.faults sink_now.faults
 
 -- ---- a file
 
@@ -70,25 +71,25 @@ pub record ExportsFront (before after : Outside) : Type 0 where
   pub exports : Exports before.file text
   pub takes : TakesFront text before.taken after.taken
 
--- Where FILE is told to have the bytes of a file system, and nothing fails, the status is 0, or 8 for want of memory, or 9
--- by its cause.
-abbrev pub IsExportComplete : ℕ → Outside → Outside → Type 0
-IsExportComplete status before after =
+-- Where FILE is told to have the bytes of a file system, and nothing fails, all is done, or memory is wanting, or a path is
+-- too long, by its cause.
+abbrev pub IsExportComplete : Status → Outside → Outside → Type 0
+IsExportComplete answer before after =
     (image : Image) → before.file ≡ Some (Some (image_bytes image)) → AreWordsOf64Bits image
     → IsFileSystem image → ¬ SinkFailed before after → ¬ FilesFailed before after
-    → (status ≡ 0) ⊎ (status ≡ 8) ⊎ (status ≡ 9)
+    → (answer ≡ status.Done) ⊎ (answer ≡ status.Memory) ⊎ (answer ≡ status.Deep)
 
 -- What `export FILE` answers, and when. It reads no input, and FILE stays as it is.
-pub record ExportOutcome (status : ℕ) (before after : Outside) : Type 0 where
-  pub whole : status ≡ 0 → (text : List ℕ) × Exports before.file text × Appends before.taken after.taken text
-  pub missing : status ≡ 1 → IsAbsent before.file × TellsLine NoFile before after
-  pub sink : status ≡ 4 → (text : List ℕ) × Exports before.file text × TakesPart text before.taken after.taken
-  pub files : status ≡ 5 → IsIdle before after
-  pub refused : status ≡ 7 → (notice : Notice) × RefusesFile before.file notice × TellsLine notice before after
-  pub memory : status ≡ 8 → IsIdle before after ⊎ ExportsFront before after
-  pub deep : status ≡ 9 → HoldsDeep before.file × TellsLine Deep before after
+pub record ExportOutcome (answer : Status) (before after : Outside) : Type 0 where
+  pub whole : answer ≡ status.Done → (text : List ℕ) × Exports before.file text × Appends before.taken after.taken text
+  pub missing : answer ≡ status.Missing → IsAbsent before.file × TellsLine NoFile before after
+  pub sink : answer ≡ status.SinkFailed → (text : List ℕ) × Exports before.file text × TakesPart text before.taken after.taken
+  pub files : answer ≡ status.FilesFailed → IsIdle before after
+  pub refused : answer ≡ status.Refused → (notice : Notice) × RefusesFile before.file notice × TellsLine notice before after
+  pub memory : answer ≡ status.Memory → IsIdle before after ⊎ ExportsFront before after
+  pub deep : answer ≡ status.Deep → HoldsDeep before.file × TellsLine Deep before after
   pub untouched : IsUntouched before after
   pub flushed : after.is_flushed ≡ before.is_flushed
-  pub first : IsFirstFault status before.faults after.faults
-  pub complete : IsExportComplete status before after
-  pub one_of : (status ≡ 0) ⊎ (status ≡ 1) ⊎ (status ≡ 4) ⊎ (status ≡ 5) ⊎ (status ≡ 7) ⊎ (status ≡ 8) ⊎ (status ≡ 9)
+  pub first : IsFirstFault (code_of answer) before.faults after.faults
+  pub complete : IsExportComplete answer before after
+  pub one_of : IsExportStatus answer

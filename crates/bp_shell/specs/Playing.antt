@@ -16,6 +16,7 @@ use Rattle.bp_session.specs.Outside.{Outside}
 use Rattle.bp_session.specs.PlainSession.{FollowsTree}
 use Rattle.bp_shell.specs.Ending.{ReadOutcome}
 use Rattle.bp_shell.specs.Opening.{HoldsFileSystem, start}
+use Rattle.bp_shell.specs.declared.status.Status.{Status}
 
 -- ---- the five lines
 
@@ -67,5 +68,5 @@ pub record PlaysFile (known : Known) (seed count : ℕ) (text : List ℕ) : Type
       → FollowsTree tree (start image) (turns seed count) ends.plays.replies (state ends.new image)
 
 -- What `play FILE --seed S --count C` answers, and when.
-abbrev pub PlayOutcome : ℕ → ℕ → ℕ → Outside → Outside → Type 0
-PlayOutcome status seed count before after = ReadOutcome (PlaysFile before.file seed count) status before after
+abbrev pub PlayOutcome : Status → ℕ → ℕ → Outside → Outside → Type 0
+PlayOutcome answer seed count before after = ReadOutcome (PlaysFile before.file seed count) answer before after

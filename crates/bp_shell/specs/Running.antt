@@ -29,6 +29,9 @@ use Rattle.bp_shell.specs.Checking.{CheckOutcome}
 use Rattle.bp_shell.specs.Ending.{StopOutcome}
 use Rattle.bp_shell.specs.Exporting.{ExportOutcome}
 use Rattle.bp_shell.specs.Playing.{PlayOutcome}
+use Rattle.bp_shell.specs.Statuses.{IsFormatStatus, IsRunStatus, code_of}
+use Rattle.bp_shell.specs.declared.status.Status.{Status}
+use Rattle.bp_shell.specs.declared.status.Status.TheVariants as status
 use Rattle.bp_session.specs.Pieces.{piece_size}
 use Rattle.bp_replies.specs.Room.{gathered_size}
 use Rattle.bp_replies.specs.Taking.{TakesPart}
@@ -134,25 +137,25 @@ pub record RunsUnsaved (before after : Outside) : Type 0 where
   pub plainly : FollowsTree begins.tree (start begins.image) (commands_from [] begins.input) told.replies middle
 
 -- Where FILE is told to have the bytes of a file system, the source has no more than the most bytes, and nothing
--- fails, the status is 0, or 8 for want of memory.
-abbrev pub IsComplete : ℕ → Outside → Outside → Type 0
-IsComplete status before after =
+-- fails, all is done, or memory is wanting.
+abbrev pub IsComplete : Status → Outside → Outside → Type 0
+IsComplete answer before after =
     (image : Image) (input : List ℕ) → before.file ≡ Some (Some (image_bytes image)) → AreWordsOf64Bits image
     → IsFileSystem image → before.left ≡ Some input → length input ≤ max_input
-    → ¬ SourceFailed before after → ¬ SinkFailed before after → ¬ FilesFailed before after → (status ≡ 0) ⊎ (status ≡ 8)
+    → ¬ SourceFailed before after → ¬ SinkFailed before after → ¬ FilesFailed before after
+    → (answer ≡ status.Done) ⊎ (answer ≡ status.Memory)
 
 -- What `run FILE` answers, and when.
-pub record RunOutcome (status : ℕ) (before after : Outside) : Type 0 where
-  pub whole : status ≡ 0 → Runs before after
-  pub source : status ≡ 3 → RunsPart before after
-  pub sink : status ≡ 4 → RunsBroken before after
-  pub files : status ≡ 5 → IsIdle before after ⊎ RunsStopped before after ⊎ RunsUnsaved before after
-  pub long : status ≡ 6 → RunsLong before after
-  pub stops : StopOutcome status before after
-  pub flushed : ¬ (status ≡ 5) → before.is_flushed ≡ true → after.is_flushed ≡ true
-  pub complete : IsComplete status before after
-  pub one_of : (status ≡ 0) ⊎ (status ≡ 1) ⊎ (status ≡ 3) ⊎ (status ≡ 4) ⊎ (status ≡ 5) ⊎ (status ≡ 6) ⊎ (status ≡ 7)
-      ⊎ (status ≡ 8)
+pub record RunOutcome (answer : Status) (before after : Outside) : Type 0 where
+  pub whole : answer ≡ status.Done → Runs before after
+  pub source : answer ≡ status.SourceFailed → RunsPart before after
+  pub sink : answer ≡ status.SinkFailed → RunsBroken before after
+  pub files : answer ≡ status.FilesFailed → IsIdle before after ⊎ RunsStopped before after ⊎ RunsUnsaved before after
+  pub long : answer ≡ status.LongInput → RunsLong before after
+  pub stops : StopOutcome answer before after
+  pub flushed : ¬ (answer ≡ status.FilesFailed) → before.is_flushed ≡ true → after.is_flushed ≡ true
+  pub complete : IsComplete answer before after
+  pub one_of : IsRunStatus answer
 
 -- FILE is attached and may be written, and no other file changes.
 pub record ChangesAlone (name : List ℕ) (old new : View) : Type 0 where
@@ -171,16 +174,16 @@ abbrev pub format_text : ℕ → List ℕ
 format_text blocks = notice_text (Formatted blocks (blocks - 2))
 
 -- What `format FILE --blocks N --version V` answers, and when. It reads no input.
-pub record FormatOutcome (status : ℕ) (version : Version) (blocks : ℕ) (before after : Outside) : Type 0 where
-  pub whole : status ≡ 0 → Saves after (new_image version blocks) × Appends before.taken after.taken (format_text blocks)
-  pub sink : status ≡ 4 → Saves after (new_image version blocks) × TakesPart (format_text blocks) before.taken after.taken
-  pub flushed : (status ≡ 0) ⊎ (status ≡ 4) → after.is_flushed ≡ true
-  pub files : status ≡ 5 → HasPartly before.file (image_bytes (new_image version blocks)) after.file
+pub record FormatOutcome (answer : Status) (version : Version) (blocks : ℕ) (before after : Outside) : Type 0 where
+  pub whole : answer ≡ status.Done → Saves after (new_image version blocks) × Appends before.taken after.taken (format_text blocks)
+  pub sink : answer ≡ status.SinkFailed → Saves after (new_image version blocks) × TakesPart (format_text blocks) before.taken after.taken
+  pub flushed : (answer ≡ status.Done) ⊎ (answer ≡ status.SinkFailed) → after.is_flushed ≡ true
+  pub files : answer ≡ status.FilesFailed → HasPartly before.file (image_bytes (new_image version blocks)) after.file
       × (after.taken ≡ before.taken)
-  pub memory : status ≡ 8 → (after.file ≡ before.file) × (after.taken ≡ before.taken)
+  pub memory : answer ≡ status.Memory → (after.file ≡ before.file) × (after.taken ≡ before.taken)
   pub unread : after.left ≡ before.left
-  pub first : IsFirstFault status before.faults after.faults
-  pub one_of : (status ≡ 0) ⊎ (status ≡ 4) ⊎ (status ≡ 5) ⊎ (status ≡ 8)
+  pub first : IsFirstFault (code_of answer) before.faults after.faults
+  pub one_of : IsFormatStatus answer
 
 -- ---- any program
 
@@ -193,12 +196,12 @@ file_name (plays name seed count) = name
 file_name (exports name) = name
 
 -- What a program answers, and when.
-abbrev pub ProgramOutcome : Program → ℕ → Outside → Outside → Type 0
-ProgramOutcome (formats name blocks version) status before after = FormatOutcome status version blocks before after
-ProgramOutcome (runs name) status before after = RunOutcome status before after
-ProgramOutcome (checks name) status before after = CheckOutcome status before after
-ProgramOutcome (plays name seed count) status before after = PlayOutcome status seed count before after
-ProgramOutcome (exports name) status before after = ExportOutcome status before after
+abbrev pub ProgramOutcome : Program → Status → Outside → Outside → Type 0
+ProgramOutcome (formats name blocks version) answer before after = FormatOutcome answer version blocks before after
+ProgramOutcome (runs name) answer before after = RunOutcome answer before after
+ProgramOutcome (checks name) answer before after = CheckOutcome answer before after
+ProgramOutcome (plays name seed count) answer before after = PlayOutcome answer seed count before after
+ProgramOutcome (exports name) answer before after = ExportOutcome answer before after
 
 -- What a program leaves of the files, FILE and others, by what is told of them before and after.
 abbrev pub LeavesFiles : Program → View → View → Type 0
@@ -209,7 +212,7 @@ LeavesFiles (plays name seed count) old new = OnlyReads name old new
 LeavesFiles (exports name) old new = OnlyReads name old new
 
 -- The words ask for a program, and this is its outcome. What is known of a file is told for each name.
-pub record RunsProgram (words : List (List ℕ)) (status : ℕ) (before after : List ℕ → Outside) : Type 0 where
+pub record RunsProgram (words : List (List ℕ)) (answer : Status) (before after : List ℕ → Outside) : Type 0 where
   pub program : Program
   pub asked : Requests words program
-  pub outcome : ProgramOutcome program status (before (file_name program)) (after (file_name program))
+  pub outcome : ProgramOutcome program answer (before (file_name program)) (after (file_name program))

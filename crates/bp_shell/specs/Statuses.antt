@@ -1,5 +1,7 @@
--- The number of each way in which a program ends.
-use Rattle.std.specs.Prelude.{ℕ}
+-- How a program ends: the number of each way, the causes that lead to some, and which ways a program has.
+use Rattle.std.specs.Prelude.{◌≡◌, ◌⊎◌, ℕ}
+use Rattle.bp_session.specs.declared.broken.Broken.{Broken}
+use Rattle.bp_session.specs.declared.broken.Broken.TheVariants as cause
 use Rattle.bp_shell.specs.declared.status.Status.{Status}
 use Rattle.bp_shell.specs.declared.status.Status.TheVariants.{Done, Missing, Usage, SourceFailed, SinkFailed}
 use Rattle.bp_shell.specs.declared.status.Status.TheVariants.{FilesFailed, LongInput, Refused, Memory, Deep}
@@ -16,3 +18,36 @@ code_of LongInput = 6
 code_of Refused = 7
 code_of Memory = 8
 code_of Deep = 9
+
+-- how a run ends where this breaks serving off
+abbrev pub status_by : Broken → Status
+status_by cause.Source = SourceFailed
+status_by cause.Sink = SinkFailed
+status_by cause.Files = FilesFailed
+status_by cause.LongInput = LongInput
+
+-- no byte of the source is read where a program ends so
+abbrev pub ReadsNothing : Status → Type 0
+ReadsNothing answer =
+    (answer ≡ Missing) ⊎ (answer ≡ Usage) ⊎ (answer ≡ Refused) ⊎ (answer ≡ Memory) ⊎ (answer ≡ Deep)
+
+-- ---- how each program ends
+
+abbrev pub IsFormatStatus : Status → Type 0
+IsFormatStatus answer = (answer ≡ Done) ⊎ (answer ≡ SinkFailed) ⊎ (answer ≡ FilesFailed) ⊎ (answer ≡ Memory)
+
+abbrev pub IsRunStatus : Status → Type 0
+IsRunStatus answer =
+    (answer ≡ Done) ⊎ (answer ≡ Missing) ⊎ (answer ≡ SourceFailed) ⊎ (answer ≡ SinkFailed) ⊎ (answer ≡ FilesFailed)
+    ⊎ (answer ≡ LongInput) ⊎ (answer ≡ Refused) ⊎ (answer ≡ Memory)
+
+-- `check` and `play`
+abbrev pub IsReadStatus : Status → Type 0
+IsReadStatus answer =
+    (answer ≡ Done) ⊎ (answer ≡ Missing) ⊎ (answer ≡ SinkFailed) ⊎ (answer ≡ FilesFailed) ⊎ (answer ≡ Refused)
+    ⊎ (answer ≡ Memory)
+
+abbrev pub IsExportStatus : Status → Type 0
+IsExportStatus answer =
+    (answer ≡ Done) ⊎ (answer ≡ Missing) ⊎ (answer ≡ SinkFailed) ⊎ (answer ≡ FilesFailed) ⊎ (answer ≡ Refused)
+    ⊎ (answer ≡ Memory) ⊎ (answer ≡ Deep)

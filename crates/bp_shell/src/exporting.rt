@@ -8,7 +8,6 @@ ghost use Rattle.bp_shell.specs.Answering.{EndsUnread};
 ghost use Rattle.bp_shell.specs.Exporting.{ExportOutcome, TellsTreeOf};
 ghost use Rattle.bp_shell.specs.Opening.{HoldsFileSystem, OnlyReads};
 ghost use Rattle.bp_shell.specs.Scanning.{ScanFinds};
-ghost use Rattle.bp_shell.specs.Statuses.{code_of};
 ghost use Rattle.bp_shell.specs.Stops.{HasStopCause, IsReason};
 ghost use Rattle.std.specs.Prelude.{◌*◌, ◌≡◌, [], IfErr, IfOk, length};
 
@@ -70,7 +69,7 @@ pub(crate) fn export_file<K: Sink, F: Files>(
     files: &mut F,
 ) -> Status
     // Whatever a source has left.
-    ensures outcome { EndsUnread (ExportOutcome (code_of result)) name.now
+    ensures outcome { EndsUnread (ExportOutcome result) name.now
         (K.view out.old) (F.view files.old) (K.view out.new) (F.view files.new) }
     ensures reads { OnlyReads name.now (F.view files.old) (F.view files.new) }
 {

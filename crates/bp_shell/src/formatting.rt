@@ -8,7 +8,6 @@ ghost use Rattle.bp_session.specs.Files.{HasBytes};
 ghost use Rattle.bp_shell.specs.Answering.{EndsUnread};
 ghost use Rattle.bp_shell.specs.Formatting.{LeavesPartly, OnlyMakes, new_image};
 ghost use Rattle.bp_shell.specs.Running.{FormatOutcome};
-ghost use Rattle.bp_shell.specs.Statuses.{code_of};
 ghost use Rattle.pm_region.specs.Memory.{current_words};
 ghost use Rattle.std.specs.Prelude.{◌%◌, ◌*◌, ◌/◌, ◌≡◌, ◌≤◌, [], true, IfOk, OnErr, OnOk, length, replicate};
 
@@ -98,7 +97,7 @@ pub(crate) fn format_file<K: Sink, F: Files>(
     requires least { MIN_BLOCKS ≤ blocks }
     requires most { blocks ≤ MAX_BLOCKS }
     // Whatever a source has left.
-    ensures outcome { EndsUnread (FormatOutcome (code_of result) version blocks) name.now
+    ensures outcome { EndsUnread (FormatOutcome result version blocks) name.now
         (K.view out.old) (F.view files.old) (K.view out.new) (F.view files.new) }
     ensures makes { OnlyMakes name.now (F.view files.old) (F.view files.new) }
 {

@@ -14,17 +14,14 @@ ghost use Rattle.bp_shell.specs.Stops.{HasStopCause, IsReason, stop_by};
 ghost use Rattle.bp_shell.specs.declared.stop.Stop.TheVariants.{Memory, Outside, Refused};
 
 use crate::stop::Stop;
-use bp_io::{Access, Failed, Files};
-use bp_limits::{BLOCK_SIZE, BLOCK_WORDS, LOG_EVENTS, MAX_BLOCKS, MIN_BLOCKS};
+use bp_io::{Access, BLOCK, Failed, Files};
+use bp_limits::{BLOCK_WORDS, LOG_EVENTS};
 use bp_scan::{MountFault, image_length};
 use bp_script::Notice;
 use bp_session::blocks::RUN_BLOCKS;
 use bp_volume::Volume;
 use pm_raw::{Filling, RawRegion};
 use std::alloc::Global;
-
-/// The bytes of a block, as a length.
-const BLOCK: usize = BLOCK_SIZE as usize;
 
 /// Puts the words that a run of bytes spells behind those that are there.
 fn push_run(filling: &mut Filling, run: &[u8])

@@ -5,7 +5,6 @@ ghost use Rattle.bp_limits.specs.Limits.{log_events, max_turns};
 ghost use Rattle.bp_shell.specs.Answering.{EndsUnread};
 ghost use Rattle.bp_shell.specs.Opening.{FromAnyFile, OnlyReads};
 ghost use Rattle.bp_shell.specs.Playing.{EndsPlay, PlayOutcome, PlaysFile, play_text, spaced, summary_text, tree_text};
-ghost use Rattle.bp_shell.specs.Statuses.{code_of};
 ghost use Rattle.bp_shell.specs.Stops.{HasStopCause, IsReason};
 ghost use Rattle.std.specs.Prelude.{◌≡◌, ◌≤◌, ◌++◌, ℕ, IfErr, IfOk, OnOk};
 
@@ -153,7 +152,7 @@ pub(crate) fn play_file<K: Sink, F: Files>(
 ) -> Status
     requires { count ≤ max_turns }
     // Whatever a source has left.
-    ensures outcome { EndsUnread (PlayOutcome (code_of result) seed count) name.now
+    ensures outcome { EndsUnread (PlayOutcome result seed count) name.now
         (K.view out.old) (F.view files.old) (K.view out.new) (F.view files.new) }
     ensures reads { OnlyReads name.now (F.view files.old) (F.view files.new) }
 {

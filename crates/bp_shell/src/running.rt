@@ -3,13 +3,11 @@
 ghost use Rattle.bp_command.specs.Commands.{IsTaken};
 ghost use Rattle.bp_command.specs.Programs.{HasNumbersInRange, Program as Asked, Requests, program_of};
 ghost use Rattle.bp_io.specs.Files.{KeepsOthers, StaysAttached};
-ghost use Rattle.bp_script.specs.Sayings.{notice_text};
-ghost use Rattle.bp_script.specs.declared.notices.Notice.TheVariants.{Usage};
-ghost use Rattle.bp_session.specs.Outside.{Prints};
 ghost use Rattle.bp_session.specs.Serving.{CanServe};
-ghost use Rattle.bp_shell.specs.Answering.{AnswersAsAsked, EndsAs, ProgramEnds, RunsMounted, RunsOrLacksMemory, texts_of};
+ghost use Rattle.bp_shell.specs.Answering.{AnswersAsAsked, AnswersIfTaken, EndsAs, ProgramEnds, RunsMounted, TellsUsage, texts_of};
 ghost use Rattle.bp_shell.specs.Running.{LeavesFiles, OnlyWrites, RunOutcome};
-ghost use Rattle.bp_shell.specs.Statuses.{code_of};
+ghost use Rattle.bp_shell.specs.Statuses.{ReadsNothing};
+ghost use Rattle.bp_shell.specs.declared.status.Status.TheVariants.{Memory, Usage};
 ghost use Rattle.std.specs.Prelude.{◌≡◌, ◌⊎◌};
 
 use crate::checking::check_file;
@@ -41,9 +39,9 @@ fn serve_and_save<R: Region, S: Source, K: Sink, F: Files>(
 ) -> Status
     requires { CanServe volume.old (F.view files.old) }
     // From whichever file it was mounted.
-    ensures outcome { RunsMounted (code_of result) S.view K.view F.view
+    ensures outcome { RunsMounted result S.view K.view F.view
         source.old out.old files.old volume.old source.new out.new files.new }
-    ensures unread { (code_of result ≡ 1) ⊎ (code_of result ≡ 7) ⊎ (code_of result ≡ 8) → source.new ≡ source.old }
+    ensures unread { ReadsNothing result → source.new ≡ source.old }
     ensures attached { StaysAttached (F.view files.old) (F.view files.new) }
     ensures others { KeepsOthers (F.view files.old) (F.view files.new) }
 {
@@ -67,9 +65,9 @@ fn run_over<R: Region, S: Source, K: Sink, F: Files>(
 ) -> Status
     requires { CanServe volume.old (F.view files.old) }
     // From whichever file it was mounted.
-    ensures outcome { RunsMounted (code_of result) S.view K.view F.view
+    ensures outcome { RunsMounted result S.view K.view F.view
         source.old out.old files.old volume.old source.new out.new files.new }
-    ensures unread { (code_of result ≡ 1) ⊎ (code_of result ≡ 7) ⊎ (code_of result ≡ 8) → source.new ≡ source.old }
+    ensures unread { ReadsNothing result → source.new ≡ source.old }
     ensures attached { StaysAttached (F.view files.old) (F.view files.new) }
     ensures others { KeepsOthers (F.view files.old) (F.view files.new) }
 {
@@ -87,9 +85,9 @@ fn run_file<S: Source, K: Sink, F: Files>(
     out: &mut K,
     files: &mut F,
 ) -> Status
-    ensures outcome { EndsAs (RunOutcome (code_of result)) name.now S.view K.view F.view
+    ensures outcome { EndsAs (RunOutcome result) name.now S.view K.view F.view
         source.old out.old files.old source.new out.new files.new }
-    ensures unread { (code_of result ≡ 1) ⊎ (code_of result ≡ 7) ⊎ (code_of result ≡ 8) → source.new ≡ source.old }
+    ensures unread { ReadsNothing result → source.new ≡ source.old }
     ensures files { OnlyWrites name.now (F.view files.old) (F.view files.new) }
 {
     match open(alloc, name, files) {
@@ -107,11 +105,10 @@ fn run_program<S: Source, K: Sink, F: Files>(
     files: &mut F,
 ) -> Status
     requires { HasNumbersInRange (program_of program.now) }
-    ensures outcome { ProgramEnds (program_of program.now) (code_of result) S.view K.view F.view
+    ensures outcome { ProgramEnds (program_of program.now) result S.view K.view F.view
         source.old out.old files.old source.new out.new files.new }
-    ensures unread { (code_of result ≡ 1) ⊎ (code_of result ≡ 7) ⊎ (code_of result ≡ 8) ⊎ (code_of result ≡ 9)
-        → source.new ≡ source.old }
-    ensures asked { ¬ (code_of result ≡ 2) }
+    ensures unread { ReadsNothing result → source.new ≡ source.old }
+    ensures asked { ¬ (result ≡ Usage) }
     ensures files { LeavesFiles (program_of program.now) (F.view files.old) (F.view files.new) }
 {
     match *program {
@@ -136,20 +133,18 @@ pub fn run<S: Source, K: Sink, F: Files>(
     out: &mut K,
     files: &mut F,
 ) -> Status
-    ensures usage { code_of result ≡ 2 → ¬ IsTaken (texts_of words.now) }
-    ensures not_taken { ¬ IsTaken (texts_of words.now) → (code_of result ≡ 2) ⊎ (code_of result ≡ 8) }
-    ensures told { code_of result ≡ 2 → Prints (notice_text Usage) (K.view out.old).taken (K.view out.new).taken
-        (K.view out.old).faults (K.view out.new).faults }
-    ensures unread { (code_of result ≡ 1) ⊎ (code_of result ≡ 2) ⊎ (code_of result ≡ 7) ⊎ (code_of result ≡ 8)
-        ⊎ (code_of result ≡ 9) → source.new ≡ source.old }
-    ensures untouched { code_of result ≡ 2 → files.new ≡ files.old }
+    ensures usage { result ≡ Usage → ¬ IsTaken (texts_of words.now) }
+    ensures not_taken { ¬ IsTaken (texts_of words.now) → (result ≡ Usage) ⊎ (result ≡ Memory) }
+    ensures told { result ≡ Usage → TellsUsage (K.view out.old) (K.view out.new) }
+    ensures unread { ReadsNothing result → source.new ≡ source.old }
+    ensures untouched { result ≡ Usage → files.new ≡ files.old }
 
     // Words that ask for a program in the plain way.
-    ensures plain { AnswersAsAsked (texts_of words.now) (code_of result) S.view K.view F.view
+    ensures plain { AnswersAsAsked (texts_of words.now) result S.view K.view F.view
         source.old out.old files.old source.new out.new files.new }
 
     // All other words that are taken. Want of memory may come before they are read.
-    ensures others { ¬ (code_of result ≡ 2) → RunsOrLacksMemory (texts_of words.now) (code_of result) S.view K.view F.view
+    ensures others { AnswersIfTaken (texts_of words.now) result S.view K.view F.view
         source.old out.old files.old source.new out.new files.new }
 
     // What whichever words leave of the files, FILE and others.

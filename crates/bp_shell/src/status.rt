@@ -1,7 +1,6 @@
 //! How a program ends.
 
-ghost use Rattle.bp_session.specs.Statuses.{broken_status};
-ghost use Rattle.bp_shell.specs.Statuses.{code_of};
+ghost use Rattle.bp_shell.specs.Statuses.{code_of, status_by};
 ghost use Rattle.std.specs.Prelude.{◌≡◌};
 
 use bp_session::Broken;
@@ -41,7 +40,7 @@ impl Status {
 }
 
 impl From<Broken> for Status {
-    ghost from_gives = { λ broken status. code_of status ≡ broken_status broken };
+    ghost from_gives = { λ broken status. status ≡ status_by broken };
 
     fn from(broken: Broken) -> Status {
         match broken {

@@ -14,12 +14,12 @@ use Rattle.bp_shell.proofs.ProgramLaws.{format_memory, run_memory}
 use Rattle.bp_shell.proofs.running.run.Goals as goal
 
 -- want of memory before FILE is read
-unread : (Tells : List ℕ → Type 0) (outside : Outside) → ReadOutcome Tells 8 outside outside
+unread : (Tells : List ℕ → Type 0) (outside : Outside) → ReadOutcome Tells status.Memory outside outside
 unread Tells outside =
     read_stopped Tells outside outside (record { left = refl; file = refl }) refl refl stop.Memory status.Memory (memory_reason outside.file) (λ e. absurd (if_memory _ refl e)) (λ _. refl) (refl, (refl, refl))
 
 -- .. and before the words are read
-without_memory : (program : Program) (outside : Outside) → ProgramOutcome program 8 outside outside
+without_memory : (program : Program) (outside : Outside) → ProgramOutcome program status.Memory outside outside
 without_memory (formats name blocks version) outside = format_memory version blocks outside outside refl refl refl refl refl refl
 without_memory (runs name) outside = run_memory outside outside (record { left = refl; file = refl }) refl refl refl refl refl
 without_memory (checks name) outside = unread _ outside

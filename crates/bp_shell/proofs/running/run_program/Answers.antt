@@ -1,5 +1,4 @@
-use Rattle.std.proofs.Common.{inl, inr}
-use Rattle.bp_shell.proofs.ProgramLaws.{format_asked, read_asked, run_short}
+use Rattle.bp_shell.proofs.ProgramLaws.{format_asked, read_asked}
 use Rattle.bp_shell.proofs.ExportingLaws.{export_asked}
 use Rattle.bp_shell.proofs.running.run_program.Goals as goal
 
@@ -10,12 +9,7 @@ pub returns-in-Run-clause-outcome : goal.returns-in-Run-clause-outcome
 returns-in-Run-clause-outcome g c = rw c.in-Run.is c.run_file.ensures.outcome
 
 pub returns-in-Run-clause-unread : goal.returns-in-Run-clause-unread
-returns-in-Run-clause-unread g c = λ among. elim among [
-  | inl e ↦ c.run_file.ensures.unread (inl e)
-  | inr (inl e) ↦ c.run_file.ensures.unread (inr (inl e))
-  | inr (inr (inl e)) ↦ c.run_file.ensures.unread (inr (inr e))
-  | inr (inr (inr e)) ↦ absurd (run_short _ c.run_file.ensures.outcome.one_of e)
-]
+returns-in-Run-clause-unread g c = c.run_file.ensures.unread
 
 pub returns-in-Check-clause-outcome : goal.returns-in-Check-clause-outcome
 returns-in-Check-clause-outcome g c = rw c.in-Check.is (c.check_file.ensures.outcome (g.S.Source.view c.args.source.now))

@@ -1,10 +1,8 @@
 use Rattle.std.proofs.Common.{refl}
 use Rattle.bp_session.proofs.OthersLaws.{others_then}
-use Rattle.bp_session.proofs.OutcomeLaws.{never_whole}
 use Rattle.bp_session.proofs.SavingLaws.{stays_attached}
 use Rattle.bp_session.specs.Changed.{stale_in}
 use Rattle.bp_session.specs.Serving.{Moment, moment, with_stale}
-use Rattle.bp_shell.specs.Statuses.{code_of}
 use Rattle.bp_shell.proofs.ProgramLaws.{broken_reads, read_now, run_served, run_unsaved, run_whole}
 use Rattle.bp_shell.proofs.running.serve_and_save.Goals as goal
 
@@ -12,10 +10,10 @@ pub returns-in-Err-clause-outcome : goal.returns-in-Err-clause-outcome
 returns-in-Err-clause-outcome g c = λ before name image mounted.
     let begun : Moment = with_stale (stale_in c.none-stale.result) (moment c.args.volume.now (g.F.Files.view c.args.files.now) (g.K.Sink.view c.args.out.now)) in
     let held = read_now begun name image mounted.starts mounted.holds in
-    rw c.from.ensures (run_served _ _ before begun _ name image mounted.found mounted.starts held mounted.flushed mounted.calm _ (never_whole c.in-Err.broken) c.in-Err.ensures.outcome)
+    rw c.from.ensures (run_served _ _ before begun _ name image mounted.found mounted.starts held mounted.flushed mounted.calm c.in-Err.broken c.in-Err.ensures.outcome)
 
 pub returns-in-Err-clause-unread : goal.returns-in-Err-clause-unread
-returns-in-Err-clause-unread g c unread = absurd (broken_reads c.in-Err.broken (code_of c.from.result) c.from.ensures unread)
+returns-in-Err-clause-unread g c unread = absurd (broken_reads c.in-Err.broken (rw c.from.ensures at unread))
 
 pub returns-in-Ok-clause-outcome : goal.returns-in-Ok-clause-outcome
 returns-in-Ok-clause-outcome g c = λ before name image mounted.

@@ -4,7 +4,7 @@ use Rattle.std.proofs.lemmas.List.{append_assoc, append-nil, take-append-le}
 use Rattle.std.proofs.lemmas.List.Elements.{All-append, All-cons, All-nil}
 use Rattle.std.proofs.lemmas.Bool.{ltb-true, ltb-false}
 use Rattle.std.proofs.Math.Seq.{take-append-add}
-use Rattle.std.specs.Prelude.{Option, ◌⊎◌}
+use Rattle.std.specs.Prelude.{Option, None, Some, ◌⊎◌}
 use Rattle.std.specs.Io.KnownBytes.{Appends}
 use Rattle.std.proofs.KnownBytes.{Appends-trans}
 use Rattle.bp_io.specs.Causes.{Rose}
@@ -19,12 +19,14 @@ use Rattle.bp_session.specs.Acting.{state}
 use Rattle.bp_session.specs.Lines.{commands_from}
 use Rattle.bp_session.specs.Outside.{IsFirstFault, counts}
 use Rattle.bp_session.specs.Session.{State}
+use Rattle.bp_session.specs.declared.broken.Broken.{Broken}
+use Rattle.bp_session.specs.declared.broken.Broken.TheVariants as cause
 use Rattle.bp_session.specs.Serving.{BreaksOff, Carries, DoesBreakOff, FailsLine, Keeps, LineOutcome, Moment, PieceOutcome, ServeOutcome, StopsAtSave, SyncFails}
 use Rattle.bp_replies.specs.Taking.{TakesPart}
 use Rattle.bp_session.specs.Gathering.{Clears, AwaitsReply, IsUnheard, IsUntold, LineGathers}
 use Rattle.bp_replies.specs.Gathering.{PassesOn}
 use Rattle.bp_replies.proofs.PassingLaws.{handed_behind, part_behind, passed_part, passes_behind, taken_behind, with_nothing, with_waiting}
-use Rattle.bp_session.proofs.OutcomeLaws.{files_fault, first_after, line_broken, line_stopped, line_whole, no_fault, piece_newline, piece_quiet, piece_then, sink_fault, stops_after}
+use Rattle.bp_session.proofs.OutcomeLaws.{files_fault, first_after, line_broken, line_stopped, line_whole, piece_newline, piece_quiet, piece_then, quiet, sink_fault, stops_after}
 use Rattle.bp_session.proofs.ChangedLaws.{holds_lost}
 use Rattle.bp_session.proofs.OthersLaws.{others_same, others_then}
 use Rattle.bp_session.proofs.SavingLaws.{stays_attached, still_attached}
@@ -54,13 +56,13 @@ stops_handed old memory partly command more t u fails took = record {
 }
 
 -- what waited is handed over
-piece_handed : (most : ℕ) (held : List ℕ) (now : Moment) (u : Option (List ℕ)) → Appends now.taken u [] → PieceOutcome 0 most held [] held now (record now { taken = u })
+piece_handed : (most : ℕ) (held : List ℕ) (now : Moment) (u : Option (List ℕ)) → Appends now.taken u [] → PieceOutcome None most held [] held now (record now { taken = u })
 piece_handed most held now u took = record {
   whole = λ _ saved. record { commands = []; lines = λ rest. refl; after = saved; file = λ name file. file; told = record { replies = []; session = refl; taken = rw text_none took } };
-  broken = λ e. absurd (omega (arith, e));
-  stopped = λ e. absurd (omega (arith, e));
+  broken = λ e. absurd cc;
+  stopped = λ e. absurd cc;
   keeps_files = record { size = refl; capacity = refl; attached = still_attached now.files; others = others_same now.files; flushed = λ _ e. e };
-  first = no_fault 0 _ _ (λ e. omega (arith, e)) (λ e. omega (arith, e)) (λ e. omega (arith, e)) refl refl refl;
+  first = quiet false _ _ refl refl refl;
   one_of = inl refl;
 }
 
@@ -83,14 +85,14 @@ MayBreakOff most start now waits held input keeps = (taken : Option (List ℕ)) 
 
 -- Lines of an input were served, whose last replies wait.
 pub record Waits (start : Moment) (most : ℕ) (held input keeps waits : List ℕ) (now : Moment) : Type 0 where
-  pub piece : PieceOutcome 0 most held input keeps start (record now { taken = with_waiting now.taken waits })
+  pub piece : PieceOutcome None most held input keeps start (record now { taken = with_waiting now.taken waits })
   pub may : MayBreakOff most start now waits held input keeps
   pub few : most ≡ 0 → waits ≡ []
 
 not_part : (waits : List ℕ) (t u : Option (List ℕ)) → waits ≡ [] → TakesPart waits t u → ⊥
 not_part waits t u none part = omega (arith, part.1, ap length none)
 
-pub waits_nothing : (start : Moment) (most : ℕ) (held waits : List ℕ) → waits ≡ [] → PieceOutcome 0 most held [] held start start → Waits start most held [] held waits start
+pub waits_nothing : (start : Moment) (most : ℕ) (held waits : List ℕ) → waits ≡ [] → PieceOutcome None most held [] held start start → Waits start most held [] held waits start
 waits_nothing start most held waits none piece = record {
   piece = rw (none, with_nothing start.taken) piece;
   may = λ taken part. absurd (not_part waits start.taken taken none part);
@@ -204,35 +206,35 @@ module _ (start : Moment) (most : ℕ) (held input middle a : List ℕ) (now : M
   -- ---- the next line
 
   module _ (new : Moment) where
-    keeps_on : (status : ℕ) → Keeps status now new → Keeps status start new
-    keeps_on status keeps = record {
+    keeps_on : (ended : Option Broken) → Keeps ended now new → Keeps ended start new
+    keeps_on ended keeps = record {
       size = keeps.size ∙ one.piece.keeps_files.size;
       capacity = keeps.capacity ∙ one.piece.keeps_files.capacity;
       attached = stays_attached _ _ _ one.piece.keeps_files.attached keeps.attached;
       others = others_then start.files now.files new.files one.piece.keeps_files.attached one.piece.keeps_files.others keeps.others;
-      flushed = λ other e. keeps.flushed other (one.piece.keeps_files.flushed (λ z. omega (arith, z)) e);
+      flushed = λ other e. keeps.flushed other (one.piece.keeps_files.flushed (λ z. cc) e);
     }
 
-    first_on : (status : ℕ) → IsFirstFault status (counts 0 now.faults now.files) (counts 0 new.faults new.files) → IsFirstFault status (counts 0 start.faults start.files) (counts 0 new.faults new.files)
-    first_on status first = first_after status _ (counts 0 now.faults now.files) _ one.piece.first first
+    first_on : (ended : Option Broken) → IsFirstFault ended false (counts 0 now.faults now.files) (counts 0 new.faults new.files) → IsFirstFault ended false (counts 0 start.faults start.files) (counts 0 new.faults new.files)
+    first_on ended first = first_after ended _ (counts 0 now.faults now.files) _ one.piece.first first
 
     -- its reply waits
-    pub line_waits : (b : List ℕ) → (most ≡ 0 → b ≡ []) → LineGathers 0 (command_of middle) a b now new → Waits start most held (input ++ 10 ∷ []) [] b new
+    pub line_waits : (b : List ℕ) → (most ≡ 0 → b ≡ []) → LineGathers None (command_of middle) a b now new → Waits start most held (input ++ 10 ∷ []) [] b new
     line_waits b few line =
         let answered = line.whole refl in
         record {
           piece =
-              piece_then most held input middle start (record now { taken = with_waiting now.taken a }) (record new { taken = with_waiting new.taken b }) one.piece 0 (10 ∷ []) []
-              (piece_newline 0 most middle _ _
+              piece_then most held input middle start (record now { taken = with_waiting now.taken a }) (record new { taken = with_waiting new.taken b }) one.piece None (10 ∷ []) []
+              (piece_newline None most middle _ _
               (line_whole _ _ _
               (λ saved. serves_one _ _ _ _ _ _ _ (answered.done.does saved) (added (command_of middle) (reply_text answered.done.reply) a b answered.done.waits now.taken answered.done.taken new.taken now.files new.files answered.done.clears answered.passes))
               (record { size = line.keeps.size; capacity = line.keeps.capacity; attached = line.keeps.attached; others = line.keeps.others; flushed = line.keeps.flushed })
-              (line.first.no_sink (inl refl)) (line.first.no_files (λ e. omega (arith, e)))));
+              (line.first.no_sink refl (λ e. cc)) (line.first.no_files (λ e. cc))));
           may = λ taken part. leads_part new answered.done taken (passed_part (reply_text answered.done.reply) answered.done.waits b answered.done.taken new.taken taken answered.passes part);
           few = few;
         }
 
-    broken_off : (b : List ℕ) → LineGathers 4 (command_of middle) a b now new → (rest : List ℕ) → DoesBreakOff most start new (commands_from held ((input ++ 10 ∷ []) ++ rest))
+    broken_off : (b : List ℕ) → LineGathers (Some cause.Sink) (command_of middle) a b now new → (rest : List ℕ) → DoesBreakOff most start new (commands_from held ((input ++ 10 ∷ []) ++ rest))
     broken_off b line rest = go (line.broken refl)
       where
         go : IsUntold (command_of middle) a now new ⊎ IsUnheard a now new → DoesBreakOff most start new (commands_from held ((input ++ 10 ∷ []) ++ rest))
@@ -241,37 +243,37 @@ module _ (start : Moment) (most : ℕ) (held input middle a : List ℕ) (now : M
             subst (λ (m : Moment). DoesBreakOff most start m (commands_from held ((input ++ 10 ∷ []) ++ rest))) (sym unheard.same)
             (rw (append_assoc input (10 ∷ []) rest) (leads_off most start now new.taken held input middle (one.may new.taken unheard.part) new.faults (10 ∷ rest)))
 
-    broken_ends : (b keeps : List ℕ) → LineGathers 4 (command_of middle) a b now new → PieceOutcome 4 most held (input ++ 10 ∷ []) keeps start new
+    broken_ends : (b keeps : List ℕ) → LineGathers (Some cause.Sink) (command_of middle) a b now new → PieceOutcome (Some cause.Sink) most held (input ++ 10 ∷ []) keeps start new
     broken_ends b keeps line = record {
-      whole = λ e. absurd (omega (arith, e));
+      whole = λ e. absurd cc;
       broken = λ _. broken_off b line;
-      stopped = λ e. absurd (omega (arith, e));
-      keeps_files = keeps_on 4 line.keeps;
-      first = first_on 4 line.first;
+      stopped = λ e. absurd cc;
+      keeps_files = keeps_on (Some cause.Sink) line.keeps;
+      first = first_on (Some cause.Sink) line.first;
       one_of = inr (inl refl);
     }
 
-    stop_ends : (b keeps : List ℕ) → LineGathers 5 (command_of middle) a b now new → PieceOutcome 5 most held (input ++ 10 ∷ []) keeps start new
+    stop_ends : (b keeps : List ℕ) → LineGathers (Some cause.Files) (command_of middle) a b now new → PieceOutcome (Some cause.Files) most held (input ++ 10 ∷ []) keeps start new
     stop_ends b keeps line =
         let unsaved = line.stopped refl in
         let behind : Moment = record now { taken = with_waiting now.taken a } in
         record {
-          whole = λ e. absurd (omega (arith, e));
-          broken = λ e. absurd (omega (arith, e));
+          whole = λ e. absurd cc;
+          broken = λ e. absurd cc;
           stopped = λ _ rest. rw (append_assoc input (10 ∷ []) rest) (stops_after most held input middle start behind new one.piece (10 ∷ rest) (record {
             stops = λ saved. rw (commands_at_newline middle rest) (stops_handed _ _ _ (command_of middle) (commands_from [] rest) _ _ (unsaved.fails.fails saved) (handed_behind a now.taken new.taken unsaved.taken));
             lost = unsaved.fails.lost;
           }));
-          keeps_files = keeps_on 5 line.keeps;
-          first = first_on 5 line.first;
+          keeps_files = keeps_on (Some cause.Files) line.keeps;
+          first = first_on (Some cause.Files) line.first;
           one_of = inr (inr refl);
         }
 
     -- a fault ends it
-    pub line_ends : (status : ℕ) (b keeps : List ℕ) → ¬ (status ≡ 0) → LineGathers status (command_of middle) a b now new → PieceOutcome status most held (input ++ 10 ∷ []) keeps start new
-    line_ends status b keeps other line = go line.one_of
+    pub line_ends : (ended : Option Broken) (b keeps : List ℕ) → ¬ (ended ≡ None) → LineGathers ended (command_of middle) a b now new → PieceOutcome ended most held (input ++ 10 ∷ []) keeps start new
+    line_ends ended b keeps other line = go line.one_of
       where
-        go : (status ≡ 0) ⊎ (status ≡ 4) ⊎ (status ≡ 5) → PieceOutcome status most held (input ++ 10 ∷ []) keeps start new
+        go : (ended ≡ None) ⊎ (ended ≡ Some cause.Sink) ⊎ (ended ≡ Some cause.Files) → PieceOutcome ended most held (input ++ 10 ∷ []) keeps start new
         go (inl e) = absurd (other e)
         go (inr (inl e)) = rw e (broken_ends b keeps (rw e at line))
         go (inr (inr e)) = rw e (stop_ends b keeps (rw e at line))
@@ -281,7 +283,7 @@ module _ (start : Moment) (most : ℕ) (held input middle a : List ℕ) (now : M
   -- input that ends no line
   pub waits_run : (run kept : List ℕ) → ((rest : List ℕ) → commands_from middle (run ++ rest) ≡ commands_from kept rest) → Waits start most held (input ++ run) kept a now
   waits_run run kept same = record {
-    piece = piece_then most held input middle _ _ _ one.piece 0 run kept (piece_quiet most _ middle run kept same);
+    piece = piece_then most held input middle _ _ _ one.piece None run kept (piece_quiet most _ middle run kept same);
     may = λ taken part saved.
         let old = one.may taken part saved in
         record {
@@ -294,19 +296,19 @@ module _ (start : Moment) (most : ℕ) (held input middle a : List ℕ) (now : M
   }
 
   -- what waits is handed over
-  pub waits_handed : (taken : Option (List ℕ)) → Appends now.taken taken a → PieceOutcome 0 most held input middle start (record now { taken = taken })
+  pub waits_handed : (taken : Option (List ℕ)) → Appends now.taken taken a → PieceOutcome None most held input middle start (record now { taken = taken })
   waits_handed taken took =
-      subst (λ (l : List ℕ). PieceOutcome 0 most held l middle start (record now { taken = taken })) (append-nil input)
-      (piece_then most held input middle _ _ _ one.piece 0 [] middle (piece_handed most middle (record now { taken = with_waiting now.taken a }) taken (handed_behind a now.taken taken took)))
+      subst (λ (l : List ℕ). PieceOutcome None most held l middle start (record now { taken = taken })) (append-nil input)
+      (piece_then most held input middle _ _ _ one.piece None [] middle (piece_handed most middle (record now { taken = with_waiting now.taken a }) taken (handed_behind a now.taken taken took)))
 
   -- .. or the sink fails
-  pub waits_broken : (taken : Option (List ℕ)) (faults : ℕ) (keeps : List ℕ) → TakesPart a now.taken taken → Rose now.faults faults → PieceOutcome 4 most held input keeps start (record now { taken = taken; faults = faults })
+  pub waits_broken : (taken : Option (List ℕ)) (faults : ℕ) (keeps : List ℕ) → TakesPart a now.taken taken → Rose now.faults faults → PieceOutcome (Some cause.Sink) most held input keeps start (record now { taken = taken; faults = faults })
   waits_broken taken faults keeps part rose = record {
-    whole = λ e. absurd (omega (arith, e));
+    whole = λ e. absurd cc;
     broken = λ _ rest. leads_off most start now taken held input middle (one.may taken part) faults rest;
-    stopped = λ e. absurd (omega (arith, e));
-    keeps_files = record { size = one.piece.keeps_files.size; capacity = one.piece.keeps_files.capacity; attached = one.piece.keeps_files.attached; others = one.piece.keeps_files.others; flushed = λ _. one.piece.keeps_files.flushed (λ z. omega (arith, z)) };
-    first = first_after 4 _ (counts 0 now.faults now.files) _ one.piece.first (sink_fault _ _ refl rose refl);
+    stopped = λ e. absurd cc;
+    keeps_files = record { size = one.piece.keeps_files.size; capacity = one.piece.keeps_files.capacity; attached = one.piece.keeps_files.attached; others = one.piece.keeps_files.others; flushed = λ _. one.piece.keeps_files.flushed (λ z. cc) };
+    first = first_after (Some cause.Sink) _ (counts 0 now.faults now.files) _ one.piece.first (sink_fault _ _ refl rose refl);
     one_of = inr (inl refl);
   }
 
@@ -314,38 +316,38 @@ module _ (start : Moment) (most : ℕ) (held input middle a : List ℕ) (now : M
 
 module _ (command : Command) (a b : List ℕ) (old new : Moment) (size : length new.memory.base ≡ length old.memory.base) (capacity : new.memory.capacity ≡ old.memory.capacity) (attached : StaysAttached old.files new.files) (others : KeepsOthers old.files new.files) where
   pub line_told : (flushed : old.files.is_flushed ≡ true → new.files.is_flushed ≡ true) (done : AwaitsReply command a old new) → PassesOn (reply_text done.reply) done.waits b done.taken new.taken
-      → new.faults ≡ old.faults → new.files.faults ≡ old.files.faults → LineGathers 0 command a b old new
+      → new.faults ≡ old.faults → new.files.faults ≡ old.files.faults → LineGathers None command a b old new
   line_told flushed done passes sink files = record {
     whole = λ _. record { done = done; passes = passes };
-    broken = λ e. absurd (omega (arith, e));
-    stopped = λ e. absurd (omega (arith, e));
+    broken = λ e. absurd cc;
+    stopped = λ e. absurd cc;
     keeps = record { size = size; capacity = capacity; attached = attached; others = others; flushed = λ _. flushed };
-    first = no_fault 0 _ _ (λ e. omega (arith, e)) (λ e. omega (arith, e)) (λ e. omega (arith, e)) refl sink files;
+    first = quiet false _ _ refl sink files;
     one_of = inl refl;
   }
 
-  line_broken_off : (flushed : old.files.is_flushed ≡ true → new.files.is_flushed ≡ true) → IsUntold command a old new ⊎ IsUnheard a old new → Rose old.faults new.faults → new.files.faults ≡ old.files.faults → LineGathers 4 command a b old new
+  line_broken_off : (flushed : old.files.is_flushed ≡ true → new.files.is_flushed ≡ true) → IsUntold command a old new ⊎ IsUnheard a old new → Rose old.faults new.faults → new.files.faults ≡ old.files.faults → LineGathers (Some cause.Sink) command a b old new
   line_broken_off flushed broken rose files = record {
-    whole = λ e. absurd (omega (arith, e));
+    whole = λ e. absurd cc;
     broken = λ _. broken;
-    stopped = λ e. absurd (omega (arith, e));
+    stopped = λ e. absurd cc;
     keeps = record { size = size; capacity = capacity; attached = attached; others = others; flushed = λ _. flushed };
     first = sink_fault _ _ refl rose files;
     one_of = inr (inl refl);
   }
 
   pub line_untold : (flushed : old.files.is_flushed ≡ true → new.files.is_flushed ≡ true) (done : AwaitsReply command a old new) → TakesPart (done.waits ++ reply_text done.reply) done.taken new.taken
-      → Rose old.faults new.faults → new.files.faults ≡ old.files.faults → LineGathers 4 command a b old new
+      → Rose old.faults new.faults → new.files.faults ≡ old.files.faults → LineGathers (Some cause.Sink) command a b old new
   line_untold flushed done part = line_broken_off flushed (inl (record { done = done; part = part }))
 
-  pub line_unheard : TakesPart a old.taken new.taken → new ≡ record old { taken = new.taken; faults = new.faults } → Rose old.faults new.faults → LineGathers 4 command a b old new
+  pub line_unheard : TakesPart a old.taken new.taken → new ≡ record old { taken = new.taken; faults = new.faults } → Rose old.faults new.faults → LineGathers (Some cause.Sink) command a b old new
   line_unheard part same rose =
       line_broken_off (λ e. ap (λ (m : Moment). m.files.is_flushed) same ∙ e) (inr (record { part = part; same = same })) rose (ap (λ (m : Moment). m.files.faults) same)
 
-  pub line_unsaved : FailsLine old command new → Appends old.taken new.taken a → new.faults ≡ old.faults → Rose old.files.faults new.files.faults → LineGathers 5 command a b old new
+  pub line_unsaved : FailsLine old command new → Appends old.taken new.taken a → new.faults ≡ old.faults → Rose old.files.faults new.files.faults → LineGathers (Some cause.Files) command a b old new
   line_unsaved fails took sink rose = record {
-    whole = λ e. absurd (omega (arith, e));
-    broken = λ e. absurd (omega (arith, e));
+    whole = λ e. absurd cc;
+    broken = λ e. absurd cc;
     stopped = λ _. record { fails = fails; taken = took };
     keeps = record { size = size; capacity = capacity; attached = attached; others = others; flushed = λ no. absurd (no refl) };
     first = files_fault _ _ refl sink rose;
@@ -366,31 +368,31 @@ module _ (command : Command) (old new : Moment) where
           let here : TakesPart (reply_text done.reply) done.taken taken = subst (λ (l : List ℕ). TakesPart (l ++ reply_text done.reply) done.taken taken) sent.0 part in
           part_behind (reply_text done.reply) [] (reply_text done.reply) old.taken done.taken taken refl sent.1 here
 
-  alone_whole : LineGathers 0 command [] [] old new → LineOutcome 0 (command ∷ []) old new
+  alone_whole : LineGathers None command [] [] old new → LineOutcome None (command ∷ []) old new
   alone_whole line =
       let answered = line.whole refl in
       let reply = reply_text answered.done.reply in
       let took = added command reply [] [] answered.done.waits old.taken answered.done.taken new.taken old.files new.files answered.done.clears answered.passes in
-      line_whole _ _ _ (λ saved. serves_one _ _ _ _ _ _ _ (answered.done.does saved) (rw (with_nothing old.taken, with_nothing new.taken) at took)) line.keeps (line.first.no_sink (inl refl)) (line.first.no_files (λ e. omega (arith, e)))
+      line_whole _ _ _ (λ saved. serves_one _ _ _ _ _ _ _ (answered.done.does saved) (rw (with_nothing old.taken, with_nothing new.taken) at took)) line.keeps (line.first.no_sink refl (λ e. cc)) (line.first.no_files (λ e. cc))
 
-  alone_broken : (b : List ℕ) → LineGathers 4 command [] b old new → LineOutcome 4 (command ∷ []) old new
+  alone_broken : (b : List ℕ) → LineGathers (Some cause.Sink) command [] b old new → LineOutcome (Some cause.Sink) (command ∷ []) old new
   alone_broken b line = go (line.broken refl)
     where
-      go : IsUntold command [] old new ⊎ IsUnheard [] old new → LineOutcome 4 (command ∷ []) old new
+      go : IsUntold command [] old new ⊎ IsUnheard [] old new → LineOutcome (Some cause.Sink) (command ∷ []) old new
       go (inl untold) =
           let part = told_alone untold.done new.taken untold.part in
-          line_broken _ _ _ (λ saved. breaks_line _ 0 _ _ _ [] _ part.0 _ _ (untold.done.does saved) part.1 part.2) line.keeps (line.first.sink refl) (line.first.no_files (λ e. omega (arith, e)))
+          line_broken _ _ _ (λ saved. breaks_line _ 0 _ _ _ [] _ part.0 _ _ (untold.done.does saved) part.1 part.2) line.keeps (line.first.sink refl) (line.first.no_files (λ e. cc))
       go (inr unheard) = absurd (not_part [] old.taken new.taken refl unheard.part)
 
-  alone_stopped : (b : List ℕ) → LineGathers 5 command [] b old new → LineOutcome 5 (command ∷ []) old new
+  alone_stopped : (b : List ℕ) → LineGathers (Some cause.Files) command [] b old new → LineOutcome (Some cause.Files) (command ∷ []) old new
   alone_stopped b line =
       let unsaved = line.stopped refl in
-      line_stopped _ _ _ (record { stops = λ saved. stops_handed _ _ _ _ [] _ _ (unsaved.fails.fails saved) unsaved.taken; lost = unsaved.fails.lost }) line.keeps (line.first.no_sink (inr (inr (inl refl)))) (line.first.files refl)
+      line_stopped _ _ _ (record { stops = λ saved. stops_handed _ _ _ _ [] _ _ (unsaved.fails.fails saved) unsaved.taken; lost = unsaved.fails.lost }) line.keeps (line.first.no_sink refl (λ e. cc)) (line.first.files refl)
 
-  pub line_alone : (status : ℕ) (b : List ℕ) → (status ≡ 0 → b ≡ []) → LineGathers status command [] b old new → LineOutcome status (command ∷ []) old new
-  line_alone status b none line = go line.one_of
+  pub line_alone : (ended : Option Broken) (b : List ℕ) → (ended ≡ None → b ≡ []) → LineGathers ended command [] b old new → LineOutcome ended (command ∷ []) old new
+  line_alone ended b none line = go line.one_of
     where
-      go : (status ≡ 0) ⊎ (status ≡ 4) ⊎ (status ≡ 5) → LineOutcome status (command ∷ []) old new
+      go : (ended ≡ None) ⊎ (ended ≡ Some cause.Sink) ⊎ (ended ≡ Some cause.Files) → LineOutcome ended (command ∷ []) old new
       go (inl e) = rw e (alone_whole (rw (e, none e) at line))
       go (inr (inl e)) = rw e (alone_broken b (rw e at line))
       go (inr (inr e)) = rw e (alone_stopped b (rw e at line))
@@ -401,8 +403,8 @@ module _ (command : Command) (old new : Moment) where
 forgets : (old new : Moment) (saved image : Image) → Carries old new saved image → Carries old (record new { stale = [] }) saved image
 forgets old new saved image carried name held = holds_lost [] new.files new.memory.base name image (λ i. refl) (carried name held).file
 
-pub line_forgets : (status : ℕ) (commands : List Command) (old new : Moment) → LineOutcome status commands old new → LineOutcome status commands old (record new { stale = [] })
-line_forgets status commands old new line = record {
+pub line_forgets : (ended : Option Broken) (commands : List Command) (old new : Moment) → LineOutcome ended commands old new → LineOutcome ended commands old (record new { stale = [] })
+line_forgets ended commands old new line = record {
   whole = λ e saved. all_as _ _ _ _ _ _ (forgets old new saved) _ (line.whole e saved);
   broken = λ e saved. breaks_as _ _ _ _ _ _ (forgets old new saved) 0 0 _ (λ z. z) (line.broken e saved);
   stopped = λ e. record { stops = (line.stopped e).stops; lost = λ i. refl };
@@ -411,8 +413,8 @@ line_forgets status commands old new line = record {
   one_of = line.one_of;
 }
 
-pub serve_forgets : (status most : ℕ) (before after : SourceView) (old new : Moment) → ServeOutcome status most before after old new → ServeOutcome status most before after old (record new { stale = [] })
-serve_forgets status most before after old new served = record {
+pub serve_forgets : (ended : Option Broken) (most : ℕ) (before after : SourceView) (old new : Moment) → ServeOutcome ended most before after old new → ServeOutcome ended most before after old (record new { stale = [] })
+serve_forgets ended most before after old new served = record {
   whole = λ e. let all = served.whole e in (all.0, all.1, all.2, all.3, λ saved. all_as _ _ _ _ _ _ (forgets old new saved) _ (all.4 saved));
   part = λ e. let part = served.part e in (part.0, part.1, part.2, λ saved. serves_as _ _ _ _ _ _ (forgets old new saved) _ _ _ (part.3 saved));
   long = λ e.
@@ -439,5 +441,4 @@ serve_forgets status most before after old new served = record {
   keeps = record { size = served.keeps.size; capacity = served.keeps.capacity; attached = served.keeps.attached; others = served.keeps.others; flushed = served.keeps.flushed };
   first = served.first;
   complete = served.complete;
-  one_of = served.one_of;
 }

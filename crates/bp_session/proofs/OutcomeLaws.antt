@@ -1,116 +1,108 @@
 -- Outcomes of serving, from line to line and piece to piece.
-use Rattle.std.proofs.Common.{refl, sym, ◌∙◌, subst, arith, ◌≡◌, ◌≤◌, ℕ, List, [], ◌∷◌, ◌++◌, length, inl, inr}
+use Rattle.std.proofs.Common.{refl, sym, ◌∙◌, subst, ◌≡◌, ◌≤◌, ℕ, Bool, true, false, true≢false, List, [], ◌∷◌, ◌++◌, length, inl, inr}
 use Rattle.std.proofs.lemmas.List.{append_assoc, append-nil}
-use Rattle.std.specs.Prelude.{◌⊎◌, Err, Ok, OnOk, Result}
+use Rattle.std.specs.Prelude.{◌⊎◌, Err, None, Ok, OnOk, Option, Result, Some}
 use Rattle.std.specs.Io.KnownBytes.{Consumes, IsAtEnd}
 use Rattle.bp_io.specs.Causes.{Rose}
 use Rattle.bp_io.specs.Streams.{SourceView}
 use Rattle.bp_script.specs.Commands.{Command, command_of}
+use Rattle.bp_session.specs.Ends.{cause_of}
 use Rattle.bp_session.specs.Lines.{commands_from}
-use Rattle.bp_session.specs.Outside.{Faults, IsFirstFault, SinkTookAll, counts}
+use Rattle.bp_session.specs.Outside.{Faults, IsFirstFault, counts}
 use Rattle.bp_layout.specs.Words.{Image}
 use Rattle.bp_session.specs.Serving.{Carries, CarriesPartly, DoesAll, DoesBreakOff, DoesStop, Keeps, LineOutcome, Moment, PieceOutcome, ServeOutcome}
-use Rattle.bp_session.specs.Statuses.{broken_status, status_of}
 use Rattle.bp_session.specs.declared.broken.Broken.{Broken}
-use Rattle.bp_session.specs.declared.broken.Broken.TheVariants.{Source, Sink, Files, LongInput}
+use Rattle.bp_session.specs.declared.broken.Broken.TheVariants as cause
 use Rattle.bp_session.proofs.OthersLaws.{others_same, others_then}
 use Rattle.bp_session.proofs.SavingLaws.{stays_attached, still_attached}
 use Rattle.bp_session.proofs.ServingLaws.{all_as, breaks_as, breaks_behind, breaks_in, commands_at_newline, commands_of_nothing, not_long, serves_as, serves_newline, serves_quietly, serves_then, serves_to_end, stops_as, stops_behind, stops_in, told_none}
 
--- ---- statuses
+-- ---- how serving ends
 
--- each cause that breaks serving off has a status of its own
-pub never_whole : (broken : Broken) → ¬ (broken_status broken ≡ 0)
-never_whole Source e = omega (arith, e)
-never_whole Sink e = omega (arith, e)
-never_whole Files e = omega (arith, e)
-never_whole LongInput e = omega (arith, e)
+pub never_whole : (broken : Broken) → ¬ (◌≡◌ {A = Option Broken} (Some broken) None)
+never_whole broken e = cc
 
-pub where_whole : {T P : Type 0} (served : Result T Broken) → OnOk served P → status_of served ≡ 0 → P
+pub where_whole : {T P : Type 0} (served : Result T Broken) → OnOk served P → cause_of served ≡ None → P
 where_whole (Ok value) holds e = holds
 where_whole (Err broken) holds e = absurd (never_whole broken e)
 
 -- ---- faults
 
-pub no_fault : (status : ℕ) (a b : Faults) → ¬ (status ≡ 3) → ¬ (status ≡ 4) → ¬ (status ≡ 5) → b.source ≡ a.source → b.sink ≡ a.sink → b.files ≡ a.files → IsFirstFault status a b
-no_fault status a b three four five source sink files = record {
-  source = λ e. absurd (three e);
-  sink = λ e. absurd (four e);
-  files = λ e. absurd (five e);
+pub no_fault : (ended : Option Broken) (tells_line : Bool) (a b : Faults) → ¬ (ended ≡ Some cause.Source) → ¬ (ended ≡ Some cause.Sink) → ¬ (ended ≡ Some cause.Files) → b.source ≡ a.source → b.sink ≡ a.sink → b.files ≡ a.files → IsFirstFault ended tells_line a b
+no_fault ended tells_line a b no_source no_sink no_files source sink files = record {
+  source = λ e. absurd (no_source e);
+  sink = λ e. absurd (no_sink e);
+  files = λ e. absurd (no_files e);
   no_source = λ _. source;
-  no_sink = λ _. sink;
+  no_sink = λ _ _. sink;
   no_files = λ _. files;
 }
 
-pub source_fault : (a b : Faults) → Rose a.source b.source → b.sink ≡ a.sink → b.files ≡ a.files → IsFirstFault 3 a b
+pub quiet : (tells_line : Bool) (a b : Faults) → b.source ≡ a.source → b.sink ≡ a.sink → b.files ≡ a.files → IsFirstFault None tells_line a b
+quiet tells_line a b source sink files = no_fault None tells_line a b (λ e. cc) (λ e. cc) (λ e. cc) source sink files
+
+pub source_fault : (a b : Faults) → Rose a.source b.source → b.sink ≡ a.sink → b.files ≡ a.files → IsFirstFault (Some cause.Source) false a b
 source_fault a b rose sink files = record {
   source = λ _. rose;
-  sink = λ e. absurd (omega (arith, e));
-  files = λ e. absurd (omega (arith, e));
+  sink = λ e. absurd cc;
+  files = λ e. absurd cc;
   no_source = λ other. absurd (other refl);
-  no_sink = λ _. sink;
+  no_sink = λ _ _. sink;
   no_files = λ _. files;
 }
 
-pub sink_fault : (a b : Faults) → b.source ≡ a.source → Rose a.sink b.sink → b.files ≡ a.files → IsFirstFault 4 a b
+pub sink_fault : (a b : Faults) → b.source ≡ a.source → Rose a.sink b.sink → b.files ≡ a.files → IsFirstFault (Some cause.Sink) false a b
 sink_fault a b source rose files = record {
-  source = λ e. absurd (omega (arith, e));
+  source = λ e. absurd cc;
   sink = λ _. rose;
-  files = λ e. absurd (omega (arith, e));
+  files = λ e. absurd cc;
   no_source = λ _. source;
-  no_sink = λ quiet. absurd (never quiet);
+  no_sink = λ _ other. absurd (other refl);
   no_files = λ _. files;
 }
-  where
-    never : SinkTookAll 4 → ⊥
-    never (inl e) = omega (arith, e)
-    never (inr (inl e)) = omega (arith, e)
-    never (inr (inr (inl e))) = omega (arith, e)
-    never (inr (inr (inr (inl e)))) = omega (arith, e)
-    never (inr (inr (inr (inr e)))) = omega (arith, e)
 
-pub files_fault : (a b : Faults) → b.source ≡ a.source → b.sink ≡ a.sink → Rose a.files b.files → IsFirstFault 5 a b
+pub files_fault : (a b : Faults) → b.source ≡ a.source → b.sink ≡ a.sink → Rose a.files b.files → IsFirstFault (Some cause.Files) false a b
 files_fault a b source sink rose = record {
-  source = λ e. absurd (omega (arith, e));
-  sink = λ e. absurd (omega (arith, e));
+  source = λ e. absurd cc;
+  sink = λ e. absurd cc;
   files = λ _. rose;
   no_source = λ _. source;
-  no_sink = λ _. sink;
+  no_sink = λ _ _. sink;
   no_files = λ other. absurd (other refl);
 }
 
--- a status of a line told before the end, whose sink may have failed
-pub no_device_fault : (status : ℕ) (a b : Faults) → ¬ (status ≡ 3) → ¬ (status ≡ 4) → ¬ (status ≡ 5) → ¬ SinkTookAll status → b.source ≡ a.source → b.files ≡ a.files → IsFirstFault status a b
-no_device_fault status a b three four five loud source files = record {
-  source = λ e. absurd (three e);
-  sink = λ e. absurd (four e);
-  files = λ e. absurd (five e);
+-- a line was told at the end, as which the sink may have failed
+pub line_fault : (a b : Faults) → b.source ≡ a.source → b.files ≡ a.files → IsFirstFault None true a b
+line_fault a b source files = record {
+  source = λ e. absurd cc;
+  sink = λ e. absurd cc;
+  files = λ e. absurd cc;
   no_source = λ _. source;
-  no_sink = λ quiet. absurd (loud quiet);
+  no_sink = λ e _. absurd (true≢false e);
   no_files = λ _. files;
 }
 
 from_same : (a b c : ℕ) → b ≡ a → Rose b c → Rose a c
 from_same a b c e rose = subst (λ (n : ℕ). Rose n c) e rose
 
-pub first_then : (status : ℕ) (a b c : Faults) → b.source ≡ a.source → b.sink ≡ a.sink → b.files ≡ a.files → IsFirstFault status b c → IsFirstFault status a c
-first_then status a b c source sink files next = record {
+pub first_then : (ended : Option Broken) (a b c : Faults) → b.source ≡ a.source → b.sink ≡ a.sink → b.files ≡ a.files → IsFirstFault ended false b c → IsFirstFault ended false a c
+first_then ended a b c source sink files next = record {
   source = λ e. from_same a.source b.source c.source source (next.source e);
   sink = λ e. from_same a.sink b.sink c.sink sink (next.sink e);
   files = λ e. from_same a.files b.files c.files files (next.files e);
   no_source = λ other. next.no_source other ∙ source;
-  no_sink = λ quiet. next.no_sink quiet ∙ sink;
+  no_sink = λ told other. next.no_sink told other ∙ sink;
   no_files = λ other. next.no_files other ∙ files;
 }
 
--- what follows a status of 0
-pub first_after : (status : ℕ) (a b c : Faults) → IsFirstFault 0 a b → IsFirstFault status b c → IsFirstFault status a c
-first_after status a b c one next = first_then status a b c (one.no_source (λ e. omega (arith, e))) (one.no_sink (inl refl)) (one.no_files (λ e. omega (arith, e))) next
+-- what follows where all was served
+pub first_after : (ended : Option Broken) (a b c : Faults) → IsFirstFault None false a b → IsFirstFault ended false b c → IsFirstFault ended false a c
+first_after ended a b c one next = first_then ended a b c (one.no_source (λ e. cc)) (one.no_sink refl (λ e. cc)) (one.no_files (λ e. cc)) next
 
 -- a source that didn't fail
-pub first_with_source : (status s t : ℕ) (a b : Faults) → ¬ (status ≡ 3) → t ≡ s → IsFirstFault status a b →
-    IsFirstFault status (record { source = s; sink = a.sink; files = a.files }) (record { source = t; sink = b.sink; files = b.files })
-first_with_source status s t a b other same first = record {
+pub first_with_source : (ended : Option Broken) (s t : ℕ) (a b : Faults) → ¬ (ended ≡ Some cause.Source) → t ≡ s → IsFirstFault ended false a b →
+    IsFirstFault ended false (record { source = s; sink = a.sink; files = a.files }) (record { source = t; sink = b.sink; files = b.files })
+first_with_source ended s t a b other same first = record {
   source = λ e. absurd (other e);
   sink = first.sink;
   files = first.files;
@@ -121,70 +113,70 @@ first_with_source status s t a b other same first = record {
 
 -- ---- what is kept
 
-pub keeps_all : (a : Moment) → Keeps 0 a a
+pub keeps_all : (a : Moment) → Keeps None a a
 keeps_all a = record { size = refl; capacity = refl; attached = still_attached a.files; others = others_same a.files; flushed = λ _ e. e }
 
-pub keeps_then : (status : ℕ) (a b c : Moment) → Keeps 0 a b → Keeps status b c → Keeps status a c
-keeps_then status a b c one two = record {
+pub keeps_then : (ended : Option Broken) (a b c : Moment) → Keeps None a b → Keeps ended b c → Keeps ended a c
+keeps_then ended a b c one two = record {
   size = two.size ∙ one.size;
   capacity = two.capacity ∙ one.capacity;
   attached = stays_attached _ _ _ one.attached two.attached;
   others = others_then a.files b.files c.files one.attached one.others two.others;
-  flushed = λ other e. two.flushed other (one.flushed (λ z. omega (arith, z)) e);
+  flushed = λ other e. two.flushed other (one.flushed (λ z. cc) e);
 }
 
 -- ---- a line
 
-pub line_whole : (commands : List Command) (a b : Moment) → DoesAll a b commands → Keeps 0 a b → b.faults ≡ a.faults → b.files.faults ≡ a.files.faults → LineOutcome 0 commands a b
+pub line_whole : (commands : List Command) (a b : Moment) → DoesAll a b commands → Keeps None a b → b.faults ≡ a.faults → b.files.faults ≡ a.files.faults → LineOutcome None commands a b
 line_whole commands a b all keeps sink files = record {
   whole = λ _. all;
-  broken = λ e. absurd (omega (arith, e));
-  stopped = λ e. absurd (omega (arith, e));
+  broken = λ e. absurd cc;
+  stopped = λ e. absurd cc;
   keeps = keeps;
-  first = no_fault 0 _ _ (λ e. omega (arith, e)) (λ e. omega (arith, e)) (λ e. omega (arith, e)) refl sink files;
+  first = quiet false _ _ refl sink files;
   one_of = inl refl;
 }
 
-pub line_broken : (commands : List Command) (a b : Moment) → DoesBreakOff 0 a b commands → Keeps 4 a b → Rose a.faults b.faults → b.files.faults ≡ a.files.faults → LineOutcome 4 commands a b
+pub line_broken : (commands : List Command) (a b : Moment) → DoesBreakOff 0 a b commands → Keeps (Some cause.Sink) a b → Rose a.faults b.faults → b.files.faults ≡ a.files.faults → LineOutcome (Some cause.Sink) commands a b
 line_broken commands a b broken keeps rose files = record {
-  whole = λ e. absurd (omega (arith, e));
+  whole = λ e. absurd cc;
   broken = λ _. broken;
-  stopped = λ e. absurd (omega (arith, e));
+  stopped = λ e. absurd cc;
   keeps = keeps;
   first = sink_fault _ _ refl rose files;
   one_of = inr (inl refl);
 }
 
-pub line_stopped : (commands : List Command) (a b : Moment) → DoesStop a b commands → Keeps 5 a b → b.faults ≡ a.faults → Rose a.files.faults b.files.faults → LineOutcome 5 commands a b
+pub line_stopped : (commands : List Command) (a b : Moment) → DoesStop a b commands → Keeps (Some cause.Files) a b → b.faults ≡ a.faults → Rose a.files.faults b.files.faults → LineOutcome (Some cause.Files) commands a b
 line_stopped commands a b stop keeps sink rose = record {
-  whole = λ e. absurd (omega (arith, e));
-  broken = λ e. absurd (omega (arith, e));
+  whole = λ e. absurd cc;
+  broken = λ e. absurd cc;
   stopped = λ _. stop;
   keeps = keeps;
   first = files_fault _ _ refl sink rose;
   one_of = inr (inr refl);
 }
 
-pub line_nothing : (a : Moment) → LineOutcome 0 (commands_from [] []) a a
+pub line_nothing : (a : Moment) → LineOutcome None (commands_from [] []) a a
 line_nothing a = rw commands_of_nothing (line_whole [] a a (λ saved. record { after = saved; file = λ name held. held; told = told_none _ _ }) (keeps_all a) refl refl)
 
 -- ---- a piece
 
-pub piece_quiet : (most : ℕ) (a : Moment) (held i keeps : List ℕ) → ((rest : List ℕ) → commands_from held (i ++ rest) ≡ commands_from keeps rest) → PieceOutcome 0 most held i keeps a a
+pub piece_quiet : (most : ℕ) (a : Moment) (held i keeps : List ℕ) → ((rest : List ℕ) → commands_from held (i ++ rest) ≡ commands_from keeps rest) → PieceOutcome None most held i keeps a a
 piece_quiet most a held i keeps same = record {
   whole = λ _ saved. serves_quietly _ _ saved _ _ _ _ (λ name held. held) same;
-  broken = λ e. absurd (omega (arith, e));
-  stopped = λ e. absurd (omega (arith, e));
+  broken = λ e. absurd cc;
+  stopped = λ e. absurd cc;
   keeps_files = keeps_all a;
-  first = no_fault 0 _ _ (λ e. omega (arith, e)) (λ e. omega (arith, e)) (λ e. omega (arith, e)) refl refl refl;
+  first = quiet false _ _ refl refl refl;
   one_of = inl refl;
 }
 
-pub piece_nothing : (most : ℕ) (a : Moment) (held : List ℕ) → PieceOutcome 0 most held [] held a a
+pub piece_nothing : (most : ℕ) (a : Moment) (held : List ℕ) → PieceOutcome None most held [] held a a
 piece_nothing most a held = piece_quiet most a held [] held (λ rest. refl)
 
-pub piece_newline : (status most : ℕ) (held : List ℕ) (a b : Moment) → LineOutcome status (command_of held ∷ []) a b → PieceOutcome status most held (10 ∷ []) [] a b
-piece_newline status most held a b line = record {
+pub piece_newline : (ended : Option Broken) (most : ℕ) (held : List ℕ) (a b : Moment) → LineOutcome ended (command_of held ∷ []) a b → PieceOutcome ended most held (10 ∷ []) [] a b
+piece_newline ended most held a b line = record {
   whole = λ e saved. serves_newline _ _ _ _ _ _ (line.whole e saved);
   broken = λ e rest saved. rw (commands_at_newline held rest) (breaks_behind _ _ _ _ _ (commands_from [] rest) _ _ (breaks_as _ _ _ _ _ _ (λ image held. held) 0 most _ (λ _. refl) (line.broken e saved)));
   stopped = λ e rest. record {
@@ -203,7 +195,7 @@ carries_on a b c saved after one image two name held = two name (one name held)
 pub carries_on_partly : (a b c : Moment) (saved after : Image) → Carries a b saved after → (first second : Image) → CarriesPartly b c after first second → CarriesPartly a c saved first second
 carries_on_partly a b c saved after one first second two name held = two name (one name held)
 
-module _ (most : ℕ) (held i middle : List ℕ) (a b c : Moment) (one : PieceOutcome 0 most held i middle a b) where
+module _ (most : ℕ) (held i middle : List ℕ) (a b c : Moment) (one : PieceOutcome None most held i middle a b) where
   -- what follows a piece that was served, up to a reply that broke off ..
   pub breaks_after : (j : List ℕ) → DoesBreakOff most b c (commands_from middle j) → DoesBreakOff most a c (commands_from held (i ++ j))
   breaks_after j broken saved =
@@ -224,21 +216,21 @@ module _ (most : ℕ) (held i middle : List ℕ) (a b c : Moment) (one : PieceOu
       let first = one.whole refl saved in
       serves_to_end _ _ _ _ _ _ _ _ _ first _ _ j (all_as _ _ _ _ _ _ (carries_on a b c saved first.after first.file) _ (all first.after))
 
-  pub piece_then : (status : ℕ) (j keeps : List ℕ) → PieceOutcome status most middle j keeps b c → PieceOutcome status most held (i ++ j) keeps a c
-  piece_then status j keeps two = record {
+  pub piece_then : (ended : Option Broken) (j keeps : List ℕ) → PieceOutcome ended most middle j keeps b c → PieceOutcome ended most held (i ++ j) keeps a c
+  piece_then ended j keeps two = record {
     whole = λ e saved.
         let first = one.whole refl saved in
         serves_then _ _ _ _ _ _ _ _ _ _ _ _ _ first (serves_as _ _ _ _ _ _ (carries_on a b c saved first.after first.file) _ _ _ (two.whole e first.after));
     broken = λ e rest. rw (append_assoc i j rest) (breaks_after (j ++ rest) (two.broken e rest));
     stopped = λ e rest. rw (append_assoc i j rest) (stops_after (j ++ rest) (two.stopped e rest));
-    keeps_files = keeps_then status a b c one.keeps_files two.keeps_files;
-    first = first_after status _ _ _ one.first two.first;
+    keeps_files = keeps_then ended a b c one.keeps_files two.keeps_files;
+    first = first_after ended _ _ _ one.first two.first;
     one_of = two.one_of;
   }
 
 -- what comes behind a fault doesn't matter
-pub piece_stops : (status most : ℕ) (held i j keeps more : List ℕ) (a b : Moment) → ¬ (status ≡ 0) → PieceOutcome status most held i keeps a b → PieceOutcome status most held (i ++ j) more a b
-piece_stops status most held i j keeps more a b other one = record {
+pub piece_stops : (ended : Option Broken) (most : ℕ) (held i j keeps more : List ℕ) (a b : Moment) → ¬ (ended ≡ None) → PieceOutcome ended most held i keeps a b → PieceOutcome ended most held (i ++ j) more a b
+piece_stops ended most held i j keeps more a b other one = record {
   whole = λ e. absurd (other e);
   broken = λ e rest. rw (append_assoc i j rest) (one.broken e (j ++ rest));
   stopped = λ e rest. rw (append_assoc i j rest) (one.stopped e (j ++ rest));
@@ -251,94 +243,85 @@ piece_stops status most held i j keeps more a b other one = record {
 
 module _ (most : ℕ) (before after : SourceView) (a b : Moment) where
   -- the source failed
-  pub serve_part : (input keeps : List ℕ) → Consumes before.left after.left input → PieceOutcome 0 most [] input keeps a b → Rose before.faults after.faults → ServeOutcome 3 most before after a b
+  pub serve_part : (input keeps : List ℕ) → Consumes before.left after.left input → PieceOutcome None most [] input keeps a b → Rose before.faults after.faults → ServeOutcome (Some cause.Source) most before after a b
   serve_part input keeps read part rose = record {
-    whole = λ e. absurd (omega (arith, e));
+    whole = λ e. absurd cc;
     part = λ _. (input, keeps, read, part.whole refl);
-    long = λ e. absurd (omega (arith, e));
-    broken = λ e. absurd (omega (arith, e));
-    stopped = λ e. absurd (omega (arith, e));
-    keeps = record { size = part.keeps_files.size; capacity = part.keeps_files.capacity; attached = part.keeps_files.attached; others = part.keeps_files.others; flushed = λ _. part.keeps_files.flushed (λ e. omega (arith, e)) };
-    first = source_fault _ _ rose (part.first.no_sink (inl refl)) (part.first.no_files (λ e. omega (arith, e)));
+    long = λ e. absurd cc;
+    broken = λ e. absurd cc;
+    stopped = λ e. absurd cc;
+    keeps = record { size = part.keeps_files.size; capacity = part.keeps_files.capacity; attached = part.keeps_files.attached; others = part.keeps_files.others; flushed = λ _. part.keeps_files.flushed (λ e. cc) };
+    first = source_fault _ _ rose (part.first.no_sink refl (λ e. cc)) (part.first.no_files (λ e. cc));
     complete = λ all told few calm quiet still. absurd (calm rose);
-    one_of = inr (inl refl);
   }
 
   -- there was more than the most bytes
   pub serve_long : (input more keeps : List ℕ) → Consumes before.left after.left (input ++ more) → length input ≡ 1073741824 → 1 ≤ length more → length more ≤ 65536
-      → PieceOutcome 0 most [] input keeps a b → after.faults ≡ before.faults → ServeOutcome 6 most before after a b
+      → PieceOutcome None most [] input keeps a b → after.faults ≡ before.faults → ServeOutcome (Some cause.LongInput) most before after a b
   serve_long input more keeps read most some few part same = record {
-    whole = λ e. absurd (omega (arith, e));
-    part = λ e. absurd (omega (arith, e));
+    whole = λ e. absurd cc;
+    part = λ e. absurd cc;
     long = λ _. (input, more, keeps, read, most, some, few, part.whole refl);
-    broken = λ e. absurd (omega (arith, e));
-    stopped = λ e. absurd (omega (arith, e));
-    keeps = record { size = part.keeps_files.size; capacity = part.keeps_files.capacity; attached = part.keeps_files.attached; others = part.keeps_files.others; flushed = λ _. part.keeps_files.flushed (λ e. omega (arith, e)) };
-    first = no_fault 6 _ _ (λ e. omega (arith, e)) (λ e. omega (arith, e)) (λ e. omega (arith, e)) same (part.first.no_sink (inl refl)) (part.first.no_files (λ e. omega (arith, e)));
+    broken = λ e. absurd cc;
+    stopped = λ e. absurd cc;
+    keeps = record { size = part.keeps_files.size; capacity = part.keeps_files.capacity; attached = part.keeps_files.attached; others = part.keeps_files.others; flushed = λ _. part.keeps_files.flushed (λ e. cc) };
+    first = no_fault (Some cause.LongInput) false _ _ (λ e. cc) (λ e. cc) (λ e. cc) same (part.first.no_sink refl (λ e. cc)) (part.first.no_files (λ e. cc));
     complete = λ all told small calm quiet still. absurd (not_long before.left after.left all input more told small read most some);
-    one_of = inr (inr (inr (inr refl)));
   }
 
   -- a line that was read whole ended it
-  pub serve_ended : (status : ℕ) (input keeps : List ℕ) → ¬ (status ≡ 0) → Consumes before.left after.left input → PieceOutcome status most [] input keeps a b → after.faults ≡ before.faults → ServeOutcome status most before after a b
-  serve_ended status input keeps other read part same = go part.one_of
+  pub serve_ended : (ended : Option Broken) (input keeps : List ℕ) → ¬ (ended ≡ None) → Consumes before.left after.left input → PieceOutcome ended most [] input keeps a b → after.faults ≡ before.faults → ServeOutcome ended most before after a b
+  serve_ended ended input keeps other read part same = go part.one_of
     where
-      go : (status ≡ 0) ⊎ (status ≡ 4) ⊎ (status ≡ 5) → ServeOutcome status most before after a b
+      go : (ended ≡ None) ⊎ (ended ≡ Some cause.Sink) ⊎ (ended ≡ Some cause.Files) → ServeOutcome ended most before after a b
       go (inl e) = absurd (other e)
       go (inr (inl e)) = record {
         whole = λ z. absurd (other z);
-        part = λ z. absurd (omega (arith, z, e));
-        long = λ z. absurd (omega (arith, z, e));
+        part = λ z. absurd cc;
+        long = λ z. absurd cc;
         broken = λ z. (input, read, inl (part.broken z));
-        stopped = λ z. absurd (omega (arith, z, e));
+        stopped = λ z. absurd cc;
         keeps = part.keeps_files;
-        first = first_with_source status before.faults after.faults (counts 0 a.faults a.files) (counts 0 b.faults b.files) (λ z. omega (arith, z, e)) same part.first;
+        first = first_with_source ended before.faults after.faults (counts 0 a.faults a.files) (counts 0 b.faults b.files) (λ z. cc) same part.first;
         complete = λ all told few calm quiet still. absurd (quiet (part.first.sink e));
-        one_of = inr (inr (inl e));
       }
       go (inr (inr e)) = record {
         whole = λ z. absurd (other z);
-        part = λ z. absurd (omega (arith, z, e));
-        long = λ z. absurd (omega (arith, z, e));
-        broken = λ z. absurd (omega (arith, z, e));
+        part = λ z. absurd cc;
+        long = λ z. absurd cc;
+        broken = λ z. absurd cc;
         stopped = λ z. (input, read, inl (part.stopped z));
         keeps = part.keeps_files;
-        first = first_with_source status before.faults after.faults (counts 0 a.faults a.files) (counts 0 b.faults b.files) (λ z. omega (arith, z, e)) same part.first;
+        first = first_with_source ended before.faults after.faults (counts 0 a.faults a.files) (counts 0 b.faults b.files) (λ z. cc) same part.first;
         complete = λ all told few calm quiet still. absurd (still (part.first.files e));
-        one_of = inr (inr (inr (inl e)));
       }
 
   -- the source is at its end
-  pub serve_end : (status : ℕ) (input keeps : List ℕ) (middle : Moment) → Consumes before.left after.left input → IsAtEnd after.left → length input ≤ 1073741824
-      → PieceOutcome 0 most [] input keeps a middle → LineOutcome status (commands_from keeps []) middle b → after.faults ≡ before.faults → ServeOutcome status most before after a b
-  serve_end status input keeps middle read end few part last same = record {
+  pub serve_end : (ended : Option Broken) (input keeps : List ℕ) (middle : Moment) → Consumes before.left after.left input → IsAtEnd after.left → length input ≤ 1073741824
+      → PieceOutcome None most [] input keeps a middle → LineOutcome ended (commands_from keeps []) middle b → after.faults ≡ before.faults → ServeOutcome ended most before after a b
+  serve_end ended input keeps middle read end few part last same = record {
     whole = λ e. (input, read, end, few, rw (← append-nil input) (all_after most _ _ _ a middle b part [] (last.whole e)));
-    part = λ z. absurd (none 3 (λ e. omega (arith, e)) (λ e. omega (arith, e)) (λ e. omega (arith, e)) z last.one_of);
-    long = λ z. absurd (none 6 (λ e. omega (arith, e)) (λ e. omega (arith, e)) (λ e. omega (arith, e)) z last.one_of);
+    part = λ z. absurd (none (Some cause.Source) (λ e. cc) (λ e. cc) (λ e. cc) z last.one_of);
+    long = λ z. absurd (none (Some cause.LongInput) (λ e. cc) (λ e. cc) (λ e. cc) z last.one_of);
     broken = λ e. (
       input,
       read,
       inr (end, rw (← append-nil input) (breaks_after most _ _ _ a middle b part [] (λ saved. breaks_as _ _ _ _ _ _ (λ image carried. carried) 0 most _ (λ _. refl) (last.broken e saved)))),
     );
     stopped = λ e. (input, read, inr (end, rw (← append-nil input) (stops_after most _ _ _ a middle b part [] (last.stopped e))));
-    keeps = keeps_then status a middle b part.keeps_files last.keeps;
-    first = first_with_source status before.faults after.faults (counts 0 a.faults a.files) (counts 0 b.faults b.files) (λ z. none 3 (λ e. omega (arith, e)) (λ e. omega (arith, e)) (λ e. omega (arith, e)) z last.one_of) same first;
+    keeps = keeps_then ended a middle b part.keeps_files last.keeps;
+    first = first_with_source ended before.faults after.faults (counts 0 a.faults a.files) (counts 0 b.faults b.files) (λ z. none (Some cause.Source) (λ e. cc) (λ e. cc) (λ e. cc) z last.one_of) same first;
     complete = λ all told small calm quiet still. elim last.one_of [
       | inl e ↦ e
       | inr (inl e) ↦ absurd (quiet (first.sink e))
       | inr (inr e) ↦ absurd (still (first.files e))
     ];
-    one_of = elim last.one_of [
-      | inl e ↦ inl e
-      | inr (inl e) ↦ inr (inr (inl e))
-      | inr (inr e) ↦ inr (inr (inr (inl e)))
-    ];
   }
     where
-      first : IsFirstFault status (counts 0 a.faults a.files) (counts 0 b.faults b.files)
-      first = first_after status (counts 0 a.faults a.files) (counts 0 middle.faults middle.files) (counts 0 b.faults b.files) part.first last.first
+      first : IsFirstFault ended false (counts 0 a.faults a.files) (counts 0 b.faults b.files)
+      first = first_after ended (counts 0 a.faults a.files) (counts 0 middle.faults middle.files) (counts 0 b.faults b.files) part.first last.first
 
-      none : (n : ℕ) → ¬ (n ≡ 0) → ¬ (n ≡ 4) → ¬ (n ≡ 5) → status ≡ n → (status ≡ 0) ⊎ (status ≡ 4) ⊎ (status ≡ 5) → ⊥
-      none n zero four five z (inl e) = zero (sym z ∙ e)
-      none n zero four five z (inr (inl e)) = four (sym z ∙ e)
-      none n zero four five z (inr (inr e)) = five (sym z ∙ e)
+      none : (n : Option Broken) → ¬ (n ≡ None) → ¬ (n ≡ Some cause.Sink) → ¬ (n ≡ Some cause.Files) → ended ≡ n → (ended ≡ None) ⊎ (ended ≡ Some cause.Sink) ⊎ (ended ≡ Some cause.Files) → ⊥
+      none n whole sink files z (inl e) = whole (sym z ∙ e)
+      none n whole sink files z (inr (inl e)) = sink (sym z ∙ e)
+      none n whole sink files z (inr (inr e)) = files (sym z ∙ e)

@@ -2,13 +2,14 @@
 use Rattle.std.proofs.Common.{refl, sym, subst, ◌∙◌, ap, arith, ◌≡◌, ℕ, ◌+◌, ◌-◌, ◌<◌, ◌≤◌, List, [], ◌∷◌, ◌++◌, Bool, true, false, length, take, drop, get_or, nat_eq, length-take, length-drop, get_or-drop}
 use Rattle.std.proofs.lemmas.List.{get_or-take}
 use Rattle.std.proofs.Math.Seq.{take-add}
-use Rattle.std.specs.Prelude.{Some, None}
+use Rattle.std.specs.Prelude.{Some, None, Option}
 use Rattle.bp_limits.specs.Limits.{max_line}
 use Rattle.memchr.specs.Find.{IsFirst, IsFirstByte, Nowhere, Passes, is_byte}
 use Rattle.bp_session.specs.Lines.{commands_from}
 use Rattle.bp_script.specs.Commands.{command_of}
 use Rattle.bp_session.specs.Gathering.{LineGathers}
 use Rattle.bp_session.specs.Serving.{Moment, PieceOutcome}
+use Rattle.bp_session.specs.declared.broken.Broken.{Broken}
 use Rattle.bp_session.proofs.AheadLaws.{Waits, line_ends, line_waits, waits_run}
 use Rattle.bp_session.proofs.OutcomeLaws.{piece_stops}
 use Rattle.bp_session.proofs.ServingLaws.{commands_at_run, commands_kept, take_more, take_next}
@@ -61,10 +62,10 @@ module _ (xs : List ℕ) (from to : ℕ) where
             go false e = e
 
 -- a line that a fault ends
-pub line_stops : (status most : ℕ) (xs held keeps : List ℕ) (next count : ℕ) (a b : Moment) → ¬ (status ≡ 0) → next ≤ count → PieceOutcome status most held (take next xs) keeps a b → PieceOutcome status most held (take count xs) keeps a b
-line_stops status most xs held keeps next count a b other low one =
-    subst (λ (l : List ℕ). PieceOutcome status most held l keeps a b) (take_more xs next count low)
-    (piece_stops status most held (take next xs) (drop next (take count xs)) keeps keeps a b other one)
+pub line_stops : (ended : Option Broken) (most : ℕ) (xs held keeps : List ℕ) (next count : ℕ) (a b : Moment) → ¬ (ended ≡ None) → next ≤ count → PieceOutcome ended most held (take next xs) keeps a b → PieceOutcome ended most held (take count xs) keeps a b
+line_stops ended most xs held keeps next count a b other low one =
+    subst (λ (l : List ℕ). PieceOutcome ended most held l keeps a b) (take_more xs next count low)
+    (piece_stops ended most held (take next xs) (drop next (take count xs)) keeps keeps a b other one)
 
 -- ---- a piece, run by run
 
@@ -77,10 +78,10 @@ module _ (start : Moment) (most : ℕ) (xs held middle kept a : List ℕ) (at en
     next : take end xs ++ 10 ∷ [] ≡ take (end + 1) xs
     next = sym (take_next xs end 10 low (sym newline))
 
-    pub next_waits : (most ≡ 0 → b ≡ []) → LineGathers 0 (command_of kept) a b now new → Waits start most held (take (end + 1) xs) [] b new
+    pub next_waits : (most ≡ 0 → b ≡ []) → LineGathers None (command_of kept) a b now new → Waits start most held (take (end + 1) xs) [] b new
     next_waits few line = subst (λ (l : List ℕ). Waits start most held l [] b new) next (line_waits start most held (take end xs) kept a now run_waits new b few line)
 
-    pub next_ends : (status count : ℕ) (keeps : List ℕ) → ¬ (status ≡ 0) → end + 1 ≤ count → LineGathers status (command_of kept) a b now new → PieceOutcome status most held (take count xs) keeps start new
-    next_ends status count keeps other inside line =
-        line_stops status most xs held keeps (end + 1) count start new other inside
-        (subst (λ (l : List ℕ). PieceOutcome status most held l keeps start new) next (line_ends start most held (take end xs) kept a now run_waits new status b keeps other line))
+    pub next_ends : (ended : Option Broken) (count : ℕ) (keeps : List ℕ) → ¬ (ended ≡ None) → end + 1 ≤ count → LineGathers ended (command_of kept) a b now new → PieceOutcome ended most held (take count xs) keeps start new
+    next_ends ended count keeps other inside line =
+        line_stops ended most xs held keeps (end + 1) count start new other inside
+        (subst (λ (l : List ℕ). PieceOutcome ended most held l keeps start new) next (line_ends start most held (take end xs) kept a now run_waits new ended b keeps other line))

@@ -1,5 +1,5 @@
 -- What serving does while replies wait for a sink.
-use Rattle.std.specs.Prelude.{◌≡◌, ◌⊎◌, ℕ, List, [], ◌++◌, Option}
+use Rattle.std.specs.Prelude.{◌≡◌, ◌⊎◌, ℕ, List, [], ◌++◌, Option, None, Some, false}
 use Rattle.std.specs.Io.KnownBytes.{Appends}
 use Rattle.bp_io.specs.Files.{View}
 use Rattle.bp_script.specs.Commands.{Command}
@@ -7,6 +7,8 @@ use Rattle.bp_script.specs.Commands.Command.{sync}
 use Rattle.bp_script.specs.Texts.{LineReply, reply_text}
 use Rattle.bp_session.specs.Outside.{IsFirstFault, counts}
 use Rattle.bp_session.specs.Serving.{DoesLine, FailsLine, Keeps, Moment}
+use Rattle.bp_session.specs.declared.broken.Broken.{Broken}
+use Rattle.bp_session.specs.declared.broken.Broken.TheVariants as cause
 use Rattle.bp_replies.specs.Gathering.{PassesOn}
 use Rattle.bp_replies.specs.Taking.{TakesPart}
 
@@ -44,12 +46,12 @@ pub record IsUnsaved (command : Command) (before : List ℕ) (old new : Moment) 
   pub fails : FailsLine old command new
   pub taken : Appends old.taken new.taken before
 
--- What a line does over what waits before and after it, by the status that it leads to: 0 where its reply was added, 4
--- where the sink failed, 5 where a sync couldn't save.
-pub record LineGathers (status : ℕ) (command : Command) (before after : List ℕ) (old new : Moment) : Type 0 where
-  pub whole : status ≡ 0 → IsAnswered command before after old new
-  pub broken : status ≡ 4 → IsUntold command before old new ⊎ IsUnheard before old new
-  pub stopped : status ≡ 5 → IsUnsaved command before old new
-  pub keeps : Keeps status old new
-  pub first : IsFirstFault status (counts 0 old.faults old.files) (counts 0 new.faults new.files)
-  pub one_of : (status ≡ 0) ⊎ (status ≡ 4) ⊎ (status ≡ 5)
+-- What a line does over what waits before and after it, by how it ends: its reply was added, or the sink failed, or a sync
+-- couldn't save.
+pub record LineGathers (ended : Option Broken) (command : Command) (before after : List ℕ) (old new : Moment) : Type 0 where
+  pub whole : ended ≡ None → IsAnswered command before after old new
+  pub broken : ended ≡ Some cause.Sink → IsUntold command before old new ⊎ IsUnheard before old new
+  pub stopped : ended ≡ Some cause.Files → IsUnsaved command before old new
+  pub keeps : Keeps ended old new
+  pub first : IsFirstFault ended false (counts 0 old.faults old.files) (counts 0 new.faults new.files)
+  pub one_of : (ended ≡ None) ⊎ (ended ≡ Some cause.Sink) ⊎ (ended ≡ Some cause.Files)

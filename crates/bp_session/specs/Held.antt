@@ -1,6 +1,6 @@
 -- What serving does, told of what a program holds before and behind it: a line's buffers or the work of a run, the marks of
 -- the stale blocks, the region, the files and the sink.
-use Rattle.std.specs.Prelude.{ℕ, List, [], ◌∷◌, Bool, Result, take}
+use Rattle.std.specs.Prelude.{ℕ, List, [], ◌∷◌, Bool, Result, Some, take}
 use Rattle.bp_io.specs.Files.{View}
 use Rattle.bp_io.specs.Streams.{SinkView, SourceView}
 use Rattle.bp_script.specs.Commands.{command_of}
@@ -9,10 +9,10 @@ use Rattle.bp_replies.specs.Room.{gathered_size}
 use Rattle.bp_replies.specs.declared.replies.Replies.{Replies}
 use Rattle.bp_session.specs.Acting.{reply_of}
 use Rattle.bp_session.specs.Changed.{stale_in}
+use Rattle.bp_session.specs.Ends.{cause_of}
 use Rattle.bp_session.specs.Gathering.{Clears, LineGathers}
 use Rattle.bp_session.specs.Lines.{commands_from}
 use Rattle.bp_session.specs.Serving.{DoesLine, LineOutcome, Moment, PieceOutcome, ServeOutcome, moment, with_stale}
-use Rattle.bp_session.specs.Statuses.{broken_status, status_of}
 use Rattle.bp_session.specs.Work.{answer_in, held_line, held_replies, line_in, read_piece, waiting_in}
 use Rattle.bp_session.specs.declared.broken.Broken.{Broken}
 use Rattle.bp_session.specs.declared.outcome.Outcome.{Outcome}
@@ -45,7 +45,7 @@ DoesHeld files_of sink_of before stale memory files sink after stale_now memory_
 abbrev pub StopsBy : {F K : Type 0} → (F → View) → (K → SinkView) → LineBuffers → List Bool → Memory → F → K
     → LineBuffers → List Bool → Memory → F → K → Broken → Type 0
 StopsBy files_of sink_of before stale memory files sink after stale_now memory_now files_now sink_now broken =
-    LineGathers (broken_status broken) (command_of (line_in before)) (waiting_in before) (waiting_in after)
+    LineGathers (Some broken) (command_of (line_in before)) (waiting_in before) (waiting_in after)
     (instant files_of sink_of stale memory files sink) (instant files_of sink_of stale_now memory_now files_now sink_now)
 
 -- Behind it the replies that waited still wait, or a sink took them.
@@ -60,28 +60,28 @@ ClearsHeld files_of sink_of before files sink after files_now sink_now =
 abbrev pub GathersHeld : {T F K : Type 0} → Result T Broken → (F → View) → (K → SinkView)
     → Work → List Bool → Memory → F → K → Work → List Bool → Memory → F → K → Type 0
 GathersHeld result files_of sink_of work stale memory files sink work_now stale_now memory_now files_now sink_now =
-    LineGathers (status_of result) (command_of (held_line work)) (held_replies work) (held_replies work_now)
+    LineGathers (cause_of result) (command_of (held_line work)) (held_replies work) (held_replies work_now)
     (instant files_of sink_of stale memory files sink) (instant files_of sink_of stale_now memory_now files_now sink_now)
 
 -- what it does where its reply is handed over at once
 abbrev pub ServesAlone : {T F K : Type 0} → Result T Broken → (F → View) → (K → SinkView) → Work
     → List Bool → Memory → F → K → List Bool → Memory → F → K → Type 0
 ServesAlone result files_of sink_of work stale memory files sink stale_now memory_now files_now sink_now =
-    LineOutcome (status_of result) (command_of (held_line work) ∷ [])
+    LineOutcome (cause_of result) (command_of (held_line work) ∷ [])
     (instant files_of sink_of stale memory files sink) (instant files_of sink_of stale_now memory_now files_now sink_now)
 
 -- .. where any block may be stale
 abbrev pub ServesHeld : {T F K : Type 0} → Result T Broken → (F → View) → (K → SinkView) → Work
     → Memory → F → K → Memory → F → K → Type 0
 ServesHeld result files_of sink_of work memory files sink memory_now files_now sink_now =
-    LineOutcome (status_of result) (command_of (held_line work) ∷ [])
+    LineOutcome (cause_of result) (command_of (held_line work) ∷ [])
     (moment memory (files_of files) (sink_of sink)) (moment memory_now (files_of files_now) (sink_of sink_now))
 
 -- what it does where it ends the input: it is served unless it is empty
 abbrev pub EndsHeld : {T F K : Type 0} → Result T Broken → (F → View) → (K → SinkView) → Work
     → List Bool → Memory → F → K → List Bool → Memory → F → K → Type 0
 EndsHeld result files_of sink_of work stale memory files sink stale_now memory_now files_now sink_now =
-    LineOutcome (status_of result) (commands_from (held_line work) [])
+    LineOutcome (cause_of result) (commands_from (held_line work) [])
     (instant files_of sink_of stale memory files sink) (instant files_of sink_of stale_now memory_now files_now sink_now)
 
 -- ---- an input
@@ -90,14 +90,14 @@ EndsHeld result files_of sink_of work stale memory files sink stale_now memory_n
 abbrev pub TakesPiece : {T F K : Type 0} → Result T Broken → ℕ → ℕ → (F → View) → (K → SinkView)
     → Work → List Bool → Memory → F → K → Work → List Bool → Memory → F → K → Type 0
 TakesPiece result most count files_of sink_of work stale memory files sink work_now stale_now memory_now files_now sink_now =
-    PieceOutcome (status_of result) most (held_line work) (take count (read_piece work)) (held_line work_now)
+    PieceOutcome (cause_of result) most (held_line work) (take count (read_piece work)) (held_line work_now)
     (instant files_of sink_of stale memory files sink) (instant files_of sink_of stale_now memory_now files_now sink_now)
 
 -- what a source does, where replies of at most so many bytes may wait
 abbrev pub ServesBy : {T S F K : Type 0} → Result T Broken → ℕ → (S → SourceView) → (F → View) → (K → SinkView)
     → S → List Bool → Memory → F → K → S → List Bool → Memory → F → K → Type 0
 ServesBy result most source_of files_of sink_of source stale memory files sink source_now stale_now memory_now files_now sink_now =
-    ServeOutcome (status_of result) most (source_of source) (source_of source_now)
+    ServeOutcome (cause_of result) most (source_of source) (source_of source_now)
     (instant files_of sink_of stale memory files sink) (instant files_of sink_of stale_now memory_now files_now sink_now)
 
 -- .. where they are gathered, and the marks are those of a run
@@ -111,5 +111,5 @@ ServesGathered result source_of files_of sink_of source stale memory files sink 
 abbrev pub ServesAtOnce : {T S F K : Type 0} → Result T Broken → (S → SourceView) → (F → View) → (K → SinkView)
     → S → Memory → F → K → S → Memory → F → K → Type 0
 ServesAtOnce result source_of files_of sink_of source memory files sink source_now memory_now files_now sink_now =
-    ServeOutcome (status_of result) 0 (source_of source) (source_of source_now)
+    ServeOutcome (cause_of result) 0 (source_of source) (source_of source_now)
     (moment memory (files_of files) (sink_of sink)) (moment memory_now (files_of files_now) (sink_of sink_now))

@@ -6,7 +6,7 @@ pub mod SessionLaws
 pub mod Files
 pub mod Changed
 pub mod Saving
-pub mod Statuses
+pub mod Ends
 pub mod Serving
 pub mod Gathering
 pub mod Work

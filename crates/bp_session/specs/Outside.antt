@@ -1,11 +1,13 @@
 -- What is told of the outside of a program.
-use Rattle.std.specs.Prelude.{◌≡◌, ◌⊎◌, ℕ, Bool, List, take, Option}
+use Rattle.std.specs.Prelude.{◌≡◌, ℕ, Bool, false, List, take, Option, Some}
 use Rattle.std.specs.Io.KnownBytes.{Appends}
 use Rattle.bp_io.specs.Causes.{Rose}
 use Rattle.bp_io.specs.Files.{Known, View}
 use Rattle.bp_io.specs.Streams.{SinkView, SourceView}
 use Rattle.bp_script.specs.Sayings.{notice_text}
 use Rattle.bp_script.specs.declared.notices.Notice.{Notice}
+use Rattle.bp_session.specs.declared.broken.Broken.{Broken}
+use Rattle.bp_session.specs.declared.broken.Broken.TheVariants as cause
 
 -- How often the source, the sink and the files have failed.
 pub record Faults : Type 0 where
@@ -44,19 +46,15 @@ SinkFailed before after = Rose before.faults.sink after.faults.sink
 abbrev pub FilesFailed : Outside → Outside → Type 0
 FilesFailed before after = Rose before.faults.files after.faults.files
 
--- a status at which the sink took all that it was handed, or nothing was told
-abbrev pub SinkTookAll : ℕ → Type 0
-SinkTookAll status = (status ≡ 0) ⊎ (status ≡ 3) ⊎ (status ≡ 5) ⊎ (status ≡ 6) ⊎ (status ≡ 8)
-
--- The first fault ends a program, and the status tells it: the source failed at 3 alone, the files at 5 alone, and the
--- sink at 4, or as it was told the line of 1, 2, 7 or 9.
-pub record IsFirstFault (status : ℕ) (before after : Faults) : Type 0 where
-  pub source : status ≡ 3 → Rose before.source after.source
-  pub sink : status ≡ 4 → Rose before.sink after.sink
-  pub files : status ≡ 5 → Rose before.files after.files
-  pub no_source : ¬ (status ≡ 3) → after.source ≡ before.source
-  pub no_sink : SinkTookAll status → after.sink ≡ before.sink
-  pub no_files : ¬ (status ≡ 5) → after.files ≡ before.files
+-- The first fault ends what is done, and its end tells it: the source failed where it is the cause alone, the files too, and
+-- the sink where it is the cause, or as the line of another end was told.
+pub record IsFirstFault (ended : Option Broken) (tells_line : Bool) (before after : Faults) : Type 0 where
+  pub source : ended ≡ Some cause.Source → Rose before.source after.source
+  pub sink : ended ≡ Some cause.Sink → Rose before.sink after.sink
+  pub files : ended ≡ Some cause.Files → Rose before.files after.files
+  pub no_source : ¬ (ended ≡ Some cause.Source) → after.source ≡ before.source
+  pub no_sink : tells_line ≡ false → ¬ (ended ≡ Some cause.Sink) → after.sink ≡ before.sink
+  pub no_files : ¬ (ended ≡ Some cause.Files) → after.files ≡ before.files
 
 -- No byte was read, and FILE is as it was.
 pub record IsUntouched (before after : Outside) : Type 0 where

@@ -1,5 +1,5 @@
 -- What serving some of an input does, from one moment to another.
-use Rattle.std.specs.Prelude.{All, ◌≡◌, ◌≤◌, ◌⊎◌, ℕ, ◌<◌, List, [], ◌∷◌, ◌++◌, Some, Bool, true, length, take, Option}
+use Rattle.std.specs.Prelude.{All, ◌≡◌, ◌≤◌, ◌⊎◌, ℕ, ◌<◌, List, [], ◌∷◌, ◌++◌, None, Some, Bool, true, false, length, take, Option}
 use Rattle.std.specs.Io.KnownBytes.{Appends, Consumes, IsAtEnd}
 use Rattle.bp_io.specs.Causes.{Rose}
 use Rattle.bp_io.specs.Files.{KeepsOthers, StaysAttached, View}
@@ -17,6 +17,8 @@ use Rattle.bp_session.specs.Files.{CanSave, HoldsAs, HoldsPartly}
 use Rattle.bp_session.specs.Outside.{IsFirstFault, counts}
 use Rattle.bp_session.specs.Session.{State, SessionLine, Session}
 use Rattle.bp_session.specs.Pieces.{piece_size}
+use Rattle.bp_session.specs.declared.broken.Broken.{Broken}
+use Rattle.bp_session.specs.declared.broken.Broken.TheVariants as cause
 
 -- A command was done, with this reply.
 pub record Acts (old : State) (memory : Memory) (holds : Image → Type 0) (command : Command)
@@ -159,12 +161,12 @@ pub record DoesStop (old new : Moment) (commands : List Command) : Type 0 where
 
 -- The region keeps its size and the room of its log, the same file is attached, no other one changes, and what was
 -- flushed before is flushed where no sync failed.
-pub record Keeps (status : ℕ) (old new : Moment) : Type 0 where
+pub record Keeps (ended : Option Broken) (old new : Moment) : Type 0 where
   pub size : length new.memory.base ≡ length old.memory.base
   pub capacity : new.memory.capacity ≡ old.memory.capacity
   pub attached : StaysAttached old.files new.files
   pub others : KeepsOthers old.files new.files
-  pub flushed : ¬ (status ≡ 5) → old.files.is_flushed ≡ true → new.files.is_flushed ≡ true
+  pub flushed : ¬ (ended ≡ Some cause.Files) → old.files.is_flushed ≡ true → new.files.is_flushed ≡ true
 
 -- What serving asks of a volume and of the files: a file is attached that has the volume's blocks and may be written,
 -- and the volume's log has no more room than the memory of the work.
@@ -177,25 +179,24 @@ pub record ServesAgain (old new : Memory) (files : View) : Type 0 where
   pub ready : CanSave new.base files
   pub capacity : new.capacity ≡ old.capacity
 
--- What serving commands does, by the status that it leads to: 0 where all were answered, 4 where a reply broke off, 5
--- where a sync couldn't save.
-pub record LineOutcome (status : ℕ) (commands : List Command) (old new : Moment) : Type 0 where
-  pub whole : status ≡ 0 → DoesAll old new commands
-  pub broken : status ≡ 4 → DoesBreakOff 0 old new commands
-  pub stopped : status ≡ 5 → DoesStop old new commands
-  pub keeps : Keeps status old new
-  pub first : IsFirstFault status (counts 0 old.faults old.files) (counts 0 new.faults new.files)
-  pub one_of : (status ≡ 0) ⊎ (status ≡ 4) ⊎ (status ≡ 5)
+-- What serving commands does, by how it ends: all were answered, or a reply broke off, or a sync couldn't save.
+pub record LineOutcome (ended : Option Broken) (commands : List Command) (old new : Moment) : Type 0 where
+  pub whole : ended ≡ None → DoesAll old new commands
+  pub broken : ended ≡ Some cause.Sink → DoesBreakOff 0 old new commands
+  pub stopped : ended ≡ Some cause.Files → DoesStop old new commands
+  pub keeps : Keeps ended old new
+  pub first : IsFirstFault ended false (counts 0 old.faults old.files) (counts 0 new.faults new.files)
+  pub one_of : (ended ≡ None) ⊎ (ended ≡ Some cause.Sink) ⊎ (ended ≡ Some cause.Files)
 
 -- What serving a piece of an input does, after what was held of a line, where so many bytes of replies may wait: a
 -- line that a fault ends is whole, whatever follows.
-pub record PieceOutcome (status most : ℕ) (held input keeps : List ℕ) (old new : Moment) : Type 0 where
-  pub whole : status ≡ 0 → DoesPart held input keeps old new
-  pub broken : status ≡ 4 → (rest : List ℕ) → DoesBreakOff most old new (commands_from held (input ++ rest))
-  pub stopped : status ≡ 5 → (rest : List ℕ) → DoesStop old new (commands_from held (input ++ rest))
-  pub keeps_files : Keeps status old new
-  pub first : IsFirstFault status (counts 0 old.faults old.files) (counts 0 new.faults new.files)
-  pub one_of : (status ≡ 0) ⊎ (status ≡ 4) ⊎ (status ≡ 5)
+pub record PieceOutcome (ended : Option Broken) (most : ℕ) (held input keeps : List ℕ) (old new : Moment) : Type 0 where
+  pub whole : ended ≡ None → DoesPart held input keeps old new
+  pub broken : ended ≡ Some cause.Sink → (rest : List ℕ) → DoesBreakOff most old new (commands_from held (input ++ rest))
+  pub stopped : ended ≡ Some cause.Files → (rest : List ℕ) → DoesStop old new (commands_from held (input ++ rest))
+  pub keeps_files : Keeps ended old new
+  pub first : IsFirstFault ended false (counts 0 old.faults old.files) (counts 0 new.faults new.files)
+  pub one_of : (ended ≡ None) ⊎ (ended ≡ Some cause.Sink) ⊎ (ended ≡ Some cause.Files)
 
 -- P holds of the commands of lines that were read whole: of what every input asks for that begins with this one, or the
 -- source is at its end and P holds of what this input asks for.
@@ -203,23 +204,22 @@ abbrev pub OfLines : Option (List ℕ) → List ℕ → (List Command → Type 0
 OfLines left input P =
     ((rest : List ℕ) → P (commands_from [] (input ++ rest))) ⊎ (IsAtEnd left × P (commands_from [] input))
 
--- What serving a source does: as above; 3 where the source failed, and 6 where the most bytes were taken and one
--- read gave more.
-pub record ServeOutcome (status most : ℕ) (before after : SourceView) (old new : Moment) : Type 0 where
-  pub whole : status ≡ 0 → (input : List ℕ) × Consumes before.left after.left input × IsAtEnd after.left
+-- What serving a source does, by how it ends: as above, or the source failed, or the most bytes were taken and one read gave
+-- more.
+pub record ServeOutcome (ended : Option Broken) (most : ℕ) (before after : SourceView) (old new : Moment) : Type 0 where
+  pub whole : ended ≡ None → (input : List ℕ) × Consumes before.left after.left input × IsAtEnd after.left
       × (length input ≤ max_input) × DoesAll old new (commands_from [] input)
-  pub part : status ≡ 3 → (input : List ℕ) × (keeps : List ℕ) × Consumes before.left after.left input
+  pub part : ended ≡ Some cause.Source → (input : List ℕ) × (keeps : List ℕ) × Consumes before.left after.left input
       × DoesPart [] input keeps old new
-  pub long : status ≡ 6 → (input : List ℕ) × (more : List ℕ) × (keeps : List ℕ)
+  pub long : ended ≡ Some cause.LongInput → (input : List ℕ) × (more : List ℕ) × (keeps : List ℕ)
       × Consumes before.left after.left (input ++ more) × (length input ≡ max_input)
       × (1 ≤ length more) × (length more ≤ piece_size) × DoesPart [] input keeps old new
-  pub broken : status ≡ 4 → (input : List ℕ) × Consumes before.left after.left input
+  pub broken : ended ≡ Some cause.Sink → (input : List ℕ) × Consumes before.left after.left input
       × OfLines after.left input (DoesBreakOff most old new)
-  pub stopped : status ≡ 5 → (input : List ℕ) × Consumes before.left after.left input
+  pub stopped : ended ≡ Some cause.Files → (input : List ℕ) × Consumes before.left after.left input
       × OfLines after.left input (DoesStop old new)
-  pub keeps : Keeps status old new
-  pub first : IsFirstFault status (counts before.faults old.faults old.files) (counts after.faults new.faults new.files)
+  pub keeps : Keeps ended old new
+  pub first : IsFirstFault ended false (counts before.faults old.faults old.files) (counts after.faults new.faults new.files)
   pub complete : (input : List ℕ) → before.left ≡ Some input → length input ≤ max_input
       → ¬ Rose before.faults after.faults
-      → ¬ Rose old.faults new.faults → ¬ Rose old.files.faults new.files.faults → status ≡ 0
-  pub one_of : (status ≡ 0) ⊎ (status ≡ 3) ⊎ (status ≡ 4) ⊎ (status ≡ 5) ⊎ (status ≡ 6)
+      → ¬ Rose old.faults new.faults → ¬ Rose old.files.faults new.files.faults → ended ≡ None

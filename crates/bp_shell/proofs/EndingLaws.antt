@@ -1,14 +1,14 @@
 -- How a program ends for a reason, and what one answers that reads its file alone.
-use Rattle.std.proofs.Common.{refl, sym, ◌∙◌, ap, arith, ◌≡◌, ℕ, List, inl, inr}
+use Rattle.std.proofs.Common.{refl, sym, ◌∙◌, ap, ◌≡◌, ℕ, false, List, inl, inr}
 use Rattle.std.specs.Prelude.{Option, ◌⊎◌}
 use Rattle.std.specs.Io.KnownBytes.{Appends}
 use Rattle.bp_io.specs.Causes.{Rose}
 use Rattle.bp_io.specs.Files.{Known}
-use Rattle.bp_session.specs.Outside.{Faults, IsFirstFault, IsIdle, SinkTookAll, IsUntouched, Outside}
+use Rattle.bp_session.specs.Outside.{IsFirstFault, IsIdle, IsUntouched, Outside}
 use Rattle.bp_replies.specs.Taking.{TakesPart}
-use Rattle.bp_session.proofs.OutcomeLaws.{files_fault, no_device_fault, no_fault, sink_fault}
+use Rattle.bp_session.proofs.OutcomeLaws.{files_fault, line_fault, quiet, sink_fault}
 use Rattle.bp_shell.specs.Ending.{ReadOutcome, StopOutcome, TellsStop}
-use Rattle.bp_shell.specs.Statuses.{IsReadStatus, code_of}
+use Rattle.bp_shell.specs.Statuses.{IsReadStatus, broken_by, tells_line}
 use Rattle.bp_shell.specs.Stops.{IsReason}
 use Rattle.bp_shell.specs.declared.status.Status.{Status}
 use Rattle.bp_shell.specs.declared.status.Status.TheVariants as status
@@ -16,19 +16,6 @@ use Rattle.bp_shell.specs.declared.stop.Stop.{Stop}
 use Rattle.bp_shell.specs.declared.stop.Stop.TheVariants as s
 use Rattle.bp_shell.proofs.OpeningLaws.{if_memory, if_missing, if_refused, no_refusal}
 use Rattle.bp_shell.proofs.RunningLaws.{read_complete}
-
--- ---- faults
-
--- a line told before the end, at none of the other statuses
-pub told_fault : (status : ℕ) (a b : Faults) → ¬ (status ≡ 0) → ¬ (status ≡ 3) → ¬ (status ≡ 4) → ¬ (status ≡ 5) → ¬ (status ≡ 6) → ¬ (status ≡ 8) → b.source ≡ a.source → b.files ≡ a.files → IsFirstFault status a b
-told_fault status a b zero three four five six eight source files = no_device_fault status a b three four five loud source files
-  where
-    loud : SinkTookAll status → ⊥
-    loud (inl e) = zero e
-    loud (inr (inl e)) = three e
-    loud (inr (inr (inl e))) = five e
-    loud (inr (inr (inr (inl e)))) = six e
-    loud (inr (inr (inr (inr e)))) = eight e
 
 -- ---- at a `Stop`
 
@@ -55,46 +42,46 @@ module _ (before after : Outside) (untouched : IsUntouched before after) (source
   pub stop_outcome : (stop : Stop) (answer : Status) → IsReason before.file stop → (stop ≡ s.Outside → Rose before.faults.files after.faults.files) → (¬ (stop ≡ s.Outside) → after.faults.files ≡ before.faults.files)
       → Told stop answer → StopOutcome answer before after
   stop_outcome s.Missing answer reason failed same told =
-      let is : code_of answer ≡ 1 = ap code_of told.0 in
+      let is : answer ≡ status.Missing = told.0 in
       record {
         missing = λ _. (reason.missing refl, untouched, told.1);
-        refused = λ e. absurd (omega (arith, is, ap code_of e));
-        memory = λ e. absurd (omega (arith, is, ap code_of e));
-        first = told_fault (code_of answer) _ _ (λ e. omega (arith, is, e)) (λ e. omega (arith, is, e)) (λ e. omega (arith, is, e)) (λ e. omega (arith, is, e)) (λ e. omega (arith, is, e)) (λ e. omega (arith, is, e)) source (same (if_missing _ refl));
+        refused = λ e. absurd cc;
+        memory = λ e. absurd cc;
+        first = rw is (line_fault _ _ source (same (if_missing _ refl)));
       }
   stop_outcome s.Outside answer reason failed same told =
-      let is : code_of answer ≡ 5 = ap code_of told.0 in
+      let is : answer ≡ status.FilesFailed = told.0 in
       record {
-        missing = λ e. absurd (omega (arith, is, ap code_of e));
-        refused = λ e. absurd (omega (arith, is, ap code_of e));
-        memory = λ e. absurd (omega (arith, is, ap code_of e));
+        missing = λ e. absurd cc;
+        refused = λ e. absurd cc;
+        memory = λ e. absurd cc;
         first = rw is (files_fault _ _ source told.1.1 (failed refl));
       }
   stop_outcome (s.Refused notice) answer reason failed same told =
-      let is : code_of answer ≡ 7 = ap code_of told.0 in
+      let is : answer ≡ status.Refused = told.0 in
       record {
-        missing = λ e. absurd (omega (arith, is, ap code_of e));
+        missing = λ e. absurd cc;
         refused = λ _. (notice, reason.refused notice refl, untouched, told.1);
-        memory = λ e. absurd (omega (arith, is, ap code_of e));
-        first = told_fault (code_of answer) _ _ (λ e. omega (arith, is, e)) (λ e. omega (arith, is, e)) (λ e. omega (arith, is, e)) (λ e. omega (arith, is, e)) (λ e. omega (arith, is, e)) (λ e. omega (arith, is, e)) source (same (if_refused _ notice refl));
+        memory = λ e. absurd cc;
+        first = rw is (line_fault _ _ source (same (if_refused _ notice refl)));
       }
   stop_outcome s.Memory answer reason failed same told =
-      let is : code_of answer ≡ 8 = ap code_of told.0 in
+      let is : answer ≡ status.Memory = told.0 in
       record {
-        missing = λ e. absurd (omega (arith, is, ap code_of e));
-        refused = λ e. absurd (omega (arith, is, ap code_of e));
+        missing = λ e. absurd cc;
+        refused = λ e. absurd cc;
         memory = λ _. record { untouched = untouched; taken = told.1.0 };
-        first = no_fault (code_of answer) _ _ (λ e. omega (arith, is, e)) (λ e. omega (arith, is, e)) (λ e. omega (arith, is, e)) source told.1.1 (same (if_memory _ refl));
+        first = rw is (quiet false _ _ source told.1.1 (same (if_memory _ refl)));
       }
 
   pub stop_idle : (stop : Stop) (answer : Status) → Told stop answer → answer ≡ status.FilesFailed → IsIdle before after
-  stop_idle s.Missing answer told e = let is : code_of answer ≡ 1 = ap code_of told.0 in absurd (omega (arith, is, ap code_of e))
+  stop_idle s.Missing answer told e = let is : answer ≡ status.Missing = told.0 in absurd cc
   stop_idle s.Outside answer told e = record { untouched = untouched; taken = told.1.0 }
-  stop_idle (s.Refused _) answer told e = let is : code_of answer ≡ 7 = ap code_of told.0 in absurd (omega (arith, is, ap code_of e))
-  stop_idle s.Memory answer told e = let is : code_of answer ≡ 8 = ap code_of told.0 in absurd (omega (arith, is, ap code_of e))
+  stop_idle (s.Refused _) answer told e = let is : answer ≡ status.Refused = told.0 in absurd cc
+  stop_idle s.Memory answer told e = let is : answer ≡ status.Memory = told.0 in absurd cc
 
 -- a status of another kind
-pub no_stop : (before after : Outside) (answer : Status) → ¬ (answer ≡ status.Missing) → ¬ (answer ≡ status.Refused) → ¬ (answer ≡ status.Memory) → IsFirstFault (code_of answer) before.faults after.faults → StopOutcome answer before after
+pub no_stop : (before after : Outside) (answer : Status) → ¬ (answer ≡ status.Missing) → ¬ (answer ≡ status.Refused) → ¬ (answer ≡ status.Memory) → IsFirstFault (broken_by answer) (tells_line answer) before.faults after.faults → StopOutcome answer before after
 no_stop before after answer missing refused memory first = record { missing = λ e. absurd (missing e); refused = λ e. absurd (refused e); memory = λ e. absurd (memory e); first = first }
 
 -- want of memory gives no cause
@@ -117,7 +104,7 @@ module _ (Tells : List ℕ → Type 0) (before after : Outside) (untouched : IsU
     stops = stops;
     untouched = untouched;
     flushed = flushed;
-    complete = read_complete answer before after (λ e. (stops.missing e).0) (λ e. stops.first.sink (ap code_of e)) (λ e. stops.first.files (ap code_of e)) (λ e. let why = stops.refused e in (why.0, why.1)) one_of;
+    complete = read_complete answer before after (λ e. (stops.missing e).0) (λ e. stops.first.sink (ap broken_by e)) (λ e. stops.first.files (ap broken_by e)) (λ e. let why = stops.refused e in (why.0, why.1)) one_of;
     one_of = one_of;
   }
 
@@ -141,7 +128,7 @@ module _ (Tells : List ℕ → Type 0) (before after : Outside) (untouched : IsU
   read_done text tells taken sink files =
       read_outcome status.Done (λ _. (text, tells, taken)) (λ e. absurd cc) (λ e. absurd cc)
       (no_stop before after status.Done (λ e. cc) (λ e. cc) (λ e. cc)
-      (no_fault 0 _ _ (λ e. omega (arith, e)) (λ e. omega (arith, e)) (λ e. omega (arith, e)) source sink files)) (inl refl)
+      (quiet false _ _ source sink files)) (inl refl)
 
   pub read_broken : (text : List ℕ) → Tells text → TakesPart text before.taken after.taken → Rose before.faults.sink after.faults.sink → after.faults.files ≡ before.faults.files → ReadOutcome Tells status.SinkFailed before after
   read_broken text tells part rose files =

@@ -21,17 +21,17 @@ use Rattle.bp_script.specs.declared.notices.Notice.{Notice}
 use Rattle.bp_script.specs.declared.notices.Notice.TheVariants.{NoFile, Deep}
 use Rattle.bp_session.specs.Files.{IsAbsent}
 use Rattle.bp_session.specs.Outside.{FilesFailed, IsFirstFault, IsIdle, IsUntouched, Outside, Prints, SinkFailed, TellsLine}
-use Rattle.bp_session.proofs.OutcomeLaws.{no_fault, sink_fault}
+use Rattle.bp_session.proofs.OutcomeLaws.{line_fault, quiet, sink_fault}
 use Rattle.bp_shell.specs.Ending.{TellsStop}
 use Rattle.bp_shell.specs.Exporting.{ExportOutcome, Exports, ExportsFront, HoldsDeep, HoldsTree, IsExportComplete, TellsTree}
 use Rattle.bp_shell.specs.Opening.{RefusesFile}
-use Rattle.bp_shell.specs.Statuses.{IsExportStatus, code_of}
+use Rattle.bp_shell.specs.Statuses.{IsExportStatus, broken_by, tells_line}
 use Rattle.bp_shell.specs.Stops.{IsReason}
 use Rattle.bp_shell.specs.declared.status.Status.{Status}
 use Rattle.bp_shell.specs.declared.status.Status.TheVariants as status
 use Rattle.bp_shell.specs.declared.stop.Stop.{Stop}
 use Rattle.bp_shell.specs.declared.stop.Stop.TheVariants as s
-use Rattle.bp_shell.proofs.EndingLaws.{memory_reason, never_among, stop_idle, stop_outcome, stop_statuses, told_fault}
+use Rattle.bp_shell.proofs.EndingLaws.{memory_reason, never_among, stop_idle, stop_outcome, stop_statuses}
 use Rattle.bp_shell.proofs.OpeningLaws.{if_memory}
 use Rattle.bp_shell.proofs.RunningLaws.{not_refused}
 
@@ -106,7 +106,7 @@ export_complete answer before after missing sink files refused among image held 
 module _ (before after : Outside) (untouched : IsUntouched before after) (flushed : after.is_flushed ≡ before.is_flushed) (source : after.faults.source ≡ before.faults.source) where
   outcome : (answer : Status) → (answer ≡ status.Done → (text : List ℕ) × Exports before.file text × Appends before.taken after.taken text) → (answer ≡ status.Missing → IsAbsent before.file × TellsLine NoFile before after)
       → (answer ≡ status.SinkFailed → (text : List ℕ) × Exports before.file text × TakesPart text before.taken after.taken) → (answer ≡ status.FilesFailed → IsIdle before after) → (answer ≡ status.Refused → (notice : Notice) × RefusesFile before.file notice × TellsLine notice before after)
-      → (answer ≡ status.Memory → IsIdle before after ⊎ ExportsFront before after) → (answer ≡ status.Deep → HoldsDeep before.file × TellsLine Deep before after) → IsFirstFault (code_of answer) before.faults after.faults → IsExportStatus answer → ExportOutcome answer before after
+      → (answer ≡ status.Memory → IsIdle before after ⊎ ExportsFront before after) → (answer ≡ status.Deep → HoldsDeep before.file × TellsLine Deep before after) → IsFirstFault (broken_by answer) (tells_line answer) before.faults after.faults → IsExportStatus answer → ExportOutcome answer before after
   outcome answer whole missing sink files refused memory deep first among = record {
     whole = whole;
     missing = missing;
@@ -118,7 +118,7 @@ module _ (before after : Outside) (untouched : IsUntouched before after) (flushe
     untouched = untouched;
     flushed = flushed;
     first = first;
-    complete = export_complete answer before after (λ e. (missing e).0) (λ e. first.sink (ap code_of e)) (λ e. first.files (ap code_of e)) (λ e. let why = refused e in (why.0, why.1)) among;
+    complete = export_complete answer before after (λ e. (missing e).0) (λ e. first.sink (ap broken_by e)) (λ e. first.files (ap broken_by e)) (λ e. let why = refused e in (why.0, why.1)) among;
     one_of = among;
   }
 
@@ -149,18 +149,18 @@ module _ (before after : Outside) (untouched : IsUntouched before after) (flushe
   pub export_told : (tree : FileTree) (answer : Status) → HoldsTree before.file tree → TellsTree tree answer before.taken after.taken before.faults.sink after.faults.sink → after.faults.files ≡ before.faults.files → ExportOutcome answer before after
   export_told tree status.Done holds told files =
       outcome status.Done (λ _. (_, record { tree = tree; holds = holds; short = told.0; told = refl }, told.1)) (λ e. absurd cc) (λ e. absurd cc) (λ e. absurd cc) (λ e. absurd cc)
-      (λ e. absurd cc) (λ e. absurd cc) (no_fault 0 _ _ (λ e. omega (arith, e)) (λ e. omega (arith, e)) (λ e. omega (arith, e)) source told.2 files) (inl refl)
+      (λ e. absurd cc) (λ e. absurd cc) (quiet false _ _ source told.2 files) (inl refl)
   export_told tree status.SinkFailed holds told files =
       outcome status.SinkFailed (λ e. absurd cc) (λ e. absurd cc) (λ _. (_, record { tree = tree; holds = holds; short = told.0; told = refl }, told.1)) (λ e. absurd cc) (λ e. absurd cc)
       (λ e. absurd cc) (λ e. absurd cc) (sink_fault _ _ source told.2 files) (inr (inr (inl refl)))
   export_told tree status.Memory holds told files =
       outcome status.Memory (λ e. absurd cc) (λ e. absurd cc) (λ e. absurd cc) (λ e. absurd cc) (λ e. absurd cc)
       (λ _. inr (record { text = _; exports = record { tree = tree; holds = holds; short = told.0; told = refl }; takes = told.1 })) (λ e. absurd cc)
-      (no_fault 8 _ _ (λ e. omega (arith, e)) (λ e. omega (arith, e)) (λ e. omega (arith, e)) source told.2 files) (inr (inr (inr (inr (inr (inl refl))))))
+      (quiet false _ _ source told.2 files) (inr (inr (inr (inr (inr (inl refl))))))
   export_told tree status.Deep holds told files =
       outcome status.Deep (λ e. absurd cc) (λ e. absurd cc) (λ e. absurd cc) (λ e. absurd cc) (λ e. absurd cc) (λ e. absurd cc)
       (λ _. (record { tree = tree; holds = holds; deep = told.0 }, told.1))
-      (told_fault 9 _ _ (λ e. omega (arith, e)) (λ e. omega (arith, e)) (λ e. omega (arith, e)) (λ e. omega (arith, e)) (λ e. omega (arith, e)) (λ e. omega (arith, e)) source files) (inr (inr (inr (inr (inr (inr refl))))))
+      (line_fault _ _ source files) (inr (inr (inr (inr (inr (inr refl))))))
   export_told tree status.Missing holds told files = absurd told
   export_told tree status.Usage holds told files = absurd told
   export_told tree status.SourceFailed holds told files = absurd told

@@ -1,6 +1,6 @@
 -- Outcomes of the programs, from those of their parts.
-use Rattle.std.proofs.Common.{refl, sym, ◌∙◌, ap, subst, arith, ◌≡◌, ◌<◌, ℕ, List, length, take, inl, inr, true}
-use Rattle.std.specs.Prelude.{◌⊎◌}
+use Rattle.std.proofs.Common.{refl, sym, ◌∙◌, ap, subst, ◌≡◌, ◌<◌, ℕ, List, length, take, inl, inr, true, false}
+use Rattle.std.specs.Prelude.{None, Option, Some, ◌⊎◌}
 use Rattle.std.specs.Io.KnownBytes.{Appends}
 use Rattle.pm_region.specs.Memory.{Memory, current_words, drained}
 use Rattle.bp_io.specs.Causes.{Rose}
@@ -11,18 +11,17 @@ use Rattle.bp_layout.specs.Bytes.{image_bytes}
 use Rattle.bp_session.specs.Files.{HasBlocksOf, HasBytes, Holds, HoldsAs}
 use Rattle.bp_shell.specs.Formatting.{HasPartly, new_image}
 use Rattle.bp_shell.specs.Opening.{HoldsFileSystem, start}
-use Rattle.bp_session.specs.Outside.{IsFirstFault, IsIdle, IsUntouched, Outside, counts, outside}
+use Rattle.bp_session.specs.Outside.{IsIdle, IsUntouched, Outside, counts, outside}
 use Rattle.bp_limits.specs.declared.version.Version.{Version}
 use Rattle.bp_shell.specs.Running.{FormatOutcome, RunOutcome, Runs, RunsBroken, RunsLong, RunsPart, RunsStopped, RunsUnsaved, format_text}
 use Rattle.bp_replies.specs.Room.{gathered_size}
 use Rattle.bp_session.specs.Serving.{Carries, CarriesPartly, HoldsAt, Moment, ServeOutcome}
-use Rattle.bp_session.specs.Statuses.{broken_status}
 use Rattle.bp_session.specs.declared.broken.Broken.{Broken}
 use Rattle.bp_session.specs.declared.broken.Broken.TheVariants.{Source, Sink, Files, LongInput}
 use Rattle.bp_session.proofs.ChangedLaws.{holds_drained}
-use Rattle.bp_session.proofs.OutcomeLaws.{files_fault, first_then, never_whole, no_fault, sink_fault}
+use Rattle.bp_session.proofs.OutcomeLaws.{files_fault, first_then, never_whole, quiet, sink_fault}
 use Rattle.bp_shell.specs.Ending.{StopOutcome, TellsStop}
-use Rattle.bp_shell.specs.Statuses.{IsFormatStatus, IsReadStatus, IsRunStatus, ReadsNothing, code_of, status_by}
+use Rattle.bp_shell.specs.Statuses.{IsFormatStatus, IsReadStatus, IsRunStatus, ReadsNothing, broken_by, status_by, tells_line}
 use Rattle.bp_shell.specs.Stops.{IsReason}
 use Rattle.bp_shell.specs.declared.status.Status.{Status}
 use Rattle.bp_shell.specs.declared.status.Status.TheVariants as status
@@ -34,19 +33,24 @@ use Rattle.bp_shell.proofs.RunningLaws.{complete, runs_broken, runs_long, runs_p
 
 -- ---- `run`
 
--- the number of each cause is that of its status
-code_by : (broken : Broken) → code_of (status_by broken) ≡ broken_status broken
-code_by Source = refl
-code_by Sink = refl
-code_by Files = refl
-code_by LongInput = refl
+-- each cause by the way to which it leads, which tells no line
+back : (broken : Broken) → broken_by (status_by broken) ≡ Some broken
+back Source = refl
+back Sink = refl
+back Files = refl
+back LongInput = refl
 
--- the files failed at their number alone
-files_by : (broken : Broken) → broken_status broken ≡ 5 → status_by broken ≡ status.FilesFailed
-files_by Source e = absurd (omega (arith, e))
-files_by Sink e = absurd (omega (arith, e))
+no_line : (broken : Broken) → tells_line (status_by broken) ≡ false
+no_line Source = refl
+no_line Sink = refl
+no_line Files = refl
+no_line LongInput = refl
+
+files_by : (broken : Broken) → ◌≡◌ {A = Option Broken} (Some broken) (Some Files) → status_by broken ≡ status.FilesFailed
+files_by Source e = absurd cc
+files_by Sink e = absurd cc
 files_by Files e = refl
-files_by LongInput e = absurd (omega (arith, e))
+files_by LongInput e = absurd cc
 
 -- no cause that breaks serving off ends a run that reads nothing
 pub broken_reads : (broken : Broken) → ReadsNothing (status_by broken) → ⊥
@@ -75,7 +79,7 @@ module _ (answer : Status) (before after : Outside) where
     long = long;
     stops = stops;
     flushed = flushed;
-    complete = complete answer before after (λ e. (stops.missing e).0) (λ e. stops.first.source (ap code_of e)) (λ e. stops.first.sink (ap code_of e)) (λ e. stops.first.files (ap code_of e)) long (λ e. let why = stops.refused e in (why.0, why.1)) one_of;
+    complete = complete answer before after (λ e. (stops.missing e).0) (λ e. stops.first.source (ap broken_by e)) (λ e. stops.first.sink (ap broken_by e)) (λ e. stops.first.files (ap broken_by e)) long (λ e. let why = stops.refused e in (why.0, why.1)) one_of;
     one_of = one_of;
   }
 
@@ -114,39 +118,39 @@ outside_at source now files name = outside source (record { taken = now.taken; f
 -- from the moment at which FILE is mounted
 module _ (i j : SourceView) (files : View) (a b : Moment) (name : List ℕ) (image : Image) (found : HoldsFileSystem (files.contents name) image) (same : a.memory ≡ (start image).memory) (holds : HoldsAt a name image)
     (flushed : a.files.is_flushed ≡ files.is_flushed) (calm : a.files.faults ≡ files.faults) where
-  pub run_served : (broken : Broken) → ServeOutcome (broken_status broken) gathered_size i j a b → RunOutcome (status_by broken) (outside_at i a files name) (outside_at j b b.files name)
+  pub run_served : (broken : Broken) → ServeOutcome (Some broken) gathered_size i j a b → RunOutcome (status_by broken) (outside_at i a files name) (outside_at j b b.files name)
   run_served broken served =
       let before = outside_at i a files name in
       let after = outside_at j b b.files name in
       let saves = λ (k : Image) (carried : Carries a b image k). (carried name holds).file.bytes in
-      let code = code_by broken in
-      let quiet = λ (unread : ReadsNothing (status_by broken)). broken_reads broken unread in
-      run_outcome (status_by broken) before after (λ e. absurd (never_whole broken (sym code ∙ ap code_of e)))
-      (λ e. let part = served.part (sym code ∙ ap code_of e) in runs_part before after image a.memory b.memory found same part.0 part.1 (Carries a b image) saves part.2 (part.3 image))
-      (λ e. let told = served.broken (sym code ∙ ap code_of e) in runs_broken before after image a.memory b.memory found same told.0 (Carries a b image) saves told.1
+      let is = sym (back broken) in
+      let reads = λ (unread : ReadsNothing (status_by broken)). broken_reads broken unread in
+      run_outcome (status_by broken) before after (λ e. absurd (never_whole broken (is ∙ ap broken_by e)))
+      (λ e. let part = served.part (is ∙ ap broken_by e) in runs_part before after image a.memory b.memory found same part.0 part.1 (Carries a b image) saves part.2 (part.3 image))
+      (λ e. let told = served.broken (is ∙ ap broken_by e) in runs_broken before after image a.memory b.memory found same told.0 (Carries a b image) saves told.1
       (elim told.2 [ inl all ↦ inl (λ rest. all rest image) | inr last ↦ inr (last.0, last.1 image) ]))
-      (λ e. let stop = served.stopped (sym code ∙ ap code_of e) in inr (inl (runs_stopped before after image a.memory b.memory found same stop.0 (CarriesPartly a b image) (λ k l carried. (carried name holds).bytes) stop.1
+      (λ e. let stop = served.stopped (is ∙ ap broken_by e) in inr (inl (runs_stopped before after image a.memory b.memory found same stop.0 (CarriesPartly a b image) (λ k l carried. (carried name holds).bytes) stop.1
       (elim stop.2 [ inl all ↦ inl (λ rest. (all rest).stops image) | inr last ↦ inr (last.0, last.1.stops image) ]))))
-      (λ e. let long = served.long (sym code ∙ ap code_of e) in runs_long before after image a.memory b.memory found same long.0 long.1 long.2 (Carries a b image) saves long.3 long.4 long.5 long.6 (long.7 image))
-      (no_stop before after (status_by broken) (λ e. quiet (inl e)) (λ e. quiet (inr (inr (inl e)))) (λ e. quiet (inr (inr (inr (inl e)))))
-      (subst (λ (n : ℕ). IsFirstFault n before.faults after.faults) (sym code)
-      (first_then (broken_status broken) (counts i.faults a.faults files) (counts i.faults a.faults a.files) (counts j.faults b.faults b.files) refl refl calm served.first)))
+      (λ e. let long = served.long (is ∙ ap broken_by e) in runs_long before after image a.memory b.memory found same long.0 long.1 long.2 (Carries a b image) saves long.3 long.4 long.5 long.6 (long.7 image))
+      (no_stop before after (status_by broken) (λ e. reads (inl e)) (λ e. reads (inr (inr (inl e)))) (λ e. reads (inr (inr (inr (inl e)))))
+      (rw (back broken, no_line broken)
+      (first_then (Some broken) (counts i.faults a.faults files) (counts i.faults a.faults a.files) (counts j.faults b.faults b.files) refl refl calm served.first)))
       (λ other e. served.keeps.flushed (λ five. other (files_by broken five)) (flushed ∙ e))
       (broken_runs broken)
 
   -- the sync at the end saved, or couldn't
-  module _ (now : View) (served : ServeOutcome 0 gathered_size i j a b) where
+  module _ (now : View) (served : ServeOutcome None gathered_size i j a b) where
     pub run_whole : HasBytes (now.contents name) (image_bytes (current_words b.memory)) → now.is_flushed ≡ true → now.faults ≡ b.files.faults
         → RunOutcome status.Done (outside_at i a files name) (outside_at j b now name)
-    run_whole saved done quiet =
+    run_whole saved done same_files =
         let before = outside_at i a files name in
         let after = outside_at j b now name in
         let all = served.whole refl in
         run_outcome status.Done before after (λ _. runs_whole before after image a.memory b.memory found same all.0 (Carries a b image) all.1 all.2 all.3 (all.4 image) saved done)
         (λ e. absurd cc) (λ e. absurd cc) (λ e. absurd cc) (λ e. absurd cc)
         (no_stop before after status.Done (λ e. cc) (λ e. cc) (λ e. cc)
-        (no_fault 0 _ _ (λ e. omega (arith, e)) (λ e. omega (arith, e)) (λ e. omega (arith, e)) (served.first.no_source (λ e. omega (arith, e))) (served.first.no_sink (inl refl))
-        (quiet ∙ served.first.no_files (λ e. omega (arith, e)) ∙ calm)))
+        (quiet false _ _ (served.first.no_source (λ e. cc)) (served.first.no_sink refl (λ e. cc))
+        (same_files ∙ served.first.no_files (λ e. cc) ∙ calm)))
         (λ _ _. done)
         (inl refl)
 
@@ -161,8 +165,8 @@ module _ (i j : SourceView) (files : View) (a b : Moment) (name : List ℕ) (ima
         (λ _. inr (inr (runs_unsaved before after image a.memory memory found same all.0 b.memory (Carries a b image) all.1 all.2 all.3 told done (partly told.after (told.file name holds).file))))
         (λ e. absurd cc)
         (no_stop before after status.FilesFailed (λ e. cc) (λ e. cc) (λ e. cc)
-        (first_then 5 (counts i.faults a.faults files) (counts j.faults b.faults b.files) (counts j.faults b.faults now) (served.first.no_source (λ e. omega (arith, e))) (served.first.no_sink (inl refl))
-        (served.first.no_files (λ e. omega (arith, e)) ∙ calm) (files_fault _ _ refl refl rose)))
+        (first_then (Some Files) (counts i.faults a.faults files) (counts j.faults b.faults b.files) (counts j.faults b.faults now) (served.first.no_source (λ e. cc)) (served.first.no_sink refl (λ e. cc))
+        (served.first.no_files (λ e. cc) ∙ calm) (files_fault _ _ refl refl rose)))
         (λ other. absurd (other refl))
         (inr (inr (inr (inr (inl refl)))))
 
@@ -177,7 +181,7 @@ module _ (version : Version) (blocks : ℕ) (before after : Outside) (left : aft
     files = λ e. absurd cc;
     memory = λ e. absurd cc;
     unread = left;
-    first = no_fault 0 _ _ (λ e. omega (arith, e)) (λ e. omega (arith, e)) (λ e. omega (arith, e)) source sink files;
+    first = quiet false _ _ source sink files;
     one_of = inl refl;
   }
 
@@ -214,7 +218,7 @@ module _ (version : Version) (blocks : ℕ) (before after : Outside) (left : aft
     files = λ e. absurd cc;
     memory = λ _. (file, taken);
     unread = left;
-    first = no_fault 8 _ _ (λ e. omega (arith, e)) (λ e. omega (arith, e)) (λ e. omega (arith, e)) source sink files;
+    first = quiet false _ _ source sink files;
     one_of = inr (inr (inr refl));
   }
 

@@ -12,7 +12,7 @@ use Rattle.bp_session.specs.Outside.{Outside, FilesFailed, SinkFailed}
 use Rattle.bp_session.specs.Outside.{IsFirstFault, IsIdle, IsUntouched, Prints, TellsLine}
 use Rattle.bp_replies.specs.Taking.{TakesPart}
 use Rattle.bp_shell.specs.Opening.{RefusesFile}
-use Rattle.bp_shell.specs.Statuses.{IsReadStatus, code_of}
+use Rattle.bp_shell.specs.Statuses.{IsReadStatus, broken_by, tells_line}
 use Rattle.bp_shell.specs.declared.status.Status.{Status}
 use Rattle.bp_shell.specs.declared.status.Status.TheVariants as status
 use Rattle.bp_shell.specs.declared.stop.Stop.{Stop}
@@ -42,7 +42,7 @@ pub record StopOutcome (answer : Status) (before after : Outside) : Type 0 where
   pub refused : answer ≡ status.Refused → (notice : Notice) × RefusesFile before.file notice × IsUntouched before after
       × TellsLine notice before after
   pub memory : answer ≡ status.Memory → IsIdle before after
-  pub first : IsFirstFault (code_of answer) before.faults after.faults
+  pub first : IsFirstFault (broken_by answer) (tells_line answer) before.faults after.faults
 
 -- ---- a program that reads FILE alone
 

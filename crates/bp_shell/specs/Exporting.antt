@@ -20,7 +20,7 @@ use Rattle.bp_session.specs.Files.{AreWordsOf64Bits, IsAbsent}
 use Rattle.bp_session.specs.Outside.{Outside, FilesFailed, SinkFailed}
 use Rattle.bp_session.specs.Outside.{IsFirstFault, IsIdle, IsUntouched, Prints, TellsLine}
 use Rattle.bp_shell.specs.Opening.{HoldsFileSystem, RefusesFile}
-use Rattle.bp_shell.specs.Statuses.{IsExportStatus, code_of}
+use Rattle.bp_shell.specs.Statuses.{IsExportStatus, broken_by, tells_line}
 use Rattle.bp_shell.specs.declared.status.Status.{Status}
 use Rattle.bp_shell.specs.declared.status.Status.TheVariants as status
 
@@ -90,6 +90,6 @@ pub record ExportOutcome (answer : Status) (before after : Outside) : Type 0 whe
   pub deep : answer ≡ status.Deep → HoldsDeep before.file × TellsLine Deep before after
   pub untouched : IsUntouched before after
   pub flushed : after.is_flushed ≡ before.is_flushed
-  pub first : IsFirstFault (code_of answer) before.faults after.faults
+  pub first : IsFirstFault (broken_by answer) (tells_line answer) before.faults after.faults
   pub complete : IsExportComplete answer before after
   pub one_of : IsExportStatus answer

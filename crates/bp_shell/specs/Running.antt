@@ -29,7 +29,7 @@ use Rattle.bp_shell.specs.Checking.{CheckOutcome}
 use Rattle.bp_shell.specs.Ending.{StopOutcome}
 use Rattle.bp_shell.specs.Exporting.{ExportOutcome}
 use Rattle.bp_shell.specs.Playing.{PlayOutcome}
-use Rattle.bp_shell.specs.Statuses.{IsFormatStatus, IsRunStatus, code_of}
+use Rattle.bp_shell.specs.Statuses.{IsFormatStatus, IsRunStatus, broken_by, tells_line}
 use Rattle.bp_shell.specs.declared.status.Status.{Status}
 use Rattle.bp_shell.specs.declared.status.Status.TheVariants as status
 use Rattle.bp_session.specs.Pieces.{piece_size}
@@ -182,7 +182,7 @@ pub record FormatOutcome (answer : Status) (version : Version) (blocks : ℕ) (b
       × (after.taken ≡ before.taken)
   pub memory : answer ≡ status.Memory → (after.file ≡ before.file) × (after.taken ≡ before.taken)
   pub unread : after.left ≡ before.left
-  pub first : IsFirstFault (code_of answer) before.faults after.faults
+  pub first : IsFirstFault (broken_by answer) (tells_line answer) before.faults after.faults
   pub one_of : IsFormatStatus answer
 
 -- ---- any program

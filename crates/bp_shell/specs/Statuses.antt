@@ -1,5 +1,5 @@
 -- How a program ends: the number of each way, the causes that lead to some, and which ways a program has.
-use Rattle.std.specs.Prelude.{◌≡◌, ◌⊎◌, ℕ}
+use Rattle.std.specs.Prelude.{◌≡◌, ◌⊎◌, ℕ, Bool, true, false, Option, None, Some}
 use Rattle.bp_session.specs.declared.broken.Broken.{Broken}
 use Rattle.bp_session.specs.declared.broken.Broken.TheVariants as cause
 use Rattle.bp_shell.specs.declared.status.Status.{Status}
@@ -25,6 +25,22 @@ status_by cause.Source = SourceFailed
 status_by cause.Sink = SinkFailed
 status_by cause.Files = FilesFailed
 status_by cause.LongInput = LongInput
+
+-- .. and the other way round: which of its devices failed
+abbrev pub broken_by : Status → Option Broken
+broken_by SourceFailed = Some cause.Source
+broken_by SinkFailed = Some cause.Sink
+broken_by FilesFailed = Some cause.Files
+broken_by LongInput = Some cause.LongInput
+broken_by other = None
+
+-- a line is told at the end, which says why
+abbrev pub tells_line : Status → Bool
+tells_line Missing = true
+tells_line Usage = true
+tells_line Refused = true
+tells_line Deep = true
+tells_line other = false
 
 -- no byte of the source is read where a program ends so
 abbrev pub ReadsNothing : Status → Type 0

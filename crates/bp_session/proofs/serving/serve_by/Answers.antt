@@ -29,7 +29,7 @@ loop-count-preserved g c =
         before.0 ++ take c.in-Ok.count piece,
         Consumes-trans _ _ _ _ _ before.1 c.in-Ok.ensures.bytes.0,
         omega (arith, length-append before.0 (take c.in-Ok.count piece), length_taken piece c.in-Ok.count c.in-Ok.ensures.bound.0, before.2),
-        piece_then _ _ _ _ _ _ _ before.3 0 _ _ (rw all at c.in_ok-take_piece.ensures.outcome),
+        piece_then _ _ _ _ _ _ _ before.3 _ _ _ (rw all at c.in_ok-take_piece.ensures.outcome),
       );
       source = c.in-Ok.ensures.cause.same ∙ c.loop-count.invariant.source;
       taken = search rules;
@@ -62,7 +62,7 @@ returns-then-served-count-clause-outcome g c =
     (rw (append_assoc before.0 (take served piece) (drop served (take c.in-Ok.count piece)), whole) (Consumes-trans _ _ _ _ _ before.1 c.in-Ok.ensures.bytes.0))
     (omega (arith, length-append before.0 (take served piece), first, before.2))
     (omega (arith, first, more)) (omega (arith, first, more, most))
-    (piece_then _ _ _ _ _ _ _ before.3 0 _ _ c.in_ok-take_piece.ensures.outcome) (c.in-Ok.ensures.cause.same ∙ c.loop-count.invariant.source)
+    (piece_then _ _ _ _ _ _ _ before.3 _ _ _ c.in_ok-take_piece.ensures.outcome) (c.in-Ok.ensures.cause.same ∙ c.loop-count.invariant.source)
 
 pub returns-clause-outcome : goal.returns-clause-outcome
 returns-clause-outcome g c =
@@ -70,4 +70,4 @@ returns-clause-outcome g c =
     let none : Consumes (g.S.Source.view c.loop-count.src).left (g.S.Source.view c.fill.new.src).left [] = rw c.if-count-eq0.true at c.in-Ok.ensures.bytes.0 in
     serve_end _ _ _ _ _ _ (before.0 ++ []) _ _ (Consumes-trans _ _ _ _ _ before.1 none) (c.in-Ok.ensures.bytes.1 c.if-count-eq0.true (search rules))
     (omega (arith, length-append before.0 [], before.2, c.loop-count.invariant.taken))
-    (piece_then _ _ _ _ _ _ _ before.3 0 _ _ (piece_nothing _ _ _)) c.finish.ensures (c.in-Ok.ensures.cause.same ∙ c.loop-count.invariant.source)
+    (piece_then _ _ _ _ _ _ _ before.3 _ _ _ (piece_nothing _ _ _)) c.finish.ensures (c.in-Ok.ensures.cause.same ∙ c.loop-count.invariant.source)

@@ -1,5 +1,6 @@
 use Rattle.std.proofs.Common.{[], ◌-◌, ◌≡◌, ◌≤◌, ℕ, List, length}
 use Rattle.std.specs.Io.KnownBytes.{Consumes}
+use Rattle.std.specs.Prelude.{None}
 use Rattle.bp_session.specs.Serving.{PieceOutcome, moment, with_stale}
 use Rattle.bp_session.proofs.serving.serve_by.Given as goal
 
@@ -8,7 +9,7 @@ abbrev pub invariant-loop-count : goal.invariant-loop-count
 invariant-loop-count g l =
     record {
       served : (input : List ℕ) × Consumes (g.S.Source.view l.fn.src).left (g.S.Source.view l.src).left input × (length input ≡ l.taken)
-          × PieceOutcome 0 l.most [] input l.work.buffers.line.items
+          × PieceOutcome None l.most [] input l.work.buffers.line.items
           (with_stale l.fn.stale (moment l.fn.volume (g.F.Files.view l.fn.files) (g.K.Sink.view l.fn.out)))
           (with_stale l.stale (moment l.volume (g.F.Files.view l.files) (g.K.Sink.view l.out)));
       source : (g.S.Source.view l.src).faults ≡ (g.S.Source.view l.fn.src).faults;

@@ -1,8 +1,8 @@
 use Rattle.std.proofs.Common.{◌≡◌, ◌∙◌, ap, arith, length, min, rules, subst₂, sym, take}
 use Rattle.std.proofs.lemmas.List.{length-take, take_min}
 use Rattle.bp_replies.specs.Room.{gathered_size}
+use Rattle.bp_session.specs.Ends.{cause_of}
 use Rattle.bp_session.specs.Serving.{Moment, ServeOutcome, moment, with_stale}
-use Rattle.bp_session.specs.Statuses.{status_of}
 use Rattle.bp_session.proofs.MarkLaws.{lent_back}
 use Rattle.bp_session.proofs.serving.serve_gathered.Goals as goal
 
@@ -16,5 +16,5 @@ returns-clause-outcome g c =
     let size : length marks ≡ 65536 = search rules in
     let lent : c.min-count.result ≡ min count (length marks) = omega (arith, size, c.min-count.ensures) in
     let same : length new.stale ≡ c.min-count.result = omega (arith, lent, c.serve_by.auto.stale, length-take c.min-count.result marks) in
-    subst₂ (λ old now. ServeOutcome (status_of c.serve_by.result) gathered_size (g.S.Source.view c.args.src.now) (g.S.Source.view new.src) (with_stale old begun) (with_stale now ended))
+    subst₂ (λ old now. ServeOutcome (cause_of c.serve_by.result) gathered_size (g.S.Source.view c.args.src.now) (g.S.Source.view new.src) (with_stale old begun) (with_stale now ended))
     (ap (λ n. take n marks) lent ∙ take_min count marks) (sym (lent_back count c.min-count.result marks new.stale lent same)) c.serve_by.ensures.outcome

@@ -11,14 +11,11 @@ ghost use Rattle.pm_epochs.specs.Log.{stores};
 ghost use Rattle.pm_region.specs.Memory.{current_words, drained};
 
 use crate::blocks::{RUN_BLOCKS, read_blocks};
-use bp_io::{Failed, Files};
-use bp_limits::{BLOCK_SIZE, BLOCK_WORDS, CALL_ROOM, MAX_BLOCKS};
+use bp_io::{BLOCK, Failed, Files};
+use bp_limits::{BLOCK_WORDS, CALL_ROOM, MAX_BLOCKS};
 use bp_volume::Volume;
 use pm_epochs::EventKind;
 use pm_region::{Region, Row};
-
-/// The bytes of a block, as a length.
-const BLOCK: usize = BLOCK_SIZE as usize;
 
 /// How many rows of stores a log may have for each block of the image and still be looked through for the blocks to which they
 /// went. Where it has more, writing all blocks costs little more than looking on.

@@ -1,6 +1,6 @@
 -- What a run leaves outside.
 use Rattle.std.proofs.Common.{refl, sym, ◌∙◌, ap, arith, ◌≡◌, ℕ, ◌*◌, ◌/◌, ◌≤◌, List, [], ◌∷◌, ◌++◌, length, inl, inr, true}
-use Rattle.std.specs.Prelude.{Some, ◌⊎◌}
+use Rattle.std.specs.Prelude.{Some}
 use Rattle.std.specs.Io.KnownBytes.{Consumes, IsAtEnd}
 use Rattle.pm_region.specs.Memory.{Memory, current_words, drained}
 use Rattle.bp_layout.specs.Formatted.{version_of}

@@ -1,11 +1,21 @@
 -- What an export does to a handle.
-use Rattle.std.specs.Prelude.{◌≡◌, ◌≤◌, ◌<◌, ℕ, Option, Some, None}
+use Rattle.std.specs.Prelude.{◌≡◌, ◌≤◌, ◌<◌, ℕ, Option, Some, None, Result}
+use Rattle.std.specs.Borrow.{MutBor}
+use Rattle.std.specs.Fn.{FnOnceReturnsAtMut, Once}
 use Rattle.pm_region.specs.Memory.{Memory, room_in}
 use Rattle.bp_limits.specs.Limits.{call_room}
 use Rattle.bp_plain.specs.Calls.{Call, Answer}
+use Rattle.bp_plain.specs.declared.errors.FsError.{FsError}
 use Rattle.bp_volume.specs.FileCall.{FileCall}
+use Rattle.bp_volume.specs.Seen.{unit_answer}
 use Rattle.bpfs_c.specs.Listings.{listing_after}
 use Rattle.bpfs_c.specs.declared.mounted.Mounted.{Mounted}
+
+-- Whatever this does to a volume is this call.
+abbrev pub IsCall : {F : Type 0} → Once F (MutBor Memory × Unit {0}) (Result (Unit {0}) FsError × (MutBor Memory × Unit {0})) → F → Call → Type 0
+IsCall does act call =
+    (old new : Memory) (ending : Result (Unit {0}) FsError) → FnOnceReturnsAtMut does act old ending new
+    → FileCall old call (unit_answer ending) new
 
 -- The call was made on the volume that is held, with an answer that is told.
 pub record Serves (old : Mounted) (call : Call) (Told : Answer → Type 0) (new : Option Mounted) : Type 0 where

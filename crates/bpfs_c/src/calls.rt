@@ -2,14 +2,41 @@
 
 ghost use Rattle.std.specs.Prelude.{◌≡◌};
 ghost use Rattle.bp_plain.specs.Calls.Answer.{done};
+ghost use Rattle.bp_plain.specs.Calls.{Call};
 ghost use Rattle.bp_plain.specs.Calls.Call.{create, link, mkdir, rename, rmdir, truncate, unlink, upgrade, write};
 ghost use Rattle.bpfs_c.specs.Exports.{ExportsChange};
-ghost use Rattle.bpfs_c.specs.Serves.{Exported};
+ghost use Rattle.bpfs_c.specs.Serves.{Exported, IsCall};
 
 use crate::codes::{CLOSED, LOG_FULL, Lack, OK, ended};
 use crate::handle::Handle;
 use crate::mounted::has_room;
+use bp_plain::FsError;
+use bp_volume::Volume;
+use pm_runs::RedoRegion;
 use std::alloc::Global;
+
+/// Makes a call that changes the tree of the volume that is held, where its log has room for one.
+fn change<F: FnOnce(&mut Volume<RedoRegion>) -> Result<(), FsError>>(
+    alloc: Global,
+    handle: &mut Handle,
+    lack: &mut Lack,
+    act: F,
+) -> u32
+    requires { F.IsAlwaysCallable act }
+    ensures { (call : Call) → IsCall F.FnOnce act call →
+        ExportsChange handle.old.held call lack.old result lack.new handle.new.held }
+{
+    let Some(mut mounted) = handle.take(alloc) else {
+        return CLOSED;
+    };
+    let code = if has_room(&mounted) {
+        ended(act(&mut mounted.volume), lack)
+    } else {
+        LOG_FULL
+    };
+    handle.put(alloc, mounted);
+    code
+}
 
 /// Makes an empty file.
 #[unsafe(no_mangle)]
@@ -21,16 +48,7 @@ pub extern "C" fn bpfs_create(
 ) -> u32
     ensures { ExportsChange handle.old.held (create path.now) lack.old result lack.new handle.new.held }
 {
-    let Some(mut mounted) = handle.take(alloc) else {
-        return CLOSED;
-    };
-    let code = if has_room(&mounted) {
-        ended(mounted.volume.create(path), lack)
-    } else {
-        LOG_FULL
-    };
-    handle.put(alloc, mounted);
-    code
+    change(alloc, handle, lack, |volume| volume.create(path))
 }
 
 /// Makes an empty directory.
@@ -43,16 +61,7 @@ pub extern "C" fn bpfs_mkdir(
 ) -> u32
     ensures { ExportsChange handle.old.held (mkdir path.now) lack.old result lack.new handle.new.held }
 {
-    let Some(mut mounted) = handle.take(alloc) else {
-        return CLOSED;
-    };
-    let code = if has_room(&mounted) {
-        ended(mounted.volume.mkdir(path), lack)
-    } else {
-        LOG_FULL
-    };
-    handle.put(alloc, mounted);
-    code
+    change(alloc, handle, lack, |volume| volume.mkdir(path))
 }
 
 /// Takes this name from a file, and removes the file with its last name.
@@ -65,16 +74,7 @@ pub extern "C" fn bpfs_unlink(
 ) -> u32
     ensures { ExportsChange handle.old.held (unlink path.now) lack.old result lack.new handle.new.held }
 {
-    let Some(mut mounted) = handle.take(alloc) else {
-        return CLOSED;
-    };
-    let code = if has_room(&mounted) {
-        ended(mounted.volume.unlink(path), lack)
-    } else {
-        LOG_FULL
-    };
-    handle.put(alloc, mounted);
-    code
+    change(alloc, handle, lack, |volume| volume.unlink(path))
 }
 
 /// Removes an empty directory.
@@ -87,16 +87,7 @@ pub extern "C" fn bpfs_rmdir(
 ) -> u32
     ensures { ExportsChange handle.old.held (rmdir path.now) lack.old result lack.new handle.new.held }
 {
-    let Some(mut mounted) = handle.take(alloc) else {
-        return CLOSED;
-    };
-    let code = if has_room(&mounted) {
-        ended(mounted.volume.rmdir(path), lack)
-    } else {
-        LOG_FULL
-    };
-    handle.put(alloc, mounted);
-    code
+    change(alloc, handle, lack, |volume| volume.rmdir(path))
 }
 
 /// Moves what stands at a path to another one.
@@ -110,16 +101,7 @@ pub extern "C" fn bpfs_rename(
 ) -> u32
     ensures { ExportsChange handle.old.held (rename from.now to.now) lack.old result lack.new handle.new.held }
 {
-    let Some(mut mounted) = handle.take(alloc) else {
-        return CLOSED;
-    };
-    let code = if has_room(&mounted) {
-        ended(mounted.volume.rename(from, to), lack)
-    } else {
-        LOG_FULL
-    };
-    handle.put(alloc, mounted);
-    code
+    change(alloc, handle, lack, |volume| volume.rename(from, to))
 }
 
 /// Gives a file one more name.
@@ -133,16 +115,7 @@ pub extern "C" fn bpfs_link(
 ) -> u32
     ensures { ExportsChange handle.old.held (link from.now to.now) lack.old result lack.new handle.new.held }
 {
-    let Some(mut mounted) = handle.take(alloc) else {
-        return CLOSED;
-    };
-    let code = if has_room(&mounted) {
-        ended(mounted.volume.link(from, to), lack)
-    } else {
-        LOG_FULL
-    };
-    handle.put(alloc, mounted);
-    code
+    change(alloc, handle, lack, |volume| volume.link(from, to))
 }
 
 /// Writes bytes into a file.
@@ -157,16 +130,7 @@ pub extern "C" fn bpfs_write(
 ) -> u32
     ensures { ExportsChange handle.old.held (write path.now off bytes.now) lack.old result lack.new handle.new.held }
 {
-    let Some(mut mounted) = handle.take(alloc) else {
-        return CLOSED;
-    };
-    let code = if has_room(&mounted) {
-        ended(mounted.volume.write(path, off, bytes), lack)
-    } else {
-        LOG_FULL
-    };
-    handle.put(alloc, mounted);
-    code
+    change(alloc, handle, lack, |volume| volume.write(path, off, bytes))
 }
 
 /// Gives a file another size.
@@ -180,16 +144,7 @@ pub extern "C" fn bpfs_truncate(
 ) -> u32
     ensures { ExportsChange handle.old.held (truncate path.now size) lack.old result lack.new handle.new.held }
 {
-    let Some(mut mounted) = handle.take(alloc) else {
-        return CLOSED;
-    };
-    let code = if has_room(&mounted) {
-        ended(mounted.volume.truncate(path, size), lack)
-    } else {
-        LOG_FULL
-    };
-    handle.put(alloc, mounted);
-    code
+    change(alloc, handle, lack, |volume| volume.truncate(path, size))
 }
 
 /// Makes the format version 2.

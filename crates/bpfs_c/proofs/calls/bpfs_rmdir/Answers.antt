@@ -1,21 +1,6 @@
-use Rattle.std.proofs.Common.{rules, Some, ap, sym, ◌∙◌}
-use Rattle.bpfs_c.specs.Serves.Exported.{full, served}
-use Rattle.bp_volume.specs.Seen.{unit_answer}
-use Rattle.bpfs_c.proofs.Keeping.{unit_keeps}
+use Rattle.std.proofs.Common.{rules}
+use Rattle.bp_plain.specs.Calls.Call.{rmdir}
 use Rattle.bpfs_c.proofs.calls.bpfs_rmdir.Goals as goal
-use Rattle.bpfs_c.proofs.calls.bpfs_rmdir.Goals.{then-has_room, else-has_room}
 
 pub returns : goal.returns
-returns c =
-    let held = c.in-Some.mounted.value in
-    elim c.if-has_room.branch [
-      | then-has_room w ↦ served held (search rules) (search rules) (record {
-        answer = unit_answer w.rmdir.result;
-        volume = w.rmdir.new.self;
-        is_call = search rules;
-        held = search rules
-            ∙ ap (λ kept. Some (record { volume = w.rmdir.new.self; listing = kept })) (sym (unit_keeps held.listing w.rmdir.result));
-        told = search rules;
-      })
-      | else-has_room w ↦ full held (search rules) (search rules) (search rules) (search rules) (search rules)
-    ]
+returns c = c.change.ensures (rmdir c.args.path.now) (λ old new ending gave. search rules)

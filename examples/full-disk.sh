@@ -40,12 +40,12 @@ cp old new
 cp old disk/FILE
 (
   trap '' XFSZ
-  ulimit -f 4096
+  ulimit -f 2048
   "$program" run disk/FILE < script > out 2> err
 )
 expect 'a sync beyond the limit on the size of a file' 5 $? old
 (
-  ulimit -f 4096
+  ulimit -f 2048
   "$program" run disk/FILE < script > out 2> err
 )
 status=$?

@@ -2,7 +2,8 @@
 use Rattle.std.proofs.Common.{◌≡◌, ◌≢◌, ◌⊎◌, ℕ, suc, ◌+◌, ◌-◌, ◌*◌, ◌/◌, ◌%◌, ◌<◌, ◌≤◌, List, length, set, get_or, refl, sym, ◌∙◌, ap, subst₂, arith, inl, inr, get_or-set_other, lt_of_lt_of_le, le_trans}
 use Rattle.std.proofs.lemmas.List.{length-set}
 use Rattle.bp_layout.proofs.MemberLaws.{each-has}
-use Rattle.bp_limits.specs.Limits.{greatest_height, greatest_size}
+use Rattle.bp_limits.specs.Limits.{greatest_height}
+use Rattle.bp_limits.specs.CallLimits.{greatest_size}
 use Rattle.bp_layout.specs.Formatted.{version_of}
 use Rattle.bp_layout.specs.Words.{Image, block_of, height_of, slot_word, byte_of}
 use Rattle.bp_layout.specs.Tree.{node, tree_word, byte, IsLivePointer, IsLiveWord, HasBlock, IsSound, IsFull}

@@ -7,7 +7,8 @@ use Rattle.bp_layout.specs.Inode.{RootPlace, root_of, size_of}
 use Rattle.bp_layout.specs.Reached.{IsReached, IsFreeBlock}
 use Rattle.bp_layout.specs.WellFormed.{IsWellFormed}
 use Rattle.bp_layout.specs.WordPaths.{WordPath, tree_path}
-use Rattle.bp_limits.specs.Limits.{block_words, greatest_height, greatest_size, inode_words, max_height, root_field, super_root}
+use Rattle.bp_limits.specs.Limits.{block_words, greatest_height, inode_words, max_height, root_field, super_root}
+use Rattle.bp_limits.specs.CallLimits.{greatest_size}
 use Rattle.bp_layout.specs.Nodes.{nodes_for, height_with}
 use Rattle.bp_layout.specs.Members.{Has, Each}
 use Rattle.bp_changes.specs.SameContent.{IsReadByWords}

@@ -1,6 +1,7 @@
 -- Higher nodes over a tree, and what they hold behind it.
 use Rattle.std.specs.Prelude.{◌≡◌, ◌⊎◌, ℕ, zero, suc, ◌+◌, ◌-◌, ◌*◌, ◌/◌, ◌<◌, ◌≤◌, min, nat_lt, if◌then◌else◌, List, [], ◌∷◌, ◌++◌, length}
-use Rattle.bp_limits.specs.Limits.{block_words, max_height, max_size}
+use Rattle.bp_limits.specs.Limits.{block_words, max_height}
+use Rattle.bp_limits.specs.CallLimits.{max_size}
 use Rattle.bp_layout.specs.Words.{Image, height_of}
 use Rattle.bp_layout.specs.Tree.{byte, span, HasBlock, IsSound, IsFull}
 use Rattle.bp_layout.specs.Members.{Has, AreApart}

@@ -1,6 +1,7 @@
 -- What going down a tree to its last byte makes behind its size.
 use Rattle.std.specs.Prelude.{◌≡◌, ◌≢◌, ◌⊎◌, ℕ, suc, ◌+◌, ◌-◌, ◌*◌, ◌/◌, ◌%◌, ◌<◌, ◌≤◌, min, max, nat_lt, if◌then◌else◌, List, [], ◌∷◌, ◌++◌, length, Option, None, Some}
-use Rattle.bp_limits.specs.Limits.{block_size, block_words, max_height, max_size}
+use Rattle.bp_limits.specs.Limits.{block_size, block_words, max_height}
+use Rattle.bp_limits.specs.CallLimits.{max_size}
 use Rattle.bp_layout.specs.Words.{Image, height_of, slot_word}
 use Rattle.bp_layout.specs.Tree.{node, byte, span, IsLivePointer, HasBlock, IsSound, IsFull}
 use Rattle.bp_layout.specs.Pieces.{child}

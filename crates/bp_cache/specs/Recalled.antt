@@ -4,7 +4,8 @@ use Rattle.bp_cache.specs.declared.recalled.Recalled.{Recalled}
 use Rattle.bp_cache.specs.declared.recalled.Recalled.TheVariants.{Told, Unknown}
 use Rattle.bp_dirs.specs.Spots.{found_slot}
 use Rattle.bp_dirs.specs.declared.spot.Found.{Found}
-use Rattle.bp_layout.specs.Directory.{Name, inumber_in, slot_named_in}
+use Rattle.bp_layout.specs.Directory.{inumber_in, slot_named_in}
+use Rattle.bp_layout.specs.Paths.{Name}
 use Rattle.bp_layout.specs.Words.{Image}
 use Rattle.bp_tree.specs.declared.tree.Tree.{Tree}
 

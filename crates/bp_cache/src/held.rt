@@ -7,7 +7,7 @@ ghost use Rattle.bp_dirs.specs.Spots.{FreeIs, named_slot};
 ghost use Rattle.bp_index.specs.Index.{EntersSlot, IsIndexOf, LeavesSlot};
 ghost use Rattle.bp_layout.specs.Directory.{empty_slot_in, slot_named_in};
 ghost use Rattle.bp_layout.specs.Tree.{IsSound};
-ghost use Rattle.bp_limits.specs.Limits.{max_name};
+ghost use Rattle.bp_limits.specs.CallLimits.{max_name};
 ghost use Rattle.pm_region.specs.Memory.{current_words};
 
 use crate::recalled::Recalled;

@@ -11,7 +11,8 @@ use Rattle.bp_changes.specs.SameMeaning.{SameMeaning}
 use Rattle.bp_changes.proofs.ReachedOn.{meaning_on, reached_on}
 use Rattle.bp_changes.proofs.SameMeaning.{reached-back, well_formed-same}
 use Rattle.bp_free.specs.Set.{Set, has as contains, members}
-use Rattle.bp_layout.specs.Directory.{Name, empty_slot, entry_count, slot_named}
+use Rattle.bp_layout.specs.Directory.{empty_slot, entry_count, slot_named}
+use Rattle.bp_layout.specs.Paths.{Name}
 use Rattle.bp_layout.specs.Free.{AreFreeInodes}
 use Rattle.bp_layout.specs.Inode.{ContentStandsAt, RootPlace, kind_of, root_of, size_of, inode_count}
 use Rattle.bp_layout.specs.Inode.RootPlace.{inode}

@@ -4,7 +4,8 @@ use Rattle.std.proofs.lemmas.List.FromFn.{length-map-range_with_len}
 use Rattle.bp_layout.specs.Words.{Image, byte_of}
 use Rattle.bp_layout.specs.Tree.{byte}
 use Rattle.bp_layout.specs.Inode.{kind_of, size_of, ContentStandsAt}
-use Rattle.bp_layout.specs.Directory.{Name, EntryNames, IsName, word_in, name_in, name_at, slot_named, lookup_in}
+use Rattle.bp_layout.specs.Directory.{EntryNames, word_in, name_in, name_at, slot_named, lookup_in}
+use Rattle.bp_layout.specs.Paths.{Name, IsName}
 use Rattle.bp_layout.specs.Reached.{IsReached}
 use Rattle.bp_layout.specs.Reached.IsReached.{inode_file}
 use Rattle.bp_layout.specs.WellFormed.{IsWellFormed}

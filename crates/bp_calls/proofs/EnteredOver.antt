@@ -3,7 +3,8 @@ use Rattle.std.proofs.Common.{◌≡◌, ◌⊎◌, ℕ, zero, suc, ◌<◌, ◌
 use Rattle.std.proofs.lemmas.Bool.{cases_lt}
 use Rattle.bp_layout.specs.Words.{Image}
 use Rattle.bp_layout.specs.Fields.{kind_word}
-use Rattle.bp_layout.specs.Directory.{Name, EntryNames, empty_slot, entry_count}
+use Rattle.bp_layout.specs.Directory.{EntryNames, empty_slot, entry_count}
+use Rattle.bp_layout.specs.Paths.{Name}
 use Rattle.bp_layout.specs.Free.{IsFreeInode}
 use Rattle.bp_layout.specs.Inode.{kind_of, size_of, inode_count}
 use Rattle.bp_layout.specs.Reached.{IsReached}

@@ -2,7 +2,8 @@
 use Rattle.std.proofs.Common.{◌≡◌, ℕ, ◌+◌, ◌-◌, ◌*◌, ◌/◌, ◌%◌, ◌^◌, ◌<◌, ◌≤◌, List, length, get_or, slice_index, refl, sym, ◌∙◌, ap, arith, le-ltb, lt-ltb}
 use Rattle.bp_append.specs.Given.{given}
 use Rattle.bp_append.proofs.LaidLaws.{given-there}
-use Rattle.bp_layout.specs.Directory.{Name, inumber_in, name_in, word_in}
+use Rattle.bp_layout.specs.Directory.{inumber_in, name_in, word_in}
+use Rattle.bp_layout.specs.Paths.{Name}
 use Rattle.bp_layout.specs.Tree.{byte, content_word}
 use Rattle.bp_layout.specs.Words.{Image, byte_of}
 use Rattle.bp_layout.proofs.NameBytes.{map-tells}

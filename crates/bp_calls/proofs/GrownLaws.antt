@@ -8,7 +8,8 @@ use Rattle.std.proofs.lemmas.List.{length-set}
 use Rattle.bp_layout.specs.Words.{Image, word, byte_of, height_of, slot_word}
 use Rattle.bp_layout.specs.Tree.{node, content_word, HasBlock, IsSound, IsFull, IsLiveWord}
 use Rattle.bp_layout.specs.Inode.{inode_word, kind_of, root_of, size_of, inode_count, ContentStandsAt}
-use Rattle.bp_layout.specs.Directory.{Name, EntryNames, IsName, name_at, inumber_at, entry_word, entry_count, slot_named}
+use Rattle.bp_layout.specs.Directory.{EntryNames, name_at, inumber_at, entry_word, entry_count, slot_named}
+use Rattle.bp_layout.specs.Paths.{Name, IsName}
 use Rattle.bp_layout.specs.Reached.{IsReached}
 use Rattle.bp_layout.specs.Reached.IsReached.{inode_file}
 use Rattle.bp_layout.specs.WellFormed.{IsWellFormed}

@@ -12,7 +12,8 @@ use Rattle.bp_layout.specs.Inode.{root_of, size_of}
 use Rattle.bp_layout.specs.Reached.IsReached.{inode_file}
 use Rattle.bp_layout.specs.WellFormed.{IsWellFormed}
 use Rattle.bp_layout.specs.Words.{Image, block_count}
-use Rattle.bp_limits.specs.Limits.{block_size, inode_size, max_blocks, max_height, super_size, greatest_size}
+use Rattle.bp_limits.specs.Limits.{block_size, inode_size, max_blocks, max_height, super_size}
+use Rattle.bp_limits.specs.CallLimits.{greatest_size}
 use Rattle.bp_commit.specs.Performs.{room_for}
 use Rattle.bp_tree.proofs.RegionWords.{length_now}
 use Rattle.bp_layout.specs.WordPaths.{WordPath}

@@ -10,7 +10,8 @@ use Rattle.bp_calls.specs.Growth.{stores_behind_growth}
 use Rattle.bp_layout.specs.Free.{IsFreeInode}
 use Rattle.bp_calls.proofs.OpenPlaces.{content_open}
 use Rattle.bp_calls.proofs.EnteredOver.{adds_over, enters_well_formed, enters_over}
-use Rattle.bp_layout.specs.Directory.{empty_slot, Name, entry_count, slot_named}
+use Rattle.bp_layout.specs.Directory.{empty_slot, entry_count, slot_named}
+use Rattle.bp_layout.specs.Paths.{Name}
 use Rattle.bp_layout.specs.Inode.{ContentStandsAt, root_of, inode_count}
 use Rattle.bp_shapes.specs.Sets.{AreExact}
 use Rattle.bp_calls.specs.Spare.{IsSpare}

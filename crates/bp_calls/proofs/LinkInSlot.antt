@@ -5,7 +5,8 @@ use Rattle.bp_layout.specs.Need.Change.{enters as gains}
 use Rattle.bp_layout.specs.Need.Entrant.{linked}
 use Rattle.bp_commit.specs.Performs.{PerformsWithin}
 use Rattle.bp_calls.specs.Growth.{stores_behind_growth}
-use Rattle.bp_layout.specs.Directory.{empty_slot, Name, slot_named}
+use Rattle.bp_layout.specs.Directory.{empty_slot, slot_named}
+use Rattle.bp_layout.specs.Paths.{Name}
 use Rattle.bp_layout.specs.Inode.{kind_of, ContentStandsAt}
 use Rattle.bp_shapes.specs.Sets.{AreExact}
 use Rattle.bp_calls.specs.Steps.{name_need, CanLink, HasLooseWord}

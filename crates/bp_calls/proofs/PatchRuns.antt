@@ -1,7 +1,8 @@
 -- The runs of patches: they lie in files, and what a commit of them asks.
 use Rattle.std.proofs.Common.{◌≡◌, ℕ, zero, suc, ◌+◌, ◌*◌, ◌<◌, ◌≤◌, List, [], ◌∷◌, ◌++◌, get_or, length, take, Bool, refl, sym, ◌∙◌, ap, subst, inl, inr, arith}
 use Rattle.std.proofs.lemmas.List.{map-append, take_more}
-use Rattle.bp_limits.specs.Limits.{max_batch, max_height, max_pieces}
+use Rattle.bp_limits.specs.Limits.{max_height, max_pieces}
+use Rattle.bp_limits.specs.CallLimits.{max_batch}
 use Rattle.bp_layout.specs.Free.{AreFreeBlocks}
 use Rattle.bp_layout.specs.Inode.{kind_of, root_of, size_of}
 use Rattle.bp_layout.specs.Members.{Each, Has}

@@ -10,7 +10,7 @@ use Rattle.bp_changes.proofs.ReachedOn.{reached_on}
 use Rattle.bp_changes.proofs.SameMeaning.{well_formed-same}
 use Rattle.bp_free.specs.Set.{Set, members}
 use Rattle.bp_layout.proofs.FewLeaves.{few_entries}
-use Rattle.bp_layout.specs.Directory.{Name}
+use Rattle.bp_layout.specs.Paths.{Name}
 use Rattle.bp_layout.specs.Inode.{kind_of, root_of, size_of}
 use Rattle.bp_layout.specs.Reached.{IsReached}
 use Rattle.bp_layout.specs.Tree.{byte, content_word, IsSound}
@@ -18,7 +18,8 @@ use Rattle.bp_append.specs.Given.{given}
 use Rattle.bp_layout.specs.WellFormed.{IsWellFormed}
 use Rattle.bp_layout.specs.WordPaths.{WordPath, inode_path}
 use Rattle.bp_layout.specs.Words.{Image, height_of}
-use Rattle.bp_limits.specs.Limits.{greatest_size, max_height}
+use Rattle.bp_limits.specs.Limits.{max_height}
+use Rattle.bp_limits.specs.CallLimits.{greatest_size}
 use Rattle.pm_region.specs.Memory.{Memory, current_words}
 use Rattle.pm_region.proofs.MemoryLaws.{length-current_words}
 use Rattle.bp_calls.specs.Entries.{AreEntryBytes, PutsBehind}

@@ -5,11 +5,12 @@ use Rattle.bp_dirs.specs.Written.{HasNameAt}
 use Rattle.bp_inodes.specs.Filled.{HasInodeAt}
 use Rattle.bp_tree.specs.Within.{IsWithin}
 use Rattle.bp_inodes.proofs.InodeWords.{kind_word-of, size_word-of}
-use Rattle.bp_layout.specs.Directory.{Name, name_in}
+use Rattle.bp_layout.specs.Directory.{name_in}
+use Rattle.bp_layout.specs.Paths.{Name}
 use Rattle.bp_layout.specs.Fields.{kind_word}
 use Rattle.bp_layout.specs.Free.{IsFreeInode}
 use Rattle.bp_layout.specs.Inode.{ContentStandsAt, size_of, inode_count}
-use Rattle.bp_limits.specs.Limits.{max_name}
+use Rattle.bp_limits.specs.CallLimits.{max_name}
 use Rattle.bp_layout.specs.Reached.IsReached.{inode_file}
 use Rattle.bp_layout.specs.Tree.{byte, content_word}
 use Rattle.bp_layout.specs.WellFormed.{IsWellFormed}

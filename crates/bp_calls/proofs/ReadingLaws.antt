@@ -5,7 +5,8 @@ use Rattle.std.proofs.lemmas.List.FromFn.{length-map-range_with_len}
 use Rattle.bp_layout.specs.Words.{Image, block_count}
 use Rattle.bp_layout.specs.Tree.{IsSound}
 use Rattle.bp_layout.specs.Inode.{kind_of, root_of, size_of, inode_count}
-use Rattle.bp_layout.specs.Directory.{Name, IsName, EntryNames, word_in, inumber_in, inumber_at, name_at, entry_count}
+use Rattle.bp_layout.specs.Directory.{EntryNames, word_in, inumber_in, inumber_at, name_at, entry_count}
+use Rattle.bp_layout.specs.Paths.{Name, IsName}
 use Rattle.bp_layout.specs.Fields.{kind_word}
 use Rattle.bp_layout.specs.Reached.{IsReached}
 use Rattle.bp_layout.proofs.Reached.{reached-in_file}

@@ -1,7 +1,7 @@
 -- An entry that stands ready behind the last one of a directory is still ready after stores to an inode that nobody reaches.
 use Rattle.std.proofs.Common.{◌≡◌, ◌≢◌, ℕ, zero, suc, ◌+◌, ◌-◌, ◌*◌, ◌/◌, ◌%◌, ◌<◌, ◌≤◌, refl, sym, ◌∙◌, subst, subst₂, suc-ne-zero, arith}
 use Rattle.bp_changes.proofs.Formatted.{version_stays}
-use Rattle.bp_layout.specs.Directory.{Name, IsName}
+use Rattle.bp_layout.specs.Paths.{Name, IsName}
 use Rattle.bp_layout.specs.Free.{IsFreeInode}
 use Rattle.bp_layout.specs.Inode.{ContentStandsAt, root_of, size_of, inode_count}
 use Rattle.bp_layout.specs.Reached.{IsReached}

@@ -8,7 +8,7 @@ use Rattle.bp_calls.specs.OnTrees.{GetsSize}
 use Rattle.bp_calls.specs.Resized.{ResizesFile}
 use Rattle.bp_layout.specs.Inode.{root_of, size_of}
 use Rattle.bp_layout.specs.Lookup.{node_of}
-use Rattle.bp_layout.specs.Lookup.Node.{file}
+use Rattle.bp_layout.specs.Paths.Node.{file}
 use Rattle.bp_layout.specs.Tree.{byte, content}
 use Rattle.bp_layout.specs.WellFormed.{IsWellFormed}
 use Rattle.bp_layout.specs.Words.{Image}

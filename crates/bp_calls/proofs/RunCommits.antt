@@ -15,7 +15,8 @@ use Rattle.bp_layout.specs.WellFormed.{IsWellFormed}
 use Rattle.bp_layout.specs.WordPaths.{inode_path}
 use Rattle.bp_layout.specs.Words.{Image, height_of}
 use Rattle.bp_layout.proofs.TreeLaws.{span-is}
-use Rattle.bp_limits.specs.Limits.{block_size, block_words, max_height, max_write}
+use Rattle.bp_limits.specs.Limits.{block_size, block_words, max_height}
+use Rattle.bp_limits.specs.CallLimits.{max_write}
 use Rattle.bp_changes.specs.Effects.{ChangesFile}
 use Rattle.bp_changes.specs.KeepsDirectories.{KeepsDirectories}
 use Rattle.bp_changes.proofs.KeepsDirectories.{reached-back, reached-on}

@@ -19,7 +19,7 @@ use Rattle.bp_layout.specs.Need.Change.{resizes, writes}
 use Rattle.bp_layout.specs.Reached.{IsReached}
 use Rattle.bp_layout.specs.Thaw.{targets, thawed}
 use Rattle.bp_layout.specs.Words.{Image}
-use Rattle.bp_limits.specs.Limits.{greatest_size}
+use Rattle.bp_limits.specs.CallLimits.{greatest_size}
 use Rattle.bp_shapes.specs.Sets.{kept_of}
 use Rattle.pm_region.specs.Memory.{Memory, current_words}
 

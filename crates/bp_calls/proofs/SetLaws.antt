@@ -7,7 +7,8 @@ use Rattle.bp_free.proofs.Members.{has_without_same, has_without_other, has_past
 use Rattle.bp_layout.specs.Words.{Image}
 use Rattle.bp_layout.specs.Tree.{HasBlock}
 use Rattle.bp_layout.specs.Inode.{kind_of, root_of, size_of, ContentStandsAt}
-use Rattle.bp_layout.specs.Directory.{Name, IsName, slot_named}
+use Rattle.bp_layout.specs.Directory.{slot_named}
+use Rattle.bp_layout.specs.Paths.{Name, IsName}
 use Rattle.bp_layout.specs.Reached.{IsReached, IsLiveBlock}
 use Rattle.bp_layout.specs.WellFormed.{IsWellFormed}
 use Rattle.bp_layout.specs.Free.{AreFreeBlocks, AreFreeInodes, IsFreeInode}

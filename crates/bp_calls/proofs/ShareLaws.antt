@@ -1,7 +1,8 @@
 -- One more name for a file: what it asks of the memory once nothing is left to thaw.
 use Rattle.std.proofs.Common.{◌≡◌, ℕ, Bool, ◌≤◌, None}
 use Rattle.bp_free.specs.Set.{Set}
-use Rattle.bp_layout.specs.Directory.{Name, empty_slot}
+use Rattle.bp_layout.specs.Directory.{empty_slot}
+use Rattle.bp_layout.specs.Paths.{Name}
 use Rattle.bp_layout.specs.Need.Entrant.{linked}
 use Rattle.pm_region.specs.Memory.{Memory, current_words, room_in}
 use Rattle.bp_calls.specs.Steps.{CanLinkBehind, CanShare, HasLooseEntry, entering_room, name_need}

@@ -11,7 +11,8 @@ use Rattle.bp_commit.proofs.PerformsLaws.{within_stores, within_more}
 use Rattle.bp_calls.proofs.NeedLaws.{cover_in_slot, need_in_slot}
 use Rattle.bp_calls.proofs.OpenPlaces.{content_open, each_weaker, stands_stored, root_word_stays, content_address}
 use Rattle.bp_changes.proofs.ContentStore.{root_stays}
-use Rattle.bp_layout.specs.Directory.{empty_slot, Name, entry_count, inumber_at, slot_named}
+use Rattle.bp_layout.specs.Directory.{empty_slot, entry_count, inumber_at, slot_named}
+use Rattle.bp_layout.specs.Paths.{Name}
 use Rattle.bp_layout.specs.Inode.{kind_of, size_of, ContentStandsAt, root_of, inode_count}
 use Rattle.bp_calls.specs.Spare.{IsSpare}
 use Rattle.bp_calls.specs.Steps.{name_need, LacksName}

@@ -8,7 +8,8 @@ use Rattle.bp_layout.specs.Listing.{comes_before}
 use Rattle.bp_layout.specs.Words.{Image}
 use Rattle.bp_layout.specs.Tree.{content}
 use Rattle.bp_layout.specs.Inode.{kind_of, root_of, size_of}
-use Rattle.bp_layout.specs.Directory.{Name, entry_count, inumber_at, name_at}
+use Rattle.bp_layout.specs.Directory.{entry_count, inumber_at, name_at}
+use Rattle.bp_layout.specs.Paths.{Name}
 use Rattle.bp_layout.specs.declared.fields.Kind.{Kind}
 use Rattle.bp_layout.specs.declared.fields.Kind.TheVariants.{File, Dir}
 use Rattle.bp_layout.specs.declared.fields.Stat.{Stat}

@@ -1,6 +1,7 @@
 -- What a call that creates a name makes of an image.
 use Rattle.std.specs.Prelude.{◌≡◌, ◌⊎◌, ℕ, ◌+◌, ◌<◌, ◌≤◌, List, length, slice_index, slice_set, unwrap_or}
-use Rattle.bp_layout.specs.Directory.{Name, empty_slot, entry_count, name_at}
+use Rattle.bp_layout.specs.Directory.{empty_slot, entry_count, name_at}
+use Rattle.bp_layout.specs.Paths.{Name}
 use Rattle.bp_layout.specs.Free.{IsFreeInode}
 use Rattle.bp_layout.specs.Inode.{inode_count, kind_of}
 use Rattle.bp_layout.specs.Names.{AreCounts}

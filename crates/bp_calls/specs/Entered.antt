@@ -2,7 +2,8 @@
 use Rattle.std.specs.Prelude.{◌≡◌, ◌≢◌, ℕ, ◌+◌, ◌/◌, ◌<◌, ◌≤◌}
 use Rattle.bp_layout.specs.Formatted.{version_of}
 use Rattle.bp_limits.specs.Limits.{entry_size, greatest_height}
-use Rattle.bp_layout.specs.Directory.{Name, inumber_at, inumber_in, name_at, name_in, entry_count}
+use Rattle.bp_layout.specs.Directory.{inumber_at, inumber_in, name_at, name_in, entry_count}
+use Rattle.bp_layout.specs.Paths.{Name}
 use Rattle.bp_layout.specs.Free.{IsFreeInode}
 use Rattle.bp_layout.specs.Inode.{IsDirectory, kind_of, root_of, size_of}
 use Rattle.bp_layout.specs.Reached.{IsReached}

@@ -3,7 +3,8 @@ use Rattle.std.specs.Prelude.{◌≡◌, ℕ, ◌+◌, ◌-◌, ◌<◌, List, l
 use Rattle.bp_append.specs.Prepared.{PreparesWith}
 use Rattle.bp_free.specs.Set.{members}
 use Rattle.bp_free.specs.declared.parts.Parts.{Parts}
-use Rattle.bp_layout.specs.Directory.{Name, entry_count, inumber_in, name_in}
+use Rattle.bp_layout.specs.Directory.{entry_count, inumber_in, name_in}
+use Rattle.bp_layout.specs.Paths.{Name}
 use Rattle.bp_layout.specs.Inode.{root_of, size_of}
 use Rattle.bp_layout.specs.Words.{byte_of}
 use Rattle.bp_limits.specs.Limits.{entry_size}

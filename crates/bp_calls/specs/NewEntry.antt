@@ -7,7 +7,7 @@ use Rattle.bp_calls.specs.Growth.{stores_behind_growth}
 use Rattle.bp_calls.specs.Steps.{HasLooseWord, name_need}
 use Rattle.bp_commit.specs.Performs.{PerformsThawed, PerformsWithin}
 use Rattle.bp_free.specs.Set.{Set, without}
-use Rattle.bp_layout.specs.Directory.{Name}
+use Rattle.bp_layout.specs.Paths.{Name}
 use Rattle.bp_layout.specs.Free.{IsLeastFree}
 use Rattle.bp_layout.specs.Need.{Entrant}
 use Rattle.bp_layout.specs.Need.Change.{enters}

@@ -2,8 +2,9 @@
 use Rattle.std.specs.Prelude.{◌≡◌, ℕ, List, [], ◌∷◌, ◌++◌, Some}
 use Rattle.bp_changes.specs.Overwrites.{OverwritesFiles, Patch}
 use Rattle.bp_changes.specs.Thawed.{AfterThaw}
-use Rattle.bp_layout.specs.Directory.{Name, name_at}
-use Rattle.bp_layout.specs.Lookup.{Path, lookup}
+use Rattle.bp_layout.specs.Directory.{name_at}
+use Rattle.bp_layout.specs.Paths.{Name, Path}
+use Rattle.bp_layout.specs.Lookup.{lookup}
 use Rattle.bp_layout.specs.Words.{Image}
 use Rattle.bp_layout.specs.declared.fields.Kind.{Kind}
 use Rattle.bp_layout.specs.declared.fields.Kind.TheVariants.{File, Dir}

@@ -1,6 +1,7 @@
 -- What bytes for several files ask, and what they touch.
 use Rattle.std.specs.Prelude.{◌≡◌, ℕ, ◌+◌, ◌≤◌, List, [], ◌∷◌, length, map, Bool}
-use Rattle.bp_limits.specs.Limits.{max_batch, max_pieces}
+use Rattle.bp_limits.specs.Limits.{max_pieces}
+use Rattle.bp_limits.specs.CallLimits.{max_batch}
 use Rattle.bp_layout.specs.Inode.{IsFile, size_of}
 use Rattle.bp_layout.specs.Members.{Each}
 use Rattle.bp_layout.specs.Need.{Change, Stretch}

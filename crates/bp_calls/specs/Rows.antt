@@ -4,7 +4,8 @@ use Rattle.std.specs.List.{cons_option, filter_map, range_with_len}
 use Rattle.bp_calls.specs.Asked.{entry_seen}
 use Rattle.bp_dirs.specs.EntryWords.{HasWords, IsRow}
 use Rattle.bp_layout.specs.Words.{Image}
-use Rattle.bp_layout.specs.Directory.{Name, entry_count}
+use Rattle.bp_layout.specs.Directory.{entry_count}
+use Rattle.bp_layout.specs.Paths.{Name}
 use Rattle.bp_layout.specs.Inode.{IsDirectory, root_of}
 use Rattle.bp_layout.specs.Reached.{IsReached}
 use Rattle.bp_layout.specs.declared.fields.Kind.{Kind}

@@ -2,7 +2,8 @@
 use Rattle.std.specs.Prelude.{◌≡◌, ◌≢◌, ℕ, ◌+◌, ◌*◌, ◌/◌, ◌≤◌, [], None, Some, Bool, false, length}
 use Rattle.bp_append.specs.Prepared.{HasLooseEnd, need_for}
 use Rattle.bp_free.specs.Set.{IsLeast, Set, members}
-use Rattle.bp_layout.specs.Directory.{Name, IsName, empty_slot, slot_named}
+use Rattle.bp_layout.specs.Directory.{empty_slot, slot_named}
+use Rattle.bp_layout.specs.Paths.{Name, IsName}
 use Rattle.bp_layout.specs.Free.{IsFreeInode}
 use Rattle.bp_layout.specs.Inode.{ContentStandsAt, IsDirectory, IsFile, size_of}
 use Rattle.bp_layout.specs.Need.{need}

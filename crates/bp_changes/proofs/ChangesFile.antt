@@ -7,8 +7,9 @@ use Rattle.bp_layout.specs.Directory.{EntryNames, name_at}
 use Rattle.bp_layout.specs.Reached.{IsReached}
 use Rattle.bp_layout.specs.Reached.IsReached.{inode_file, root_directory}
 use Rattle.bp_layout.specs.WellFormed.{IsWellFormed}
-use Rattle.bp_layout.specs.Lookup.{Path, lookup, node_of, shown}
-use Rattle.bp_layout.specs.Lookup.Node.{file}
+use Rattle.bp_layout.specs.Lookup.{lookup, node_of, shown}
+use Rattle.bp_layout.specs.Paths.{Path}
+use Rattle.bp_layout.specs.Paths.Node.{file}
 use Rattle.std.specs.Option.{option_map}
 use Rattle.bp_changes.specs.Effects.{ChangesFile}
 use Rattle.bp_changes.specs.KeepsDirectories.{KeepsDirectories}

@@ -5,7 +5,8 @@ use Rattle.bp_limits.specs.Limits.{block_size, entry_size}
 use Rattle.bp_layout.specs.Words.{Image}
 use Rattle.bp_layout.specs.Tree.{byte}
 use Rattle.bp_layout.specs.Inode.{IsDirectory, IsFile, kind_of, root_of, size_of, inode_count}
-use Rattle.bp_layout.specs.Directory.{EntryNames, IsName, entry_count, name_at}
+use Rattle.bp_layout.specs.Directory.{EntryNames, entry_count, name_at}
+use Rattle.bp_layout.specs.Paths.{IsName}
 use Rattle.bp_layout.specs.Reached.{IsReached}
 use Rattle.bp_layout.specs.WellFormed.{IsWellFormed}
 use Rattle.bp_changes.specs.Effects.{AddsNames, LinksName, IsNewEntry}

@@ -1,10 +1,11 @@
 -- A store of an inumber into an empty entry adds that name to its directory, and changes nothing else. The inode that the
 -- entry names was free, or it is a file that has a name.
 use Rattle.std.proofs.Common.{◌≡◌, ◌≢◌, ◌⊎◌, ℕ, ◌+◌, ◌*◌, ◌/◌, ◌<◌, ◌≤◌, length, sym, ◌∙◌, ap, ap₂, subst₂, arith, inl, inr}
-use Rattle.bp_limits.specs.Limits.{max_name}
+use Rattle.bp_limits.specs.CallLimits.{max_name}
 use Rattle.bp_layout.specs.Words.{Image}
 use Rattle.bp_layout.specs.Inode.{kind_of, size_of, inode_count}
-use Rattle.bp_layout.specs.Directory.{EntryNames, IsName, name_at, inumber_at, entry_word, entry_count}
+use Rattle.bp_layout.specs.Directory.{EntryNames, name_at, inumber_at, entry_word, entry_count}
+use Rattle.bp_layout.specs.Paths.{IsName}
 use Rattle.bp_layout.specs.Reached.{IsReached}
 use Rattle.bp_layout.specs.Reached.IsReached.{inode_file}
 use Rattle.bp_layout.specs.WellFormed.{IsWellFormed}

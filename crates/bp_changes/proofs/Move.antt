@@ -1,9 +1,10 @@
 -- An inumber leaves one entry and comes into another: what a rename onto a target, or into another directory, makes of an image.
 use Rattle.std.proofs.Common.{◌≡◌, ◌⊎◌, ℕ, suc, ◌/◌, ◌<◌, ◌≤◌, length, None, Some, refl, sym, ◌∙◌, ap, ap₂, subst, subst₂, arith, inl, inr}
-use Rattle.bp_limits.specs.Limits.{max_name}
+use Rattle.bp_limits.specs.CallLimits.{max_name}
 use Rattle.bp_layout.specs.Words.{Image}
 use Rattle.bp_layout.specs.Inode.{kind_of, size_of, inode_count}
-use Rattle.bp_layout.specs.Directory.{Name, EntryNames, IsName, name_at, inumber_at, entry_count, lookup_in}
+use Rattle.bp_layout.specs.Directory.{EntryNames, name_at, inumber_at, entry_count, lookup_in}
+use Rattle.bp_layout.specs.Paths.{Name, IsName}
 use Rattle.bp_layout.specs.Reached.{IsReached}
 use Rattle.bp_layout.specs.Reached.IsReached.{inode_file, root_directory, named}
 use Rattle.bp_layout.specs.Lookup.{node_of}

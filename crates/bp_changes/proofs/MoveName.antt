@@ -4,14 +4,14 @@ use Rattle.std.specs.Option.{option_map}
 use Rattle.std.proofs.lemmas.Bool.{cases_eq}
 use Rattle.std.proofs.lemmas.List.{append_assoc, append-nil, same_from_push}
 use Rattle.bp_layout.specs.Words.{Image}
-use Rattle.bp_layout.specs.Directory.{Name, lookup_in}
+use Rattle.bp_layout.specs.Directory.{lookup_in}
+use Rattle.bp_layout.specs.Paths.{Name, Path, rest_below}
 use Rattle.bp_layout.specs.Inode.{IsDirectory}
 use Rattle.bp_layout.proofs.LookupLaws.{lookup_in-shows}
 use Rattle.bp_layout.specs.Reached.{IsReached}
 use Rattle.bp_layout.specs.Reached.IsReached.{root_directory}
-use Rattle.bp_layout.specs.Lookup.{Path, lookup_from, lookup, node_of, shown}
+use Rattle.bp_layout.specs.Lookup.{lookup_from, lookup, node_of, shown}
 use Rattle.bp_layout.specs.WellFormed.{IsWellFormed}
-use Rattle.bp_layout.specs.Below.{rest_below}
 use Rattle.bp_layout.proofs.Below.{rest_below-append, rest_below-is}
 use Rattle.bp_layout.proofs.View.{lookup_in-reached, lookup_from-reached}
 use Rattle.bp_layout.proofs.Paths.{lookup_from-append, path_once, same_name, ByLast, by_last}

@@ -1,9 +1,9 @@
 -- What is reached after a name moved: all that was, where the directory to which it came is not below the moved inode.
 use Rattle.std.proofs.Common.{◌≡◌, ◌≢◌, ◌⊎◌, ℕ, [], ◌∷◌, ◌++◌, Option, None, Some, refl, sym, ◌∙◌, ap, subst, ap₂, inl, inr}
 use Rattle.bp_layout.specs.Words.{Image}
-use Rattle.bp_layout.specs.Below.{rest_below}
+use Rattle.bp_layout.specs.Paths.{rest_below, Path}
 use Rattle.bp_layout.specs.Directory.{EntryNames, name_at, inumber_at, lookup_in}
-use Rattle.bp_layout.specs.Lookup.{Path, lookup, lookup_from}
+use Rattle.bp_layout.specs.Lookup.{lookup, lookup_from}
 use Rattle.bp_layout.specs.Inode.{IsDirectory}
 use Rattle.bp_layout.specs.Reached.{IsReached}
 use Rattle.bp_layout.specs.Reached.IsReached.{inode_file, root_directory, named as reaches}

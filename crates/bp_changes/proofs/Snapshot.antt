@@ -1,7 +1,8 @@
 -- The second tree of an image stays as it is where no store goes to its blocks, nor to its words of the superblock.
 use Rattle.std.proofs.Common.{◌≡◌, ◌≢◌, ◌⊎◌, ℕ, ◌+◌, ◌*◌, ◌/◌, ◌%◌, ◌<◌, ◌≤◌, Bool, true, false, ◌&&◌, nat_lt, length, refl, sym, ◌∙◌, subst, arith, inl, inr, true≢false}
 use Rattle.std.proofs.lemmas.Bool.{cases_eq, cases_lt}
-use Rattle.bp_limits.specs.Limits.{is_two, version_at}
+use Rattle.bp_limits.specs.Limits.{version_at}
+use Rattle.bp_limits.specs.CallLimits.{is_two}
 use Rattle.bp_layout.specs.Words.{Image, word}
 use Rattle.bp_layout.specs.Reached.{IsLiveBlock}
 use Rattle.bp_layout.specs.Same.{Same}

@@ -5,10 +5,11 @@ use Rattle.std.specs.Option.{option_map}
 use Rattle.std.proofs.lemmas.Bool.{cases_eq}
 use Rattle.bp_layout.specs.Words.{Image}
 use Rattle.bp_layout.specs.Inode.{kind_of, size_of, inode_count}
-use Rattle.bp_layout.specs.Directory.{Name, EntryNames, name_at, inumber_at, entry_count, lookup_in}
+use Rattle.bp_layout.specs.Directory.{EntryNames, name_at, inumber_at, entry_count, lookup_in}
+use Rattle.bp_layout.specs.Paths.{Name, Path}
 use Rattle.bp_layout.specs.Reached.{IsReached}
 use Rattle.bp_layout.specs.Reached.IsReached.{inode_file, root_directory, named}
-use Rattle.bp_layout.specs.Lookup.{Path, lookup_from, lookup, node_of, shown}
+use Rattle.bp_layout.specs.Lookup.{lookup_from, lookup, node_of, shown}
 use Rattle.bp_layout.specs.WellFormed.{IsWellFormed}
 use Rattle.bp_changes.specs.Effects.{CanUnlink, RemovesEntry}
 use Rattle.bp_layout.proofs.Reached.{reached-in_file}

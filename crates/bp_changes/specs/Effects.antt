@@ -5,7 +5,8 @@ use Rattle.bp_limits.specs.Limits.{block_size, entry_size, entry_words}
 use Rattle.bp_layout.specs.Words.{Image}
 use Rattle.bp_layout.specs.Tree.{byte, HasBlock}
 use Rattle.bp_layout.specs.Inode.{IsDirectory, IsFile, inode_count, kind_of, root_of, size_of}
-use Rattle.bp_layout.specs.Directory.{EntryNames, IsName, name_at, inumber_at, entry_word, entry_count}
+use Rattle.bp_layout.specs.Directory.{EntryNames, name_at, inumber_at, entry_word, entry_count}
+use Rattle.bp_layout.specs.Paths.{IsName}
 use Rattle.bp_layout.specs.Reached.{IsReached}
 use Rattle.bp_changes.specs.KeepsTrees.{KeepsTrees}
 

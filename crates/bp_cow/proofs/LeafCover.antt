@@ -6,7 +6,8 @@ use Rattle.std.proofs.lemmas.Bool.{cases_lt}
 use Rattle.std.proofs.lemmas.List.{length-map, length-take}
 use Rattle.std.proofs.lemmas.List.Elements.{All-get_or}
 use Rattle.std.proofs.Math.Seq.{take-length}
-use Rattle.bp_limits.specs.Limits.{block_size, block_words, max_height, max_write}
+use Rattle.bp_limits.specs.Limits.{block_size, block_words, max_height}
+use Rattle.bp_limits.specs.CallLimits.{max_write}
 use Rattle.bp_layout.specs.Inode.{root_of, size_of, inode_count}
 use Rattle.bp_layout.specs.Members.{Has}
 use Rattle.bp_layout.specs.Need.{Change, height_after, is_there_after, existing_from, common_all, cover_of, prefixes_of}

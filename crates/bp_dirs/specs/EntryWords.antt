@@ -3,7 +3,8 @@ use Rattle.std.specs.Prelude.{◌≡◌, ℕ, ◌+◌, ◌-◌, ◌*◌, ◌/◌
 use Rattle.bp_limits.specs.Limits.{entry_size, entry_words, block_entries, block_words}
 use Rattle.bp_layout.specs.Words.{Image, height_of}
 use Rattle.bp_layout.specs.Tree.{node, IsSound}
-use Rattle.bp_layout.specs.Directory.{Name, word_in}
+use Rattle.bp_layout.specs.Directory.{word_in}
+use Rattle.bp_layout.specs.Paths.{Name}
 use Rattle.pm_words.specs.Bytes.{word_of}
 use Rattle.bp_dirs.specs.declared.leaf.Leaf.{Leaf}
 

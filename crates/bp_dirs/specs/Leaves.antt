@@ -2,7 +2,8 @@
 use Rattle.std.specs.Prelude.{ℕ, not, ◌==◌, List, Option, length, filter, find}
 use Rattle.std.specs.List.{range_with_len}
 use Rattle.bp_layout.specs.Words.{Image}
-use Rattle.bp_layout.specs.Directory.{Name, inumber_in, is_named_in}
+use Rattle.bp_layout.specs.Directory.{inumber_in, is_named_in}
+use Rattle.bp_layout.specs.Paths.{Name}
 use Rattle.bp_dirs.specs.declared.leaf.Leaf.{Leaf}
 
 -- its slots, in order

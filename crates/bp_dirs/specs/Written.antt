@@ -1,6 +1,6 @@
 -- What is stored of a name.
 use Rattle.std.specs.Prelude.{◌≡◌, ℕ, ◌+◌, ◌/◌, ◌%◌, ◌<◌, length, slice_index}
-use Rattle.bp_layout.specs.Directory.{Name}
+use Rattle.bp_layout.specs.Paths.{Name}
 use Rattle.bp_layout.specs.Words.{Image, word, byte_of}
 
 -- how many words a name takes: one for its length, and one for each eight bytes or what is left of them

@@ -4,7 +4,8 @@ ghost use Rattle.std.specs.Prelude.{◌≡◌, ◌≢◌, ◌+◌, ◌*◌, ◌/
 ghost use Rattle.bp_layout.specs.Words.{height_of};
 ghost use Rattle.bp_layout.specs.Tree.{node, IsSound, IsFull};
 ghost use Rattle.bp_layout.specs.Directory.{inumber_in, word_in, empty_slot_in, slot_named_in};
-ghost use Rattle.bp_limits.specs.Limits.{block_words, entry_size, entry_words, max_name};
+ghost use Rattle.bp_limits.specs.Limits.{block_words, entry_size, entry_words};
+ghost use Rattle.bp_limits.specs.CallLimits.{max_name};
 ghost use Rattle.pm_region.specs.Memory.{current_words};
 ghost use Rattle.bp_dirs.specs.EntryWords.{HasWords, word_place_in};
 ghost use Rattle.bp_dirs.specs.Names.{name_count};

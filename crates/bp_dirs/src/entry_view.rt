@@ -2,7 +2,8 @@
 
 ghost use Rattle.std.specs.Prelude.{◌≡◌, ◌≤◌, length, slice_index};
 ghost use Rattle.bp_layout.specs.Fields.{name_of};
-ghost use Rattle.bp_limits.specs.Limits.{entry_words, max_name};
+ghost use Rattle.bp_limits.specs.Limits.{entry_words};
+ghost use Rattle.bp_limits.specs.CallLimits.{max_name};
 
 use bp_limits::MAX_NAME;
 use bp_tree::unpack;

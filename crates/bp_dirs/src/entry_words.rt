@@ -4,7 +4,8 @@ ghost use Rattle.std.specs.Prelude.{◌≡◌, ℕ, ◌≤◌, length};
 ghost use Rattle.bp_layout.specs.Words.{Image};
 ghost use Rattle.bp_layout.specs.Directory.{is_named_in};
 ghost use Rattle.bp_dirs.specs.EntryWords.{HasWords, last_part, part_word};
-ghost use Rattle.bp_limits.specs.Limits.{entry_words, max_name};
+ghost use Rattle.bp_limits.specs.Limits.{entry_words};
+ghost use Rattle.bp_limits.specs.CallLimits.{max_name};
 
 use crate::name_words::{last_part, whole_word};
 use pm_words::low_bytes;

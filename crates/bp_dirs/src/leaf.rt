@@ -7,7 +7,8 @@ ghost use Rattle.pm_region.specs.Memory.{current_words};
 ghost use Rattle.bp_dirs.specs.EntryWords.{HasWords, IsLeaf, IsRow, IsZeroEntry, last_part, part_word};
 ghost use Rattle.bp_dirs.specs.Leaves.{empty_in_leaf, named_in_leaf, names_in_leaf};
 ghost use Rattle.bp_dirs.specs.Spots.{found_slot};
-ghost use Rattle.bp_limits.specs.Limits.{block_entries, entry_size, max_name};
+ghost use Rattle.bp_limits.specs.Limits.{block_entries, entry_size};
+ghost use Rattle.bp_limits.specs.CallLimits.{max_name};
 
 use crate::entry_view::EntryView;
 use crate::entry_words::is_named;

@@ -2,7 +2,8 @@
 
 ghost use Rattle.std.specs.Prelude.{◌+◌, ◌≤◌, length};
 ghost use Rattle.bp_dirs.specs.Written.{HasNameAt, taken_words};
-ghost use Rattle.bp_limits.specs.Limits.{entry_words, max_name};
+ghost use Rattle.bp_limits.specs.Limits.{entry_words};
+ghost use Rattle.bp_limits.specs.CallLimits.{max_name};
 ghost use Rattle.bp_tree.specs.Within.{IsWithin};
 ghost use Rattle.pm_epochs.specs.May.{AnyAt};
 ghost use Rattle.pm_region.specs.Memory.{current_words, room_in};

@@ -3,10 +3,11 @@ use Rattle.std.proofs.Common.{◌≡◌, ◌≢◌, ◌↔◌, ℕ, ◌+◌, ◌
 use Rattle.std.specs.Prelude.{IsTrue}
 use Rattle.std.specs.FinMap.{get}
 use Rattle.std.proofs.lemmas.Bool.{ltb-false, ltb-true}
-use Rattle.bp_limits.specs.Limits.{max_path}
-use Rattle.bp_layout.specs.Directory.{EntryNames, Name, entry_count, inumber_at, lookup_in, name_at}
+use Rattle.bp_limits.specs.CallLimits.{max_path}
+use Rattle.bp_layout.specs.Directory.{EntryNames, entry_count, inumber_at, lookup_in, name_at}
+use Rattle.bp_layout.specs.Paths.{Name, Node, Path}
 use Rattle.bp_layout.specs.Inode.{kind_of}
-use Rattle.bp_layout.specs.Lookup.{Node, Path, lookup, lookup_from, node_of}
+use Rattle.bp_layout.specs.Lookup.{lookup, lookup_from, node_of}
 use Rattle.bp_layout.specs.Reached.{IsReached}
 use Rattle.bp_layout.specs.WellFormed.{IsWellFormed}
 use Rattle.bp_layout.specs.Words.{Image}

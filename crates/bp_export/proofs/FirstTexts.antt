@@ -4,10 +4,10 @@ use Rattle.std.specs.Option.{is_some, option_map, unwrap_or}
 use Rattle.std.proofs.lemmas.Bool.{eqb-false, eqb-true}
 use Rattle.std.specs.FinMap.{entries, entries_sorted, keys}
 use Rattle.std.specs.FinMap.Entries.{is_sorted}
-use Rattle.bp_layout.specs.Below.{same_path}
+use Rattle.bp_layout.specs.Paths.{same_path, Node, Path}
 use Rattle.bp_layout.specs.Inode.{IsDirectory, IsFile, kind_of}
-use Rattle.bp_layout.specs.Lookup.{Node, Path, are_one, file_at, lookup}
-use Rattle.bp_layout.specs.Lookup.Node.{dir}
+use Rattle.bp_layout.specs.Lookup.{are_one, file_at, lookup}
+use Rattle.bp_layout.specs.Paths.Node.{dir}
 use Rattle.bp_layout.specs.Names.{HasNames}
 use Rattle.bp_layout.specs.Words.{Image}
 use Rattle.bp_layout.proofs.Below.{same_path-is, same_path-self}

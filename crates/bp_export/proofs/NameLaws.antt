@@ -6,7 +6,7 @@ use Rattle.bp_io.specs.Streams.{SinkView}
 use Rattle.bp_io.specs.declared.faults.Failed.{Failed}
 use Rattle.bp_layout.specs.Inode.{IsDirectory, IsFile, root_of, size_of}
 use Rattle.bp_layout.specs.Lookup.{file_at, node_of}
-use Rattle.bp_layout.specs.Lookup.Node.{file}
+use Rattle.bp_layout.specs.Paths.Node.{file}
 use Rattle.bp_layout.specs.Names.{AreCounts}
 use Rattle.bp_layout.specs.Tree.{IsSound, content}
 use Rattle.bp_layout.specs.WellFormed.{IsWellFormed}

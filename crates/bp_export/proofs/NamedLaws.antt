@@ -3,7 +3,7 @@ use Rattle.std.proofs.Common.{◌≡◌, ℕ, ◌+◌, ◌≤◌, List, [], ◌�
 use Rattle.std.proofs.Math.Seq.{drop-append_seam, take-length}
 use Rattle.std.proofs.lemmas.List.{drop-append-le, length-drop, map-append, take-append-le}
 use Rattle.std.proofs.lemmas.List.Elements.{All-tail}
-use Rattle.bp_limits.specs.Limits.{max_name}
+use Rattle.bp_limits.specs.CallLimits.{max_name}
 use Rattle.bp_export.specs.Named.{AreRowsWithin, named_row, named_rows}
 use Rattle.bp_export.specs.declared.entries.Row.{Row}
 

@@ -9,10 +9,11 @@ use Rattle.std.proofs.lemmas.List.{length-map, take-append-drop, take_more}
 use Rattle.std.proofs.lemmas.List.Elements.{All-drop, All-get_or, All-take}
 use Rattle.std.proofs.lemmas.List.Folds.{flat_map-map}
 use Rattle.std.proofs.lemmas.Option.{get_or_from_slice_get, slice_get-map, slice_get_within}
-use Rattle.bp_layout.specs.Directory.{Name, lookup_in}
+use Rattle.bp_layout.specs.Directory.{lookup_in}
+use Rattle.bp_layout.specs.Paths.{Name, Node, Path}
 use Rattle.bp_layout.specs.Inode.{IsDirectory, IsFile}
-use Rattle.bp_layout.specs.Lookup.{Node, Path, lookup, node_of}
-use Rattle.bp_layout.specs.Lookup.Node.{dir, file}
+use Rattle.bp_layout.specs.Lookup.{lookup, node_of}
+use Rattle.bp_layout.specs.Paths.Node.{dir, file}
 use Rattle.bp_layout.specs.Words.{Image}
 use Rattle.bp_layout.proofs.Paths.{lookup_from-append}
 use Rattle.bp_plain.specs.Calls.{Call}

@@ -1,9 +1,10 @@
 -- A file with one name stands at one path.
 use Rattle.std.proofs.Common.{◌≡◌, ℕ, ◌≤◌, List, [], ◌∷◌, ◌++◌, length, Some, refl, sym, ◌∙◌, ap, ap₂, arith, inl, inr}
 use Rattle.bp_layout.specs.Words.{Image}
-use Rattle.bp_layout.specs.Directory.{Name, name_at}
+use Rattle.bp_layout.specs.Directory.{name_at}
+use Rattle.bp_layout.specs.Paths.{Name, Path}
 use Rattle.bp_layout.specs.Inode.{IsFile, kind_of}
-use Rattle.bp_layout.specs.Lookup.{Path, lookup}
+use Rattle.bp_layout.specs.Lookup.{lookup}
 use Rattle.bp_layout.specs.Members.{Has}
 use Rattle.bp_layout.specs.Names.{HasNames}
 use Rattle.bp_layout.specs.WellFormed.{IsWellFormed}

@@ -1,8 +1,9 @@
 -- The whole of a tree, and the inodes of its paths.
 use Rattle.std.proofs.Common.{◌≡◌, ℕ, zero, suc, ◌*◌, ◌/◌, ◌<◌, ◌≤◌, List, [], flat_map, None, Some, refl, sym, ◌∙◌, ap, arith, append-nil}
 use Rattle.bp_layout.specs.Inode.{IsDirectory, IsFile, inode_count, root_of, size_of}
-use Rattle.bp_layout.specs.Lookup.{Path, lookup, node_of}
-use Rattle.bp_layout.specs.Lookup.Node.{dir, file}
+use Rattle.bp_layout.specs.Lookup.{lookup, node_of}
+use Rattle.bp_layout.specs.Paths.{Path}
+use Rattle.bp_layout.specs.Paths.Node.{dir, file}
 use Rattle.bp_layout.specs.Reached.{IsReached}
 use Rattle.bp_layout.specs.Reached.IsReached.{inode_file, root_directory}
 use Rattle.bp_layout.specs.Tree.{content}

@@ -3,7 +3,8 @@ use Rattle.std.specs.Prelude.{◌≡◌, ◌≢◌, ◌↔◌, ℕ, ◌+◌, ◌
 use Rattle.bp_dirs.specs.EntryWords.{HasWords, IsRow}
 use Rattle.bp_layout.specs.Directory.{inumber_at, name_at}
 use Rattle.bp_layout.specs.Inode.{root_of}
-use Rattle.bp_layout.specs.Lookup.{Path, lookup_from}
+use Rattle.bp_layout.specs.Lookup.{lookup_from}
+use Rattle.bp_layout.specs.Paths.{Path}
 use Rattle.bp_layout.specs.Words.{Image}
 use Rattle.bp_plain.specs.Export.{path_text}
 

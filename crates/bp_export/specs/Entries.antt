@@ -4,9 +4,10 @@ use Rattle.std.specs.Cmp.Lexicographic.{slice_cmp}
 use Rattle.std.specs.List.{cons_option, filter_map, range_with_len}
 use Rattle.std.specs.Ordering.{is_lt, nat_cmp}
 use Rattle.bp_dirs.specs.EntryWords.{HasWords, IsRow}
-use Rattle.bp_layout.specs.Directory.{Name, inumber_at, lookup_in, name_at}
+use Rattle.bp_layout.specs.Directory.{inumber_at, lookup_in, name_at}
+use Rattle.bp_layout.specs.Paths.{Name, Path}
 use Rattle.bp_layout.specs.Inode.{root_of}
-use Rattle.bp_layout.specs.Lookup.{Path, lookup}
+use Rattle.bp_layout.specs.Lookup.{lookup}
 use Rattle.bp_layout.specs.Words.{Image}
 use Rattle.bp_plain.specs.Plain.{listing}
 use Rattle.bp_plain.specs.PlainTree.{PathMap}

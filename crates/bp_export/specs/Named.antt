@@ -1,7 +1,7 @@
 -- Names that stand one behind the other, each with the inode that it names.
 use Rattle.std.specs.Prelude.{ℕ, ◌+◌, ◌≤◌, List, All, map, length, take, drop}
-use Rattle.bp_limits.specs.Limits.{max_name}
-use Rattle.bp_layout.specs.Directory.{Name}
+use Rattle.bp_limits.specs.CallLimits.{max_name}
+use Rattle.bp_layout.specs.Paths.{Name}
 use Rattle.bp_export.specs.declared.entries.Row.{Row}
 
 -- the inode of a row and its name, those of the name's bytes that there are

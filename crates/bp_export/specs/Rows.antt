@@ -1,7 +1,8 @@
 -- Entries of a directory in a row, as the words in which they stand.
 use Rattle.std.specs.Prelude.{◌≡◌, ◌≢◌, ℕ, ◌+◌, ◌-◌, ◌*◌, ◌/◌, ◌^◌, ◌<◌, ◌≤◌, min, List, length, slice_index, slice_range}
 use Rattle.bp_dirs.specs.EntryWords.{IsRow}
-use Rattle.bp_limits.specs.Limits.{block_entries, entry_size, entry_words, max_name}
+use Rattle.bp_limits.specs.Limits.{block_entries, entry_size, entry_words}
+use Rattle.bp_limits.specs.CallLimits.{max_name}
 use Rattle.bp_layout.specs.Directory.{inumber_in}
 use Rattle.bp_layout.specs.Reached.{IsReached}
 use Rattle.bp_layout.specs.Words.{Image}

@@ -3,7 +3,7 @@ use Rattle.std.specs.Prelude.{ℕ, ◌+◌, ◌*◌, min, List, [], ◌∷◌, �
 use Rattle.bp_io.specs.Causes.{HasCause}
 use Rattle.bp_io.specs.Streams.{SinkView}
 use Rattle.bp_io.specs.declared.faults.Failed.{Failed}
-use Rattle.bp_layout.specs.Lookup.Node.{file}
+use Rattle.bp_layout.specs.Paths.Node.{file}
 use Rattle.bp_layout.specs.Tree.{content}
 use Rattle.bp_limits.specs.Limits.{block_size}
 use Rattle.bp_plain.specs.Calls.{Call}

@@ -2,9 +2,9 @@
 use Rattle.std.specs.Prelude.{◌≡◌, ◌<◌, ◌≤◌, ℕ, List, [], ◌∷◌, ◌++◌, length, map, take, find, flat_map, slice_index, All, Bool, OnOk, Option, Result, Some, option_map}
 use Rattle.std.specs.FinMap.{get, entries}
 use Rattle.bp_io.specs.Streams.{SinkView}
-use Rattle.bp_limits.specs.Limits.{max_path}
-use Rattle.bp_layout.specs.Directory.{Name}
-use Rattle.bp_layout.specs.Lookup.{Node, Path, are_one, file_at, lookup, node_of}
+use Rattle.bp_limits.specs.CallLimits.{max_path}
+use Rattle.bp_layout.specs.Paths.{Name, Node, Path}
+use Rattle.bp_layout.specs.Lookup.{are_one, file_at, lookup, node_of}
 use Rattle.bp_layout.specs.Words.{Image}
 use Rattle.bp_plain.specs.Export.{calls_at, entries_below, path_text}
 use Rattle.bp_plain.specs.Plain.{listing}

@@ -8,7 +8,7 @@ ghost use Rattle.bp_layout.specs.Directory.{entry_count};
 ghost use Rattle.bp_layout.specs.Inode.{IsDirectory};
 ghost use Rattle.bp_layout.specs.Reached.{IsReached};
 ghost use Rattle.bp_layout.specs.WellFormed.{IsWellFormed};
-ghost use Rattle.bp_limits.specs.Limits.{max_name};
+ghost use Rattle.bp_limits.specs.CallLimits.{max_name};
 ghost use Rattle.pm_region.specs.Memory.{current_words};
 
 use crate::rows::{ENTRY, entry_row, leaf_count};
@@ -36,7 +36,7 @@ pub(crate) struct Entries {
 
 impl Model for Entries {
     ghost use Rattle.std.specs.Prelude.{List, ℕ};
-    ghost use Rattle.bp_layout.specs.Directory.{Name};
+    ghost use Rattle.bp_layout.specs.Paths.{Name};
     ghost use Rattle.bp_export.specs.Named.{AreRowsWithin, named_rows};
 
     ghost Value = { List (ℕ × Name) };

@@ -5,7 +5,8 @@ use Rattle.std.specs.Bool.{OnTrue}
 use Rattle.std.specs.HashMap.{get}
 use Rattle.std.proofs.lemmas.Bool.{cases_eq, ne_eqb}
 use Rattle.bp_layout.specs.Words.{Image}
-use Rattle.bp_layout.specs.Directory.{Name, inumber_in, name_in}
+use Rattle.bp_layout.specs.Directory.{inumber_in, name_in}
+use Rattle.bp_layout.specs.Paths.{Name}
 use Rattle.bp_index.specs.declared.index.Index.{Index}
 use Rattle.bp_index.specs.Entries.{HasName, KeepsName, KeepsNames}
 use Rattle.bp_index.specs.Hashes.{hash_of}

@@ -6,7 +6,8 @@ use Rattle.std.specs.Cmp.Lexicographic.{same_text}
 use Rattle.bp_dirs.specs.Spots.{found_slot}
 use Rattle.bp_dirs.specs.declared.spot.Found.{Found}
 use Rattle.bp_layout.specs.Words.{Image}
-use Rattle.bp_layout.specs.Directory.{Name, inumber_in, name_in, is_named_in, slot_named_in}
+use Rattle.bp_layout.specs.Directory.{inumber_in, name_in, is_named_in, slot_named_in}
+use Rattle.bp_layout.specs.Paths.{Name}
 use Rattle.bp_layout.proofs.Finding.{find-first, find-nothing}
 use Rattle.bp_layout.proofs.View.{named_true}
 use Rattle.bp_index.specs.declared.index.Index.{Index}

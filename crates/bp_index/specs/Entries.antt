@@ -1,7 +1,8 @@
 -- What is found in one slot, and when two entries are one to an index.
 use Rattle.std.specs.Prelude.{◌≡◌, ◌≢◌, ℕ, ◌/◌, ◌<◌, true, false}
 use Rattle.bp_dirs.specs.declared.spot.Found.{Found}
-use Rattle.bp_layout.specs.Directory.{Name, inumber_in, name_in, is_named_in}
+use Rattle.bp_layout.specs.Directory.{inumber_in, name_in, is_named_in}
+use Rattle.bp_layout.specs.Paths.{Name}
 use Rattle.bp_layout.specs.Words.{Image}
 use Rattle.bp_limits.specs.Limits.{entry_size}
 

@@ -1,7 +1,7 @@
 -- Hashes of names.
 use Rattle.std.specs.Prelude.{ℕ}
 use Rattle.std.specs.Hash.FoldHasher.{initial, write, finish}
-use Rattle.bp_layout.specs.Directory.{Name}
+use Rattle.bp_layout.specs.Paths.{Name}
 
 -- what the library's hasher tells of the bytes
 unfoldable pub hash_of : Name → ℕ

@@ -5,7 +5,8 @@ use Rattle.bp_free.specs.Set.{has}
 use Rattle.bp_index.specs.Hashes.{hash_of}
 use Rattle.bp_index.specs.Slots.{SetsSlot}
 use Rattle.bp_index.specs.declared.index.Index.{Index}
-use Rattle.bp_layout.specs.Directory.{Name, inumber_in, name_in}
+use Rattle.bp_layout.specs.Directory.{inumber_in, name_in}
+use Rattle.bp_layout.specs.Paths.{Name}
 use Rattle.bp_layout.specs.Words.{Image}
 use Rattle.bp_limits.specs.Limits.{entry_size}
 

@@ -6,7 +6,8 @@ ghost use Rattle.bp_index.specs.Entries.{IsEntryAt, IsNotAt};
 ghost use Rattle.bp_layout.specs.Directory.{inumber_in, is_named_in};
 ghost use Rattle.bp_layout.specs.Tree.{IsSound};
 ghost use Rattle.bp_layout.specs.Words.{Image};
-ghost use Rattle.bp_limits.specs.Limits.{entry_size, max_name};
+ghost use Rattle.bp_limits.specs.Limits.{entry_size};
+ghost use Rattle.bp_limits.specs.CallLimits.{max_name};
 ghost use Rattle.pm_region.specs.Memory.{current_words};
 
 use bp_dirs::{EntryView, Found, entry};

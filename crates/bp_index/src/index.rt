@@ -8,7 +8,8 @@ ghost use Rattle.bp_index.specs.Index.{CanEnter, EntersEntry, EntersSlot, IsEmpt
 ghost use Rattle.bp_layout.specs.Directory.{empty_slot_in, inumber_in, slot_named_in};
 ghost use Rattle.bp_layout.specs.Tree.{IsSound};
 ghost use Rattle.bp_layout.specs.Words.{Image};
-ghost use Rattle.bp_limits.specs.Limits.{entry_size, max_name};
+ghost use Rattle.bp_limits.specs.Limits.{entry_size};
+ghost use Rattle.bp_limits.specs.CallLimits.{max_name};
 ghost use Rattle.pm_region.specs.Memory.{current_words};
 
 use crate::entry::{find_at, live_entry};

@@ -2,9 +2,7 @@
 use Rattle.std.proofs.Common.{◌≡◌, ◌⊎◌, [], ◌∷◌, ◌++◌, Bool, true, false, Option, None, Some, bytes_eq, refl, sym, ◌∙◌, ap, ap₂, inl, inr, true≢false}
 use Rattle.std.specs.Cmp.Lexicographic.{same_text}
 use Rattle.std.proofs.lemmas.Slice.Eq.{bytes_eq-Decides}
-use Rattle.bp_layout.specs.Directory.{Name}
-use Rattle.bp_layout.specs.Lookup.{Path}
-use Rattle.bp_layout.specs.Below.{same_path, rest_below}
+use Rattle.bp_layout.specs.Paths.{Name, Path, same_path, rest_below}
 
 pub bytes_eq_self : (n : Name) → bytes_eq n n ≡ true
 bytes_eq_self n = (bytes_eq-Decides n n).1 refl

@@ -4,10 +4,11 @@ use Rattle.bp_limits.specs.Limits.{greatest_height}
 use Rattle.bp_layout.specs.Words.{Image, word, block_of, height_of, slot_word, byte_of}
 use Rattle.bp_layout.specs.Tree.{tree_word, content_word, byte, HasBlock, IsSound, IsFull}
 use Rattle.bp_layout.specs.Inode.{inode_word, kind_of, root_of, size_of}
-use Rattle.bp_layout.specs.Directory.{EntryNames, IsName, name_at}
+use Rattle.bp_layout.specs.Directory.{EntryNames, name_at}
+use Rattle.bp_layout.specs.Paths.{IsName, Path}
 use Rattle.bp_layout.specs.Reached.{IsReached}
 use Rattle.bp_layout.specs.Reached.IsReached.{inode_file, root_directory, named}
-use Rattle.bp_layout.specs.Lookup.{Path, find_one, shown}
+use Rattle.bp_layout.specs.Lookup.{find_one, shown}
 use Rattle.bp_layout.specs.Formatted.{IsFormatted, version_of}
 use Rattle.bp_layout.specs.WellFormed.{IsWellFormed}
 use Rattle.bp_layout.proofs.Finding.{map-same}

@@ -4,7 +4,8 @@ use Rattle.std.proofs.lemmas.Bool.{cases_eq, cases_lt}
 use Rattle.bp_layout.specs.Words.{Image, block_count, block_of, height_of, slot_word}
 use Rattle.bp_layout.specs.Tree.{tree_word, node, covered, IsLivePointer, IsSound, IsFull}
 use Rattle.bp_layout.specs.Inode.{kind_of, root_of, size_of, inode_count}
-use Rattle.bp_layout.specs.Directory.{Name, EntryNames, IsName}
+use Rattle.bp_layout.specs.Directory.{EntryNames}
+use Rattle.bp_layout.specs.Paths.{Name, IsName}
 use Rattle.bp_layout.specs.Reached.{IsReached}
 use Rattle.bp_layout.specs.Reached.IsReached.{inode_file as the_inode_file, root_directory as the_root_directory, named as by_name}
 use Rattle.bp_layout.specs.WellFormed.{IsWellFormed}

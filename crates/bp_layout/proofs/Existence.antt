@@ -8,8 +8,9 @@ use Rattle.bp_layout.proofs.Reached.{reached-in_file}
 use Rattle.bp_layout.proofs.View.{lookup_from-reached}
 use Rattle.bp_layout.specs.Words.{Image}
 use Rattle.bp_layout.specs.Inode.{IsDirectory, size_of, inode_count}
-use Rattle.bp_layout.specs.Directory.{Name, name_at, slots}
-use Rattle.bp_layout.specs.Lookup.{Path, lookup}
+use Rattle.bp_layout.specs.Directory.{name_at, slots}
+use Rattle.bp_layout.specs.Paths.{Name, Path}
+use Rattle.bp_layout.specs.Lookup.{lookup}
 use Rattle.bp_layout.specs.Reached.IsReached.{root_directory}
 use Rattle.bp_layout.specs.WellFormed.{IsWellFormed}
 use Rattle.bp_layout.proofs.Paths.{ByLast, by_last, LastStep, last_step, path_once}

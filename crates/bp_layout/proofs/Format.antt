@@ -3,7 +3,8 @@ use Rattle.std.proofs.Common.{◌≡◌, ◌⊎◌, ℕ, suc, ◌+◌, ◌*◌, 
 use Rattle.bp_layout.specs.Words.{Image, word, block_count, block_of, height_of, slot_word}
 use Rattle.bp_layout.specs.Tree.{HasBlock, IsSound}
 use Rattle.bp_layout.specs.Inode.{kind_of, root_of, size_of, inode_word}
-use Rattle.bp_layout.specs.Directory.{EntryNames, Name, lookup_in, entry_count}
+use Rattle.bp_layout.specs.Directory.{EntryNames, lookup_in, entry_count}
+use Rattle.bp_layout.specs.Paths.{Name, Path}
 use Rattle.bp_layout.specs.Reached.{IsReached}
 use Rattle.bp_layout.specs.Reached.IsReached.{inode_file, root_directory, named}
 use Rattle.bp_layout.specs.WellFormed.{IsWellFormed}
@@ -15,8 +16,8 @@ use Rattle.bp_limits.specs.declared.version.Version.TheVariants.{One, Two}
 use Rattle.bp_limits.specs.Limits.{greatest_height, magic, version_at}
 use Rattle.bp_limits.proofs.Versions.{version_marked}
 use Rattle.bp_layout.specs.Formatted.{version_of}
-use Rattle.bp_layout.specs.Lookup.{Path, shown}
-use Rattle.bp_layout.specs.Lookup.Node.{dir}
+use Rattle.bp_layout.specs.Lookup.{shown}
+use Rattle.bp_layout.specs.Paths.Node.{dir}
 use Rattle.bp_layout.specs.Format.{format_stores, formatted}
 use Rattle.bp_layout.proofs.LastValue.{AllWithinImage, length-after_stores, word-after_stores}
 use Rattle.bp_layout.proofs.SmallTrees.{none_live, empty_sound, empty_has_none, content_word-leaf, leaf_sound, leaf_full}

@@ -5,7 +5,8 @@ use Rattle.std.proofs.lemmas.Bool.{cases_eq}
 use Rattle.std.proofs.lemmas.Slice.Eq.{bytes_eq-Decides}
 use Rattle.std.specs.Cmp.Lexicographic.{same_text}
 use Rattle.bp_layout.specs.Words.{Image}
-use Rattle.bp_layout.specs.Directory.{Name, EntryNames, name_at, inumber_at, entry_count, is_named}
+use Rattle.bp_layout.specs.Directory.{EntryNames, name_at, inumber_at, entry_count, is_named}
+use Rattle.bp_layout.specs.Paths.{Name}
 use Rattle.bp_layout.specs.Reached.{IsReached}
 use Rattle.bp_layout.specs.WellFormed.{IsWellFormed}
 use Rattle.bp_layout.specs.Hints.{NameIn, name_in_cmp, Known, Learns, IsSlotOf, AreRight}

@@ -7,7 +7,8 @@ use Rattle.std.proofs.lemmas.Slice.Eq.{bytes_eq-Decides}
 use Rattle.std.specs.Cmp.Lexicographic.{same_text}
 use Rattle.bp_layout.specs.Words.{Image}
 use Rattle.bp_layout.specs.Inode.{kind_of}
-use Rattle.bp_layout.specs.Directory.{Name, EntryNames, name_at, inumber_at, entry_count, is_named, slot_named, lookup_in}
+use Rattle.bp_layout.specs.Directory.{EntryNames, name_at, inumber_at, entry_count, is_named, slot_named, lookup_in}
+use Rattle.bp_layout.specs.Paths.{Name}
 use Rattle.bp_layout.proofs.Finding.{Finds, find-passes}
 use Rattle.bp_layout.proofs.View.{named_true}
 

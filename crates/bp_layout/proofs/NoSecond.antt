@@ -2,7 +2,7 @@
 use Rattle.std.proofs.Common.{◌≡◌, ℕ, Bool, true, false, ◌&&◌, nat_lt, refl, ap}
 use Rattle.bp_limits.specs.declared.version.Version.{Version}
 use Rattle.bp_limits.specs.declared.version.Version.TheVariants.{One, Two}
-use Rattle.bp_limits.specs.Limits.{is_two}
+use Rattle.bp_limits.specs.CallLimits.{is_two}
 use Rattle.bp_layout.specs.Words.{Image, word}
 use Rattle.bp_layout.specs.Formatted.{version_of}
 use Rattle.bp_layout.specs.Thaw.{none_kept}

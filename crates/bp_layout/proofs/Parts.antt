@@ -5,8 +5,7 @@ use Rattle.std.proofs.lemmas.Bool.{eqb-true, eqb-false, ltb-false}
 use Rattle.std.proofs.lemmas.List.Sums.{fails_before_first}
 use Rattle.std.proofs.lemmas.List.{take-append-drop, drop_more, length-take, get_or-take}
 use Rattle.std.proofs.lemmas.List.Quantifiers.{position-Some}
-use Rattle.bp_layout.specs.Directory.{Name}
-use Rattle.bp_layout.specs.PathText.{onto_first, parts}
+use Rattle.bp_layout.specs.Paths.{Name, onto_first, parts}
 
 onto_first-append : (b : ℕ) (xs ys : List Name) → xs ≢ [] → onto_first b (xs ++ ys) ≡ onto_first b xs ++ ys
 onto_first-append b [] ys some = absurd (some refl)

@@ -4,11 +4,12 @@ use Rattle.std.specs.Option.{option_map}
 use Rattle.std.proofs.lemmas.Bool.{cases_eq}
 use Rattle.std.specs.Cmp.Lexicographic.{same_text, other_text}
 use Rattle.bp_layout.specs.Words.{Image}
-use Rattle.bp_layout.specs.Directory.{Name, name_at, lookup_in}
+use Rattle.bp_layout.specs.Directory.{name_at, lookup_in}
+use Rattle.bp_layout.specs.Paths.{Name, Path}
 use Rattle.bp_layout.specs.Inode.{IsDirectory}
 use Rattle.bp_layout.specs.Reached.{IsReached}
 use Rattle.bp_layout.specs.Reached.IsReached.{root_directory}
-use Rattle.bp_layout.specs.Lookup.{Path, lookup_from, lookup, node_of, shown}
+use Rattle.bp_layout.specs.Lookup.{lookup_from, lookup, node_of, shown}
 use Rattle.bp_layout.specs.WellFormed.{IsWellFormed}
 use Rattle.bp_layout.proofs.View.{lookup_in-reached, lookup_from-reached}
 use Rattle.bp_layout.proofs.LookupLaws.{Shows, lookup_in-shows}

@@ -6,7 +6,8 @@ use Rattle.bp_limits.proofs.Versions.{height_most, version_marked}
 use Rattle.bp_layout.specs.Words.{Image, word}
 use Rattle.bp_layout.specs.Format.{upgrade_stores, upgraded}
 use Rattle.bp_layout.specs.Formatted.{IsFormatted, version_of}
-use Rattle.bp_layout.specs.Lookup.{Path, find_one, shown}
+use Rattle.bp_layout.specs.Lookup.{find_one, shown}
+use Rattle.bp_layout.specs.Paths.{Path}
 use Rattle.bp_layout.specs.Same.{Same}
 use Rattle.bp_layout.specs.WellFormed.{IsWellFormed}
 use Rattle.bp_layout.specs.Whole.{IsFileSystem, SameFiles}

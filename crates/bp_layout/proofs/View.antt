@@ -5,11 +5,12 @@ use Rattle.std.specs.Option.{option_map}
 use Rattle.bp_layout.specs.Words.{Image}
 use Rattle.bp_layout.specs.Tree.{content}
 use Rattle.bp_layout.specs.Inode.{kind_of, root_of, size_of}
-use Rattle.bp_layout.specs.Directory.{Name, EntryNames, name_at, inumber_at, entry_count, is_named, slot_named, lookup_in}
+use Rattle.bp_layout.specs.Directory.{EntryNames, name_at, inumber_at, entry_count, is_named, slot_named, lookup_in}
+use Rattle.bp_layout.specs.Paths.{Name, Path}
 use Rattle.bp_layout.specs.Reached.{IsReached}
 use Rattle.bp_layout.specs.Reached.IsReached.{root_directory, named}
-use Rattle.bp_layout.specs.Lookup.{Path, lookup_from, node_of, shown, if_file, file_at, find_one, are_one}
-use Rattle.bp_layout.specs.Lookup.Node.{file}
+use Rattle.bp_layout.specs.Lookup.{lookup_from, node_of, shown, if_file, file_at, find_one, are_one}
+use Rattle.bp_layout.specs.Paths.Node.{file}
 use Rattle.bp_layout.proofs.Finding.{find-same, Finds, find-passes}
 
 -- the reached inodes of the first image have the same kinds and entries in the second

@@ -6,7 +6,8 @@ use Rattle.bp_layout.specs.Formatted.{version_of}
 use Rattle.bp_limits.specs.Limits.{block_size, block_words, directory_kind, entry_size, entry_words, file_kind, greatest_height, inode_words, root_inumber, super_root, super_size}
 use Rattle.bp_layout.specs.Tree.{tree_word, node, place_of, covered, IsLivePointer}
 use Rattle.bp_layout.specs.Inode.{IsDirectory, inode_count, kind_of, root_of, size_of}
-use Rattle.bp_layout.specs.Directory.{EntryNames, IsName, name_at}
+use Rattle.bp_layout.specs.Directory.{EntryNames, name_at}
+use Rattle.bp_layout.specs.Paths.{IsName}
 use Rattle.bp_layout.specs.declared.check.Check.{Check}
 use Rattle.bp_layout.specs.declared.check.Check.TheVariants.{Height, PointerBits, Range, BlockTwice, Hole, InodeFileSize, Inumber, InodeTwice, Kind, DirectorySize, Capacity, NameForm, NameTwice}
 

@@ -1,22 +1,12 @@
 -- A directory is a row of entries of 32 words: an inumber, 0 where the entry is empty, the length of a name, and its
 -- bytes.
-use Rattle.std.specs.Prelude.{◌≡◌, ◌≢◌, ℕ, ◌+◌, ◌*◌, ◌/◌, ◌<◌, ◌≤◌, List, [], ◌∷◌, map, length, All, Bool, not, ◌&&◌, ◌==◌, bytes_eq, Option, None, find, option_map, if◌then◌else◌}
+use Rattle.std.specs.Prelude.{◌≡◌, ◌≢◌, ℕ, ◌+◌, ◌*◌, ◌/◌, ◌<◌, List, map, Bool, not, ◌&&◌, ◌==◌, bytes_eq, Option, None, find, option_map, if◌then◌else◌}
 use Rattle.std.specs.List.{range_with_len}
+use Rattle.bp_layout.specs.Paths.{Name}
 use Rattle.bp_layout.specs.Words.{Image}
 use Rattle.bp_layout.specs.Tree.{content_word, byte}
-use Rattle.bp_limits.specs.Limits.{directory_kind, entry_size, entry_words, max_name}
+use Rattle.bp_limits.specs.Limits.{directory_kind, entry_size, entry_words}
 use Rattle.bp_layout.specs.Inode.{IsDirectory, kind_of, root_of, size_of}
-
-abbrev pub Name : Type 0
-Name = List ℕ
-
--- a byte or more, of which none is 0 or `/`, and neither `.` nor `..`
-pub record IsName (name : Name) : Type 0 where
-  pub not_empty : 1 ≤ length name
-  pub short : length name ≤ max_name
-  pub plain : All (λ b. (b ≢ 0) × (b ≢ 47)) name
-  pub not_dot : name ≢ 46 ∷ []
-  pub not_dot_dot : name ≢ 46 ∷ 46 ∷ []
 
 -- ---- the entries of a tree
 

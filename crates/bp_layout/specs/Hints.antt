@@ -6,7 +6,8 @@ use Rattle.std.specs.FinMap.{FinMap, get}
 use Rattle.std.specs.Cmp.Lexicographic.{slice_cmp}
 use Rattle.bp_layout.specs.Words.{Image}
 use Rattle.bp_layout.specs.Inode.{IsDirectory}
-use Rattle.bp_layout.specs.Directory.{Name, slot_named}
+use Rattle.bp_layout.specs.Directory.{slot_named}
+use Rattle.bp_layout.specs.Paths.{Name}
 use Rattle.bp_layout.specs.Reached.{IsReached}
 
 -- the inode of a directory, and a name in it

@@ -1,5 +1,7 @@
 -- What the words of an image mean. To be read in this order.
 
+-- names and paths, without an image
+pub mod Paths
 -- words, trees, inodes and directories
 pub mod Words
 pub mod Tree
@@ -18,8 +20,6 @@ pub mod Trees
 pub mod Fields
 pub mod Listed
 pub mod Listing
-pub mod PathText
-pub mod Below
 pub mod Bytes
 -- stores, and a format
 pub mod Stores

@@ -1,6 +1,6 @@
 -- The names of a listing, whose bytes stand in a row.
 use Rattle.std.specs.Prelude.{ℕ, ◌+◌, ◌≤◌, List, All, map, length, take, drop}
-use Rattle.bp_limits.specs.Limits.{max_name}
+use Rattle.bp_limits.specs.CallLimits.{max_name}
 use Rattle.bp_layout.specs.declared.fields.Kind.{Kind}
 use Rattle.bp_layout.specs.declared.listing.Listed.{Listed}
 

@@ -4,14 +4,9 @@ use Rattle.bp_limits.specs.Limits.{root_inumber, file_kind}
 use Rattle.bp_layout.specs.Words.{Image}
 use Rattle.bp_layout.specs.Tree.{content}
 use Rattle.bp_layout.specs.Inode.{kind_of, root_of, size_of}
-use Rattle.bp_layout.specs.Directory.{Name, lookup_in}
-
-abbrev pub Path : Type 0
-Path = List Name
-
-pub data Node : Type 0 where
-  dir : Node
-  file : List ℕ → Node
+use Rattle.bp_layout.specs.Directory.{lookup_in}
+use Rattle.bp_layout.specs.Paths.{Path, Node}
+use Rattle.bp_layout.specs.Paths.Node.{dir, file}
 
 -- the inode at a path, from an inode on and from the root directory on
 abbrev pub lookup_from : Image → ℕ → Path → Option ℕ

@@ -2,7 +2,8 @@
 use Rattle.std.specs.Prelude.{◌≡◌}
 use Rattle.bp_layout.specs.Words.{Image}
 use Rattle.bp_layout.specs.Formatted.{version_of}
-use Rattle.bp_layout.specs.Lookup.{Path, find_one, shown}
+use Rattle.bp_layout.specs.Lookup.{find_one, shown}
+use Rattle.bp_layout.specs.Paths.{Path}
 use Rattle.bp_layout.specs.WellFormed.{IsWellFormed}
 
 pub record Same (old new : Image) : Type 0 where

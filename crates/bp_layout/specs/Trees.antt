@@ -2,7 +2,8 @@
 -- 5, which is the snapshot. What is said of an image is said of its first tree; to say it of the second, say it of the
 -- image in which that is the first.
 use Rattle.std.specs.Prelude.{◌≡◌, ℕ, ◌+◌, ◌==◌, ◌&&◌, nat_lt, Bool, true, slice_set, if◌then◌else◌}
-use Rattle.bp_limits.specs.Limits.{is_two, super_root, super_second_root, super_second_size, super_size}
+use Rattle.bp_limits.specs.Limits.{super_root, super_second_root, super_second_size, super_size}
+use Rattle.bp_limits.specs.CallLimits.{is_two}
 use Rattle.bp_layout.specs.Formatted.{version_of}
 use Rattle.bp_layout.specs.Words.{Image, word}
 use Rattle.bp_layout.specs.Reached.{IsLiveBlock}

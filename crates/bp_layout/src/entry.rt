@@ -2,7 +2,7 @@
 
 ghost use Rattle.std.specs.Prelude.{◌*◌, ◌+◌, ◌<◌, ◌≡◌, ◌≤◌, ℕ, slice_index};
 ghost use Rattle.bp_layout.specs.Fields.{name_byte, name_of};
-ghost use Rattle.bp_limits.specs.Limits.{max_name};
+ghost use Rattle.bp_limits.specs.CallLimits.{max_name};
 ghost use Rattle.bp_layout.specs.Words.{byte_of};
 ghost use Rattle.arrayvec.specs.ArrayVec.{array_vec_len};
 

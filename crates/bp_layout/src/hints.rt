@@ -3,7 +3,7 @@
 ghost use Rattle.std.specs.Prelude.{◌≡◌, ◌≤◌, length, true, false};
 ghost use Rattle.std.specs.FinMap.{get, empty};
 ghost use Rattle.bp_layout.specs.Hints.{Known, Learns};
-ghost use Rattle.bp_limits.specs.Limits.{max_name};
+ghost use Rattle.bp_limits.specs.CallLimits.{max_name};
 
 /// What knows the slots of some names, each in a directory that is told by its inode.
 pub trait Hints {

@@ -3,13 +3,13 @@
 ghost use Rattle.std.specs.Prelude.{None, Some, [], ℕ, ◌*◌, ◌∷◌, ◌↔◌, ◌≡◌, ◌≤◌, false, length};
 ghost use Rattle.bp_layout.specs.Checks.{NoneFails};
 ghost use Rattle.bp_layout.specs.Formatted.{IsFormatted, version_of};
-ghost use Rattle.bp_layout.specs.Directory.{Name};
+ghost use Rattle.bp_layout.specs.Paths.{Name, Path};
 ghost use Rattle.bp_layout.specs.Format.{formatted, upgraded};
 ghost use Rattle.bp_limits.specs.declared.version.Version.TheVariants.{Two};
 ghost use Rattle.bp_layout.specs.Inode.{IsDirectory};
 ghost use Rattle.bp_limits.specs.Limits.{block_words, max_blocks, min_blocks};
-ghost use Rattle.bp_layout.specs.Lookup.{Path, find_one, lookup, shown};
-ghost use Rattle.bp_layout.specs.Lookup.Node.{dir};
+ghost use Rattle.bp_layout.specs.Lookup.{find_one, lookup, shown};
+ghost use Rattle.bp_layout.specs.Paths.Node.{dir};
 ghost use Rattle.bp_layout.specs.Trees.{has_snapshot};
 ghost use Rattle.bp_layout.specs.WellFormed.{IsWellFormed};
 ghost use Rattle.bp_layout.specs.Whole.{IsFileSystem, NoneFailsWhole};

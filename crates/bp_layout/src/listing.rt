@@ -3,7 +3,7 @@
 ghost use Rattle.std.specs.Prelude.{[], ◌++◌, ◌<◌, ◌↔◌, ◌∷◌, ◌≡◌, IfOk, IsPermutation, IsTrue, OnErr, OnOk, Some, ◌≤◌, drop, length, slice_get, take};
 ghost use Rattle.std.specs.List.Sorted.{IsSortedBy};
 ghost use Rattle.bp_layout.specs.Listing.{comes_before, listed};
-ghost use Rattle.bp_limits.specs.Limits.{max_name};
+ghost use Rattle.bp_limits.specs.CallLimits.{max_name};
 
 use crate::{Kind, Name};
 use std::alloc::{AllocError, Global};

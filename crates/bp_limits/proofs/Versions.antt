@@ -2,7 +2,8 @@
 use Rattle.std.proofs.Common.{◌≡◌, ◌*◌, ◌^◌, ◌≤◌, refl, arith}
 use Rattle.bp_limits.specs.declared.version.Version.{Version}
 use Rattle.bp_limits.specs.declared.version.Version.TheVariants.{One, Two}
-use Rattle.bp_limits.specs.Limits.{block_size, block_words, greatest_height, greatest_size, greatest_write, magic, max_height, max_size, max_write, version_at}
+use Rattle.bp_limits.specs.Limits.{block_size, block_words, greatest_height, magic, max_height, version_at}
+use Rattle.bp_limits.specs.CallLimits.{greatest_size, greatest_write, max_size, max_write}
 
 pub height_most : (version : Version) → greatest_height version ≤ max_height
 height_most One = omega arith

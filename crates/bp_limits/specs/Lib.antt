@@ -1,2 +1,3 @@
+pub mod CallLimits
 pub mod Limits
 pub mod Numbers

@@ -1,6 +1,6 @@
--- The limits of the format, of calls, of scripts and of the programs.
-use Rattle.std.specs.Prelude.{ℕ, ◌==◌, Bool, true, false, if◌then◌else◌}
-use Rattle.bp_limits.specs.declared.TheConstants.{BLOCK_SIZE, BLOCK_WORDS, MIN_BLOCKS, MAX_BLOCKS, SUPER_MAGIC, SUPER_BLOCKS, SUPER_ROOT, SUPER_SIZE, SUPER_SECOND_ROOT, SUPER_SECOND_SIZE, INODE_SIZE, INODE_WORDS, ROOT_FIELD, SIZE_FIELD, BLOCK_INODES, ROOT_INUMBER, FIRST_INODE, FILE_KIND, DIRECTORY_KIND, ENTRY_SIZE, ENTRY_WORDS, BLOCK_ENTRIES, MAX_HEIGHT, MAX_SIZE, MAX_NAME, MAX_PATH, MAX_READ, MAX_WRITE, MAX_PIECES, MAX_BATCH, CALL_ROOM, MAX_LINE, MAX_TEXT, MAX_INPUT, LOG_EVENTS, MAX_MASK, MAX_TURNS}
+-- The limits of the format, of scripts and of the programs. CallLimits has those of calls.
+use Rattle.std.specs.Prelude.{ℕ, ◌==◌, if◌then◌else◌}
+use Rattle.bp_limits.specs.declared.TheConstants.{BLOCK_SIZE, BLOCK_WORDS, MIN_BLOCKS, MAX_BLOCKS, SUPER_MAGIC, SUPER_BLOCKS, SUPER_ROOT, SUPER_SIZE, SUPER_SECOND_ROOT, SUPER_SECOND_SIZE, INODE_SIZE, INODE_WORDS, ROOT_FIELD, SIZE_FIELD, BLOCK_INODES, ROOT_INUMBER, FIRST_INODE, FILE_KIND, DIRECTORY_KIND, ENTRY_SIZE, ENTRY_WORDS, BLOCK_ENTRIES, MAX_HEIGHT, MAX_READ, MAX_PIECES, CALL_ROOM, MAX_LINE, MAX_TEXT, MAX_INPUT, LOG_EVENTS, MAX_MASK, MAX_TURNS}
 use Rattle.bp_limits.specs.declared.version.Version.{Version}
 use Rattle.bp_limits.specs.declared.version.Version.TheVariants.{One, Two}
 
@@ -30,10 +30,6 @@ magic Two = 0x3230535253465042
 -- the version that a word 0 marks, the first one where it is the mark of none
 abbrev pub version_at : ℕ → Version
 version_at word = if word == magic Two then Two else One
-
-abbrev pub is_two : Version → Bool
-is_two One = false
-is_two Two = true
 
 -- where the mark stands, the number of blocks, and the root word and the size of the inode file
 abbrev pub super_magic : ℕ
@@ -110,41 +106,15 @@ abbrev pub greatest_height : Version → ℕ
 greatest_height One = 3
 greatest_height Two = max_height
 
--- the greatest size of a file, a directory and the inode file, in bytes: what a tree of the greatest height covers
-abbrev pub max_size : ℕ
-max_size = MAX_SIZE
-
-abbrev pub greatest_size : Version → ℕ
-greatest_size One = 549755813888
-greatest_size Two = max_size
-
--- ---- names and calls
-
--- the greatest length of a name and of a path, in bytes
-abbrev pub max_name : ℕ
-max_name = MAX_NAME
-
-abbrev pub max_path : ℕ
-max_path = MAX_PATH
+-- ---- calls
 
 -- the most bytes that one call reads
 abbrev pub max_read : ℕ
 max_read = MAX_READ
 
--- the most bytes that one call writes, in images of any version and of each
-abbrev pub max_write : ℕ
-max_write = MAX_WRITE
-
-abbrev pub greatest_write : Version → ℕ
-greatest_write One = 65536
-greatest_write Two = max_write
-
--- the most pieces of one batch, and the most bytes that they have in all
+-- the most pieces of one batch
 abbrev pub max_pieces : ℕ
 max_pieces = MAX_PIECES
-
-abbrev pub max_batch : ℕ
-max_batch = MAX_BATCH
 
 -- the room in the log below which a call drains first, in events
 abbrev pub call_room : ℕ

@@ -2,7 +2,8 @@
 
 ghost use Rattle.std.specs.Prelude.{◌≡◌, ◌≤◌};
 ghost use Rattle.bp_limits.specs.Numbers.{version_numbered};
-ghost use Rattle.bp_limits.specs.Limits.{greatest_height, greatest_size, greatest_write, magic, max_height, max_size, max_write, version_at};
+ghost use Rattle.bp_limits.specs.Limits.{greatest_height, magic, max_height, version_at};
+ghost use Rattle.bp_limits.specs.CallLimits.{greatest_size, greatest_write, max_size, max_write};
 
 use crate::{MAX_HEIGHT, MAX_SIZE, MAX_WRITE};
 

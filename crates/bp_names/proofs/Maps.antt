@@ -9,7 +9,7 @@ use Rattle.std.specs.Map.{lookup_entry, keys_of}
 use Rattle.std.specs.List.{IsDistinct}
 use Rattle.std.proofs.lemmas.Map.{lookup-remove_entry}
 use Rattle.lru.proofs.CallerLemmas.{Contains-lookup_entry}
-use Rattle.bp_limits.specs.Limits.{max_name}
+use Rattle.bp_limits.specs.CallLimits.{max_name}
 use Rattle.bp_layout.specs.Hints.{NameIn, name_in_cmp, Known, Learns}
 use Rattle.bp_names.specs.Names.{AreShort, is_same, slot_in, forgot, recalled, learned}
 use Rattle.bp_names.specs.Forgets.{Forgets}

@@ -3,7 +3,7 @@ use Rattle.std.proofs.Common.{◌≡◌, ◌⊎◌, ℕ, zero, suc, ◌+◌, ◌
 use Rattle.std.specs.Map.{lookup_entry}
 use Rattle.lru.specs.LruCache.{LruCache, put_entries, IsValid}
 use Rattle.lru.proofs.CallerLemmas.{Contains-lookup_entry, Contains-remove_entry, Contains-promoted, Contains-put_entries}
-use Rattle.bp_limits.specs.Limits.{max_name}
+use Rattle.bp_limits.specs.CallLimits.{max_name}
 use Rattle.bp_layout.specs.Hints.{NameIn}
 use Rattle.bp_names.specs.Names.{AreShort, is_same, slot_in, forgot, recalled, learned}
 use Rattle.bp_names.specs.Same.{same_names}

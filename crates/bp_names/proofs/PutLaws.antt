@@ -3,7 +3,7 @@ use Rattle.std.proofs.Common.{◌≡◌, ℕ, ◌≤◌, true, length, sym, ap, 
 use Rattle.std.specs.Prelude.{Result, Ok, Err, OnOk, OnErr}
 use Rattle.std.specs.Result.{is_ok}
 use Rattle.lru.specs.LruCache.{LruCache, lru_cache, put_entries, IsValid}
-use Rattle.bp_limits.specs.Limits.{max_name}
+use Rattle.bp_limits.specs.CallLimits.{max_name}
 use Rattle.bp_layout.specs.Hints.{NameIn}
 use Rattle.bp_names.specs.Names.{AreShort, is_same, learned, remembered}
 use Rattle.bp_names.proofs.Pairs.{put-learned, short-put}

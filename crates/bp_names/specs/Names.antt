@@ -5,7 +5,7 @@ use Rattle.std.specs.Hash as fed
 use Rattle.std.specs.Map.{lookup, remove_entry}
 use Rattle.std.specs.FinMap.{from_entries}
 use Rattle.lru.specs.LruCache.{promoted}
-use Rattle.bp_limits.specs.Limits.{max_name}
+use Rattle.bp_limits.specs.CallLimits.{max_name}
 use Rattle.bp_layout.specs.Hints.{NameIn, Known}
 
 -- names with their slots, the most recent first, and how many there may be

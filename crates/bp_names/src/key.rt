@@ -17,7 +17,7 @@ pub(crate) struct Key {
 
 impl Model for Key {
     ghost use Rattle.std.specs.Prelude.{◌≤◌, take};
-    ghost use Rattle.bp_limits.specs.Limits.{max_name};
+    ghost use Rattle.bp_limits.specs.CallLimits.{max_name};
     ghost use Rattle.bp_layout.specs.Hints.{NameIn};
 
     ghost Value = { NameIn };
@@ -28,7 +28,7 @@ impl Model for Key {
 }
 
 impl Key {
-    ghost use Rattle.bp_limits.specs.Limits.{max_name};
+    ghost use Rattle.bp_limits.specs.CallLimits.{max_name};
 
     /// The key of no name, to be set.
     pub fn new() -> Key

@@ -3,7 +3,7 @@
 ghost use Rattle.std.specs.Prelude.{◌≡◌, ◌≤◌, [], IfOk, IsSome, length, true, false};
 ghost use Rattle.std.specs.FinMap.{get};
 ghost use Rattle.bp_layout.specs.Hints.{Learns};
-ghost use Rattle.bp_limits.specs.Limits.{max_name};
+ghost use Rattle.bp_limits.specs.CallLimits.{max_name};
 ghost use Rattle.bp_names.specs.Forgets.{Forgets};
 ghost use Rattle.bp_names.specs.Names.{forgot, known_of, learned, recalled, remembered, slot_in};
 

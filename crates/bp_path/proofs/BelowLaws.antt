@@ -2,10 +2,7 @@
 use Rattle.std.proofs.Common.{◌≡◌, ◌&&◌, ℕ, List, ◌∷◌, Bool, true, bytes_eq, not, ◌∙◌, ap}
 use Rattle.std.specs.Prelude.{if◌then◌else◌, is_some, None}
 use Rattle.std.specs.List.{list_all}
-use Rattle.bp_layout.specs.Below.{rest_below, same_path}
-use Rattle.bp_layout.specs.Directory.{Name}
-use Rattle.bp_layout.specs.Lookup.{Path}
-use Rattle.bp_layout.specs.PathText.{is_name}
+use Rattle.bp_layout.specs.Paths.{rest_below, same_path, Name, Path, is_name}
 use Rattle.bp_path.specs.Names.{path_parts}
 
 -- the path is longer than the one above, and begins with it

@@ -1,10 +1,8 @@
 -- A text is told by its parts, and the names before the last one by all names.
 use Rattle.std.proofs.Common.{◌≡◌, ℕ, Bool, true, false, ◌==◌, List, [], ◌∷◌, ◌++◌, refl, sym, ◌∙◌, ap}
 use Rattle.std.proofs.lemmas.Bool.{eqb-true}
-use Rattle.bp_layout.specs.PathText.{onto_first, parts}
+use Rattle.bp_layout.specs.Paths.{onto_first, parts, Name, Path}
 use Rattle.bp_layout.proofs.Parts.{parts-some}
-use Rattle.bp_layout.specs.Directory.{Name}
-use Rattle.bp_layout.specs.Lookup.{Path}
 use Rattle.bp_path.specs.Names.{AreBeside, path_parts}
 
 -- the text with these parts round each `/`

@@ -4,7 +4,7 @@ use Rattle.std.specs.List.{list_all}
 use Rattle.std.proofs.lemmas.List.Folds.{list_all-append}
 use Rattle.std.proofs.lemmas.List.{get_or-drop, length-drop}
 use Rattle.std.proofs.Math.Bool.{and-true}
-use Rattle.bp_layout.specs.PathText.{is_name, parts}
+use Rattle.bp_layout.specs.Paths.{is_name, parts}
 use Rattle.bp_layout.proofs.Parts.{split_at, first_part, only_part, parts-append, parts-one}
 use Rattle.bp_path.specs.Names.{path_parts}
 

@@ -7,8 +7,8 @@ use Rattle.std.proofs.lemmas.List.Folds.{list_all_at}
 use Rattle.std.proofs.lemmas.List.Quantifiers.{position-Some}
 use Rattle.std.proofs.lemmas.List.Sums.{fails_before_first, position_or_len_is}
 use Rattle.memchr.specs.Find.{IsLastByte, is_byte}
-use Rattle.bp_limits.specs.Limits.{max_name}
-use Rattle.bp_layout.specs.PathText.{is_name, onto_first, parts}
+use Rattle.bp_limits.specs.CallLimits.{max_name}
+use Rattle.bp_layout.specs.Paths.{is_name, onto_first, parts}
 use Rattle.bp_layout.proofs.Parts.{parts-one}
 use Rattle.bp_path.proofs.PartsLaws.{and_parts, parts_one_more}
 

@@ -2,8 +2,9 @@
 use Rattle.std.proofs.Common.{◌≡◌, ◌≢◌, ℕ, zero, suc, ◌*◌, ◌/◌, ◌<◌, ◌≤◌, ◌^◌, [], ◌∷◌, ◌++◌, Bool, true, false, ◌==◌, Option, None, Some, option_and_then, bytes_eq, append-nil, refl, sym, ◌∙◌, ap, arith}
 use Rattle.bp_layout.specs.Words.{Image, block_count}
 use Rattle.bp_layout.specs.Inode.{kind_of, root_of, size_of, inode_count}
-use Rattle.bp_layout.specs.Directory.{Name, entry_count, is_named, inumber_at, name_at, slot_named, lookup_in}
-use Rattle.bp_layout.specs.Lookup.{Path, lookup_from, lookup}
+use Rattle.bp_layout.specs.Directory.{entry_count, is_named, inumber_at, name_at, slot_named, lookup_in}
+use Rattle.bp_layout.specs.Paths.{Name, Path}
+use Rattle.bp_layout.specs.Lookup.{lookup_from, lookup}
 use Rattle.bp_layout.specs.Reached.{IsReached}
 use Rattle.bp_layout.specs.Reached.IsReached.{inode_file, root_directory, named}
 use Rattle.bp_layout.specs.WellFormed.{IsWellFormed}

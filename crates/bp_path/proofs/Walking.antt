@@ -4,9 +4,9 @@ use Rattle.std.specs.List.{list_all}
 use Rattle.std.proofs.lemmas.List.{same_from_push}
 use Rattle.bp_layout.specs.Words.{Image}
 use Rattle.bp_layout.specs.Inode.{kind_of}
-use Rattle.bp_layout.specs.Directory.{Name, inumber_at, slot_named, lookup_in}
-use Rattle.bp_layout.specs.Lookup.{Path, lookup}
-use Rattle.bp_layout.specs.PathText.{is_name}
+use Rattle.bp_layout.specs.Directory.{inumber_at, slot_named, lookup_in}
+use Rattle.bp_layout.specs.Paths.{Name, Path, is_name}
+use Rattle.bp_layout.specs.Lookup.{lookup}
 use Rattle.bp_layout.specs.Reached.{IsReached}
 use Rattle.bp_layout.proofs.Paths.{lookup_from-append}
 use Rattle.bp_path.specs.declared.steps.FoundEntry.{FoundEntry}

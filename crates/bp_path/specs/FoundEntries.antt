@@ -1,8 +1,9 @@
 -- What the answer of a walk says.
 use Rattle.std.specs.Prelude.{◌≡◌, ℕ, [], ◌∷◌, ◌++◌, IfOk, Some, Result, Ok, Err}
 use Rattle.bp_layout.specs.Words.{Image}
-use Rattle.bp_layout.specs.Directory.{Name, slot_named}
-use Rattle.bp_layout.specs.Lookup.{Path, lookup}
+use Rattle.bp_layout.specs.Directory.{slot_named}
+use Rattle.bp_layout.specs.Paths.{Name, Path}
+use Rattle.bp_layout.specs.Lookup.{lookup}
 use Rattle.bp_limits.specs.Limits.{root_inumber}
 use Rattle.bp_path.specs.Walk.{Walked, in_directory, walk_from}
 use Rattle.bp_path.specs.Walk.Walked.{found, missing, in_file}

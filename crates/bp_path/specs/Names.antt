@@ -1,8 +1,6 @@
 -- The names in the text of a path, behind its first `/`.
 use Rattle.std.specs.Prelude.{◌≡◌, ℕ, List, [], ◌∷◌, ◌++◌}
-use Rattle.bp_layout.specs.Directory.{Name}
-use Rattle.bp_layout.specs.Lookup.{Path}
-use Rattle.bp_layout.specs.PathText.{parts}
+use Rattle.bp_layout.specs.Paths.{Name, Path, parts}
 
 -- none in an empty text, and otherwise the parts round each `/`
 abbrev pub path_parts : List ℕ → List (List ℕ)

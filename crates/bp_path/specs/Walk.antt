@@ -4,7 +4,8 @@ use Rattle.bp_limits.specs.Limits.{directory_kind}
 use Rattle.bp_layout.specs.Words.{Image}
 use Rattle.bp_layout.specs.Inode.{kind_of}
 use Rattle.bp_layout.specs.Directory.{lookup_in}
-use Rattle.bp_layout.specs.Lookup.{Path, lookup_from}
+use Rattle.bp_layout.specs.Lookup.{lookup_from}
+use Rattle.bp_layout.specs.Paths.{Path}
 
 -- the inode where it ends, or how the first name fails: it is missing in a directory, or sought in a file
 pub data Walked : Type 0 where

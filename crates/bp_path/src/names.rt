@@ -2,8 +2,7 @@
 
 ghost use Rattle.std.specs.Prelude.{◌≡◌, ◌+◌, ◌-◌, ◌==◌, ◌&&◌, ◌<◌, ◌≤◌, ◌++◌, ◌∷◌, [], true, length, drop, slice_index, is_some, not};
 ghost use Rattle.std.specs.List.{list_all};
-ghost use Rattle.bp_layout.specs.Below.{rest_below, same_path};
-ghost use Rattle.bp_layout.specs.PathText.{is_name, parts};
+ghost use Rattle.bp_layout.specs.Paths.{rest_below, same_path, is_name, parts};
 ghost use Rattle.bp_path.specs.Names.{path_parts};
 
 use bp_limits::MAX_NAME;

@@ -2,8 +2,7 @@
 
 ghost use Rattle.std.specs.Prelude.{◌≡◌, ◌≢◌, ◌&&◌, ◌++◌, ◌∷◌, ◌↔◌, [], true, List, ℕ, None, Some, IsTrue, IfOk, OnErr, is_some, not};
 ghost use Rattle.std.specs.List.{list_all};
-ghost use Rattle.bp_layout.specs.Below.{rest_below, same_path};
-ghost use Rattle.bp_layout.specs.PathText.{is_name, parse};
+ghost use Rattle.bp_layout.specs.Paths.{rest_below, same_path, is_name, parse};
 ghost use Rattle.bp_path.specs.Names.{AreBeside, path_parts};
 
 use crate::names::{are_names, is_below, split_last};

@@ -3,9 +3,8 @@ use Rattle.std.proofs.Common.{◌≡◌, ◌≤◌, ◌<◌, ◌+◌, ◌++◌, 
 use Rattle.std.proofs.lemmas.List.{drop_more, length-take}
 use Rattle.std.specs.List.{All, fold, list_any, sum_by}
 use Rattle.std.specs.Option.{is_none}
-use Rattle.bp_layout.specs.Lookup.{Path}
-use Rattle.bp_layout.specs.PathText.{parse}
-use Rattle.bp_limits.specs.Limits.{max_batch}
+use Rattle.bp_layout.specs.Paths.{Path, parse}
+use Rattle.bp_limits.specs.CallLimits.{max_batch}
 use Rattle.bp_plain.specs.Calls.{Answer, Call, Piece, Refusal}
 use Rattle.bp_plain.specs.Calls.Answer.{done}
 use Rattle.bp_plain.specs.Calls.Call.{batch}

@@ -11,9 +11,10 @@ use Rattle.std.specs.List.{AllByRecursion, IsDistinct, cons_option, range_with_l
 use Rattle.std.specs.Ordering.{eq_by_cmp}
 use Rattle.std.proofs.lemmas.Bool.{eqb-false, false_from_ne_true}
 use Rattle.std.proofs.lemmas.Map.Text.{is_eq-slice_cmp}
-use Rattle.bp_layout.specs.Directory.{EntryNames, Name, entry_count, inumber_at, is_named, lookup_in, name_at, slot_named}
+use Rattle.bp_layout.specs.Directory.{EntryNames, entry_count, inumber_at, is_named, lookup_in, name_at, slot_named}
+use Rattle.bp_layout.specs.Paths.{Name, Path}
 use Rattle.bp_layout.specs.Inode.{kind_of}
-use Rattle.bp_layout.specs.Lookup.{Path, lookup, node_of}
+use Rattle.bp_layout.specs.Lookup.{lookup, node_of}
 use Rattle.bp_layout.specs.Reached.{IsReached}
 use Rattle.bp_layout.specs.WellFormed.{IsWellFormed}
 use Rattle.bp_layout.specs.Words.{Image}

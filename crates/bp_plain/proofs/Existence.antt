@@ -6,9 +6,9 @@ use Rattle.std.specs.FinMap.{from_entries, get, get-from_entries}
 use Rattle.std.specs.FinMap.Entries.{find}
 use Rattle.std.specs.Ordering.{eq_by_cmp}
 use Rattle.bp_layout.specs.Words.{Image}
-use Rattle.bp_layout.specs.Below.{same_path}
+use Rattle.bp_layout.specs.Paths.{same_path, Path, Node}
 use Rattle.bp_layout.specs.Formatted.{version_of}
-use Rattle.bp_layout.specs.Lookup.{Path, Node, file_at, if_file, lookup, shown}
+use Rattle.bp_layout.specs.Lookup.{file_at, if_file, lookup, shown}
 use Rattle.bp_layout.specs.Trees.{has_snapshot, snapshot_of}
 use Rattle.bp_layout.specs.WellFormed.{IsWellFormed}
 use Rattle.bp_layout.proofs.Existence.{Has, all_paths, has_all}

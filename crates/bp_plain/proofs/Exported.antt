@@ -8,11 +8,8 @@ use Rattle.std.specs.FinMap as finite
 use Rattle.std.specs.FinMap.Entries.{below_all, is_sorted}
 use Rattle.std.specs.FinMap.Entries as entry
 use Rattle.std.specs.FinSet.{contains-empty, contains-from_list, contains-insert, contains-union, same_set}
-use Rattle.bp_layout.specs.Below.{same_path}
-use Rattle.bp_layout.specs.Directory.{Name}
-use Rattle.bp_layout.specs.Lookup.{Path, Node}
-use Rattle.bp_layout.specs.Lookup.Node.{dir, file}
-use Rattle.bp_layout.specs.PathText.{parse}
+use Rattle.bp_layout.specs.Paths.{same_path, Name, Path, Node, parse}
+use Rattle.bp_layout.specs.Paths.Node.{dir, file}
 use Rattle.bp_layout.proofs.Below.{same_path-is, same_path-self}
 use Rattle.bp_plain.specs.Calls.{Call}
 use Rattle.bp_plain.specs.Plain.{alone, bytes_in, linked, paths_of, pairs_with, with_name}

@@ -6,14 +6,12 @@ use Rattle.std.specs.FinMap.{get, insert, get-insert, same_map}
 use Rattle.std.specs.FinSet.{contains-insert}
 use Rattle.std.proofs.lemmas.List.{take_at}
 use Rattle.std.proofs.lemmas.Bool.{eqb-true, lt-ltb, le-ltb, ltb-true, ltb-false}
-use Rattle.bp_limits.specs.Limits.{block_size, greatest_size, greatest_write}
+use Rattle.bp_limits.specs.Limits.{block_size}
+use Rattle.bp_limits.specs.CallLimits.{greatest_size, greatest_write}
 use Rattle.bp_limits.specs.declared.version.Version.{Version}
 use Rattle.bp_limits.specs.declared.version.Version.TheVariants.{One, Two}
-use Rattle.bp_layout.specs.Below.{same_path}
-use Rattle.bp_layout.specs.Directory.{Name}
-use Rattle.bp_layout.specs.Lookup.{Path, Node}
-use Rattle.bp_layout.specs.Lookup.Node.{dir, file}
-use Rattle.bp_layout.specs.PathText.{parse}
+use Rattle.bp_layout.specs.Paths.{same_path, Name, Path, Node, parse}
+use Rattle.bp_layout.specs.Paths.Node.{dir, file}
 use Rattle.bp_layout.proofs.Below.{same_path-self}
 use Rattle.bp_plain.specs.Calls.{Call, Answer}
 use Rattle.bp_plain.specs.Calls.Call.{create, link, mkdir, write, truncate}

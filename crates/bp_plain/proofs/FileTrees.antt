@@ -3,15 +3,15 @@ use Rattle.std.proofs.Common.{◌≡◌, ◌==◌, ◌&&◌, ℕ, List, Bool, tr
 use Rattle.std.proofs.lemmas.Bool.{eqb-true}
 use Rattle.std.specs.FinMap.{get}
 use Rattle.std.specs.Option.{option_map}
-use Rattle.bp_limits.specs.Limits.{is_two}
+use Rattle.bp_limits.specs.CallLimits.{is_two}
 use Rattle.bp_limits.specs.declared.version.Version.{Version}
 use Rattle.bp_limits.specs.declared.version.Version.TheVariants as marked
-use Rattle.bp_layout.specs.Directory.{IsName, Name}
+use Rattle.bp_layout.specs.Paths.{IsName, Name, Path, Node}
 use Rattle.bp_layout.specs.Formatted.{version_of}
 use Rattle.bp_layout.specs.Inode.{kind_of, root_of, size_of}
 use Rattle.bp_layout.specs.Tree.{content}
-use Rattle.bp_layout.specs.Lookup.{Path, Node, are_one, file_at, if_file, lookup, node_of, shown}
-use Rattle.bp_layout.specs.Lookup.Node.{dir, file}
+use Rattle.bp_layout.specs.Lookup.{are_one, file_at, if_file, lookup, node_of, shown}
+use Rattle.bp_layout.specs.Paths.Node.{dir, file}
 use Rattle.bp_layout.specs.Trees.{snapshot_of}
 use Rattle.bp_layout.specs.Words.{Image}
 use Rattle.bp_layout.proofs.Paths.{LastStep, last_step}

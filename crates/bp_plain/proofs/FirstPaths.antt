@@ -5,7 +5,7 @@ use Rattle.std.specs.Ordering.{eq_by_cmp, is_eq}
 use Rattle.std.specs.Cmp.{tied_itself}
 use Rattle.std.specs.FinMap.{entries, keys}
 use Rattle.std.specs.FinMap.Entries as entry
-use Rattle.bp_layout.specs.Lookup.{Path}
+use Rattle.bp_layout.specs.Paths.{Path}
 use Rattle.bp_plain.specs.Export.{first_of}
 use Rattle.bp_plain.specs.PlainTree.{IsPathMap, PathMap, is_one, path_cmp}
 use Rattle.bp_plain.proofs.PathOrder.{path_cmp-IsTotalOrder, same_path_from}

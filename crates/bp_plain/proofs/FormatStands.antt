@@ -4,8 +4,9 @@ use Rattle.std.specs.FinMap.{get, empty, get-empty, get-insert}
 use Rattle.std.specs.FinSet.{contains-empty}
 use Rattle.bp_limits.specs.declared.version.Version.{Version}
 use Rattle.bp_layout.specs.Words.{Image}
-use Rattle.bp_layout.specs.Lookup.{Path, Node, are_one, file_at, lookup, node_of, shown}
-use Rattle.bp_layout.specs.Lookup.Node.{dir}
+use Rattle.bp_layout.specs.Lookup.{are_one, file_at, lookup, node_of, shown}
+use Rattle.bp_layout.specs.Paths.{Path, Node}
+use Rattle.bp_layout.specs.Paths.Node.{dir}
 use Rattle.bp_layout.specs.Format.{formatted}
 use Rattle.bp_layout.specs.WellFormed.{IsWellFormed}
 use Rattle.bp_layout.proofs.Format.{formatted_alone, formatted_version, formatted_well_formed, shown_formatted_root, shown_formatted_else}

@@ -16,10 +16,8 @@ use Rattle.std.specs.FinMap.{get, empty, insert, remove, entries, from_sorted, g
 use Rattle.std.specs.FinMap.Entries.{below_all, find, find-where_key, put, is_sorted, is_sorted-put, is_sorted-where_key, where_key}
 use Rattle.arrayvec.specs.ArrayVec.{ArrayVec}
 use Rattle.bp_layout.specs.declared.fields.Kind.{Kind}
-use Rattle.bp_layout.specs.Below.{rest_below}
-use Rattle.bp_layout.specs.Directory.{Name}
+use Rattle.bp_layout.specs.Paths.{rest_below, Name, Path}
 use Rattle.bp_layout.specs.Listing.{listed}
-use Rattle.bp_layout.specs.Lookup.{Path}
 use Rattle.bp_plain.specs.Numbered.{Numbered, plain_entry, plain_node}
 use Rattle.bp_plain.specs.declared.trees.entries.Node.{Node as Kept}
 use Rattle.bp_plain.specs.Plain.{kind_of_node, listed_in, only_name}

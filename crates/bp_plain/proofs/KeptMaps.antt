@@ -1,9 +1,8 @@
 -- The maps that a program keeps: what each change makes of one, and that it may be kept.
 use Rattle.std.proofs.Common.{◌≡◌, ◌≢◌, ◌<◌, ◌+◌, ℕ, List, [], Option, None, Some, option_map, sym, ◌∙◌, ap, subst, false, true, arith}
 use Rattle.std.specs.FinMap.{get, insert, remove}
-use Rattle.bp_layout.specs.Below.{same_path}
-use Rattle.bp_layout.specs.Lookup.{Path, Node}
-use Rattle.bp_layout.specs.Lookup.Node.{dir, file}
+use Rattle.bp_layout.specs.Paths.{same_path, Path, Node}
+use Rattle.bp_layout.specs.Paths.Node.{dir, file}
 use Rattle.bp_plain.specs.Changed.{changed, changed_files, with_bytes_in}
 use Rattle.bp_plain.specs.declared.trees.entries.Change.{Change}
 use Rattle.bp_plain.specs.declared.trees.maps.FileMap.TheInside.{Inside}

@@ -7,10 +7,9 @@ use Rattle.std.specs.Ordering.{eq_by_cmp}
 use Rattle.std.specs.Cmp.{eq_by_cmp_equiv}
 use Rattle.std.specs.FinMap.{get, get-insert}
 use Rattle.std.specs.FinSet.{contains, items, same_set, contains-insert, contains-items, contains-retain, contains-union, contains-from_list}
-use Rattle.bp_layout.specs.Lookup.{Path, are_one}
-use Rattle.bp_layout.specs.Lookup.Node.{file}
-use Rattle.bp_layout.specs.Below.{same_path, rest_below}
-use Rattle.bp_layout.specs.Directory.{Name}
+use Rattle.bp_layout.specs.Lookup.{are_one}
+use Rattle.bp_layout.specs.Paths.{Path, Name, same_path, rest_below}
+use Rattle.bp_layout.specs.Paths.Node.{file}
 use Rattle.bp_layout.proofs.Below.{rest_below-append, rest_below-is, same_path-self, same_path-is}
 use Rattle.bp_plain.specs.PlainTree.{Nodes, Aliases, is_one, path_cmp, pair_cmp}
 use Rattle.bp_plain.specs.Plain.{alone, linked, moved_one, moved_pair, moved_path, paths_of, pairs_with, with_bytes_at, without}

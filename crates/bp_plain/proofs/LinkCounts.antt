@@ -6,8 +6,8 @@ use Rattle.std.specs.Ordering.{eq_by_cmp, is_eq, is_lt}
 use Rattle.std.specs.FinMap.{entries, entries_sorted, get-entries}
 use Rattle.std.specs.FinMap.Entries.{below_all, find, is_sorted}
 use Rattle.std.specs.FinSet.{contains, contains-from_list, from_list, len, len-empty, len-insert, same_set}
-use Rattle.bp_layout.specs.Below.{same_path}
-use Rattle.bp_layout.specs.Lookup.{Path, are_one}
+use Rattle.bp_layout.specs.Paths.{same_path, Path}
+use Rattle.bp_layout.specs.Lookup.{are_one}
 use Rattle.bp_layout.proofs.Below.{same_path-is}
 use Rattle.bp_plain.specs.Numbered.{Numbered, NumberedFiles, has_number, map_of, number_at, number_in, paths_numbered}
 use Rattle.bp_plain.specs.Numbered.Numbered.{directory, numbered_file}

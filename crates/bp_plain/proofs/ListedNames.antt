@@ -13,9 +13,7 @@ use Rattle.std.specs.FinMap.Entries.{below_all, find, is_sorted, same_entries}
 use Rattle.std.proofs.lemmas.Cmp.{tied_itself}
 use Rattle.std.proofs.lemmas.List.Sorted.{Contains-permutation, IsPermutation-map, IsPermutation-sym, ranks_by, sorted_far}
 use Rattle.std.proofs.lemmas.Map.Keys.{IsDistinct-IsPermutation}
-use Rattle.bp_layout.specs.Below.{rest_below}
-use Rattle.bp_layout.specs.Directory.{Name}
-use Rattle.bp_layout.specs.Lookup.{Node, Path}
+use Rattle.bp_layout.specs.Paths.{rest_below, Name, Node, Path}
 use Rattle.bp_layout.specs.declared.fields.Kind.{Kind}
 use Rattle.bp_layout.proofs.Below.{rest_below-append, rest_below-is}
 use Rattle.bp_plain.specs.Plain.{kind_of_node, listed_in, listing, only_name}

@@ -3,10 +3,9 @@ use Rattle.std.proofs.Common.{◌≡◌, ◌≢◌, ◌<◌, ◌==◌, ◌+◌, 
 use Rattle.std.specs.FinMap as finite
 use Rattle.std.specs.FinMap.{get, get-empty, insert, remove}
 use Rattle.std.specs.FinSet.{contains-empty}
-use Rattle.bp_layout.specs.Below.{rest_below}
-use Rattle.bp_layout.specs.Directory.{Name}
-use Rattle.bp_layout.specs.Lookup.{Path, Node, are_one}
-use Rattle.bp_layout.specs.Lookup.Node.{dir, file}
+use Rattle.bp_layout.specs.Paths.{rest_below, Name, Path, Node}
+use Rattle.bp_layout.specs.Lookup.{are_one}
+use Rattle.bp_layout.specs.Paths.Node.{dir, file}
 use Rattle.bp_layout.proofs.Below.{same_path-self}
 use Rattle.bp_plain.specs.Changed.{changed, changed_files, with_bytes_in}
 use Rattle.bp_plain.specs.declared.trees.entries.Change.{Change}

@@ -6,10 +6,8 @@ use Rattle.std.specs.FinMap.{FinMap, get, entries, get-from_entries, get-entries
 use Rattle.std.specs.FinMap.Entries.{find}
 use Rattle.std.specs.Ordering.{eq_by_cmp}
 use Rattle.std.specs.Cmp.{eq_by_cmp_equiv}
-use Rattle.bp_layout.specs.Directory.{Name}
-use Rattle.bp_layout.specs.Lookup.{Path}
+use Rattle.bp_layout.specs.Paths.{Name, Path, same_path, rest_below}
 use Rattle.bp_plain.specs.PlainTree.{path_cmp}
-use Rattle.bp_layout.specs.Below.{same_path, rest_below}
 use Rattle.bp_layout.proofs.Below.{rest_below-append, rest_below-is, same_path-self, same_path-is, path_case}
 use Rattle.bp_plain.specs.Plain.{moved, moved_entry, moved_path}
 use Rattle.bp_plain.proofs.PathOrder.{path_cmp-IsTotalOrder, same_path_from}

@@ -7,8 +7,7 @@ use Rattle.std.specs.Cmp.{eq_by_cmp_equiv}
 use Rattle.std.specs.FinMap as finite
 use Rattle.std.specs.FinMap.{FinMap, contains_key-keys, entries, entries-from_sorted, entries_sorted, get, get-entries, get-from_entries, get-from_sorted, get-insert, get-remove, insert, remove, same_map}
 use Rattle.std.specs.FinMap.Entries.{below_all, find, is_sorted}
-use Rattle.bp_layout.specs.Below.{same_path}
-use Rattle.bp_layout.specs.Lookup.{Path, Node}
+use Rattle.bp_layout.specs.Paths.{same_path, Path, Node}
 use Rattle.bp_plain.specs.Changed.{changed, changed_files}
 use Rattle.bp_plain.specs.declared.trees.entries.Change.{Change}
 use Rattle.bp_plain.specs.declared.trees.entries.Change.TheVariants.{Nothing}

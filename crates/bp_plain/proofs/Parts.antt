@@ -2,9 +2,7 @@
 use Rattle.std.proofs.Common.{◌≡◌, ℕ, ◌+◌, Bool, true, false, ◌==◌, List, [], ◌∷◌, ◌++◌, take, drop, position, Option, None, Some, if◌then◌else◌, refl, sym, ◌∙◌, ap, append_assoc}
 use Rattle.std.specs.List.{list_all}
 use Rattle.arrayvec.specs.ArrayVec.{ArrayVec}
-use Rattle.bp_layout.specs.Directory.{Name}
-use Rattle.bp_layout.specs.Lookup.{Path}
-use Rattle.bp_layout.specs.PathText.{is_name, parts}
+use Rattle.bp_layout.specs.Paths.{Name, Path, is_name, parts}
 use Rattle.bp_layout.proofs.Parts.{first_part, only_part}
 use Rattle.bp_plain.specs.SeenTree.{all_names, names_of}
 

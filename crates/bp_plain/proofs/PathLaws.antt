@@ -7,7 +7,7 @@ use Rattle.std.specs.Option.{option_map}
 use Rattle.std.specs.Prelude.{nat_eq}
 use Rattle.std.specs.Cmp.Lexicographic.{pointwise, nat_list_eq_equiv}
 use Rattle.arrayvec.specs.ArrayVec.{ArrayVec}
-use Rattle.bp_layout.specs.Below.{rest_below}
+use Rattle.bp_layout.specs.Paths.{rest_below}
 use Rattle.bp_plain.specs.declared.errors.FsError.{FsError}
 use Rattle.bp_plain.specs.Calls.{Refusal}
 use Rattle.bp_plain.specs.Calls.Refusal.{not_dir, not_found}

@@ -6,10 +6,8 @@ use Rattle.std.specs.Cmp.{first_so, second_so}
 use Rattle.std.proofs.lemmas.Bool.{le-leb, lt-ltb, ne_eqb}
 use Rattle.std.proofs.lemmas.List.Elements.{All-head, All-tail}
 use Rattle.std.proofs.lemmas.Slice.Eq.{bytes_eq-Decides}
-use Rattle.bp_limits.specs.Limits.{max_name, max_path}
-use Rattle.bp_layout.specs.Directory.{IsName, Name}
-use Rattle.bp_layout.specs.Lookup.{Path}
-use Rattle.bp_layout.specs.PathText.{is_name, parse, parts}
+use Rattle.bp_limits.specs.CallLimits.{max_name, max_path}
+use Rattle.bp_layout.specs.Paths.{IsName, Name, Path, is_name, parse, parts}
 use Rattle.bp_plain.specs.Export.{path_text}
 
 pub both_true : (a b : Bool) → a ≡ true → b ≡ true → (a && b) ≡ true

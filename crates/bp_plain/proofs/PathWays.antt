@@ -7,10 +7,8 @@ use Rattle.std.specs.Cmp.{tied_itself}
 use Rattle.std.specs.Cmp.Lexicographic.{nat_list_cmp_total}
 use Rattle.std.specs.FinMap.{get, insert, entries, entries_sorted, get-entries, get-insert}
 use Rattle.std.specs.FinMap.Entries.{below_all, find, is_sorted}
-use Rattle.bp_layout.specs.Directory.{Name}
-use Rattle.bp_layout.specs.Lookup.{Path, Node}
-use Rattle.bp_layout.specs.Lookup.Node.{dir}
-use Rattle.bp_layout.specs.PathText.{is_name}
+use Rattle.bp_layout.specs.Paths.{Name, Path, Node, is_name}
+use Rattle.bp_layout.specs.Paths.Node.{dir}
 use Rattle.bp_plain.specs.Plain.{first_refusal_from, parent_of, walk, walk_parent}
 use Rattle.bp_plain.specs.PlainTree.{IsPathMap, Nodes, PathMap, path_cmp}
 use Rattle.bp_plain.proofs.PathOrder.{path_cmp-IsTotalOrder}

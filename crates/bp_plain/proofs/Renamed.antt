@@ -6,8 +6,7 @@ use Rattle.std.specs.List.{filter_map}
 use Rattle.std.specs.Global.{Vec}
 use Rattle.std.specs.FinMap.{empty, from_entries}
 use Rattle.arrayvec.specs.ArrayVec.{ArrayVec}
-use Rattle.bp_layout.specs.Below.{same_path, rest_below}
-use Rattle.bp_layout.specs.Lookup.{Path}
+use Rattle.bp_layout.specs.Paths.{same_path, rest_below, Path}
 use Rattle.bp_plain.specs.declared.trees.entries.Change.{Change}
 use Rattle.bp_plain.specs.declared.trees.entries.Node.{Node as Kept}
 use Rattle.bp_plain.specs.Changed.{changed, with_entry}

@@ -6,11 +6,9 @@ use Rattle.std.specs.Option.{is_none}
 use Rattle.std.specs.Ordering.{eq_by_cmp}
 use Rattle.std.specs.FinMap.{entries, get, get-entries, insert, remove}
 use Rattle.std.specs.FinMap.Entries.{find}
-use Rattle.bp_layout.specs.Below.{rest_below, same_path}
+use Rattle.bp_layout.specs.Paths.{rest_below, same_path, Name, Path, Node}
 use Rattle.bp_layout.specs.declared.fields.Kind.{Kind}
-use Rattle.bp_layout.specs.Directory.{Name}
-use Rattle.bp_layout.specs.Lookup.{Path, Node}
-use Rattle.bp_layout.specs.Lookup.Node.{dir, file}
+use Rattle.bp_layout.specs.Paths.Node.{dir, file}
 use Rattle.bp_layout.proofs.Below.{rest_below-append, rest_below-is}
 use Rattle.bp_layout.proofs.Paths.{ByLast, by_last}
 use Rattle.bp_layout.proofs.Paths.ByLast.{none, more}

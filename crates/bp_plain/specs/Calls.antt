@@ -1,7 +1,7 @@
 -- The calls of a file system, their refusals and their answers.
 use Rattle.std.specs.Prelude.{ℕ, List}
 use Rattle.bp_layout.specs.declared.fields.Kind.{Kind}
-use Rattle.bp_layout.specs.Directory.{Name}
+use Rattle.bp_layout.specs.Paths.{Name}
 
 -- bytes for the file at a path, from an offset on
 pub record Piece : Type 0 where

@@ -2,7 +2,7 @@
 use Rattle.std.specs.Prelude.{ℕ, List, ◌==◌, Option, None, Some, if◌then◌else◌}
 use Rattle.std.specs.List.{filter_map}
 use Rattle.std.specs.FinMap.{entries, from_entries, insert}
-use Rattle.bp_layout.specs.Lookup.{Path}
+use Rattle.bp_layout.specs.Paths.{Path}
 use Rattle.bp_plain.specs.declared.trees.entries.Change.{Change}
 use Rattle.bp_plain.specs.declared.trees.entries.Change.TheVariants.{Nothing, Content, Moved}
 use Rattle.bp_plain.specs.Numbered.{Numbered, NumberedFiles}

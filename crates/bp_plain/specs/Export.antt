@@ -2,10 +2,10 @@
 use Rattle.std.specs.Prelude.{◌≡◌, ◌≤◌, ◌+◌, ◌-◌, ◌*◌, ◌/◌, ◌==◌, ◌&&◌, ℕ, List, [], ◌∷◌, ◌++◌, length, take, drop, find, flat_map, Bool, true, None, Some, is_some, unwrap_or, nat_lt, if◌then◌else◌}
 use Rattle.std.specs.List.{filter, list_all, range_with_len}
 use Rattle.std.specs.FinMap.{get, entries, keys}
-use Rattle.bp_limits.specs.Limits.{block_size, greatest_size, max_path}
-use Rattle.bp_layout.specs.Below.{rest_below, same_path}
-use Rattle.bp_layout.specs.Lookup.{Path, Node}
-use Rattle.bp_layout.specs.Lookup.Node.{dir, file}
+use Rattle.bp_limits.specs.Limits.{block_size}
+use Rattle.bp_limits.specs.CallLimits.{greatest_size, max_path}
+use Rattle.bp_layout.specs.Paths.{rest_below, same_path, Path, Node}
+use Rattle.bp_layout.specs.Paths.Node.{dir, file}
 use Rattle.bp_plain.specs.Calls.{Call}
 use Rattle.bp_plain.specs.Calls.Call.{create, link, mkdir, write, truncate}
 use Rattle.bp_plain.specs.Calls.Answer.{done}

@@ -3,7 +3,8 @@
 use Rattle.std.specs.Prelude.{◌≡◌, ℕ, List, [], ◌∷◌, ◌++◌, Option, None, Some, if◌then◌else◌}
 use Rattle.std.specs.List.{filter_map}
 use Rattle.std.specs.FinSet.{from_list}
-use Rattle.bp_layout.specs.Lookup.{Path, are_one}
+use Rattle.bp_layout.specs.Lookup.{are_one}
+use Rattle.bp_layout.specs.Paths.{Path}
 use Rattle.bp_plain.specs.PlainTree.{Aliases, is_one}
 
 pub record IsKernel (label : Path → Option ℕ) (one : Aliases) : Type 0 where

@@ -3,8 +3,8 @@ use Rattle.std.specs.Prelude.{ℕ, List, [], map, Bool, false, ◌==◌, Option,
 use Rattle.std.specs.List.{filter_map}
 use Rattle.std.specs.FinMap as finite
 use Rattle.std.specs.FinMap.{FinMap, entries, from_sorted, get}
-use Rattle.bp_layout.specs.Lookup.{Path, Node}
-use Rattle.bp_layout.specs.Lookup.Node.{dir, file}
+use Rattle.bp_layout.specs.Paths.{Path, Node}
+use Rattle.bp_layout.specs.Paths.Node.{dir, file}
 use Rattle.bp_plain.specs.Kernels.{kernel_from}
 use Rattle.bp_plain.specs.PlainTree.{Nodes, PathMap, path_cmp}
 

@@ -4,13 +4,10 @@ use Rattle.std.specs.Prelude.{ℕ, ◌+◌, ◌-◌, List, [], ◌∷◌, ◌++�
 use Rattle.std.specs.List.{filter_map, list_any, sum_by}
 use Rattle.std.specs.FinMap.{FinMap, get, insert, remove, entries, from_entries}
 use Rattle.std.specs.FinSet as set
-use Rattle.bp_layout.specs.Directory.{Name}
-use Rattle.bp_layout.specs.Lookup.{Path, Node}
-use Rattle.bp_layout.specs.Lookup.Node.{dir, file}
-use Rattle.bp_limits.specs.Limits.{greatest_size, greatest_write, is_two, max_batch}
-use Rattle.bp_layout.specs.Below.{same_path, rest_below}
+use Rattle.bp_layout.specs.Paths.{Name, Path, Node, same_path, rest_below, parse}
+use Rattle.bp_layout.specs.Paths.Node.{dir, file}
+use Rattle.bp_limits.specs.CallLimits.{greatest_size, greatest_write, is_two, max_batch}
 use Rattle.bp_plain.specs.PlainTree.{FileTree, Nodes, Aliases, PathMap, is_one, path_cmp}
-use Rattle.bp_layout.specs.PathText.{parse}
 use Rattle.bp_layout.specs.declared.fields.Kind.{Kind}
 use Rattle.bp_layout.specs.declared.fields.Kind.TheVariants.{File, Dir}
 use Rattle.bp_plain.specs.Calls.{Call, Piece, Refusal, Answer}

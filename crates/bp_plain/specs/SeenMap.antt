@@ -1,6 +1,6 @@
 -- What contracts see of the maps that a program keeps, and of its tree.
 use Rattle.std.specs.Prelude.{◌≡◌, ◌<◌, ℕ, Some}
-use Rattle.bp_layout.specs.Lookup.{Path}
+use Rattle.bp_layout.specs.Paths.{Path}
 use Rattle.bp_plain.specs.declared.trees.Plain.TheInside.{Inside as KeptTree}
 use Rattle.bp_plain.specs.declared.trees.maps.FileMap.TheInside.{Inside}
 use Rattle.bp_plain.specs.Numbered.{map_of, number_at, plain_nodes}

@@ -5,10 +5,8 @@ use Rattle.std.specs.Global.{Vec}
 use Rattle.std.specs.FinMap.{from_sorted, get}
 use Rattle.std.specs.FinMap.Entries.{is_sorted}
 use Rattle.arrayvec.specs.ArrayVec.{ArrayVec}
-use Rattle.bp_layout.specs.Directory.{Name}
-use Rattle.bp_layout.specs.Lookup.{Path, Node}
-use Rattle.bp_layout.specs.Lookup.Node.{dir}
-use Rattle.bp_layout.specs.PathText.{is_name}
+use Rattle.bp_layout.specs.Paths.{Name, Path, Node, is_name}
+use Rattle.bp_layout.specs.Paths.Node.{dir}
 use Rattle.bp_plain.specs.declared.trees.entries.Node.{Node as Kept}
 use Rattle.bp_plain.specs.declared.trees.entries.Node.TheVariants as kept
 use Rattle.bp_plain.specs.declared.trees.entries.Files.TheInside.{Inside}

@@ -2,7 +2,8 @@
 use Rattle.std.specs.Prelude.{◌≡◌, true, false, Option, None, Some}
 use Rattle.std.specs.FinMap.{get}
 use Rattle.bp_layout.specs.Words.{Image}
-use Rattle.bp_layout.specs.Lookup.{Path, find_one, shown}
+use Rattle.bp_layout.specs.Lookup.{find_one, shown}
+use Rattle.bp_layout.specs.Paths.{Path}
 use Rattle.bp_layout.specs.Trees.{has_snapshot, snapshot_of}
 use Rattle.bp_layout.specs.WellFormed.{IsWellFormed}
 use Rattle.bp_plain.specs.PlainTree.{FileTree, PathMap, is_one}

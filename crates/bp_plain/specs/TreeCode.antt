@@ -3,9 +3,9 @@ use Rattle.std.specs.Prelude.{◌≡◌, ℕ, List, Bool, true, false, Option, N
 use Rattle.std.specs.Coded.{Coded, code_by, coded_bool, coded_ℕ, coded_list, coded_option, coded×}
 use Rattle.std.specs.FinMap as finite
 use Rattle.std.specs.FinSet as set
-use Rattle.bp_layout.specs.Lookup.{Node, Path}
-use Rattle.bp_layout.specs.Lookup.Node.{dir, file}
-use Rattle.bp_limits.specs.Limits.{is_two}
+use Rattle.bp_layout.specs.Paths.{Node, Path}
+use Rattle.bp_layout.specs.Paths.Node.{dir, file}
+use Rattle.bp_limits.specs.CallLimits.{is_two}
 use Rattle.bp_limits.specs.declared.version.Version.{Version}
 use Rattle.bp_limits.specs.declared.version.Version.TheVariants as marked
 use Rattle.bp_plain.specs.Numbered.{Numbered, NumberedFiles}

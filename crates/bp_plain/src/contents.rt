@@ -1,6 +1,7 @@
 //! The bytes of files and of answers.
 
-ghost use Rattle.bp_limits.specs.Limits.{greatest_size, max_read};
+ghost use Rattle.bp_limits.specs.Limits.{max_read};
+ghost use Rattle.bp_limits.specs.CallLimits.{greatest_size};
 ghost use Rattle.bp_plain.specs.Calls.Answer.{bytes};
 ghost use Rattle.bp_plain.specs.Plain as plain;
 ghost use Rattle.std.specs.Prelude.{IfOk, ◌&&◌, ◌+◌, ◌++◌, ◌≡◌, ◌≤◌, drop, length, nat_lt, take};

@@ -1,7 +1,6 @@
 //! Paths as lists of names, and refusals in their order.
 
-ghost use Rattle.bp_layout.specs.Below.{same_path};
-ghost use Rattle.bp_layout.specs.PathText.{is_name, parse, parts};
+ghost use Rattle.bp_layout.specs.Paths.{same_path, is_name, parse, parts};
 ghost use Rattle.bp_plain.specs.Plain as plain;
 ghost use Rattle.bp_plain.specs.Seen.{refusal_of};
 ghost use Rattle.bp_plain.specs.SeenTree.{all_names, names_of};

@@ -1,6 +1,7 @@
 //! The plain file tree as a program. It is slow and meant to be seen through: a volume is compared with it in tests.
 
-ghost use Rattle.bp_limits.specs.Limits.{is_two, max_read};
+ghost use Rattle.bp_limits.specs.Limits.{max_read};
+ghost use Rattle.bp_limits.specs.CallLimits.{is_two};
 ghost use Rattle.bp_plain.specs.Calls.Call.{create, link, links, list, mkdir, read, rmdir, snap, snap_list, snap_read, snap_stat, stat, truncate, unlink, unsnap, upgrade, write};
 ghost use Rattle.bp_plain.specs.Plain as plain;
 ghost use Rattle.bp_plain.specs.PlainTree.{empty_tree};

@@ -8,7 +8,8 @@ use Rattle.bp_append.specs.Prepared.{HasLooseEnd, need_for}
 use Rattle.bp_append.specs.Stores.{prep_stores}
 use Rattle.bp_append.proofs.StoresLaws.{behind_whole}
 use Rattle.bp_free.specs.Set.{Set, has, members}
-use Rattle.bp_layout.specs.Directory.{EntryNames, IsName, empty_slot, entry_count, entry_word, inumber_at, name_at, slot_named}
+use Rattle.bp_layout.specs.Directory.{EntryNames, empty_slot, entry_count, entry_word, inumber_at, name_at, slot_named}
+use Rattle.bp_layout.specs.Paths.{IsName}
 use Rattle.bp_layout.specs.Free.{AreUnheld}
 use Rattle.bp_layout.specs.Inode.{inode_count, kind_of, root_of, size_of}
 use Rattle.bp_layout.specs.Names.{AreCounts}

@@ -1,7 +1,8 @@
 -- What stands at the slot that has a name.
 use Rattle.std.proofs.Common.{◌≡◌, ◌≢◌, ℕ, bytes_eq, true, Some, refl, sym, arith}
 use Rattle.std.specs.Cmp.Lexicographic.{same_text}
-use Rattle.bp_layout.specs.Directory.{EntryNames, Name, entry_count, inumber_at, is_named, name_at, slot_named}
+use Rattle.bp_layout.specs.Directory.{EntryNames, entry_count, inumber_at, is_named, name_at, slot_named}
+use Rattle.bp_layout.specs.Paths.{Name}
 use Rattle.bp_layout.specs.Inode.{kind_of}
 use Rattle.bp_layout.specs.Words.{Image}
 use Rattle.bp_layout.proofs.Finding.{Finds, find-passes}

@@ -4,8 +4,8 @@ use Rattle.bp_changes.specs.Effects.{IsAtOrBelow}
 use Rattle.bp_changes.specs.Thawed.{AfterThaw, SameShape}
 use Rattle.bp_changes.proofs.ReachedOn.{names_on, reached_on}
 use Rattle.bp_changes.proofs.SameMeaning.{name-same, names-back, well_formed-same}
-use Rattle.bp_layout.specs.Below.{rest_below}
-use Rattle.bp_layout.specs.Directory.{EntryNames, Name, inumber_at, name_at}
+use Rattle.bp_layout.specs.Paths.{rest_below, Name}
+use Rattle.bp_layout.specs.Directory.{EntryNames, inumber_at, name_at}
 use Rattle.bp_layout.specs.Words.{Image}
 use Rattle.bp_plain.specs.Plain.{with_moved}
 use Rattle.bp_plain.specs.Stands.{Shows}

@@ -1,9 +1,9 @@
 -- A renamed name has moved in the plain tree, and names that paths find may move.
 use Rattle.std.specs.Option.{option_and_then}
 use Rattle.std.proofs.Common.{◌≡◌, ℕ, [], ◌∷◌, ◌++◌, Some, sym, ◌∙◌, ap, subst}
-use Rattle.bp_layout.specs.Directory.{EntryNames, Name, lookup_in, name_at}
+use Rattle.bp_layout.specs.Directory.{EntryNames, lookup_in, name_at}
+use Rattle.bp_layout.specs.Paths.{Name, Path}
 use Rattle.bp_layout.specs.Inode.{kind_of}
-use Rattle.bp_layout.specs.Lookup.{Path}
 use Rattle.bp_layout.specs.Reached.{IsReached}
 use Rattle.bp_layout.specs.Reached.IsReached.{root_directory}
 use Rattle.bp_layout.specs.WellFormed.{IsWellFormed}

@@ -3,7 +3,8 @@ use Rattle.std.proofs.Common.{◌≡◌, ◌≢◌, ℕ, Bool, zero, suc, ◌+�
 use Rattle.pm_words.proofs.Bytes.{word_of_bytes}
 use Rattle.pm_words.specs.Bytes.{word_bytes}
 use Rattle.bp_free.specs.Set.{Set, has}
-use Rattle.bp_layout.specs.Directory.{EntryNames, Name, entry_word, name_at}
+use Rattle.bp_layout.specs.Directory.{EntryNames, entry_word, name_at}
+use Rattle.bp_layout.specs.Paths.{Name}
 use Rattle.bp_layout.specs.Inode.{root_of, size_of}
 use Rattle.bp_layout.specs.Names.{AreCounts}
 use Rattle.bp_layout.specs.Members.{Has}

@@ -2,7 +2,8 @@
 use Rattle.std.proofs.Common.{◌≡◌, ℕ, zero, suc, ◌+◌, ◌-◌, ◌*◌, ◌/◌, ◌<◌, ◌≤◌, List, [], ◌∷◌, ◌++◌, length, map, Bool, None, refl, sym, ◌∙◌, ap, ap₂, subst, arith, inl}
 use Rattle.std.specs.List.{range_with_len}
 use Rattle.std.proofs.lemmas.List.{append-nil}
-use Rattle.bp_layout.specs.Directory.{EntryNames, IsName, Name, slot_named}
+use Rattle.bp_layout.specs.Directory.{EntryNames, slot_named}
+use Rattle.bp_layout.specs.Paths.{IsName, Name}
 use Rattle.bp_layout.specs.Inode.{root_of, size_of}
 use Rattle.bp_layout.specs.Members.{Has}
 use Rattle.bp_layout.specs.Need.{Change, common_all, copied, cover, entry_path, is_there_after, need}

@@ -1,7 +1,8 @@
 -- What a rename is asked for, and which change it is.
 use Rattle.std.specs.Prelude.{◌≡◌, ◌≢◌, ℕ, ◌==◌, length, Option, None, Some, if◌then◌else◌}
 use Rattle.bp_changes.specs.Effects.{IsAtOrBelow}
-use Rattle.bp_layout.specs.Directory.{EntryNames, IsName, empty_slot, inumber_at, slot_named}
+use Rattle.bp_layout.specs.Directory.{EntryNames, empty_slot, inumber_at, slot_named}
+use Rattle.bp_layout.specs.Paths.{IsName}
 use Rattle.bp_layout.specs.Inode.{IsDirectory}
 use Rattle.bp_layout.specs.Need.{Change}
 use Rattle.bp_layout.specs.Need.Change.{moves, replaces, respells}

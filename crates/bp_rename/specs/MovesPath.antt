@@ -2,10 +2,10 @@
 use Rattle.std.specs.Prelude.{◌≡◌, ◌≢◌, ℕ, [], ◌∷◌, ◌++◌, None, Some}
 use Rattle.bp_calls.specs.Removed.{IsFoundAt}
 use Rattle.bp_changes.specs.Effects.{CanUnlink}
-use Rattle.bp_layout.specs.Below.{rest_below}
-use Rattle.bp_layout.specs.Directory.{IsName, Name, inumber_at, name_at, slot_named}
+use Rattle.bp_layout.specs.Paths.{rest_below, IsName, Name, Path}
+use Rattle.bp_layout.specs.Directory.{inumber_at, name_at, slot_named}
 use Rattle.bp_layout.specs.Inode.{IsDirectory}
-use Rattle.bp_layout.specs.Lookup.{Path, lookup}
+use Rattle.bp_layout.specs.Lookup.{lookup}
 use Rattle.bp_layout.specs.Words.{Image}
 use Rattle.bp_plain.specs.Plain.{with_moved}
 use Rattle.bp_plain.specs.PlainTree.{PathMap}

@@ -2,11 +2,12 @@
 use Rattle.std.specs.Prelude.{◌≡◌, ℕ, ◌+◌, ◌-◌, ◌*◌, ◌/◌, ◌<◌, List, [], ◌∷◌, length, nat_lt, slice_index, if◌then◌else◌}
 use Rattle.bp_cow.specs.declared.touched.Run.{Run}
 use Rattle.bp_cow.specs.declared.touched.Touched.{Touched}
-use Rattle.bp_layout.specs.Directory.{Name}
+use Rattle.bp_layout.specs.Paths.{Name}
 use Rattle.bp_layout.specs.Inode.{root_of, size_of}
 use Rattle.bp_layout.specs.WordPaths.{inode_path}
 use Rattle.bp_layout.specs.Words.{Image, byte_of, height_of}
-use Rattle.bp_limits.specs.Limits.{entry_size, max_name, root_field}
+use Rattle.bp_limits.specs.Limits.{entry_size, root_field}
+use Rattle.bp_limits.specs.CallLimits.{max_name}
 
 -- a byte of them: eight of the name's length, the lowest first, and then the name, with zeros behind it
 abbrev pub respelled_byte : Name → ℕ → ℕ

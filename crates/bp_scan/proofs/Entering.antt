@@ -5,7 +5,8 @@ use Rattle.bp_free.specs.Set.{Set, has, without}
 use Rattle.bp_layout.specs.Words.{Image, block_count, block_of, height_of}
 use Rattle.bp_layout.specs.Tree.{node, covered}
 use Rattle.bp_layout.specs.Inode.{kind_of, root_of, size_of, inode_count}
-use Rattle.bp_layout.specs.Directory.{IsName, name_at, EntryNames}
+use Rattle.bp_layout.specs.Directory.{name_at, EntryNames}
+use Rattle.bp_layout.specs.Paths.{IsName}
 use Rattle.bp_layout.specs.Checks.{IsFound, IsPointer, Fails, root_place, size_place, pointer_place, entry_place}
 use Rattle.bp_layout.specs.Checks.Fails.{height, root_bits, pointer_bits, range, twice, hole, capacity}
 use Rattle.bp_layout.specs.declared.check.Check.{Check}

@@ -5,7 +5,8 @@ use Rattle.std.specs.List.{slice_index}
 use Rattle.bp_free.specs.Set.{Set, has, without}
 use Rattle.bp_layout.specs.Words.{Image}
 use Rattle.bp_layout.specs.Inode.{kind_of, root_of, size_of, inode_count}
-use Rattle.bp_layout.specs.Directory.{EntryNames, IsName, name_at}
+use Rattle.bp_layout.specs.Directory.{EntryNames, name_at}
+use Rattle.bp_layout.specs.Paths.{IsName}
 use Rattle.bp_layout.specs.Checks.{root_place}
 use Rattle.bp_scan.specs.Scanned.{IsScanned}
 use Rattle.bp_walk.specs.Walk.{TakesTree}

@@ -5,7 +5,8 @@ use Rattle.bp_limits.specs.Limits.{block_size, root_inumber, entry_size}
 use Rattle.bp_layout.specs.Words.{Image, block_count, height_of}
 use Rattle.bp_layout.specs.Tree.{node, covered, IsLivePointer}
 use Rattle.bp_layout.specs.Inode.{IsDirectory, inode_count, kind_of, root_of, size_of}
-use Rattle.bp_layout.specs.Directory.{EntryNames, IsName, name_at}
+use Rattle.bp_layout.specs.Directory.{EntryNames, name_at}
+use Rattle.bp_layout.specs.Paths.{IsName}
 use Rattle.bp_layout.specs.Reached.{IsLiveBlock}
 use Rattle.bp_layout.specs.Checks.{IsFound, IsPointer, IsFollowed, Passes, entry_place}
 use Rattle.bp_walk.specs.Taken.{Takes}

@@ -11,12 +11,12 @@ use Rattle.std.proofs.lemmas.Fmt.{length-decimal-le}
 use Rattle.hex.specs.Hex.{lower_digits}
 use Rattle.hex.proofs.HexLemmas.{length-encode_with}
 use Rattle.percent_encoding.specs.Percent.{percent_encode_byte}
-use Rattle.bp_limits.specs.Limits.{block_size, greatest_size, max_path, max_size}
+use Rattle.bp_limits.specs.Limits.{block_size}
+use Rattle.bp_limits.specs.CallLimits.{greatest_size, max_path, max_size}
 use Rattle.bp_limits.specs.declared.version.Version.{Version}
 use Rattle.bp_limits.specs.declared.version.Version.TheVariants.{One, Two}
-use Rattle.bp_layout.specs.Below.{same_path}
-use Rattle.bp_layout.specs.Lookup.{Path, Node}
-use Rattle.bp_layout.specs.Lookup.Node.{dir, file}
+use Rattle.bp_layout.specs.Paths.{same_path, Path, Node}
+use Rattle.bp_layout.specs.Paths.Node.{dir, file}
 use Rattle.bp_plain.specs.Calls.{Call}
 use Rattle.bp_plain.specs.Calls.Call.{create, link, mkdir, write, truncate}
 use Rattle.bp_plain.specs.Export.{IsExportable, IsOfBytes, are_bytes, calls_at, calls_for, export_calls, first_of, is_zeros, path_text, size_call, stretch, stretches, write_of, writes_of}

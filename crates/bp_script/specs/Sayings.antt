@@ -1,6 +1,6 @@
 -- The text of each line that the program writes.
 use Rattle.std.specs.Prelude.{ℕ, ◌≤◌, List, length, codes, decimal, ◌++◌}
-use Rattle.bp_limits.specs.Limits.{max_name}
+use Rattle.bp_limits.specs.CallLimits.{max_name}
 use Rattle.bp_plain.specs.declared.replies.Answer.{Answer}
 use Rattle.bp_plain.specs.declared.replies.Answer.TheVariants as answer
 use Rattle.bp_plain.specs.Seen.{call_of}

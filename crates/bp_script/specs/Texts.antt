@@ -2,7 +2,7 @@
 use Rattle.std.specs.Prelude.{ℕ, List, [], ◌∷◌, ◌++◌, Bool, ◌==◌, ◌||◌, nat_le, codes, decimal, flat_map, if◌then◌else◌}
 use Rattle.hex.specs.Hex.{encode_lower}
 use Rattle.percent_encoding.specs.Percent.{percent_encode_byte}
-use Rattle.bp_layout.specs.Directory.{Name}
+use Rattle.bp_layout.specs.Paths.{Name}
 use Rattle.bp_layout.specs.declared.fields.Kind.{Kind}
 use Rattle.bp_layout.specs.declared.fields.Kind.TheVariants.{File, Dir}
 use Rattle.bp_plain.specs.Calls.{Answer, Refusal}

@@ -1,6 +1,7 @@
 //! The lines of replies.
 
-ghost use Rattle.bp_limits.specs.Limits.{max_name, max_read, max_text};
+ghost use Rattle.bp_limits.specs.Limits.{max_read, max_text};
+ghost use Rattle.bp_limits.specs.CallLimits.{max_name};
 ghost use Rattle.bp_plain.specs.Seen.{refusal_of};
 ghost use Rattle.bp_plain.specs.SeenAnswers.{answer_seen};
 ghost use Rattle.bp_script.specs.Sayings.{FitsReply, IsLine, said_text};

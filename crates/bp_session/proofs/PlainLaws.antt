@@ -34,7 +34,9 @@ use Rattle.pm_epochs.proofs.CrashLaws.{crash_right_none}
 use Rattle.bp_plain.specs.Calls.{Refusal}
 use Rattle.std.specs.Prelude.{Option, Some, None, is_none, ◌&&◌, ◌⊎◌, nat_le, nat_lt, if◌then◌else◌}
 use Rattle.std.proofs.lemmas.Bool.{leb-true, leb-false}
-use Rattle.bp_session.specs.PlainSession.{PlainSession, PlainLine, PlainState, PlainCall, latest, tree_at, tree_now, after_crash, with_call, fresh, FollowsPlainState, FollowsTree, IsPlainly, PlainCrashes}
+use Rattle.bp_session.specs.PlainSession.{PlainSession, PlainLine, PlainState, PlainCall, latest, tree_at, tree_now, after_crash, with_call, fresh, PlainCrashes}
+use Rattle.bp_session.specs.Fronts.{FollowsTree}
+use Rattle.bp_session.specs.Following.{FollowsPlainState, IsPlainly}
 use Rattle.bp_session.proofs.ServingLaws.{session_split}
 use Rattle.bp_session.specs.PlainSession.PlainCall.{plainly, no_room as finds_no_room, no_listing as finds_no_memory, no_snap_listing as snap_finds_no_memory}
 

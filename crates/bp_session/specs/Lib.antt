@@ -2,6 +2,8 @@ pub mod Pieces
 pub mod Lines
 pub mod Session
 pub mod PlainSession
+pub mod Following
+pub mod Fronts
 pub mod SessionLaws
 pub mod Files
 pub mod Changed

@@ -1,18 +1,13 @@
 -- What a script does to a plain file tree of which each call is kept until it is certain.
 use Rattle.std.specs.Prelude.{◌≡◌, ◌≤◌, ℕ, ◌⊎◌, List, [], ◌∷◌, ◌++◌, length, take, true, None}
 use Rattle.bp_plain.specs.PlainTree.{FileTree}
-use Rattle.bp_plain.specs.Stands.{Stands}
 use Rattle.bp_plain.specs.Calls.{Call, Answer}
 use Rattle.bp_plain.specs.Calls.Call.{list, snap_list}
 use Rattle.bp_plain.specs.Calls.Answer.{refused}
 use Rattle.bp_plain.specs.Calls.Refusal.{no_space, no_memory}
 use Rattle.bp_plain.specs.Plain.{plain, is_changing, refusal}
-use Rattle.pm_epochs.specs.Log.{marks}
-use Rattle.pm_epochs.specs.Replay.{PowerCut, IsRight, replay, kept_calls, after_calls}
-use Rattle.pm_region.specs.Memory.{Memory, current_words}
 use Rattle.bp_replay.specs.Wanted.{Wanted}
 use Rattle.bp_replay.specs.Wanted.Wanted.{all, nothing, at}
-use Rattle.bp_session.specs.Session.{Session, State}
 use Rattle.bp_script.specs.Commands.{Command}
 use Rattle.bp_script.specs.Commands.Command.{file_call, sync, space, crash, storm, cache, log, bad_syntax, too_long}
 use Rattle.bp_script.specs.Texts.{LineReply}
@@ -128,42 +123,6 @@ PlainSession old (command ∷ commands) [] new = ⊥
 PlainSession old (command ∷ commands) (reply ∷ replies) new =
     (middle : PlainState) × PlainLine old command reply middle × PlainSession middle commands replies new
 
--- The words now stand for the tree now, and after a crash at any moment they stand for the tree after the calls that it
--- keeps.
-pub record FollowsPlainState (memory : Memory) (p : PlainState) : Type 0 where
-  pub now : Stands (current_words memory) (tree_now p)
-  pub calls : marks memory.events ≡ length p.since
-  pub after : (count : ℕ) → Stands (after_calls memory.base memory.events count) (after_crash p count)
-  pub crash : (cut : PowerCut) → IsRight memory.events cut
-      → Stands (replay memory.base memory.events cut) (after_crash p (kept_calls memory.events cut))
-
 -- the reply that there is no space
 abbrev pub TellsNoSpace : LineReply → Type 0
 TellsNoSpace reply = (needed : ℕ) × (free : ℕ) × (reply ≡ answered (refused (no_space needed free)))
-
--- ---- a session
-
--- These are a plain tree's replies to these commands, and the words then follow it.
-pub record IsPlainly (tree : FileTree) (commands : List Command) (replies : List LineReply)
-    (memory : Memory) : Type 0 where
-  pub plain : PlainState
-  pub session : PlainSession (fresh tree) commands replies plain
-  pub follows : FollowsPlainState memory plain
-
--- The first of a session's commands lead to a state of its own, which the rest goes on from, and are a plain tree's
--- too.
-pub record IsFront (tree : FileTree) (old : State) (first rest : List Command) (replies : List LineReply)
-    (new : State) : Type 0 where
-  pub middle : State
-  pub front : List LineReply
-  pub behind : List LineReply
-  pub are : replies ≡ front ++ behind
-  pub session : Session old first front middle
-  pub later : Session middle rest behind new
-  pub plainly : IsPlainly tree first front middle.memory
-
--- A session is a plain tree's, at its end and behind each of its lines.
-pub record FollowsTree (tree : FileTree) (old : State) (commands : List Command) (replies : List LineReply)
-    (new : State) : Type 0 where
-  pub whole : IsPlainly tree commands replies new.memory
-  pub fronts : (first rest : List Command) → commands ≡ first ++ rest → IsFront tree old first rest replies new

@@ -7,7 +7,8 @@ use Rattle.bp_script.specs.Commands.{Command}
 use Rattle.bp_script.specs.Export.{export_text}
 use Rattle.bp_script.specs.Texts.{LineReply}
 use Rattle.bp_session.specs.Lines.{commands_from}
-use Rattle.bp_session.specs.PlainSession.{FollowsPlainState, PlainSession, PlainState, TellsNoSpace, after_crash, fresh}
+use Rattle.bp_session.specs.PlainSession.{PlainSession, PlainState, TellsNoSpace, after_crash, fresh}
+use Rattle.bp_session.specs.Following.{FollowsPlainState}
 use Rattle.bp_session.specs.Session.{Session, State}
 use Rattle.pm_epochs.specs.Replay.{IsRight, PowerCut, kept_calls, replay}
 use Rattle.pm_region.specs.Memory.{Memory, current_words}

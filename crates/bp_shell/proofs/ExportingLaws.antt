@@ -10,7 +10,7 @@ use Rattle.bp_io.specs.Causes.{Rose}
 use Rattle.bp_io.specs.Streams.{SinkView}
 use Rattle.bp_layout.specs.Whole.{IsFileSystem}
 use Rattle.bp_layout.specs.Words.{Image}
-use Rattle.bp_limits.specs.Limits.{max_path}
+use Rattle.bp_limits.specs.CallLimits.{max_path}
 use Rattle.bp_plain.specs.Export.{HasShortPaths, path_text}
 use Rattle.bp_plain.specs.PlainTree.{FileTree}
 use Rattle.bp_plain.specs.Stands.{Stands}

@@ -19,7 +19,7 @@ use Rattle.bp_session.specs.Lines.{commands_from}
 use Rattle.bp_replies.specs.Room.{gathered_size}
 use Rattle.bp_shell.specs.Opening.{HoldsFileSystem, RefusesFile, start}
 use Rattle.bp_shell.specs.Opening.RefusesFile.{by_length, not_formatted, by_count, damaged}
-use Rattle.bp_session.specs.PlainSession.{FollowsTree}
+use Rattle.bp_session.specs.Fronts.{FollowsTree}
 use Rattle.bp_shell.specs.Running.{BeginsRun, BreaksOffPlainly, IsComplete, Runs, RunsBroken, RunsLong, RunsPart, RunsStopped, RunsUnsaved, Saves, SavesSomeBlocks, StopsPlainly}
 use Rattle.bp_session.specs.Outside.{Outside, SourceFailed, SinkFailed, FilesFailed}
 use Rattle.bp_shell.specs.Ending.{IsReadComplete}

@@ -13,7 +13,7 @@ use Rattle.bp_scan.specs.Totals.{HasTotals}
 use Rattle.bp_scan.specs.declared.totals.Totals.{Totals}
 use Rattle.bp_session.specs.Acting.{state}
 use Rattle.bp_session.specs.Outside.{Outside}
-use Rattle.bp_session.specs.PlainSession.{FollowsTree}
+use Rattle.bp_session.specs.Fronts.{FollowsTree}
 use Rattle.bp_shell.specs.Ending.{ReadOutcome}
 use Rattle.bp_shell.specs.Opening.{HoldsFileSystem, start}
 use Rattle.bp_shell.specs.declared.status.Status.{Status}

@@ -20,7 +20,7 @@ use Rattle.bp_session.specs.Acting.{state}
 use Rattle.bp_session.specs.Lines.{commands_from}
 use Rattle.bp_session.specs.Files.{AreWordsOf64Bits, HasBytes, HasBlocksOf, Holds}
 use Rattle.bp_session.specs.Serving.{BreaksOff, SyncFails, OfLines, Serves, StopsAtSave, Told}
-use Rattle.bp_session.specs.PlainSession.{FollowsTree}
+use Rattle.bp_session.specs.Fronts.{FollowsTree}
 use Rattle.bp_session.specs.Session.{State}
 use Rattle.bp_shell.specs.Opening.{HoldsFileSystem, IsStart, OnlyReads, start}
 use Rattle.bp_shell.specs.Formatting.{new_image, HasPartly, OnlyMakes}

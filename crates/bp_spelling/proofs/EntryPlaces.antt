@@ -3,7 +3,8 @@ use Rattle.std.proofs.Common.{◌≡◌, ◌≢◌, ℕ, ◌+◌, ◌*◌, ◌/�
 use Rattle.std.proofs.lemmas.List.FromFn.{length-map-range_with_len}
 use Rattle.bp_layout.specs.Words.{Image, word, height_of, byte_of}
 use Rattle.bp_layout.specs.Tree.{node, byte, IsSound, IsFull}
-use Rattle.bp_layout.specs.Directory.{IsName, inumber_in, word_in, name_in}
+use Rattle.bp_layout.specs.Directory.{inumber_in, word_in, name_in}
+use Rattle.bp_layout.specs.Paths.{IsName}
 use Rattle.bp_layout.proofs.Finding.{map-same}
 use Rattle.bp_layout.proofs.TreeLaws.{slot_word-at}
 use Rattle.bp_dirs.proofs.EntryWords.{word_in-at, byte-at, leaf_pointer, leaf_in_range}

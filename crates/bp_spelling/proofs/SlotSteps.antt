@@ -6,7 +6,8 @@ use Rattle.std.proofs.lemmas.Bool.{cases_eq}
 use Rattle.std.proofs.lemmas.List.{map-append, take_more_set}
 use Rattle.std.proofs.lemmas.List.Elements.{All-push}
 use Rattle.bp_layout.specs.Words.{Image}
-use Rattle.bp_layout.specs.Directory.{IsName, inumber_in, name_in}
+use Rattle.bp_layout.specs.Directory.{inumber_in, name_in}
+use Rattle.bp_layout.specs.Paths.{IsName}
 use Rattle.bp_spelling.specs.Gathered.{IsGathered}
 use Rattle.bp_spelling.specs.Names.{entry_place_in}
 use Rattle.bp_spelling.specs.declared.entry.Spelled.{Spelled}

@@ -2,7 +2,8 @@
 use Rattle.std.specs.Prelude.{◌≡◌, ◌≢◌, ℕ, ◌+◌, ◌-◌, ◌/◌, ◌<◌, ◌≤◌, List, ◌++◌, min, take, All}
 use Rattle.std.specs.List.{range_with_len}
 use Rattle.bp_layout.specs.Words.{Image}
-use Rattle.bp_layout.specs.Directory.{IsName, inumber_in, name_in}
+use Rattle.bp_layout.specs.Directory.{inumber_in, name_in}
+use Rattle.bp_layout.specs.Paths.{IsName}
 use Rattle.bp_limits.specs.Limits.{block_entries, entry_size}
 use Rattle.bp_spelling.specs.declared.entry.Spelled.{Spelled}
 use Rattle.bp_spelling.specs.Hashes.{IsSpelled, places_of}

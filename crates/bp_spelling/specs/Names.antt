@@ -3,7 +3,8 @@ use Rattle.std.specs.Prelude.{◌≡◌, ◌≢◌, ℕ, ◌+◌, ◌-◌, ◌*�
 use Rattle.bp_limits.specs.Limits.{block_words, entry_size, entry_words}
 use Rattle.bp_layout.specs.Words.{Image, height_of}
 use Rattle.bp_layout.specs.Tree.{node}
-use Rattle.bp_layout.specs.Directory.{IsName, inumber_in, name_in}
+use Rattle.bp_layout.specs.Directory.{inumber_in, name_in}
+use Rattle.bp_layout.specs.Paths.{IsName}
 use Rattle.bp_spelling.specs.declared.fault.NameFault.{NameFault}
 use Rattle.bp_spelling.specs.declared.fault.NameFault.TheVariants.{Form, Twice}
 

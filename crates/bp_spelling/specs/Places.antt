@@ -5,7 +5,8 @@ use Rattle.std.specs.declared.cmp.Ordering.{Ordering}
 use Rattle.std.specs.Ordering.{nat_cmp}
 use Rattle.std.specs.Cmp.Lexicographic.{slice_cmp}
 use Rattle.bp_layout.specs.Words.{Image, word, byte_of}
-use Rattle.bp_layout.specs.Directory.{Name, IsName, inumber_in, name_in}
+use Rattle.bp_layout.specs.Directory.{inumber_in, name_in}
+use Rattle.bp_layout.specs.Paths.{Name, IsName}
 use Rattle.bp_spelling.specs.Names.{IsUsed, entry_place_in}
 
 -- the name of the entry at a place

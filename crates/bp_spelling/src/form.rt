@@ -1,9 +1,10 @@
 //! Whether a name has the form of one.
 
 ghost use Rattle.std.specs.Prelude.{◌≡◌, ◌≢◌, ℕ, ◌+◌, ◌/◌, ◌%◌, ◌≤◌, ◌<◌, ◌↔◌, IsTrue, length, slice_index};
-ghost use Rattle.bp_layout.specs.Directory.{IsName};
+ghost use Rattle.bp_layout.specs.Paths.{IsName};
 ghost use Rattle.bp_layout.specs.Words.{byte_of};
-ghost use Rattle.bp_limits.specs.Limits.{entry_words, max_name};
+ghost use Rattle.bp_limits.specs.Limits.{entry_words};
+ghost use Rattle.bp_limits.specs.CallLimits.{max_name};
 ghost use Rattle.bp_spelling.specs.Places.{name_there, IsPlain, ArePlain, ArePlainBytes, IsDots};
 ghost use Rattle.pm_region.specs.Memory.{current_words};
 

@@ -2,7 +2,8 @@
 
 ghost use Rattle.std.specs.Prelude.{◌≡◌, ◌+◌, ◌≤◌, length};
 ghost use Rattle.bp_layout.specs.Words.{word};
-ghost use Rattle.bp_limits.specs.Limits.{entry_words, max_name};
+ghost use Rattle.bp_limits.specs.Limits.{entry_words};
+ghost use Rattle.bp_limits.specs.CallLimits.{max_name};
 ghost use Rattle.bp_spelling.specs.Hashes.{mixed, name_hash};
 ghost use Rattle.pm_region.specs.Memory.{current_words};
 

@@ -5,8 +5,9 @@ use Rattle.std.specs.FinMap.{get}
 use Rattle.bp_layout.specs.Words.{Image}
 use Rattle.bp_layout.specs.Tree.{content}
 use Rattle.bp_layout.specs.Inode.{IsFile, kind_of, root_of, size_of}
-use Rattle.bp_layout.specs.Lookup.{Path, are_one, file_at, find_one, if_file, lookup, shown}
-use Rattle.bp_layout.specs.Lookup.Node.{file}
+use Rattle.bp_layout.specs.Lookup.{are_one, file_at, find_one, if_file, lookup, shown}
+use Rattle.bp_layout.specs.Paths.{Path}
+use Rattle.bp_layout.specs.Paths.Node.{file}
 use Rattle.bp_layout.specs.WellFormed.{IsWellFormed}
 use Rattle.bp_layout.proofs.View.{find_one-same}
 use Rattle.bp_changes.specs.Effects.{ChangesFile}

@@ -1,14 +1,14 @@
 -- The plain tree of an image in which a name has moved: what was one file is one file where it lies now.
 use Rattle.std.proofs.Common.{◌≡◌, ℕ, [], ◌∷◌, ◌++◌, Bool, true, false, Option, None, Some, option_and_then, ◌==◌, refl, sym, ◌∙◌, ap}
 use Rattle.bp_layout.specs.Words.{Image}
-use Rattle.bp_layout.specs.Directory.{Name, name_at}
+use Rattle.bp_layout.specs.Directory.{name_at}
+use Rattle.bp_layout.specs.Paths.{Name, Path, Node, rest_below}
 use Rattle.bp_layout.specs.Inode.{kind_of, root_of, size_of}
 use Rattle.bp_layout.specs.Tree.{content}
-use Rattle.bp_layout.specs.Lookup.{Path, Node, file_at, if_file, lookup, node_of, shown}
-use Rattle.bp_layout.specs.Lookup.Node.{dir, file}
+use Rattle.bp_layout.specs.Lookup.{file_at, if_file, lookup, node_of, shown}
+use Rattle.bp_layout.specs.Paths.Node.{dir, file}
 use Rattle.bp_layout.specs.Reached.IsReached.{root_directory}
 use Rattle.bp_layout.specs.WellFormed.{IsWellFormed}
-use Rattle.bp_layout.specs.Below.{rest_below}
 use Rattle.bp_layout.proofs.Below.{rest_below-is}
 use Rattle.bp_layout.proofs.View.{lookup_from-reached}
 use Rattle.bp_changes.specs.Effects.{CanMoveEntry, MovesEntry, RespellsEntry, CarriesEntry}

@@ -15,7 +15,8 @@ use Rattle.bp_plain.specs.PlainTree.{FileTree, PathMap}
 use Rattle.bp_plain.specs.Stands.{Shows, Stands}
 use Rattle.bp_layout.specs.Formatted.{version_of}
 use Rattle.bp_limits.specs.declared.version.Version.TheVariants.{Two}
-use Rattle.bp_limits.specs.Limits.{is_two, super_second_size, version_at}
+use Rattle.bp_limits.specs.Limits.{super_second_size, version_at}
+use Rattle.bp_limits.specs.CallLimits.{is_two}
 
 -- no live word stands in the superblock behind the four words of the first tree
 pub idle-harmless : (image : Image) (place value : ℕ) → 4 ≤ place → place < 512 → IsHarmless image place value

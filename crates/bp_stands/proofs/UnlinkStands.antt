@@ -5,7 +5,8 @@ use Rattle.std.specs.Ordering.{eq_by_cmp}
 use Rattle.std.specs.Cmp.{Equal-is, eq_by_cmp_equiv}
 use Rattle.bp_layout.specs.Words.{Image}
 use Rattle.bp_layout.specs.Directory.{name_at}
-use Rattle.bp_layout.specs.Lookup.{Path, file_at, if_file, lookup, shown}
+use Rattle.bp_layout.specs.Lookup.{file_at, if_file, lookup, shown}
+use Rattle.bp_layout.specs.Paths.{Path}
 use Rattle.bp_layout.specs.Reached.IsReached.{root_directory}
 use Rattle.bp_layout.specs.WellFormed.{IsWellFormed}
 use Rattle.bp_layout.proofs.Reached.{reached-in_file}

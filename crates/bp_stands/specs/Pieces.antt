@@ -1,8 +1,8 @@
 -- The pieces of a batch by the inodes of their files.
 use Rattle.std.specs.Prelude.{◌≡◌, ℕ, ◌+◌, ◌≤◌, List, [], ◌∷◌, length, Some}
 use Rattle.bp_layout.specs.Inode.{IsFile, size_of}
-use Rattle.bp_layout.specs.Lookup.{Path, lookup}
-use Rattle.bp_layout.specs.PathText.{parse}
+use Rattle.bp_layout.specs.Lookup.{lookup}
+use Rattle.bp_layout.specs.Paths.{Path, parse}
 use Rattle.bp_layout.specs.Words.{Image}
 use Rattle.bp_changes.specs.Overwrites.{Patch}
 use Rattle.bp_plain.specs.Calls.{Piece}

@@ -7,11 +7,11 @@ use Rattle.std.proofs.lemmas.List.FromFn.{length-map-range_with_len}
 use Rattle.bp_layout.specs.Words.{Image}
 use Rattle.bp_layout.specs.Tree.{content}
 use Rattle.bp_layout.specs.Inode.{kind_of, root_of, size_of}
-use Rattle.bp_layout.specs.Directory.{Name}
+use Rattle.bp_layout.specs.Paths.{Name, Path}
 use Rattle.bp_layout.specs.Names.{HasNames}
 use Rattle.bp_layout.specs.Reached.{IsReached}
-use Rattle.bp_layout.specs.Lookup.{Path, lookup}
-use Rattle.bp_layout.specs.Lookup.Node.{dir, file}
+use Rattle.bp_layout.specs.Lookup.{lookup}
+use Rattle.bp_layout.specs.Paths.Node.{dir, file}
 use Rattle.bp_layout.specs.declared.fields.Kind.{Kind}
 use Rattle.bp_plain.specs.declared.errors.FsError.{FsError}
 use Rattle.bp_plain.specs.declared.errors.FsError.TheVariants.{Memory}

@@ -4,18 +4,17 @@ use Rattle.std.specs.Prelude.{nat_lt, is_none, unwrap_or}
 use Rattle.std.specs.List.{fold, list_any, sum_by}
 use Rattle.std.proofs.lemmas.Bool.{cases_lt, lt-ltb, le-ltb}
 use Rattle.bp_layout.specs.Inode.{kind_of, size_of}
-use Rattle.bp_layout.specs.Lookup.{Path}
+use Rattle.bp_layout.specs.Paths.{Path, parse}
 use Rattle.bp_layout.specs.Members.{Each}
 use Rattle.bp_layout.specs.Need.{Change, Stretch}
 use Rattle.bp_layout.specs.Need.Change.{overwrites}
-use Rattle.bp_layout.specs.PathText.{parse}
 use Rattle.bp_layout.specs.WellFormed.{IsWellFormed}
 use Rattle.bp_layout.specs.Words.{Image}
 use Rattle.bp_changes.specs.Overwrites.{Patch}
 use Rattle.bp_stands.specs.Pieces.{ArePatches, PieceFinds}
 use Rattle.bp_stands.specs.Pieces.ArePatches.{none as no_patch, more as more_patches}
 use Rattle.bp_calls.specs.Overwritten.{IsPatchIn, byte_count, stretches_of}
-use Rattle.bp_limits.specs.Limits.{max_batch}
+use Rattle.bp_limits.specs.CallLimits.{max_batch}
 use Rattle.bp_plain.specs.Calls.{Piece, Refusal}
 use Rattle.bp_plain.specs.Calls.Answer.{done}
 use Rattle.bp_plain.specs.Calls.Call.{batch}

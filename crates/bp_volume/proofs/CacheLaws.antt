@@ -18,7 +18,8 @@ use Rattle.bp_free.specs.declared.parts.NoSpace.{NoSpace}
 use Rattle.bp_plain.specs.Calls.Refusal.{no_space}
 use Rattle.bp_plain.specs.Seen.{refusal_of}
 use Rattle.bp_plain.specs.declared.errors.FsError.{FsError}
-use Rattle.bp_layout.specs.Directory.{Name, empty_slot, entry_count}
+use Rattle.bp_layout.specs.Directory.{empty_slot, entry_count}
+use Rattle.bp_layout.specs.Paths.{Name}
 use Rattle.bp_layout.specs.Inode.{IsDirectory}
 use Rattle.bp_layout.specs.Reached.{IsReached}
 use Rattle.bp_layout.specs.WellFormed.{IsWellFormed}

@@ -5,11 +5,12 @@ use Rattle.std.specs.Option.{option_map}
 use Rattle.std.specs.FinMap.{get}
 use Rattle.bp_calls.specs.OnTrees.{GainsName}
 use Rattle.bp_calls.specs.Entrant.{entrant_of}
-use Rattle.bp_layout.specs.Directory.{Name, inumber_at, lookup_in, slot_named}
+use Rattle.bp_layout.specs.Directory.{inumber_at, lookup_in, slot_named}
+use Rattle.bp_layout.specs.Paths.{Name, Path}
 use Rattle.bp_layout.specs.Free.{IsLeastFree}
 use Rattle.bp_layout.specs.Free.IsLeastFree.{some as a_least, none as no_least}
 use Rattle.bp_layout.specs.Inode.{kind_of}
-use Rattle.bp_layout.specs.Lookup.{Path, lookup, node_of}
+use Rattle.bp_layout.specs.Lookup.{lookup, node_of}
 use Rattle.bp_layout.specs.Need.{Change}
 use Rattle.bp_layout.specs.Need.Change.{enters}
 use Rattle.bp_layout.specs.Words.{Image}

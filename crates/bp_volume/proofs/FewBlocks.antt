@@ -5,7 +5,8 @@ use Rattle.std.specs.List.{range_with_len, list_any}
 use Rattle.std.proofs.lemmas.Bool.{cases_eq, cases_lt, le-ltb, ltb-true}
 use Rattle.std.proofs.lemmas.List.{length-append, length-map, length-take-le, take-append-le}
 use Rattle.std.proofs.lemmas.List.FromFn.{length-map-range_with_len}
-use Rattle.bp_limits.specs.Limits.{block_size, entry_size, max_height, max_write}
+use Rattle.bp_limits.specs.Limits.{block_size, entry_size, max_height}
+use Rattle.bp_limits.specs.CallLimits.{max_write}
 use Rattle.bp_layout.specs.Directory.{empty_slot, entry_count, inumber_at}
 use Rattle.bp_layout.specs.Inode.{root_of, size_of}
 use Rattle.bp_layout.specs.Need.{Beyond, Change, Entrant, beyond, prepared_for, new_inodes, height_after, touched, content_path, entered, entry_path, inode_word_path, new_entry, is_prefix, prefixes_from, prefixes_of, cover_of, is_there_after, need}

@@ -4,7 +4,8 @@ use Rattle.std.specs.Prelude.{flat_map}
 use Rattle.std.specs.List.{range_with_len}
 use Rattle.std.proofs.lemmas.Bool.{cases_eq, eq-eqb, ne_eqb}
 use Rattle.std.proofs.lemmas.List.{length-append}
-use Rattle.bp_limits.specs.Limits.{max_batch, max_height, max_pieces}
+use Rattle.bp_limits.specs.Limits.{max_height, max_pieces}
+use Rattle.bp_limits.specs.CallLimits.{max_batch}
 use Rattle.bp_changes.specs.Overwrites.{Patch}
 use Rattle.bp_layout.specs.Inode.{kind_of, root_of, size_of}
 use Rattle.bp_layout.specs.Members.{Each}

@@ -5,15 +5,15 @@ use Rattle.std.proofs.lemmas.Bool.{lt-ltb, le-ltb, eq-eqb, ne_eqb}
 use Rattle.std.proofs.lemmas.List.FromFn.{length-map-range_with_len}
 use Rattle.bp_calls.specs.OnTrees.{GetsBytes, GetsSize}
 use Rattle.bp_layout.specs.Inode.{kind_of, root_of, size_of}
-use Rattle.bp_layout.specs.Lookup.{Path, lookup}
-use Rattle.bp_layout.specs.Lookup.Node.{dir, file}
+use Rattle.bp_layout.specs.Lookup.{lookup}
+use Rattle.bp_layout.specs.Paths.{Path, parse}
+use Rattle.bp_layout.specs.Paths.Node.{dir, file}
 use Rattle.bp_layout.specs.Formatted.{version_of}
 use Rattle.bp_layout.specs.Need.{Change}
 use Rattle.bp_layout.specs.Need.Change.{writes, resizes}
-use Rattle.bp_layout.specs.PathText.{parse}
 use Rattle.bp_layout.specs.Tree.{byte, content}
 use Rattle.bp_layout.specs.Words.{Image}
-use Rattle.bp_limits.specs.Limits.{greatest_size, greatest_write, max_write}
+use Rattle.bp_limits.specs.CallLimits.{greatest_size, greatest_write, max_write}
 use Rattle.bp_limits.specs.declared.version.Version.{Version}
 use Rattle.bp_limits.proofs.Versions.{size_least, write_most}
 use Rattle.bp_plain.specs.Calls.{Refusal}

@@ -8,14 +8,15 @@ use Rattle.bp_calls.proofs.Leaving.{none_leaving}
 use Rattle.bp_calls.proofs.MayLeave.{found_entry, found_reached}
 use Rattle.bp_calls.proofs.Shorter.{none_shrinking}
 use Rattle.bp_layout.specs.Inode.{kind_of}
-use Rattle.bp_layout.specs.Lookup.{Path, lookup}
+use Rattle.bp_layout.specs.Lookup.{lookup}
+use Rattle.bp_layout.specs.Paths.{Path}
 use Rattle.bp_layout.specs.Need.{Change, need}
 use Rattle.bp_layout.specs.Need.Change.{leaves}
 use Rattle.bp_layout.specs.Thaw.{full_need, none_kept}
 use Rattle.bp_layout.specs.Trees.{AreFrozen, has_snapshot}
 use Rattle.bp_layout.specs.Words.{Image}
 use Rattle.bp_layout.proofs.ThawLaws.{full_need-none}
-use Rattle.bp_limits.specs.Limits.{greatest_size}
+use Rattle.bp_limits.specs.CallLimits.{greatest_size}
 use Rattle.bp_path.specs.Walk.{Walked, walk_from}
 use Rattle.bp_path.specs.Walk.Walked.{found, missing, in_file}
 use Rattle.bp_path.proofs.WalkLaws.{walk_is_lookup}

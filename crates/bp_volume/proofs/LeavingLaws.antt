@@ -10,10 +10,10 @@ use Rattle.bp_changes.specs.Effects.{CanUnlink}
 use Rattle.bp_dirs.specs.Names.{name_count}
 use Rattle.bp_layout.specs.Directory.{inumber_at, name_at, slot_named}
 use Rattle.bp_layout.specs.Inode.{kind_of, root_of, size_of}
-use Rattle.bp_layout.specs.Lookup.{Path, lookup}
+use Rattle.bp_layout.specs.Lookup.{lookup}
+use Rattle.bp_layout.specs.Paths.{Path, parse}
 use Rattle.bp_layout.specs.Need.{Change, need}
 use Rattle.bp_layout.specs.Need.Change.{leaves}
-use Rattle.bp_layout.specs.PathText.{parse}
 use Rattle.bp_layout.specs.WellFormed.{IsWellFormed}
 use Rattle.bp_layout.specs.Words.{Image}
 use Rattle.bp_plain.specs.Calls.{Refusal}

@@ -3,15 +3,15 @@ use Rattle.std.proofs.Common.{◌≡◌, ◌≢◌, ℕ, zero, suc, ◌≤◌, L
 use Rattle.std.proofs.lemmas.Bool.{eq-eqb, eqb-true}
 use Rattle.std.proofs.lemmas.List.{append_cancel_left}
 use Rattle.bp_layout.specs.Words.{Image}
-use Rattle.bp_layout.specs.Directory.{EntryNames, Name, lookup_in, name_at}
+use Rattle.bp_layout.specs.Directory.{EntryNames, lookup_in, name_at}
+use Rattle.bp_layout.specs.Paths.{Name, Path, same_path}
 use Rattle.bp_layout.specs.Inode.{IsDirectory, IsFile, kind_of}
-use Rattle.bp_layout.specs.Lookup.{Path, are_one, file_at, if_file, lookup}
+use Rattle.bp_layout.specs.Lookup.{are_one, file_at, if_file, lookup}
 use Rattle.bp_layout.specs.Members.{AreApart, Each, Has}
 use Rattle.bp_layout.specs.Names.{HasNames, IsNamed}
 use Rattle.bp_layout.specs.Reached.{IsReached}
 use Rattle.bp_layout.specs.Reached.IsReached.{inode_file, root_directory, named}
 use Rattle.bp_layout.specs.WellFormed.{IsWellFormed}
-use Rattle.bp_layout.specs.Below.{same_path}
 use Rattle.bp_layout.proofs.Below.{same_path-is, same_path-self}
 use Rattle.bp_layout.proofs.LookupLaws.{lookup_in-found}
 use Rattle.bp_layout.proofs.Paths.{ByLast, LastStep, by_last, last_step, lookup_from-append, path_once}

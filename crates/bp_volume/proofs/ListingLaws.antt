@@ -8,8 +8,7 @@ use Rattle.std.specs.FinMap.{FinMap, entries, entries_sorted, get, get-entries, 
 use Rattle.std.specs.FinMap.Entries.{find, same_entries}
 use Rattle.std.proofs.lemmas.List.{length-map, map-id}
 use Rattle.std.proofs.lemmas.Simd.{map-map}
-use Rattle.bp_layout.specs.Directory.{Name}
-use Rattle.bp_layout.specs.Lookup.{Path}
+use Rattle.bp_layout.specs.Paths.{Name, Path}
 use Rattle.bp_layout.specs.declared.fields.Kind.{Kind}
 use Rattle.bp_plain.specs.PlainTree.{Nodes}
 use Rattle.bp_plain.specs.Plain.{kind_of_node, listing}

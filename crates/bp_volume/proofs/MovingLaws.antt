@@ -6,13 +6,12 @@ use Rattle.std.proofs.lemmas.Bool.{cases_eq, eq-eqb, eqb-false, ne_eqb}
 use Rattle.bp_calls.specs.Removed.{IsFoundAt}
 use Rattle.bp_calls.proofs.MayLeave.{found_inumber, found_spelled}
 use Rattle.bp_changes.specs.Effects.{CanUnlink}
-use Rattle.bp_layout.specs.Below.{rest_below}
-use Rattle.bp_layout.specs.Directory.{Name, inumber_at, name_at, slot_named}
+use Rattle.bp_layout.specs.Paths.{rest_below, Name, Path, parse}
+use Rattle.bp_layout.specs.Directory.{inumber_at, name_at, slot_named}
 use Rattle.bp_layout.specs.Inode.{kind_of, size_of}
-use Rattle.bp_layout.specs.Lookup.{Path, lookup}
+use Rattle.bp_layout.specs.Lookup.{lookup}
 use Rattle.bp_layout.specs.Need.{Change, need}
 use Rattle.bp_layout.specs.Need.Change.{moves, respells}
-use Rattle.bp_layout.specs.PathText.{parse}
 use Rattle.bp_layout.specs.WellFormed.{IsWellFormed}
 use Rattle.bp_layout.specs.Words.{Image}
 use Rattle.bp_layout.proofs.Below.{rest_below-append, rest_below-is}

@@ -8,7 +8,7 @@ use Rattle.std.proofs.lemmas.Slice.Eq.{bytes_eq-Decides}
 use Rattle.bp_calls.specs.Overwritten.{patch_seen, patches_seen}
 use Rattle.bp_calls.specs.declared.batching.Patch.{Patch as GivenPatch}
 use Rattle.bp_changes.specs.Overwrites.{Patch}
-use Rattle.bp_layout.specs.PathText.{parse}
+use Rattle.bp_layout.specs.Paths.{parse}
 use Rattle.bp_layout.specs.Words.{Image}
 use Rattle.bp_plain.specs.Calls.{Piece, Refusal}
 use Rattle.bp_plain.specs.Plain.{first, piece_refusal}

@@ -6,11 +6,10 @@ use Rattle.std.specs.Option.{option_map}
 use Rattle.std.proofs.lemmas.Bool.{cases_eq, eq-eqb, ne_eqb, eqb-true, eqb-false}
 use Rattle.bp_calls.proofs.ReadingLaws.{length-seen}
 use Rattle.bp_dirs.specs.Names.{name_count}
-use Rattle.bp_layout.specs.Below.{same_path}
+use Rattle.bp_layout.specs.Paths.{same_path, Path, parse}
 use Rattle.bp_layout.specs.Directory.{inumber_at, slot_named}
 use Rattle.bp_layout.specs.Inode.{kind_of, root_of, size_of}
-use Rattle.bp_layout.specs.Lookup.{Path, are_one, file_at, find_one, if_file, lookup, node_of}
-use Rattle.bp_layout.specs.PathText.{parse}
+use Rattle.bp_layout.specs.Lookup.{are_one, file_at, find_one, if_file, lookup, node_of}
 use Rattle.bp_layout.specs.WellFormed.{IsWellFormed}
 use Rattle.bp_layout.specs.Words.{Image}
 use Rattle.bp_layout.proofs.Below.{same_path-is, same_path-self}

@@ -8,7 +8,7 @@ use Rattle.bp_layout.specs.Trees.{has_snapshot, snapshot_of}
 use Rattle.bp_layout.specs.Whole.{IsFileSystem}
 use Rattle.bp_layout.specs.Words.{Image, word}
 use Rattle.bp_layout.proofs.TreeImages.{snapshot-root, snapshot-size, snapshot-version, snapshot-word}
-use Rattle.bp_limits.specs.Limits.{is_two}
+use Rattle.bp_limits.specs.CallLimits.{is_two}
 use Rattle.bp_plain.specs.Calls.{Answer, Call, Refusal}
 use Rattle.bp_plain.specs.Calls.Answer.{names, refused}
 use Rattle.bp_plain.specs.Calls.Call.{list, read, snap_list, snap_read, snap_stat, stat}

@@ -2,13 +2,11 @@
 use Rattle.std.proofs.Common.{◌≡◌, ℕ, ◌==◌, List, [], ◌∷◌, ◌++◌, refl, sym, ◌∙◌, ap, subst, Option, None, Some, true≢false}
 use Rattle.std.specs.Prelude.{unwrap_or, is_err, Result, Ok, Err, MatchResult, OnErr}
 use Rattle.bp_calls.specs.OnTrees.{SharesName}
-use Rattle.bp_layout.specs.Directory.{Name}
+use Rattle.bp_layout.specs.Paths.{Name, Path, parse}
 use Rattle.bp_layout.specs.Inode.{kind_of}
-use Rattle.bp_layout.specs.Lookup.{Path}
 use Rattle.bp_layout.specs.Need.{Change}
 use Rattle.bp_layout.specs.Need.Change.{enters}
 use Rattle.bp_layout.specs.Need.Entrant.{linked}
-use Rattle.bp_layout.specs.PathText.{parse}
 use Rattle.bp_layout.specs.Words.{Image}
 use Rattle.bp_plain.proofs.PathLaws.{first_one}
 use Rattle.bp_plain.specs.Calls.{Refusal}

@@ -29,7 +29,8 @@ use Rattle.bp_layout.specs.WellFormed.{IsWellFormed}
 use Rattle.bp_layout.specs.Whole.{IsFileSystem, SameFiles}
 use Rattle.bp_layout.specs.Words.{Image, block_count, word}
 use Rattle.bp_layout.proofs.NoSecond.{alone_file_system, has_none, kept_none}
-use Rattle.bp_limits.specs.Limits.{is_two, version_at}
+use Rattle.bp_limits.specs.Limits.{version_at}
+use Rattle.bp_limits.specs.CallLimits.{is_two}
 use Rattle.bp_limits.specs.declared.version.Version.TheVariants.{One, Two}
 use Rattle.bp_plain.specs.Calls.{Answer}
 use Rattle.bp_plain.specs.Calls.Answer.{done, refused as is_refused}

@@ -2,8 +2,7 @@
 use Rattle.std.proofs.Common.{◌≡◌, ℕ, ◌<◌, List, [], ◌∷◌, true, false, refl, ◌∙◌, ap, subst, Option, None, Some}
 use Rattle.std.specs.Prelude.{not, ◌&&◌, is_none}
 use Rattle.bp_layout.specs.Words.{Image}
-use Rattle.bp_layout.specs.Lookup.{Path}
-use Rattle.bp_layout.specs.PathText.{parse}
+use Rattle.bp_layout.specs.Paths.{Path, parse}
 use Rattle.bp_plain.specs.PlainTree.{FileTree}
 use Rattle.bp_plain.specs.Calls.{Call, Refusal, Answer}
 use Rattle.bp_plain.specs.Calls.Call.{list, read}

@@ -2,10 +2,10 @@
 use Rattle.std.proofs.Common.{◌≡◌, ◌≢◌, ◌==◌, ℕ, [], ◌∷◌, ◌++◌, Bool, true, false, Option, None, Some, refl, sym, ◌∙◌, ap, subst}
 use Rattle.std.specs.Prelude.{if◌then◌else◌}
 use Rattle.std.specs.Option.{option_map}
-use Rattle.bp_layout.specs.Directory.{Name, empty_slot, inumber_at, lookup_in, slot_named}
+use Rattle.bp_layout.specs.Directory.{empty_slot, inumber_at, lookup_in, slot_named}
+use Rattle.bp_layout.specs.Paths.{Name, Path, is_name}
 use Rattle.bp_layout.specs.Inode.{kind_of}
-use Rattle.bp_layout.specs.Lookup.{Path, lookup}
-use Rattle.bp_layout.specs.PathText.{is_name}
+use Rattle.bp_layout.specs.Lookup.{lookup}
 use Rattle.bp_layout.specs.Words.{Image}
 use Rattle.bp_path.specs.Names.{AreBeside}
 use Rattle.bp_path.specs.Walk.{Walked, in_directory, onward, walk_from}

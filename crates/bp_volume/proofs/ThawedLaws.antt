@@ -15,9 +15,9 @@ use Rattle.bp_changes.specs.SameMeaning.{SameMeaning}
 use Rattle.bp_changes.specs.Thawed.{AfterThaw, SameShape}
 use Rattle.bp_changes.proofs.ReachedOn.{names_on, reached_on}
 use Rattle.bp_changes.proofs.SameMeaning.{name-same, names-back, same-by_meaning, view-same, well_formed-same}
-use Rattle.bp_layout.specs.Below.{rest_below}
-use Rattle.bp_layout.specs.Directory.{EntryNames, Name, inumber_at, name_at}
-use Rattle.bp_layout.specs.Lookup.{Path, lookup}
+use Rattle.bp_layout.specs.Paths.{rest_below, Name, Path}
+use Rattle.bp_layout.specs.Directory.{EntryNames, inumber_at, name_at}
+use Rattle.bp_layout.specs.Lookup.{lookup}
 use Rattle.bp_layout.specs.Reached.{IsReached}
 use Rattle.bp_layout.specs.Reached.IsReached.{named, root_directory}
 use Rattle.bp_layout.specs.Same.{Same}

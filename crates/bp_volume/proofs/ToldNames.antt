@@ -11,7 +11,8 @@ use Rattle.bp_changes.specs.Effects.{CanUnlink, RemovesEntry}
 use Rattle.bp_changes.specs.SameMeaning.{SameMeaning}
 use Rattle.bp_changes.specs.Thawed.{AfterThaw}
 use Rattle.bp_changes.proofs.SameMeaning.{well_formed-same}
-use Rattle.bp_layout.specs.Directory.{Name, inumber_at, name_at, slot_named}
+use Rattle.bp_layout.specs.Directory.{inumber_at, name_at, slot_named}
+use Rattle.bp_layout.specs.Paths.{Name}
 use Rattle.bp_layout.specs.Inode.{IsDirectory}
 use Rattle.bp_layout.specs.Reached.{IsReached}
 use Rattle.bp_layout.specs.WellFormed.{IsWellFormed}

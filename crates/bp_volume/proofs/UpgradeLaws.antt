@@ -19,7 +19,8 @@ use Rattle.bp_layout.specs.Words.{Image, word}
 use Rattle.bp_layout.proofs.BesideTrees.{SameTrees}
 use Rattle.bp_layout.proofs.NoSecond.{first_has_none, kept_none, none_frozen}
 use Rattle.bp_layout.proofs.Upgrade.{same_files_first, upgraded_alone, upgraded_file_system}
-use Rattle.bp_limits.specs.Limits.{is_two, magic}
+use Rattle.bp_limits.specs.Limits.{magic}
+use Rattle.bp_limits.specs.CallLimits.{is_two}
 use Rattle.bp_limits.specs.declared.version.Version.TheVariants.{One, Two}
 use Rattle.bp_plain.specs.Calls.Answer.{done}
 use Rattle.bp_plain.specs.Calls.Call.{upgrade}

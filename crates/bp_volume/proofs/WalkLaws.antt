@@ -6,11 +6,12 @@ use Rattle.std.specs.FinMap.{get}
 use Rattle.std.proofs.lemmas.Bool.{eqb-true, eqb-false}
 use Rattle.bp_layout.specs.Words.{Image}
 use Rattle.bp_layout.specs.Inode.{kind_of}
-use Rattle.bp_layout.specs.Directory.{Name, lookup_in}
+use Rattle.bp_layout.specs.Directory.{lookup_in}
+use Rattle.bp_layout.specs.Paths.{Name, Path}
 use Rattle.bp_layout.specs.Reached.{IsReached}
 use Rattle.bp_layout.specs.Reached.IsReached.{root_directory}
-use Rattle.bp_layout.specs.Lookup.{Path, lookup, node_of}
-use Rattle.bp_layout.specs.Lookup.Node.{dir, file}
+use Rattle.bp_layout.specs.Lookup.{lookup, node_of}
+use Rattle.bp_layout.specs.Paths.Node.{dir, file}
 use Rattle.bp_layout.specs.WellFormed.{IsWellFormed}
 use Rattle.bp_layout.proofs.View.{lookup_from-reached}
 use Rattle.bp_layout.proofs.Paths.{ByLast, by_last, last_step, lookup_from-append}

@@ -8,9 +8,9 @@ use Rattle.std.proofs.lemmas.Result.{IfOk-at_ok}
 use Rattle.std.proofs.lemmas.Slice.Eq.{bytes_eq-Decides}
 use Rattle.bp_layout.specs.Words.{Image}
 use Rattle.bp_layout.specs.Inode.{kind_of}
-use Rattle.bp_layout.specs.Directory.{Name, IsName, slot_named}
-use Rattle.bp_layout.specs.Lookup.{Path, lookup}
-use Rattle.bp_layout.specs.PathText.{is_name}
+use Rattle.bp_layout.specs.Directory.{slot_named}
+use Rattle.bp_layout.specs.Paths.{Name, IsName, Path, is_name}
+use Rattle.bp_layout.specs.Lookup.{lookup}
 use Rattle.bp_plain.proofs.PathLaws.{first_one}
 use Rattle.bp_plain.specs.declared.errors.FsError.{FsError}
 use Rattle.bp_plain.specs.Seen.{refusal_of}

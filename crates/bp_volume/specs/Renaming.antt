@@ -3,10 +3,10 @@ use Rattle.std.specs.Prelude.{◌≡◌, ◌≢◌, ◌==◌, ℕ, List, [], Boo
 use Rattle.bp_cache.specs.Changes.{NameMoves, NameReplaces}
 use Rattle.bp_cache.specs.declared.name_at.NameAt.{NameAt}
 use Rattle.bp_changes.specs.Effects.{CanUnlink}
-use Rattle.bp_layout.specs.Directory.{IsName, Name, empty_slot, inumber_at, slot_named}
+use Rattle.bp_layout.specs.Directory.{empty_slot, inumber_at, slot_named}
+use Rattle.bp_layout.specs.Paths.{IsName, Name, Path, parse}
 use Rattle.bp_layout.specs.Inode.{IsDirectory}
-use Rattle.bp_layout.specs.Lookup.{Path, lookup}
-use Rattle.bp_layout.specs.PathText.{parse}
+use Rattle.bp_layout.specs.Lookup.{lookup}
 use Rattle.bp_layout.specs.Words.{Image}
 use Rattle.bp_path.specs.declared.steps.FoundEntry.{FoundEntry}
 use Rattle.bp_plain.specs.Calls.{Call}

@@ -1,12 +1,12 @@
 -- What a call may make of an image.
 use Rattle.std.specs.Prelude.{◌≡◌, ◌≢◌, ℕ, ◌<◌, ◌≤◌, List, [], ◌∷◌, length, Bool, true, false, Option, None, Some}
 use Rattle.bp_layout.specs.Words.{Image}
-use Rattle.bp_layout.specs.Directory.{Name, IsName, slot_named}
+use Rattle.bp_layout.specs.Directory.{slot_named}
+use Rattle.bp_layout.specs.Paths.{Name, IsName, Path, parse}
 use Rattle.bp_layout.specs.Inode.{IsDirectory, IsFile, size_of}
-use Rattle.bp_layout.specs.Lookup.{Path, lookup}
+use Rattle.bp_layout.specs.Lookup.{lookup}
 use Rattle.bp_plain.specs.PlainTree.{FileTree}
 use Rattle.bp_plain.specs.Stands.{Stands}
-use Rattle.bp_layout.specs.PathText.{parse}
 use Rattle.bp_plain.specs.Calls.{Call, Piece, Answer}
 use Rattle.bp_plain.specs.Calls.Call.{create, mkdir, unlink, rmdir, list, write, truncate, rename, link, snap_list, batch}
 use Rattle.bp_plain.specs.Calls.Refusal.{no_space, no_memory}

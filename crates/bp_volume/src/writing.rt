@@ -6,7 +6,7 @@ ghost use Rattle.bp_cache.specs.Changes.{KeepsAllNames};
 ghost use Rattle.bp_layout.specs.Inode.{IsFile};
 ghost use Rattle.bp_layout.specs.Formatted.{version_of};
 ghost use Rattle.bp_layout.specs.WellFormed.{IsWellFormed};
-ghost use Rattle.bp_limits.specs.Limits.{greatest_write};
+ghost use Rattle.bp_limits.specs.CallLimits.{greatest_write};
 ghost use Rattle.bp_plain.specs.Calls.Call.{write};
 ghost use Rattle.bp_plain.specs.Seen.{refusal_of};
 ghost use Rattle.bp_shapes.specs.Sets.{IsExact};

@@ -1,6 +1,7 @@
 -- A step of a walk below a node.
 use Rattle.std.proofs.Common.{◌≡◌, ◌≢◌, ◌⊎◌, ℕ, zero, suc, ◌+◌, ◌*◌, ◌/◌, ◌%◌, ◌<◌, ◌≤◌, Bool, false, refl, sym, ◌∙◌, ap, subst, arith, inl, inr, ⊎_elim}
-use Rattle.bp_limits.specs.Limits.{max_height, max_size}
+use Rattle.bp_limits.specs.Limits.{max_height}
+use Rattle.bp_limits.specs.CallLimits.{max_size}
 use Rattle.std.proofs.lemmas.Bool.{cases_lt}
 use Rattle.std.proofs.Math.Nat.{mul-le-mul_right}
 use Rattle.bp_free.specs.Set.{Set}

@@ -1,6 +1,6 @@
 //! Batches of writes in the plain tree.
 
-ghost use Rattle.bp_layout.specs.PathText.{parse};
+ghost use Rattle.bp_layout.specs.Paths.{parse};
 ghost use Rattle.bp_limits.specs.Limits.{max_pieces};
 ghost use Rattle.bp_plain.specs.Calls.Call.{batch};
 ghost use Rattle.bp_plain.specs.Plain as plain;

@@ -1,6 +1,6 @@
 //! What stands at each path, as the program keeps it: a file has a number, the same one at each of its paths.
 
-ghost use Rattle.bp_layout.specs.Below.{rest_below};
+ghost use Rattle.bp_layout.specs.Paths.{rest_below};
 ghost use Rattle.bp_layout.specs.Listing.{listed};
 ghost use Rattle.bp_plain.specs.Changed.{changed, changed_files, with_bytes_in, with_entry};
 ghost use Rattle.bp_plain.specs.Numbered.{has_number, number_at, paths_numbered, plain_nodes, root_alone};

@@ -1,6 +1,6 @@
 //! What stands at each path, and which paths are one file.
 
-ghost use Rattle.bp_layout.specs.Below.{same_path};
+ghost use Rattle.bp_layout.specs.Paths.{same_path};
 ghost use Rattle.bp_layout.specs.Listing.{listed};
 ghost use Rattle.bp_layout.specs.Lookup.{are_one};
 ghost use Rattle.bp_limits.specs.Limits.{max_read};

@@ -1,6 +1,6 @@
 //! Renames in the plain tree.
 
-ghost use Rattle.bp_layout.specs.Below.{rest_below};
+ghost use Rattle.bp_layout.specs.Paths.{rest_below};
 ghost use Rattle.bp_plain.specs.Calls.Call.{rename};
 ghost use Rattle.bp_plain.specs.Plain as plain;
 ghost use Rattle.bp_plain.specs.Seen.{refusal_of};

@@ -1,6 +1,6 @@
 use Rattle.std.proofs.Common.{[], ◌∷◌, ◌++◌, subst}
 use Rattle.bp_changes.proofs.SameMeaning.{name-same, well_formed-same}
-use Rattle.bp_layout.specs.Directory.{Name}
+use Rattle.bp_layout.specs.Paths.{Name}
 use Rattle.bp_plain.specs.Plain.{with_nothing}
 use Rattle.bp_plain.specs.Stands.{Shows}
 use Rattle.bp_stands.proofs.UnlinkStands.{unlink_shows}

@@ -1,6 +1,6 @@
 use Rattle.std.proofs.Common.{◌≡◌, length}
 use Rattle.std.specs.List.{list_all}
-use Rattle.bp_layout.specs.PathText.{is_name, parts}
+use Rattle.bp_layout.specs.Paths.{is_name, parts}
 use Rattle.bp_path.proofs.names.are_names.Given as goal
 
 abbrev pub invariant-loop-end : goal.invariant-loop-end

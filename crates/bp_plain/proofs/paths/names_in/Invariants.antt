@@ -1,5 +1,5 @@
 use Rattle.std.proofs.Common.{◌≡◌, [], length}
-use Rattle.bp_layout.specs.PathText.{parts}
+use Rattle.bp_layout.specs.Paths.{parts}
 use Rattle.bp_plain.specs.SeenTree.{all_names, names_of}
 use Rattle.bp_plain.proofs.paths.names_in.Given as goal
 

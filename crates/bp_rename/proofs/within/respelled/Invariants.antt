@@ -1,6 +1,6 @@
 use Rattle.std.proofs.Common.{◌≡◌, ℕ, ◌+◌, ◌<◌, ◌≤◌, length}
 use Rattle.std.specs.List.{slice_index}
-use Rattle.bp_limits.specs.Limits.{max_name}
+use Rattle.bp_limits.specs.CallLimits.{max_name}
 use Rattle.bp_rename.specs.Respelled.{respelled_byte}
 use Rattle.bp_rename.proofs.within.respelled.Given as goal
 

@@ -1,7 +1,8 @@
 use Rattle.std.proofs.Common.{◌≡◌, ℕ, ◌+◌, ◌*◌, ◌/◌, ◌<◌, ◌≤◌, length, refl, sym, ◌∙◌, ap, subst, arith, true≢false, slice_index}
 use Rattle.pm_region.specs.Memory.{current_words}
 use Rattle.bp_layout.specs.Words.{word}
-use Rattle.bp_layout.specs.Directory.{IsName, inumber_in, name_in}
+use Rattle.bp_layout.specs.Directory.{inumber_in, name_in}
+use Rattle.bp_layout.specs.Paths.{IsName}
 use Rattle.bp_spelling.specs.Gathered.{IsGathered}
 use Rattle.bp_spelling.specs.Names.{entry_place_in, in_32_bits}
 use Rattle.bp_spelling.specs.Places.{name_there}

@@ -7,7 +7,7 @@ use Rattle.bp_changes.specs.Overwrites.{OverwritesFiles}
 use Rattle.bp_changes.proofs.Overwrites.{keeps}
 use Rattle.bp_free.specs.declared.parts.Parts.{Parts}
 use Rattle.bp_layout.specs.Need.Change.{overwrites}
-use Rattle.bp_limits.specs.Limits.{max_batch}
+use Rattle.bp_limits.specs.CallLimits.{max_batch}
 use Rattle.bp_plain.specs.Seen.{piece_in}
 use Rattle.bp_plain.proofs.Carried.{sum_lies}
 use Rattle.bp_shapes.specs.Sets.{kept_of}

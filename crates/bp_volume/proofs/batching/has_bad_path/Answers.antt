@@ -1,6 +1,6 @@
 use Rattle.std.proofs.Common.{◌≡◌, ℕ, List, false, ap, sym, ◌∙◌, subst}
 use Rattle.std.specs.Option.{is_none}
-use Rattle.bp_layout.specs.PathText.{parse}
+use Rattle.bp_layout.specs.Paths.{parse}
 use Rattle.bp_volume.proofs.PieceLaws.{bad_behind, parsed_good, piece_at, same_good}
 use Rattle.bp_volume.proofs.batching.has_bad_path.Goals as goal
 use Rattle.bp_volume.proofs.batching.has_bad_path.Goals.{else-ne-via-then-ne+else-is_err, else-ne-via-else-ne}

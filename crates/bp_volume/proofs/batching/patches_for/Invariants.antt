@@ -5,7 +5,7 @@ use Rattle.std.specs.Prelude.{IfSome}
 use Rattle.arrayvec.specs.ArrayVec.{array_vec_len}
 use Rattle.bp_cache.specs.Cache.{IsCacheOf}
 use Rattle.bp_calls.specs.Overwritten.{patches_seen}
-use Rattle.bp_layout.specs.PathText.{parse}
+use Rattle.bp_layout.specs.Paths.{parse}
 use Rattle.bp_plain.specs.Plain.{first, piece_refusal}
 use Rattle.bp_plain.specs.PlainTree.{FileTree}
 use Rattle.bp_plain.specs.Seen.{piece_in}

@@ -1,7 +1,7 @@
 use Rattle.std.proofs.Common.{◌≡◌, ◌∙◌, ap, arith}
 use Rattle.std.proofs.lemmas.Result.{err_from_is_err_and}
 use Rattle.bp_layout.specs.Formatted.{version_of}
-use Rattle.bp_limits.specs.Limits.{greatest_write}
+use Rattle.bp_limits.specs.CallLimits.{greatest_write}
 use Rattle.pm_region.specs.Memory.{current_words}
 use Rattle.bp_volume.proofs.FileLaws.{write_stops, write_too_long}
 use Rattle.bp_volume.proofs.WalkingLaws.{ok_was}

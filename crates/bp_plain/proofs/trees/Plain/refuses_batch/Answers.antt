@@ -1,5 +1,5 @@
 use Rattle.std.proofs.Common.{map, nat_lt, option_map, sym, ◌∙◌, ap}
-use Rattle.bp_limits.specs.Limits.{max_batch}
+use Rattle.bp_limits.specs.CallLimits.{max_batch}
 use Rattle.bp_plain.specs.Calls.Refusal.{bad_path, too_long}
 use Rattle.bp_plain.specs.Plain.{first, piece_refusal, when}
 use Rattle.bp_plain.specs.PlainTree.{PathMap}

@@ -1,6 +1,5 @@
 use Rattle.std.proofs.Common.{◌≡◌, ◌&&◌, Bool, true, false, not, None, sym, ◌∙◌, ap, ap₂, subst}
-use Rattle.bp_layout.specs.Below.{same_path}
-use Rattle.bp_layout.specs.Lookup.{Path}
+use Rattle.bp_layout.specs.Paths.{same_path, Path}
 use Rattle.bp_plain.specs.Calls.Call.{rename}
 use Rattle.bp_plain.specs.Plain.{move_refusal, path_named, refusal, with_moved, with_now}
 use Rattle.bp_plain.specs.PlainTree.{FileTree, PathMap, is_one}

@@ -1,7 +1,7 @@
 use Rattle.std.proofs.Common.{◌≡◌, drop, map}
 use Rattle.std.specs.List.{list_any}
 use Rattle.std.specs.Option.{is_none}
-use Rattle.bp_layout.specs.PathText.{parse}
+use Rattle.bp_layout.specs.Paths.{parse}
 use Rattle.bp_plain.specs.Seen.{piece_in}
 use Rattle.bp_plain.proofs.trees.batches.has_bad_path.Given as goal
 

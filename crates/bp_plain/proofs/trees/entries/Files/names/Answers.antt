@@ -1,7 +1,7 @@
 use Rattle.std.proofs.Common.{◌++◌, sym, ◌∙◌, ap, append-nil, map}
 use Rattle.std.specs.List.{filter_map}
 use Rattle.std.specs.FinMap.{entries}
-use Rattle.bp_layout.specs.Below.{rest_below}
+use Rattle.bp_layout.specs.Paths.{rest_below}
 use Rattle.bp_layout.specs.Listing.{listed}
 use Rattle.bp_plain.specs.Plain.{listed_in, only_name}
 use Rattle.bp_plain.specs.Numbered.{plain_entry}

@@ -1,0 +1,36 @@
+-- The limits of calls: names, paths, sizes, and what one call writes.
+use Rattle.std.specs.Prelude.{ℕ, Bool, true, false}
+use Rattle.bp_limits.specs.declared.TheConstants.{MAX_SIZE, MAX_NAME, MAX_PATH, MAX_WRITE, MAX_BATCH}
+use Rattle.bp_limits.specs.declared.version.Version.{Version}
+use Rattle.bp_limits.specs.declared.version.Version.TheVariants.{One, Two}
+
+abbrev pub is_two : Version → Bool
+is_two One = false
+is_two Two = true
+
+-- the greatest length of a name and of a path, in bytes
+abbrev pub max_name : ℕ
+max_name = MAX_NAME
+
+abbrev pub max_path : ℕ
+max_path = MAX_PATH
+
+-- the greatest size of a file, a directory and the inode file, in bytes: what a tree of the greatest height covers
+abbrev pub max_size : ℕ
+max_size = MAX_SIZE
+
+abbrev pub greatest_size : Version → ℕ
+greatest_size One = 549755813888
+greatest_size Two = max_size
+
+-- the most bytes that one call writes: in any version, and by version
+abbrev pub max_write : ℕ
+max_write = MAX_WRITE
+
+abbrev pub greatest_write : Version → ℕ
+greatest_write One = 65536
+greatest_write Two = max_write
+
+-- the most bytes of all pieces of a batch
+abbrev pub max_batch : ℕ
+max_batch = MAX_BATCH

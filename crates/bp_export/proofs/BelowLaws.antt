@@ -1,7 +1,7 @@
 -- The entries of a directory are told one after the other.
 use Rattle.std.proofs.Common.{◌≡◌, ℕ, ◌+◌, ◌≤◌, List, ◌++◌, length, flat_map, Some, sym, ◌∙◌, ap, subst, append_assoc, append-nil}
 use Rattle.std.specs.Prelude.{Ok, Err, slice_get}
-use Rattle.bp_io.specs.Streams.{SinkView}
+use Rattle.bp_io.specs.Views.{SinkView}
 use Rattle.bp_layout.specs.Paths.{Name}
 use Rattle.bp_layout.specs.Inode.{IsDirectory, IsFile}
 use Rattle.bp_layout.specs.Lookup.{node_of}

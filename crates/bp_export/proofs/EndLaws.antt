@@ -4,7 +4,7 @@ use Rattle.std.specs.Prelude.{Result, Ok, Err}
 use Rattle.std.specs.Io.KnownBytes.{Appends}
 use Rattle.std.proofs.KnownBytes.{Appends-trans}
 use Rattle.bp_io.specs.Causes.{Rose}
-use Rattle.bp_io.specs.Streams.{SinkView}
+use Rattle.bp_io.specs.Views.{SinkView}
 use Rattle.bp_plain.specs.Calls.{Call}
 use Rattle.bp_plain.specs.Export.{HasShortPaths, export_calls}
 use Rattle.bp_plain.specs.PlainTree.{FileTree}

@@ -2,7 +2,7 @@
 use Rattle.std.specs.Prelude.{◌≡◌, ◌↔◌, ℕ, List, ◌++◌, Option, Result, Ok, Err, IsErrOf, OnOk}
 use Rattle.std.specs.Io.KnownBytes.{Appends}
 use Rattle.bp_io.specs.Causes.{Rose}
-use Rattle.bp_io.specs.Streams.{SinkView}
+use Rattle.bp_io.specs.Views.{SinkView}
 use Rattle.bp_plain.specs.Calls.{Call}
 use Rattle.bp_plain.specs.Export.{HasShortPaths}
 use Rattle.bp_plain.specs.PlainTree.{FileTree}

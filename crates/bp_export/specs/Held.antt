@@ -1,6 +1,6 @@
 -- What a walk tells, in words of what it works with: the path at hand, the lines that wait and the first paths.
 use Rattle.std.specs.Prelude.{ℕ, List, Result}
-use Rattle.bp_io.specs.Streams.{SinkView}
+use Rattle.bp_io.specs.Views.{SinkView}
 use Rattle.bp_layout.specs.Paths.{Node, Path}
 use Rattle.bp_layout.specs.Words.{Image}
 use Rattle.bp_plain.specs.Calls.{Call}

@@ -1,7 +1,7 @@
 -- Lines of calls that are told, one list behind the other.
 use Rattle.std.specs.Prelude.{ℕ, ◌+◌, ◌*◌, min, List, [], ◌∷◌, ◌++◌, ◌==◌, Option, None, Some, Result, OnErr, OnOk, if◌then◌else◌}
 use Rattle.bp_io.specs.Causes.{HasCause}
-use Rattle.bp_io.specs.Streams.{SinkView}
+use Rattle.bp_io.specs.Views.{SinkView}
 use Rattle.bp_io.specs.declared.faults.Failed.{Failed}
 use Rattle.bp_layout.specs.Paths.Node.{file}
 use Rattle.bp_layout.specs.Tree.{content}

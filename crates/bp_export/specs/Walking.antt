@@ -1,7 +1,7 @@
 -- A walk over the tree of an image: where it stands, and what it remembers.
 use Rattle.std.specs.Prelude.{◌≡◌, ◌<◌, ◌≤◌, ℕ, List, [], ◌∷◌, ◌++◌, length, map, take, find, flat_map, slice_index, All, Bool, OnOk, Option, Result, Some, option_map}
 use Rattle.std.specs.FinMap.{get, entries}
-use Rattle.bp_io.specs.Streams.{SinkView}
+use Rattle.bp_io.specs.Views.{SinkView}
 use Rattle.bp_limits.specs.CallLimits.{max_path}
 use Rattle.bp_layout.specs.Paths.{Name, Node, Path}
 use Rattle.bp_layout.specs.Lookup.{are_one, file_at, lookup, node_of}

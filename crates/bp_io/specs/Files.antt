@@ -1,6 +1,7 @@
 -- What is told of files, and what the calls on them do.
 use Rattle.std.specs.Prelude.{◌≡◌, ◌⊎◌, ℕ, ◌+◌, ◌*◌, ◌-◌, ◌/◌, ◌<◌, List, [], ◌++◌, length, take, drop, replicate, Option, Some, None, ⊤, Bool, true, false, slice_range}
 use Rattle.bp_limits.specs.Limits.{block_size}
+use Rattle.bp_io.specs.Views.{Known, View}
 use Rattle.bp_io.specs.declared.access.Access.{Access}
 use Rattle.bp_io.specs.declared.access.Access.TheVariants.{Read, Write, Make}
 
@@ -38,21 +39,6 @@ pub record IsPartlyReplaced (old wanted found : List ℕ) : Type 0 where
   pub blocks : (i : ℕ) → block_size * i < length found → (block_bytes found i ≡ block_bytes old i)
       ⊎ (block_bytes found i ≡ resized_file block_size (block_bytes old i))
       ⊎ (block_bytes found i ≡ block_bytes wanted i)
-
--- what is known of a name: nothing, or that no file has it, or the file's bytes
-abbrev pub Known : Type 0
-Known = Option (Option (List ℕ))
-
--- What is told of files at a moment: under which names one is attached, how many whole blocks the attached one has (0
--- where none is), whether it may be written, whether all that was written is known to be flushed, what is known of
--- the file of each name, and how often they have failed, up to 2^64 - 1, where the count stops.
-pub record View : Type 0 where
-  pub is_attached : List ℕ → Bool
-  pub blocks : ℕ
-  pub may_write : Bool
-  pub is_flushed : Bool
-  pub contents : List ℕ → Known
-  pub faults : ℕ
 
 -- an attached file of this access may be written
 abbrev pub may_change : Access → Bool

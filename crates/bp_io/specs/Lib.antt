@@ -1,4 +1,5 @@
 -- What sources, sinks and files do.
+pub mod Views
 pub mod Causes
 pub mod Streams
 pub mod Files

@@ -1,7 +1,7 @@
 -- What the sources, sinks and files in memory hold.
 use Rattle.std.specs.Prelude.{◌/◌, length, if◌then◌else◌, List, ℕ, Option, Some, None}
 use Rattle.bp_limits.specs.Limits.{block_size}
-use Rattle.bp_io.specs.Files.{View}
+use Rattle.bp_io.specs.Views.{View}
 use Rattle.bp_io.specs.Plans.{FaultPlan}
 use Rattle.bp_io.specs.declared.faults.CallPlan.{CallPlan}
 use Rattle.bp_io.specs.declared.memory_streams.FairSource.{FairSource}

@@ -2,7 +2,8 @@
 
 ghost use Rattle.std.specs.Prelude.{◌⊎◌, OnErr, ◌≡◌, ◌≤◌, ◌<◌, ◌+◌, ◌/◌, ◌%◌, List, length, ℕ, IfNone, IfOk, OnOk, IfSome, true, false};
 ghost use Rattle.bp_io.specs.Causes.{HasCause};
-ghost use Rattle.bp_io.specs.Files.{View, StaysAttached, StaysOrIsMade, Becomes, Answers, Attaches, IsAttached, KeepsFiles, KeepsOthers, ChangesBytes, MayChange, MayChangeBlocks, Resizes, Replaces, ReplacesPartly, KeepsSize, AreBytesOfBlocks, Reads, makes, with_block, with_blocks};
+ghost use Rattle.bp_io.specs.Files.{StaysAttached, StaysOrIsMade, Becomes, Answers, Attaches, IsAttached, KeepsFiles, KeepsOthers, ChangesBytes, MayChange, MayChangeBlocks, Resizes, Replaces, ReplacesPartly, KeepsSize, AreBytesOfBlocks, Reads, makes, with_block, with_blocks};
+ghost use Rattle.bp_io.specs.Views.{View};
 
 use crate::{Access, Failed};
 use bp_limits::{BLOCK_SIZE, MAX_BLOCKS};

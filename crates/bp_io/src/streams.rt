@@ -3,7 +3,8 @@
 ghost use Rattle.std.specs.Io.{ReadsAtMost, WritesAtMost};
 ghost use Rattle.std.specs.Io.KnownBytes.{ReadConsumes, WriteAppends};
 ghost use Rattle.bp_io.specs.Causes.{HasCause};
-ghost use Rattle.bp_io.specs.Streams.{SinkView, SourceView, TakesSome};
+ghost use Rattle.bp_io.specs.Streams.{TakesSome};
+ghost use Rattle.bp_io.specs.Views.{SinkView, SourceView};
 
 use crate::Failed;
 

@@ -9,7 +9,7 @@ use Rattle.pm_region.specs.Memory.{Memory, crashed, current_words, drained, with
 use Rattle.bp_layout.specs.Words.{Image}
 use Rattle.bp_layout.specs.Bytes.{image_bytes}
 use Rattle.bp_scan.specs.Totals.{HasLive}
-use Rattle.bp_io.specs.Files.{View}
+use Rattle.bp_io.specs.Views.{View}
 use Rattle.bp_plain.specs.Calls.{Call, Answer}
 use Rattle.bp_layout.specs.Whole.{HasSpace}
 use Rattle.bp_limits.specs.Limits.{call_room, max_line, max_mask}

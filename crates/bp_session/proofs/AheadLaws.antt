@@ -8,8 +8,8 @@ use Rattle.std.specs.Prelude.{Option, None, Some, ◌⊎◌}
 use Rattle.std.specs.Io.KnownBytes.{Appends}
 use Rattle.std.proofs.KnownBytes.{Appends-trans}
 use Rattle.bp_io.specs.Causes.{Rose}
-use Rattle.bp_io.specs.Files.{KeepsOthers, StaysAttached, View}
-use Rattle.bp_io.specs.Streams.{SourceView}
+use Rattle.bp_io.specs.Files.{KeepsOthers, StaysAttached}
+use Rattle.bp_io.specs.Views.{View, SourceView}
 use Rattle.pm_region.specs.Memory.{Memory}
 use Rattle.bp_layout.specs.Words.{Image}
 use Rattle.bp_script.specs.Commands.{Command, command_of}
@@ -17,7 +17,8 @@ use Rattle.bp_script.specs.Commands.Command.{sync}
 use Rattle.bp_script.specs.Texts.{reply_text}
 use Rattle.bp_session.specs.Acting.{state}
 use Rattle.bp_session.specs.Lines.{commands_from}
-use Rattle.bp_session.specs.Outside.{IsFirstFault, counts}
+use Rattle.bp_session.specs.Outside.{counts}
+use Rattle.bp_session.specs.Faults.{IsFirstFault}
 use Rattle.bp_session.specs.Session.{State}
 use Rattle.bp_session.specs.declared.broken.Broken.{Broken}
 use Rattle.bp_session.specs.declared.broken.Broken.TheVariants as cause

@@ -2,11 +2,12 @@
 use Rattle.std.proofs.Common.{refl, sym, ◌∙◌, ap, subst, arith, ◌≡◌, ℕ, ◌+◌, ◌*◌, ◌/◌, ◌%◌, ◌<◌, List, length, take, drop, get_or, get_or-drop, Bool, true, false, inr}
 use Rattle.std.specs.Prelude.{None, Some, is_some}
 use Rattle.std.proofs.lemmas.List.{ext_get_or, get_or-take, length-drop, length-take-le}
-use Rattle.bp_io.specs.Files.{Known, TellsFile, View, block_bytes}
+use Rattle.bp_io.specs.Files.{TellsFile, block_bytes}
+use Rattle.bp_io.specs.Views.{Known, View, HasBytes}
 use Rattle.bp_layout.specs.Bytes.{image_bytes}
 use Rattle.bp_layout.specs.Words.{Image, word}
 use Rattle.bp_session.specs.Changed.{AreMarked, HasChanged, HoldsChanged, IsChanged, MarksChanges, is_marked}
-use Rattle.bp_session.specs.Files.{HasBytes, HasUnmarked, Holds, HoldsAs, StaysTold}
+use Rattle.bp_session.specs.Files.{HasUnmarked, Holds, HoldsAs, StaysTold}
 use Rattle.bp_session.proofs.ActingLaws.{holds_bytes}
 use Rattle.bp_session.proofs.BlockLaws.{blocks-image_bytes, length-image_bytes}
 use Rattle.bp_session.proofs.SavingLaws.{block_is}

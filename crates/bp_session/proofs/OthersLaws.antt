@@ -1,7 +1,8 @@
 -- What is known of names whose files nothing was done to.
 use Rattle.std.proofs.Common.{refl, ◌∙◌, ◌≡◌}
 use Rattle.std.specs.Prelude.{Some, None}
-use Rattle.bp_io.specs.Files.{KeepsOthers, Known, Stays, StaysAttached, View}
+use Rattle.bp_io.specs.Files.{KeepsOthers, Stays, StaysAttached}
+use Rattle.bp_io.specs.Views.{Known, View}
 
 pub stays_same : (known : Known) → Stays known known
 stays_same None = refl

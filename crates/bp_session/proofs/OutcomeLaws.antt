@@ -4,11 +4,12 @@ use Rattle.std.proofs.lemmas.List.{append_assoc, append-nil}
 use Rattle.std.specs.Prelude.{◌⊎◌, Err, None, Ok, OnOk, Option, Result, Some}
 use Rattle.std.specs.Io.KnownBytes.{Consumes, IsAtEnd}
 use Rattle.bp_io.specs.Causes.{Rose}
-use Rattle.bp_io.specs.Streams.{SourceView}
+use Rattle.bp_io.specs.Views.{SourceView}
 use Rattle.bp_script.specs.Commands.{Command, command_of}
 use Rattle.bp_session.specs.Ends.{cause_of}
 use Rattle.bp_session.specs.Lines.{commands_from}
-use Rattle.bp_session.specs.Outside.{Faults, IsFirstFault, counts}
+use Rattle.bp_session.specs.Outside.{Faults, counts}
+use Rattle.bp_session.specs.Faults.{IsFirstFault}
 use Rattle.bp_layout.specs.Words.{Image}
 use Rattle.bp_session.specs.Serving.{Carries, CarriesPartly, DoesAll, DoesBreakOff, DoesStop, Keeps, LineOutcome, Moment, PieceOutcome, ServeOutcome}
 use Rattle.bp_session.specs.declared.broken.Broken.{Broken}

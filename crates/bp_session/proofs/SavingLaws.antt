@@ -7,7 +7,8 @@ use Rattle.std.specs.Prelude.{Result, Ok, Err, OnOk, OnErr}
 use Rattle.bp_layout.specs.Bytes.{image_bytes}
 use Rattle.pm_region.specs.Memory.{Memory, current_words}
 use Rattle.pm_region.proofs.MemoryLaws.{length-current_words}
-use Rattle.bp_io.specs.Files.{block_bytes, blocks_of, with_blocks, IsMixed, Known, Becomes, BecomesMixed, Stays, StaysAttached, View}
+use Rattle.bp_io.specs.Files.{block_bytes, blocks_of, with_blocks, IsMixed, Becomes, BecomesMixed, Stays, StaysAttached}
+use Rattle.bp_io.specs.Views.{Known, View}
 use Rattle.bp_session.proofs.BlockLaws.{length-image_bytes}
 use Rattle.bp_layout.specs.Words.{Image}
 use Rattle.bp_session.specs.Changed.{AreUnmarked, HasChanged, IsChanged, is_marked}

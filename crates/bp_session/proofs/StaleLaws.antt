@@ -1,7 +1,7 @@
 -- What a file holds of the words of the last drain behind a line, and which of its blocks may lack some.
 use Rattle.std.proofs.Common.{refl, sym, ◌∙◌, subst, inl, inr, ◌≡◌, ℕ, ◌*◌, List, length, Bool, false, true}
 use Rattle.pm_epochs.specs.Replay.{PowerCut}
-use Rattle.bp_io.specs.Files.{View}
+use Rattle.bp_io.specs.Views.{View}
 use Rattle.bp_layout.specs.Words.{Image}
 use Rattle.bp_limits.specs.Limits.{call_room}
 use Rattle.bp_plain.specs.Calls.{Answer}

@@ -1,7 +1,8 @@
 -- Which blocks of a file a save writes: those that are marked.
 use Rattle.std.specs.Prelude.{◌≡◌, ◌⊎◌, ℕ, ◌*◌, ◌/◌, ◌<◌, ◌≤◌, List, [], Bool, true, false, Some, None, ⊤, length, slice_index_or, take}
 use Rattle.bp_limits.specs.Limits.{block_size, block_words, call_room}
-use Rattle.bp_io.specs.Files.{Known, View, block_bytes}
+use Rattle.bp_io.specs.Files.{block_bytes}
+use Rattle.bp_io.specs.Views.{Known, View}
 use Rattle.bp_layout.specs.Words.{Image, word}
 use Rattle.bp_session.specs.declared.saving.Stale.{Stale}
 use Rattle.pm_epochs.specs.Log.{stores}

@@ -1,16 +1,11 @@
 -- Which words a file holds.
 use Rattle.std.specs.Prelude.{◌≡◌, ℕ, List, None, Some, ⊤, Bool, true, false, is_some, length, take, ◌*◌, ◌<◌, ◌^◌}
 use Rattle.bp_limits.specs.Limits.{block_size, block_words}
-use Rattle.bp_io.specs.Files.{IsMixed, Known, TellsFile, View, block_bytes}
+use Rattle.bp_io.specs.Files.{IsMixed, TellsFile, block_bytes}
+use Rattle.bp_io.specs.Views.{HasBytes, Known, View}
 use Rattle.bp_layout.specs.Words.{Image, word}
 use Rattle.bp_layout.specs.Bytes.{image_bytes}
 use Rattle.bp_session.specs.Changed.{is_marked}
-
--- where it is told, the file of a name is there and has these bytes
-abbrev pub HasBytes : Known → List ℕ → Type 0
-HasBytes None bytes = ⊤
-HasBytes (Some None) bytes = ⊥
-HasBytes (Some (Some found)) bytes = found ≡ bytes
 
 -- where it is told, the file of a name is there and has so many bytes
 abbrev pub HasLength : Known → ℕ → Type 0

@@ -1,11 +1,12 @@
 -- What serving does while replies wait for a sink.
 use Rattle.std.specs.Prelude.{◌≡◌, ◌⊎◌, ℕ, List, [], ◌++◌, Option, None, Some, false}
 use Rattle.std.specs.Io.KnownBytes.{Appends}
-use Rattle.bp_io.specs.Files.{View}
+use Rattle.bp_io.specs.Views.{View}
 use Rattle.bp_script.specs.Commands.{Command}
 use Rattle.bp_script.specs.Commands.Command.{sync}
 use Rattle.bp_script.specs.Texts.{LineReply, reply_text}
-use Rattle.bp_session.specs.Outside.{IsFirstFault, counts}
+use Rattle.bp_session.specs.Outside.{counts}
+use Rattle.bp_session.specs.Faults.{IsFirstFault}
 use Rattle.bp_session.specs.Serving.{DoesLine, FailsLine, Keeps, Moment}
 use Rattle.bp_session.specs.declared.broken.Broken.{Broken}
 use Rattle.bp_session.specs.declared.broken.Broken.TheVariants as cause

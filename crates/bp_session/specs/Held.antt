@@ -1,8 +1,7 @@
 -- What serving does, told of what a program holds before and behind it: a line's buffers or the work of a run, the marks of
 -- the stale blocks, the region, the files and the sink.
 use Rattle.std.specs.Prelude.{ℕ, List, [], ◌∷◌, Bool, Result, Some, take}
-use Rattle.bp_io.specs.Files.{View}
-use Rattle.bp_io.specs.Streams.{SinkView, SourceView}
+use Rattle.bp_io.specs.Views.{View, SinkView, SourceView}
 use Rattle.bp_script.specs.Commands.{command_of}
 use Rattle.bp_replies.specs.Gathering.{PassesOn, waiting}
 use Rattle.bp_replies.specs.Room.{gathered_size}

@@ -16,3 +16,4 @@ pub mod Held
 pub mod Acting
 pub mod Caching
 pub mod Outside
+pub mod Faults

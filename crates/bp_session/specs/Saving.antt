@@ -1,6 +1,7 @@
 -- What a save leaves of the attached file, from the files before it to those behind it.
 use Rattle.std.specs.Prelude.{◌≡◌, ◌≤◌, ◌*◌, ℕ, List, [], Bool, length}
-use Rattle.bp_io.specs.Files.{KeepsFiles, View}
+use Rattle.bp_io.specs.Files.{KeepsFiles}
+use Rattle.bp_io.specs.Views.{View}
 use Rattle.bp_layout.specs.Bytes.{image_bytes}
 use Rattle.bp_layout.specs.Words.{Image}
 use Rattle.bp_limits.specs.Limits.{block_words}

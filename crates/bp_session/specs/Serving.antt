@@ -2,8 +2,8 @@
 use Rattle.std.specs.Prelude.{All, ◌≡◌, ◌≤◌, ◌⊎◌, ℕ, ◌<◌, List, [], ◌∷◌, ◌++◌, None, Some, Bool, true, false, length, take, Option}
 use Rattle.std.specs.Io.KnownBytes.{Appends, Consumes, IsAtEnd}
 use Rattle.bp_io.specs.Causes.{Rose}
-use Rattle.bp_io.specs.Files.{KeepsOthers, StaysAttached, View}
-use Rattle.bp_io.specs.Streams.{SinkView, SourceView}
+use Rattle.bp_io.specs.Files.{KeepsOthers, StaysAttached}
+use Rattle.bp_io.specs.Views.{View, SinkView, SourceView}
 use Rattle.bp_limits.specs.Limits.{log_events, max_input}
 use Rattle.pm_region.specs.Memory.{Memory, current_words, drained}
 use Rattle.bp_layout.specs.Words.{Image}
@@ -14,7 +14,8 @@ use Rattle.bp_session.specs.Lines.{commands_from, text_of}
 use Rattle.bp_session.specs.Acting.{state}
 use Rattle.bp_session.specs.Changed.{AreMarked}
 use Rattle.bp_session.specs.Files.{CanSave, HoldsAs, HoldsPartly}
-use Rattle.bp_session.specs.Outside.{IsFirstFault, counts}
+use Rattle.bp_session.specs.Outside.{counts}
+use Rattle.bp_session.specs.Faults.{IsFirstFault}
 use Rattle.bp_session.specs.Session.{State, SessionLine, Session}
 use Rattle.bp_session.specs.Pieces.{piece_size}
 use Rattle.bp_session.specs.declared.broken.Broken.{Broken}

@@ -3,8 +3,9 @@ use Rattle.std.proofs.Common.{refl, sym, ◌∙◌, ap, ◌≡◌, ℕ, false, L
 use Rattle.std.specs.Prelude.{Option, ◌⊎◌}
 use Rattle.std.specs.Io.KnownBytes.{Appends}
 use Rattle.bp_io.specs.Causes.{Rose}
-use Rattle.bp_io.specs.Files.{Known}
-use Rattle.bp_session.specs.Outside.{IsFirstFault, IsIdle, IsUntouched, Outside}
+use Rattle.bp_io.specs.Views.{Known}
+use Rattle.bp_session.specs.Outside.{Outside}
+use Rattle.bp_session.specs.Faults.{IsFirstFault, IsIdle, IsUntouched}
 use Rattle.bp_replies.specs.Taking.{TakesPart}
 use Rattle.bp_session.proofs.OutcomeLaws.{files_fault, line_fault, quiet, sink_fault}
 use Rattle.bp_shell.specs.Ending.{ReadOutcome, StopOutcome, TellsStop}

@@ -7,7 +7,7 @@ use Rattle.bp_export.specs.Exports.{EndsExport}
 use Rattle.bp_export.specs.declared.fault.Fault.{Fault}
 use Rattle.bp_export.specs.declared.fault.Fault.TheVariants as fault
 use Rattle.bp_io.specs.Causes.{Rose}
-use Rattle.bp_io.specs.Streams.{SinkView}
+use Rattle.bp_io.specs.Views.{SinkView}
 use Rattle.bp_layout.specs.Whole.{IsFileSystem}
 use Rattle.bp_layout.specs.Words.{Image}
 use Rattle.bp_limits.specs.CallLimits.{max_path}
@@ -20,7 +20,8 @@ use Rattle.bp_script.specs.Sayings.{notice_text}
 use Rattle.bp_script.specs.declared.notices.Notice.{Notice}
 use Rattle.bp_script.specs.declared.notices.Notice.TheVariants.{NoFile, Deep}
 use Rattle.bp_session.specs.Files.{IsAbsent}
-use Rattle.bp_session.specs.Outside.{FilesFailed, IsFirstFault, IsIdle, IsUntouched, Outside, Prints, SinkFailed, TellsLine}
+use Rattle.bp_session.specs.Outside.{Outside}
+use Rattle.bp_session.specs.Faults.{FilesFailed, IsFirstFault, IsIdle, IsUntouched, Prints, SinkFailed, TellsLine}
 use Rattle.bp_session.proofs.OutcomeLaws.{line_fault, quiet, sink_fault}
 use Rattle.bp_shell.specs.Ending.{TellsStop}
 use Rattle.bp_shell.specs.Exporting.{ExportOutcome, Exports, ExportsFront, HoldsDeep, HoldsTree, IsExportComplete, TellsTree}

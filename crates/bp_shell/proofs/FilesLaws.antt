@@ -1,6 +1,7 @@
 -- What a run leaves of the files.
 use Rattle.std.proofs.Common.{sym, ◌∙◌, ◌≡◌, ℕ, List, true, inl, inr}
-use Rattle.bp_io.specs.Files.{KeepsFiles, KeepsOthers, StaysAttached, View}
+use Rattle.bp_io.specs.Files.{KeepsFiles, KeepsOthers, StaysAttached}
+use Rattle.bp_io.specs.Views.{View}
 use Rattle.bp_io.specs.declared.access.Access.TheVariants.{Write}
 use Rattle.bp_command.specs.Programs.{Program}
 use Rattle.bp_command.specs.Programs.Program.{formats, runs, checks, plays, exports}

@@ -10,9 +10,9 @@ use Rattle.bp_layout.specs.Words.{Image}
 use Rattle.bp_layout.proofs.LastValue.{length-after_stores}
 use Rattle.bp_limits.specs.declared.version.Version.{Version}
 use Rattle.bp_io.specs.Causes.{HasCause}
-use Rattle.bp_io.specs.Files.{Known, IsPartlyReplaced, Stays, StaysOrIsMade, Becomes, BecomesPartly, Attaches, resized_file}
-use Rattle.bp_session.specs.Files.{HasBytes}
-use Rattle.bp_session.specs.Outside.{Prints}
+use Rattle.bp_io.specs.Files.{IsPartlyReplaced, Stays, StaysOrIsMade, Becomes, BecomesPartly, Attaches, resized_file}
+use Rattle.bp_io.specs.Views.{Known, HasBytes}
+use Rattle.bp_session.specs.Faults.{Prints}
 use Rattle.bp_session.proofs.BlockLaws.{image_bytes-append, length-image_bytes}
 use Rattle.bp_shell.specs.Formatting.{HasPartly, bytes_there, new_image}
 use Rattle.bp_volume.specs.Laid.{format_events}

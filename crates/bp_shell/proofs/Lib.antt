@@ -6,3 +6,4 @@ mod EndingLaws
 mod ExportingLaws
 mod ProgramLaws
 mod PlayingLaws
+mod GuaranteeLaws

@@ -2,7 +2,8 @@
 use Rattle.std.proofs.Common.{zero, suc, refl, sym, ◌∙◌, ap, subst, arith, ◌≡◌, ◌≢◌, ℕ, ◌+◌, ◌*◌, ◌/◌, ◌%◌, ◌-◌, List, [], ◌∷◌, ◌++◌, length, take, false, true, inl, inr}
 use Rattle.std.specs.Prelude.{Some, None, ◌⊎◌}
 use Rattle.std.proofs.Math.Seq.{take-add, take-length}
-use Rattle.bp_io.specs.Files.{Known, Stays, TellsFile, Answers, Reads, View, blocks_of}
+use Rattle.bp_io.specs.Files.{Stays, TellsFile, Answers, Reads, blocks_of}
+use Rattle.bp_io.specs.Views.{Known, View, HasBytes}
 use Rattle.bp_session.proofs.OthersLaws.{stays_same, stays_stays}
 use Rattle.bp_session.proofs.SavingLaws.{stays_attached, still_attached}
 use Rattle.bp_layout.specs.Bytes.{image_bytes}
@@ -19,7 +20,7 @@ use Rattle.bp_scan.specs.declared.fault.MountFault.TheVariants as f
 use Rattle.bp_script.specs.declared.notices.Notice.{Notice}
 use Rattle.bp_script.specs.declared.notices.Notice.TheVariants.{NotFormatted, BadSize, Damaged}
 use Rattle.bp_session.proofs.BlockLaws.{image_bytes-append}
-use Rattle.bp_session.specs.Files.{AreWordsOf64Bits, HasBytes, HasLength, Holds, HoldsFirstBlocks}
+use Rattle.bp_session.specs.Files.{AreWordsOf64Bits, HasLength, Holds, HoldsFirstBlocks}
 use Rattle.pm_raw.specs.Part.{Part}
 use Rattle.pm_raw.specs.Spelled.{spelled_words}
 use Rattle.pm_raw.proofs.SpelledLaws.{AreSmall, bytes_of_spelled}

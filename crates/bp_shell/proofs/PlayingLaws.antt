@@ -1,7 +1,7 @@
 -- A play over the words of its file.
 use Rattle.std.proofs.Common.{refl, ◌≡◌, ℕ, List}
 use Rattle.pm_region.specs.Memory.{Memory}
-use Rattle.bp_io.specs.Files.{Known}
+use Rattle.bp_io.specs.Views.{Known}
 use Rattle.bp_layout.specs.Words.{Image}
 use Rattle.bp_play.specs.declared.summary.Summary.{Summary}
 use Rattle.bp_scan.specs.declared.totals.Totals.{Totals}

@@ -4,14 +4,14 @@ use Rattle.std.specs.Prelude.{None, Option, Some, ◌⊎◌}
 use Rattle.std.specs.Io.KnownBytes.{Appends}
 use Rattle.pm_region.specs.Memory.{Memory, current_words, drained}
 use Rattle.bp_io.specs.Causes.{Rose}
-use Rattle.bp_io.specs.Files.{View}
-use Rattle.bp_io.specs.Streams.{SourceView}
+use Rattle.bp_io.specs.Views.{View, SourceView, HasBytes}
 use Rattle.bp_layout.specs.Words.{Image}
 use Rattle.bp_layout.specs.Bytes.{image_bytes}
-use Rattle.bp_session.specs.Files.{HasBlocksOf, HasBytes, Holds, HoldsAs}
+use Rattle.bp_session.specs.Files.{HasBlocksOf, Holds, HoldsAs}
 use Rattle.bp_shell.specs.Formatting.{HasPartly, new_image}
 use Rattle.bp_shell.specs.Opening.{HoldsFileSystem, start}
-use Rattle.bp_session.specs.Outside.{IsIdle, IsUntouched, Outside, counts, outside}
+use Rattle.bp_session.specs.Outside.{Outside, counts, outside}
+use Rattle.bp_session.specs.Faults.{IsIdle, IsUntouched}
 use Rattle.bp_limits.specs.declared.version.Version.{Version}
 use Rattle.bp_shell.specs.Running.{FormatOutcome, RunOutcome, Runs, RunsBroken, RunsLong, RunsPart, RunsStopped, RunsUnsaved, format_text}
 use Rattle.bp_replies.specs.Room.{gathered_size}

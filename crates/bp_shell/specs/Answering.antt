@@ -2,12 +2,12 @@
 use Rattle.std.specs.Prelude.{◌≡◌, ◌⊎◌, ℕ, List, map}
 use Rattle.std.specs.Borrow.{Bor}
 use Rattle.bp_command.specs.Programs.{Asks, Program}
-use Rattle.bp_io.specs.Files.{View}
-use Rattle.bp_io.specs.Streams.{SinkView, SourceView}
+use Rattle.bp_io.specs.Views.{View, SinkView, SourceView}
 use Rattle.bp_layout.specs.Words.{Image}
 use Rattle.bp_script.specs.Sayings.{notice_text}
 use Rattle.bp_script.specs.declared.notices.Notice.TheVariants.{Usage}
-use Rattle.bp_session.specs.Outside.{Outside, Prints, outside}
+use Rattle.bp_session.specs.Outside.{Outside, outside}
+use Rattle.bp_session.specs.Faults.{Prints}
 use Rattle.bp_shell.specs.Running.{IsMountedFrom, ProgramOutcome, RunOutcome, RunsProgram, file_name}
 use Rattle.bp_shell.specs.declared.status.Status.{Status}
 use Rattle.bp_shell.specs.declared.status.Status.TheVariants as status

@@ -1,6 +1,6 @@
 -- What `check FILE` answers, and when.
 use Rattle.std.specs.Prelude.{◌≡◌, ℕ, List}
-use Rattle.bp_io.specs.Files.{Known}
+use Rattle.bp_io.specs.Views.{Known}
 use Rattle.bp_layout.specs.Whole.{HasSpace}
 use Rattle.bp_layout.specs.Words.{Image}
 use Rattle.bp_scan.specs.Totals.{HasTotals}

@@ -8,8 +8,8 @@ use Rattle.bp_script.specs.Sayings.{notice_text}
 use Rattle.bp_script.specs.declared.notices.Notice.{Notice}
 use Rattle.bp_script.specs.declared.notices.Notice.TheVariants.{NoFile}
 use Rattle.bp_session.specs.Files.{AreWordsOf64Bits, IsAbsent}
-use Rattle.bp_session.specs.Outside.{Outside, FilesFailed, SinkFailed}
-use Rattle.bp_session.specs.Outside.{IsFirstFault, IsIdle, IsUntouched, Prints, TellsLine}
+use Rattle.bp_session.specs.Outside.{Outside}
+use Rattle.bp_session.specs.Faults.{FilesFailed, SinkFailed, IsFirstFault, IsIdle, IsUntouched, Prints, TellsLine}
 use Rattle.bp_replies.specs.Taking.{TakesPart}
 use Rattle.bp_shell.specs.Opening.{RefusesFile}
 use Rattle.bp_shell.specs.Statuses.{IsReadStatus, broken_by, tells_line}

@@ -3,8 +3,7 @@ use Rattle.std.specs.Prelude.{Some, ◌≡◌, ◌⊎◌, ℕ, List, Option}
 use Rattle.std.specs.Io.KnownBytes.{Appends}
 use Rattle.bp_export.specs.Exports.{TakesFront}
 use Rattle.bp_io.specs.Causes.{Rose}
-use Rattle.bp_io.specs.Files.{Known}
-use Rattle.bp_io.specs.Streams.{SinkView}
+use Rattle.bp_io.specs.Views.{Known, SinkView}
 use Rattle.bp_layout.specs.Bytes.{image_bytes}
 use Rattle.bp_layout.specs.Whole.{IsFileSystem}
 use Rattle.bp_layout.specs.Words.{Image}
@@ -17,8 +16,8 @@ use Rattle.bp_script.specs.Sayings.{notice_text}
 use Rattle.bp_script.specs.declared.notices.Notice.{Notice}
 use Rattle.bp_script.specs.declared.notices.Notice.TheVariants.{NoFile, Deep}
 use Rattle.bp_session.specs.Files.{AreWordsOf64Bits, IsAbsent}
-use Rattle.bp_session.specs.Outside.{Outside, FilesFailed, SinkFailed}
-use Rattle.bp_session.specs.Outside.{IsFirstFault, IsIdle, IsUntouched, Prints, TellsLine}
+use Rattle.bp_session.specs.Outside.{Outside}
+use Rattle.bp_session.specs.Faults.{FilesFailed, SinkFailed, IsFirstFault, IsIdle, IsUntouched, Prints, TellsLine}
 use Rattle.bp_shell.specs.Opening.{HoldsFileSystem, RefusesFile}
 use Rattle.bp_shell.specs.Statuses.{IsExportStatus, broken_by, tells_line}
 use Rattle.bp_shell.specs.declared.status.Status.{Status}

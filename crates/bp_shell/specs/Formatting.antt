@@ -2,7 +2,8 @@
 use Rattle.std.specs.Prelude.{◌≡◌, ◌⊎◌, ℕ, ◌*◌, List, [], replicate, Option, None, Some, true, false}
 use Rattle.bp_limits.specs.Limits.{block_words}
 use Rattle.bp_limits.specs.declared.version.Version.{Version}
-use Rattle.bp_io.specs.Files.{IsPartlyReplaced, Known, Stays, StaysAttached, View}
+use Rattle.bp_io.specs.Files.{IsPartlyReplaced, Stays, StaysAttached}
+use Rattle.bp_io.specs.Views.{Known, View}
 use Rattle.bp_layout.specs.Words.{Image}
 use Rattle.bp_layout.specs.Format.{formatted}
 

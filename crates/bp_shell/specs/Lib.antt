@@ -9,3 +9,4 @@ pub mod Exporting
 pub mod Playing
 pub mod Running
 pub mod Answering
+pub mod Guarantee

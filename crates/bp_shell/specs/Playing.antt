@@ -1,7 +1,7 @@
 -- What `play FILE --seed S --count C` answers, and when.
 use Rattle.std.specs.Prelude.{◌≡◌, ◌++◌, ℕ, List, codes, decimal, flat_map}
 use Rattle.pm_region.specs.Memory.{Memory, current_words}
-use Rattle.bp_io.specs.Files.{Known}
+use Rattle.bp_io.specs.Views.{Known}
 use Rattle.bp_layout.specs.Whole.{HasSpace}
 use Rattle.bp_layout.specs.Words.{Image}
 use Rattle.bp_plain.specs.PlainTree.{FileTree}

@@ -2,7 +2,8 @@
 use Rattle.std.specs.Prelude.{Some, true, false, ◌≡◌, ◌⊎◌, ◌≤◌, ℕ, ◌-◌, List, [], ◌∷◌, ◌++◌, length}
 use Rattle.std.specs.Io.KnownBytes.{Appends, Consumes, IsAtEnd}
 use Rattle.pm_region.specs.Memory.{Memory, current_words}
-use Rattle.bp_io.specs.Files.{KeepsFiles, Stays, StaysAttached, View}
+use Rattle.bp_io.specs.Files.{KeepsFiles, Stays, StaysAttached}
+use Rattle.bp_io.specs.Views.{View, HasBytes}
 use Rattle.bp_limits.specs.Limits.{max_input}
 use Rattle.bp_layout.specs.Words.{Image}
 use Rattle.bp_layout.specs.Bytes.{image_bytes}
@@ -18,13 +19,14 @@ use Rattle.bp_script.specs.declared.notices.Notice.TheVariants.{Formatted}
 use Rattle.bp_script.specs.Sayings.{notice_text}
 use Rattle.bp_session.specs.Acting.{state}
 use Rattle.bp_session.specs.Lines.{commands_from}
-use Rattle.bp_session.specs.Files.{AreWordsOf64Bits, HasBytes, HasBlocksOf, Holds}
+use Rattle.bp_session.specs.Files.{AreWordsOf64Bits, HasBlocksOf, Holds}
 use Rattle.bp_session.specs.Serving.{BreaksOff, SyncFails, OfLines, Serves, StopsAtSave, Told}
 use Rattle.bp_session.specs.Fronts.{FollowsTree}
 use Rattle.bp_session.specs.Session.{State}
 use Rattle.bp_shell.specs.Opening.{HoldsFileSystem, IsStart, OnlyReads, start}
 use Rattle.bp_shell.specs.Formatting.{new_image, HasPartly, OnlyMakes}
-use Rattle.bp_session.specs.Outside.{Outside, SourceFailed, SinkFailed, FilesFailed, IsFirstFault, IsIdle}
+use Rattle.bp_session.specs.Outside.{Outside}
+use Rattle.bp_session.specs.Faults.{SourceFailed, SinkFailed, FilesFailed, IsFirstFault, IsIdle}
 use Rattle.bp_shell.specs.Checking.{CheckOutcome}
 use Rattle.bp_shell.specs.Ending.{StopOutcome}
 use Rattle.bp_shell.specs.Exporting.{ExportOutcome}

@@ -1,7 +1,7 @@
 -- Why a program ends before it serves or tells of its file.
 use Rattle.std.specs.Prelude.{◌≡◌, ℕ, IfErr, OnOk, Result}
 use Rattle.bp_io.specs.Causes.{Rose}
-use Rattle.bp_io.specs.Files.{Known}
+use Rattle.bp_io.specs.Views.{Known}
 use Rattle.bp_layout.specs.Checks.{number_of}
 use Rattle.bp_scan.specs.declared.fault.MountFault.{MountFault}
 use Rattle.bp_scan.specs.declared.fault.MountFault.TheVariants as fault

@@ -1,6 +1,6 @@
 //! The program `check`.
 
-ghost use Rattle.bp_io.specs.Files.{Known};
+ghost use Rattle.bp_io.specs.Views.{Known};
 ghost use Rattle.bp_layout.specs.Formatted.{IsSized};
 ghost use Rattle.bp_layout.specs.Whole.{IsFileSystem};
 ghost use Rattle.bp_script.specs.declared.notices.Notice.{Notice};

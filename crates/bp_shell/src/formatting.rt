@@ -4,7 +4,7 @@ ghost use Rattle.bp_io.specs.Causes.{HasCause};
 ghost use Rattle.bp_io.specs.Files.{resized_file};
 ghost use Rattle.bp_layout.specs.Bytes.{image_bytes};
 ghost use Rattle.bp_limits.specs.Limits.{block_size, block_words};
-ghost use Rattle.bp_session.specs.Files.{HasBytes};
+ghost use Rattle.bp_io.specs.Views.{HasBytes};
 ghost use Rattle.bp_shell.specs.Answering.{EndsUnread};
 ghost use Rattle.bp_shell.specs.Formatting.{LeavesPartly, OnlyMakes, new_image};
 ghost use Rattle.bp_shell.specs.Running.{FormatOutcome};

@@ -1,7 +1,8 @@
 //! The file of a program.
 
 ghost use Rattle.std.specs.Prelude.{◌≡◌, ◌<◌, ◌≤◌, ◌+◌, ◌*◌, ◌/◌, ◌%◌, ◌++◌, [], ◌⊎◌, IfErr, IfOk, OnOk, false, length};
-ghost use Rattle.bp_io.specs.Files.{KeepsFiles, Known, Reads, makes, may_change};
+ghost use Rattle.bp_io.specs.Files.{KeepsFiles, Reads, makes, may_change};
+ghost use Rattle.bp_io.specs.Views.{Known};
 ghost use Rattle.bp_layout.specs.Formatted.{IsSized};
 ghost use Rattle.bp_layout.specs.Bytes.{image_bytes};
 ghost use Rattle.bp_layout.specs.Whole.{IsFileSystem};

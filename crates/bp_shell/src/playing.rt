@@ -1,6 +1,6 @@
 //! The program `play`.
 
-ghost use Rattle.bp_io.specs.Files.{Known};
+ghost use Rattle.bp_io.specs.Views.{Known};
 ghost use Rattle.bp_limits.specs.Limits.{log_events, max_turns};
 ghost use Rattle.bp_shell.specs.Answering.{EndsUnread};
 ghost use Rattle.bp_shell.specs.Opening.{FromAnyFile, OnlyReads};

@@ -2,7 +2,7 @@
 
 ghost use Rattle.bp_io.specs.Causes.{HasCause};
 ghost use Rattle.bp_script.specs.Sayings.{notice_text};
-ghost use Rattle.bp_session.specs.Outside.{Prints};
+ghost use Rattle.bp_session.specs.Faults.{Prints};
 ghost use Rattle.bp_replies.specs.Taking.{TakesPart};
 ghost use Rattle.bp_shell.specs.Ending.{TellsStop};
 ghost use Rattle.std.specs.Io.KnownBytes.{Appends};

@@ -5,6 +5,7 @@ ghost use Rattle.bp_command.specs.Programs.{HasNumbersInRange, Program as Asked,
 ghost use Rattle.bp_io.specs.Files.{KeepsOthers, StaysAttached};
 ghost use Rattle.bp_session.specs.Serving.{CanServe};
 ghost use Rattle.bp_shell.specs.Answering.{AnswersAsAsked, AnswersIfTaken, EndsAs, ProgramEnds, RunsMounted, TellsUsage, texts_of};
+ghost use Rattle.bp_shell.specs.Guarantee.{Guarantees};
 ghost use Rattle.bp_shell.specs.Running.{LeavesFiles, OnlyWrites, RunOutcome};
 ghost use Rattle.bp_shell.specs.Statuses.{ReadsNothing};
 ghost use Rattle.bp_shell.specs.declared.status.Status.TheVariants.{Memory, Usage};
@@ -141,6 +142,10 @@ pub fn run<S: Source, K: Sink, F: Files>(
 
     // Words that ask for a program in the plain way.
     ensures plain { AnswersAsAsked (texts_of words.now) result S.view K.view F.view
+        source.old out.old files.old source.new out.new files.new }
+
+    // The guarantee, which follows from `plain`: for a reader who wants to read the abstract trees alone.
+    ensures guarantee { Guarantees (texts_of words.now) result S.view K.view F.view
         source.old out.old files.old source.new out.new files.new }
 
     // All other words that are taken. Want of memory may come before they are read.

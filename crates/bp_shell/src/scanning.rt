@@ -1,6 +1,6 @@
 //! The scan of an image.
 
-ghost use Rattle.bp_io.specs.Files.{Known};
+ghost use Rattle.bp_io.specs.Views.{Known};
 ghost use Rattle.bp_layout.specs.Formatted.{IsSized};
 ghost use Rattle.bp_layout.specs.Words.{block_count};
 ghost use Rattle.bp_limits.specs.Limits.{block_inodes};

@@ -1,5 +1,5 @@
 use Rattle.std.proofs.Common.{refl, ◌≡◌, ℕ, List, inl, inr}
-use Rattle.bp_command.specs.Programs.{Program, program_of}
+use Rattle.bp_command.specs.Programs.{Asks, Program, program_of}
 use Rattle.bp_command.specs.Programs.Program.{formats, runs, checks, plays, exports}
 use Rattle.bp_session.specs.Outside.{Outside}
 use Rattle.bp_shell.specs.Ending.{ReadOutcome}
@@ -9,6 +9,7 @@ use Rattle.bp_shell.specs.declared.stop.Stop.TheVariants as stop
 use Rattle.bp_shell.proofs.EndingLaws.{memory_reason, read_stopped}
 use Rattle.bp_shell.proofs.ExportingLaws.{export_memory}
 use Rattle.bp_shell.proofs.FilesLaws.{leaves_as_are}
+use Rattle.bp_shell.proofs.GuaranteeLaws.{guaranteed, memory_is_not_done, usage_is_not_done}
 use Rattle.bp_shell.proofs.OpeningLaws.{if_memory}
 use Rattle.bp_shell.proofs.ProgramLaws.{format_memory, run_memory}
 use Rattle.bp_shell.proofs.running.run.Goals as goal
@@ -40,6 +41,21 @@ returns-in-Err-Usage-clause-plain g c = λ program asks.
 
 pub returns-clause-plain : goal.returns-clause-plain
 returns-clause-plain g c = λ program asks. without_memory program _
+
+-- ---- the guarantee
+
+pub returns-in-Ok-clause-guarantee : goal.returns-in-Ok-clause-guarantee
+returns-in-Ok-clause-guarantee g c = λ called name are some plain done.
+    let asks : Asks _ (runs name) = record { called = called; are = inl are; proper = record { some = some; plain = plain } } in
+    let same : program_of c.in-Ok.program ≡ runs name = c.plain_words_are_taken.ensures.requested _ (runs name) _ asks c.in-Ok.ensures.asks in
+    let outcome = rw same at c.run_program.ensures.outcome in
+    guaranteed _ _ (outcome.whole done)
+
+pub returns-in-Err-Usage-clause-guarantee : goal.returns-in-Err-Usage-clause-guarantee
+returns-in-Err-Usage-clause-guarantee g c = λ called name are some plain done. absurd (usage_is_not_done done)
+
+pub returns-clause-guarantee : goal.returns-clause-guarantee
+returns-clause-guarantee g c = λ called name are some plain done. absurd (memory_is_not_done done)
 
 -- ---- all others
 

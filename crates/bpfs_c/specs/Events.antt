@@ -1,5 +1,5 @@
 -- The log as C sees it.
-use Rattle.std.specs.Prelude.{◌≡◌, ◌-◌, ℕ, List, [], Option, None, Some, drop, length, map, min, take}
+use Rattle.std.specs.Prelude.{◌≡◌, ◌+◌, ◌-◌, ◌%◌, ◌^◌, ℕ, List, [], Option, None, Some, drop, length, map, min, take}
 use Rattle.pm_epochs.specs.declared.event.Event.{Event}
 use Rattle.pm_epochs.specs.declared.event.Event.TheVariants.{Barrier, Mark, Store}
 use Rattle.pm_region.specs.Memory.{drained}
@@ -22,7 +22,13 @@ pub record HasEvents (events : List Event) (first : ℕ) (old : List Logged) (co
   pub front : take count new ≡ map seen_event (take count (drop first events))
   pub rest : drop count new ≡ drop count old
 
--- the log is empty, and nothing else has changed
+-- how many events drains have removed since the mount of what a handle holds; a closed one has 0
+abbrev pub drained_events : Option Mounted → ℕ
+drained_events None = 0
+drained_events (Some held) = held.drained
+
+-- the log is empty, its events are counted, and nothing else has changed
 abbrev pub IsDrained : Option Mounted → ℕ → Option Mounted → Type 0
 IsDrained None code new = (code ≡ 32) × (new ≡ None)
-IsDrained (Some held) code new = (code ≡ 0) × (new ≡ Some (record held { volume = drained held.volume }))
+IsDrained (Some held) code new = (code ≡ 0)
+    × (new ≡ Some (record held { volume = drained held.volume; drained = (held.drained + length held.volume.events) % 2 ^ 64 }))

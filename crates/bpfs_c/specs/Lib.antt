@@ -9,6 +9,7 @@ pub mod Events
 pub mod Runs
 pub mod Words
 pub mod Formats
+pub mod Tags
 pub mod Opens
 pub mod Patches
 pub mod Exports

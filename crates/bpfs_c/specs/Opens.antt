@@ -45,16 +45,20 @@ Mounts words (Err fault) =
     (¬ IsSized words × (fault ≡ odd_size words))
     ⊎ (IsSized words × ((fault ≡ Lacking) ⊎ (IsFault words fault × ¬ IsFileSystem words)))
 
+-- a volume right after its mount: no listing is kept, no event was drained, and the tag is 0
+abbrev pub mounted_of : Memory → Mounted
+mounted_of volume = record { volume = volume; listing = None; drained = 0; tag = 0 }
+
 -- the handle got this volume, or there is no memory for it
 abbrev pub Holds : Memory → Option Mounted → ℕ → Option Mounted → Type 0
 Holds volume old code new =
-    ((code ≡ 0) × (new ≡ Some (record { volume = volume; listing = None }))) ⊎ ((code ≡ 12) × (new ≡ old))
+    ((code ≡ 0) × (new ≡ Some (mounted_of volume))) ⊎ ((code ≡ 12) × (new ≡ old))
 
 -- A handle that held nothing holds a volume of a copy of the words. It holds nothing where no image has so many words and
 -- where they are no file system, which is told, and where there is no memory.
 pub data Opens (words : List ℕ) (old : Option Mounted) (fault : Fault) (code : ℕ) (new : Option Mounted) (new_fault : Fault) : Type 0 where
   opened : old ≡ None → IsSized words → IsFileSystem words → code ≡ 0 →
-      new ≡ Some (record { volume = region_of words; listing = None }) → new_fault ≡ fault →
+      new ≡ Some (mounted_of (region_of words)) → new_fault ≡ fault →
       Opens words old fault code new new_fault
   holding : (held : Mounted) → old ≡ Some held → code ≡ 33 → new ≡ old → new_fault ≡ fault →
       Opens words old fault code new new_fault

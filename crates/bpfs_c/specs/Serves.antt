@@ -22,7 +22,7 @@ pub record Serves (old : Mounted) (call : Call) (Told : Answer → Type 0) (new 
   pub answer : Answer
   pub volume : Memory
   pub is_call : FileCall old.volume call answer volume
-  pub held : new ≡ Some (record { volume = volume; listing = listing_after answer old.listing })
+  pub held : new ≡ Some (record old { volume = volume; listing = listing_after answer old.listing })
   pub told : Told answer
 
 -- What an export does that makes a call: nothing where the handle holds no volume, or where the log has no room for a

@@ -15,3 +15,4 @@ pub mod opening;
 pub mod running;
 pub mod snapshot;
 pub mod space;
+pub mod tagging;

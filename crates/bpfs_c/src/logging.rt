@@ -2,7 +2,7 @@
 
 ghost use Rattle.std.specs.Prelude.{◌≡◌, ◌≤◌, ◌<◌, ◌+◌, ◌^◌, length, slice_range};
 ghost use Rattle.pm_region.specs.Memory.{current_words};
-ghost use Rattle.bpfs_c.specs.Events.{HasEvents, IsDrained, held_events, seen_event};
+ghost use Rattle.bpfs_c.specs.Events.{HasEvents, IsDrained, drained_events, held_events, seen_event};
 ghost use Rattle.bpfs_c.specs.Serves.{Looked};
 ghost use Rattle.bpfs_c.specs.Words.{TellsWords};
 
@@ -109,9 +109,26 @@ pub extern "C" fn bpfs_drain(alloc: Global, handle: &mut Handle) -> u32
     let Some(mut mounted) = handle.take(alloc) else {
         return CLOSED;
     };
+    let events = mounted.volume.region().event_count() as u64;
+    mounted.drained = mounted.drained.wrapping_add(events);
     mounted.volume.sync();
     handle.put(alloc, mounted);
     OK
+}
+
+/// Returns how many events drains have removed from the log since the mount, modulo 2^64, or 0 for a closed handle.
+/// Added to an index in the log, it numbers each event since the mount.
+#[unsafe(no_mangle)]
+pub extern "C" fn bpfs_drained(alloc: Global, handle: &mut Handle) -> u64
+    ensures count { result ≡ drained_events handle.old.held }
+    ensures same { handle.new.held ≡ handle.old.held }
+{
+    let Some(mounted) = handle.take(alloc) else {
+        return 0;
+    };
+    let count = mounted.drained;
+    handle.put(alloc, mounted);
+    count
 }
 
 /// Copies a region's words from this one on, one by one.

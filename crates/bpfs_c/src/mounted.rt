@@ -10,13 +10,17 @@ use bp_volume::Volume;
 use pm_region::Region;
 use pm_runs::RedoRegion;
 
-/// A volume, and the last listing that was made.
+/// A mounted volume, and what the library keeps with it.
 #[derive(Drop)]
 pub struct Mounted {
     /// The volume, over a copy of the caller's words.
     pub volume: Volume<RedoRegion>,
     /// The names that the last listing found.
     pub listing: Option<Listing>,
+    /// How many events drains have removed from the log since the mount, modulo 2^64.
+    pub drained: u64,
+    /// A number for the caller's own use.
+    pub tag: u64,
 }
 
 /// Whether the log has room for a call, so that none of its events is let go.

@@ -107,6 +107,8 @@ fn hold(alloc: Global, handle: &mut Handle, volume: Volume<RedoRegion>) -> u32
         Mounted {
             volume,
             listing: None,
+            drained: 0,
+            tag: 0,
         },
     ) {
         Ok(mounted) => {

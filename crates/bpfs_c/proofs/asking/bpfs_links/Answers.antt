@@ -14,7 +14,7 @@ returns c =
         volume = w.links.new.self;
         is_call = search rules;
         held = search rules
-            ∙ ap (λ kept. Some (record { volume = w.links.new.self; listing = kept })) (sym (links_keeps held.listing w.links.result));
+            ∙ ap (λ kept. Some (record held { volume = w.links.new.self; listing = kept })) (sym (links_keeps held.listing w.links.result));
         told = search rules;
       })
       | else-has_room w ↦ full held (search rules) (search rules) (search rules) (search rules) (search rules)

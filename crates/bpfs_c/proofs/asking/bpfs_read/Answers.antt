@@ -16,7 +16,7 @@ returns c =
         volume = w.read.new.self;
         is_call = search rules;
         held = search rules
-            ∙ ap (λ kept. Some (record { volume = w.read.new.self; listing = kept })) (sym (read_keeps held.listing w.read.result w.read.new.into));
+            ∙ ap (λ kept. Some (record held { volume = w.read.new.self; listing = kept })) (sym (read_keeps held.listing w.read.result w.read.new.into));
         told = subst (λ new. IsRead (read_answer_of w.read.result w.read.new.into) c.args.into.now c.args.count.now c.if-has_room.code new c.if-has_room.count)
             (sym w.into-is) (read_told w.read.result c.args.into.now w.read.new.into c.args.count.now c.if-has_room.code c.if-has_room.count
             (search rules) w.read.ensures.fits w.read.ensures.rest w.read.ensures.unread);

@@ -14,7 +14,7 @@ returns c =
         volume = w.stat.new.self;
         is_call = search rules;
         held = search rules
-            ∙ ap (λ kept. Some (record { volume = w.stat.new.self; listing = kept })) (sym (stat_keeps held.listing w.stat.result));
+            ∙ ap (λ kept. Some (record held { volume = w.stat.new.self; listing = kept })) (sym (stat_keeps held.listing w.stat.result));
         told = search rules;
       })
       | else-has_room w ↦ full held (search rules) (search rules) (search rules) (search rules) (search rules)

@@ -14,7 +14,7 @@ returns-clause-fit c fit =
         volume = w.batch.new.self;
         is_call = search rules;
         held = search rules
-            ∙ ap (λ kept. Some (record { volume = w.batch.new.self; listing = kept })) (sym (unit_keeps held.listing w.batch.result));
+            ∙ ap (λ kept. Some (record held { volume = w.batch.new.self; listing = kept })) (sym (unit_keeps held.listing w.batch.result));
         told = search rules;
       })
       | else-has_room w ↦ full held (search rules) (search rules) (search rules) (search rules) (search rules)

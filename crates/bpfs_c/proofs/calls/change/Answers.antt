@@ -14,7 +14,7 @@ returns g c = λ call is.
         volume = w.act.new.arg2;
         is_call = is _ _ w.act.result (record { shown = _; shows = search rules; left = _; met = w.act.ensures; leaves = search rules });
         held = search rules
-            ∙ ap (λ kept. Some (record { volume = w.act.new.arg2; listing = kept })) (sym (unit_keeps held.listing w.act.result));
+            ∙ ap (λ kept. Some (record held { volume = w.act.new.arg2; listing = kept })) (sym (unit_keeps held.listing w.act.result));
         told = search rules;
       })
       | else-has_room w ↦ full held (search rules) (search rules) (search rules) (search rules) (search rules)

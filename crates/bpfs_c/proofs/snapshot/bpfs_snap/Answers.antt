@@ -14,7 +14,7 @@ returns c =
         volume = w.snap.new.self;
         is_call = search rules;
         held = search rules
-            ∙ ap (λ kept. Some (record { volume = w.snap.new.self; listing = kept })) (sym (unit_keeps held.listing w.snap.result));
+            ∙ ap (λ kept. Some (record held { volume = w.snap.new.self; listing = kept })) (sym (unit_keeps held.listing w.snap.result));
         told = search rules;
       })
       | else-has_room w ↦ full held (search rules) (search rules) (search rules) (search rules) (search rules)

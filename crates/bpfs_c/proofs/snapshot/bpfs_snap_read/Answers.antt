@@ -16,7 +16,7 @@ returns c =
         volume = w.snap_read.new.self;
         is_call = search rules;
         held = search rules
-            ∙ ap (λ kept. Some (record { volume = w.snap_read.new.self; listing = kept })) (sym (read_keeps held.listing w.snap_read.result w.snap_read.new.into));
+            ∙ ap (λ kept. Some (record held { volume = w.snap_read.new.self; listing = kept })) (sym (read_keeps held.listing w.snap_read.result w.snap_read.new.into));
         told = subst (λ new. IsRead (read_answer_of w.snap_read.result w.snap_read.new.into) c.args.into.now c.args.count.now c.if-has_room.code new c.if-has_room.count)
             (sym w.into-is) (read_told w.snap_read.result c.args.into.now w.snap_read.new.into c.args.count.now c.if-has_room.code c.if-has_room.count
             (search rules) w.snap_read.ensures.fits w.snap_read.ensures.rest w.snap_read.ensures.unread);

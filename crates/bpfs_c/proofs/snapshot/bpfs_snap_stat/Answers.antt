@@ -14,7 +14,7 @@ returns c =
         volume = w.snap_stat.new.self;
         is_call = search rules;
         held = search rules
-            ∙ ap (λ kept. Some (record { volume = w.snap_stat.new.self; listing = kept })) (sym (stat_keeps held.listing w.snap_stat.result));
+            ∙ ap (λ kept. Some (record held { volume = w.snap_stat.new.self; listing = kept })) (sym (stat_keeps held.listing w.snap_stat.result));
         told = search rules;
       })
       | else-has_room w ↦ full held (search rules) (search rules) (search rules) (search rules) (search rules)

@@ -14,7 +14,7 @@ returns c =
         volume = w.unsnap.new.self;
         is_call = search rules;
         held = search rules
-            ∙ ap (λ kept. Some (record { volume = w.unsnap.new.self; listing = kept })) (sym (unit_keeps held.listing w.unsnap.result));
+            ∙ ap (λ kept. Some (record held { volume = w.unsnap.new.self; listing = kept })) (sym (unit_keeps held.listing w.unsnap.result));
         told = search rules;
       })
       | else-has_room w ↦ full held (search rules) (search rules) (search rules) (search rules) (search rules)

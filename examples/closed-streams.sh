@@ -75,9 +75,19 @@ done > rows
 "$program" export deep > /dev/full 2> err; expect 'export deep >/dev/full' old '9' $?
 said 'export deep >/dev/full' 'deep: a path is too long to be exported'
 
+# What is not a regular file is not taken for FILE.
+mkdir folder
+for word in 'run folder' 'check folder' 'export folder' 'play folder --seed 1 --count 9' 'format folder --blocks 8'; do
+  cp old FILE; "$program" $word < script > out 2> err; expect "$word" old '5' $?; said "$word" 'folder: is a directory'
+done
+for word in run check; do
+  cp old FILE; "$program" $word /dev/null < script > out 2> err; expect "$word /dev/null" old '5' $?
+  said "$word /dev/null" '/dev/null: not a regular file'
+done
+
 # Standard output goes to FILE, under whichever name.
 ln -s FILE LINK
-own='standard output goes to this file'
+own='standard output is the image itself'
 cp old FILE; "$program" run FILE < script 1<> FILE 2> err; expect 'run 1<>FILE' old '5' $?; said 'run 1<>FILE' "FILE: $own"
 cp old FILE; "$program" run FILE < script >> LINK 2> err; expect 'run >>LINK' old '5' $?; said 'run >>LINK' "FILE: $own"
 cp old FILE; "$program" run LINK < script 1<> FILE 2> err; expect 'run LINK 1<>FILE' old '5' $?; said 'run LINK 1<>FILE' "LINK: $own"

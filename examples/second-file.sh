@@ -229,7 +229,7 @@ cp FILE other
 mv other FILE
 cp FILE copy
 ended 5
-expect 'its reason' 'bpfs: FILE: another file has its name now' "$(cat errors)"
+expect 'its reason' 'bpfs: FILE: not saved: it was replaced by another file meanwhile' "$(cat errors)"
 cmp FILE copy || failed=1
 none_left
 began
@@ -249,7 +249,7 @@ unnamed() {
   mv FILE moved
   cp moved copy
   ended 5
-  expect "its reason behind $*" 'bpfs: FILE: no file has its name now' "$(cat errors)"
+  expect "its reason behind $*" 'bpfs: FILE: not saved: it was renamed or removed meanwhile' "$(cat errors)"
   [ -e FILE ] && { echo 'FAILED: FILE is there again'; failed=1; }
   cmp moved copy || { echo 'FAILED: a file without a name was written'; failed=1; }
   none_left
@@ -275,7 +275,7 @@ resized() {
   echo sync >&3
   ended 5
   expect "replies before a sync of FILE with $size bytes" $# "$(grep -c '^[a-z]' replies)"
-  expect 'its reason' 'bpfs: FILE: another program changed its length' "$(cat errors)"
+  expect 'its reason' 'bpfs: FILE: not saved: another program changed its size' "$(cat errors)"
   cmp FILE copy || { echo "FAILED: FILE with $size bytes was written"; failed=1; }
   none_left
 }

@@ -16,6 +16,7 @@ file_rule = record (new_rule (codes "FILE")) { required = true; parser = Some vp
 abbrev pub blocks_rule : Rule
 blocks_rule = record (new_rule (codes "blocks")) {
   long = Some (codes "blocks");
+  value_names = 1;
   required = true;
   parser = Some (vp.Unsigned 8 65536);
 }
@@ -24,6 +25,7 @@ blocks_rule = record (new_rule (codes "blocks")) {
 abbrev pub version_rule : Rule
 version_rule = record (new_rule (codes "version")) {
   long = Some (codes "version");
+  value_names = 1;
   defaults = codes "1" ∷ [];
   parser = Some (vp.Unsigned 1 2);
 }
@@ -34,6 +36,7 @@ format_app = with_rule (with_rule (with_rule (new_app (codes "format")) file_rul
 abbrev pub seed_rule : Rule
 seed_rule = record (new_rule (codes "seed")) {
   long = Some (codes "seed");
+  value_names = 1;
   required = true;
   parser = Some (vp.Unsigned 0 18446744073709551615);
 }
@@ -41,6 +44,7 @@ seed_rule = record (new_rule (codes "seed")) {
 abbrev pub count_rule : Rule
 count_rule = record (new_rule (codes "count")) {
   long = Some (codes "count");
+  value_names = 1;
   required = true;
   parser = Some (vp.Unsigned 0 1000000);
 }

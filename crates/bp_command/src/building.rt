@@ -13,6 +13,7 @@ fn file<'a>(alloc: Global) -> Arg<'a>
     ensures { IsArgument file_rule result }
 {
     Arg::new(alloc, "FILE")
+        .help("The image file")
         .required(true)
         .value_parser(ValueParser::NonEmptyString)
 }
@@ -23,6 +24,8 @@ fn blocks<'a>(alloc: Global) -> Arg<'a>
 {
     Arg::new(alloc, "blocks")
         .long("blocks")
+        .value_name("N")
+        .help("Size in blocks of 4 KiB, 8 to 65536")
         .required(true)
         .value_parser(value_parser!(u64).range(i64::from(MIN_BLOCKS)..=i64::from(MAX_BLOCKS)))
 }
@@ -33,6 +36,8 @@ fn version<'a>(alloc: Global) -> Arg<'a>
 {
     Arg::new(alloc, "version")
         .long("version")
+        .value_name("V")
+        .help("Version of the format: 1, or 2 for larger files, longer writes and a snapshot")
         .default_value("1")
         .value_parser(value_parser!(u64).range(1..=2))
 }
@@ -43,6 +48,8 @@ fn seed<'a>(alloc: Global) -> Arg<'a>
 {
     Arg::new(alloc, "seed")
         .long("seed")
+        .value_name("S")
+        .help("Seed of the pseudo-random operations")
         .required(true)
         .value_parser(value_parser!(u64))
 }
@@ -53,6 +60,8 @@ fn count<'a>(alloc: Global) -> Arg<'a>
 {
     Arg::new(alloc, "count")
         .long("count")
+        .value_name("C")
+        .help("Number of operations, at most 1000000")
         .required(true)
         .value_parser(value_parser!(u64).range(0..=i64::from(MAX_TURNS)))
 }
@@ -61,7 +70,7 @@ fn format_command<'a>(alloc: Global) -> Result<Command<'a>, AllocError>
     ensures { IfOk result (IsCommand format_app) }
 {
     Command::new(alloc, "format")
-        .about("Makes FILE an empty file system of so many blocks of 4 KiB")
+        .about("Make FILE an empty file system, erasing what it held")
         .arg(file(alloc))?
         .arg(blocks(alloc))?
         .arg(version(alloc))
@@ -71,7 +80,7 @@ fn run_command<'a>(alloc: Global) -> Result<Command<'a>, AllocError>
     ensures { IfOk result (IsCommand run_app) }
 {
     Command::new(alloc, "run")
-        .about("Serves the script of standard input over FILE")
+        .about("Run the script on standard input against FILE, one reply a line")
         .arg(file(alloc))
 }
 
@@ -79,7 +88,7 @@ fn check_command<'a>(alloc: Global) -> Result<Command<'a>, AllocError>
     ensures { IfOk result (IsCommand check_app) }
 {
     Command::new(alloc, "check")
-        .about("Says whether FILE is a file system, and what it holds")
+        .about("Verify FILE (read-only) and print its totals")
         .arg(file(alloc))
 }
 
@@ -87,9 +96,7 @@ fn play_command<'a>(alloc: Global) -> Result<Command<'a>, AllocError>
     ensures { IfOk result (IsCommand play_app) }
 {
     Command::new(alloc, "play")
-        .about(
-            "Makes calls and power cuts over FILE that follow from a seed, and writes nothing back",
-        )
+        .about("Run pseudo-random calls and power cuts over FILE, without changing it")
         .arg(file(alloc))?
         .arg(seed(alloc))?
         .arg(count(alloc))
@@ -99,14 +106,19 @@ fn export_command<'a>(alloc: Global) -> Result<Command<'a>, AllocError>
     ensures { IfOk result (IsCommand export_app) }
 {
     Command::new(alloc, "export")
-        .about("Writes the script that makes the tree of FILE")
+        .about("Print a script that recreates all files of FILE")
         .arg(file(alloc))
 }
 
 fn bare<'a>(alloc: Global) -> Command<'a>
     ensures { IsCommand bare_app result }
 {
-    Command::new(alloc, "bpfs").subcommand_required(true)
+    Command::new(alloc, "bpfs")
+        .about(
+            "A crash-safe file system for byte-addressable persistent memory, over an image file",
+        )
+        .after_help("Script lines, replies and exit statuses: man bpfs, or docs/script.md")
+        .subcommand_required(true)
 }
 
 /// The command: one subcommand for each program.

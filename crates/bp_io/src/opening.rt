@@ -1,7 +1,7 @@
 //! Opening a file on the disk, for one process at a time.
 
 use crate::Access;
-use std::fs::{File, OpenOptions, TryLockError};
+use std::fs::{File, Metadata, OpenOptions, TryLockError};
 use std::io::ErrorKind;
 use std::os::unix::fs::MetadataExt;
 use std::{fs, io, rt};
@@ -9,9 +9,25 @@ use std::{fs, io, rt};
 /// How often a name is opened again that another process led to another file meanwhile.
 const TRIES: u32 = 16;
 
-/// The fault of a name whose file has no blocks, as a folder or a device.
-fn no_file_of_blocks() -> io::Error {
-    io::Error::new(ErrorKind::InvalidInput, "not a regular file")
+/// Returns the error of a name that leads to a directory. The system has another text for it where the
+/// directory is opened for writing.
+fn is_directory() -> io::Error {
+    io::Error::new(ErrorKind::IsADirectory, "is a directory")
+}
+
+/// Tests whether a name leads to a regular file.
+///
+/// # Errors
+///
+/// `IsADirectory`: it leads to a directory. `InvalidInput`: it leads to a device, a pipe or a socket.
+fn check_is_file(found: Metadata) -> io::Result<()> {
+    if found.is_file() {
+        return Ok(());
+    }
+    if found.is_dir() {
+        return Err(is_directory());
+    }
+    Err(io::Error::new(ErrorKind::InvalidInput, "not a regular file"))
 }
 
 /// The fault of a file that another process has attached. Its kind is `ResourceBusy`.
@@ -65,9 +81,9 @@ pub(crate) fn check_name<R: rt::Files<File = File>>(
         return Ok(());
     }
     let message = if fs::exists(runtime, name)? {
-        "another file has its name now"
+        "not saved: it was replaced by another file meanwhile"
     } else {
-        "no file has its name now"
+        "not saved: it was renamed or removed meanwhile"
     };
     Err(io::Error::new(ErrorKind::Other, message))
 }
@@ -81,7 +97,7 @@ pub(crate) fn check_length(file: &File, length: u64) -> io::Result<()> {
     if file.metadata()?.len() == length {
         return Ok(());
     }
-    let message = "another program changed its length";
+    let message = "not saved: another program changed its size";
     Err(io::Error::new(ErrorKind::Other, message))
 }
 
@@ -92,17 +108,19 @@ fn open_once<R: rt::Files<File = File>>(
     name: &str,
     access: Access,
 ) -> io::Result<File> {
-    if !access.may_change() && !fs::metadata(runtime, name)?.is_file() {
-        return Err(no_file_of_blocks());
+    if !access.may_change() {
+        check_is_file(fs::metadata(runtime, name)?)?;
     }
-    let file = OpenOptions::new()
+    let opened = OpenOptions::new()
         .read(true)
         .write(access.may_change())
         .create(access.makes())
-        .open(runtime, name)?;
-    if !file.metadata()?.is_file() {
-        return Err(no_file_of_blocks());
-    }
+        .open(runtime, name);
+    let file = match opened {
+        Err(e) if e.kind() == ErrorKind::IsADirectory => return Err(is_directory()),
+        opened => opened?,
+    };
+    check_is_file(file.metadata()?)?;
     Ok(file)
 }
 

@@ -92,23 +92,23 @@ const REFUSED: [(&[&str], &str); 12] = [
     ),
     (
         &["bpfs", "format"],
-        "the following required arguments were not provided: --blocks <blocks> <FILE>",
+        "the following required arguments were not provided: --blocks <N> <FILE>",
     ),
     (
         &["bpfs", "format", "f", "--blocks", "7"],
-        "invalid value '7' for '--blocks <blocks>': 7 is not in 8..=65536",
+        "invalid value '7' for '--blocks <N>': 7 is not in 8..=65536",
     ),
     (
         &["bpfs", "format", "f", "--blocks", "65537"],
-        "invalid value '65537' for '--blocks <blocks>': 65537 is not in 8..=65536",
+        "invalid value '65537' for '--blocks <N>': 65537 is not in 8..=65536",
     ),
     (
         &["bpfs", "format", "f", "--blocks", "eight"],
-        "invalid value 'eight' for '--blocks <blocks>': invalid digit found in string",
+        "invalid value 'eight' for '--blocks <N>': invalid digit found in string",
     ),
     (
         &["bpfs", "format", "f", "--blocks", "8", "--version", "3"],
-        "invalid value '3' for '--version <version>': 3 is not in 1..=2",
+        "invalid value '3' for '--version <V>': 3 is not in 1..=2",
     ),
     (
         &["bpfs", "run", "f", "--version", "2"],

@@ -37,7 +37,7 @@ pub(crate) enum Reason<'a> {
 fn tell_fault<E: Eprint>(runtime: &E, device: &str, error: Option<io::Error>) -> io::Result<()> {
     match error {
         Some(error) => eprintln!(runtime; "bpfs: {device}: {error}"),
-        None => eprintln!(runtime; "bpfs: {device}: failed"),
+        None => eprintln!(runtime; "bpfs: {device}: unknown error"),
     }
 }
 
@@ -48,7 +48,7 @@ pub(crate) fn tell_reason<E: Eprint>(runtime: &E, reason: Reason<'_>) {
         Reason::Output(error) => tell_fault(runtime, "standard output", error),
         Reason::File(name, error) => tell_fault(runtime, name, error),
         Reason::OwnOutput(name) => eprintln!(runtime;
-            "bpfs: {name}: standard output goes to this file"
+            "bpfs: {name}: standard output is the image itself"
         ),
         Reason::Missing(name) => eprintln!(runtime; "bpfs: {name}: no such file"),
         Reason::Refused(name) => eprintln!(runtime; "bpfs: {name}: not a file system"),
@@ -56,8 +56,8 @@ pub(crate) fn tell_reason<E: Eprint>(runtime: &E, reason: Reason<'_>) {
         Reason::LongInput => eprintln!(runtime;
             "bpfs: standard input: more than {MAX_INPUT} bytes"
         ),
-        Reason::Memory => eprintln!(runtime; "bpfs: not enough memory"),
-        Reason::NoText => eprintln!(runtime; "bpfs: a word is no UTF-8 text"),
+        Reason::Memory => eprintln!(runtime; "bpfs: out of memory"),
+        Reason::NoText => eprintln!(runtime; "bpfs: an argument is not valid UTF-8"),
         Reason::Words(mistake) => eprintln!(runtime; "bpfs: {mistake}"),
     };
 }

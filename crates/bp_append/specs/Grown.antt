@@ -1,4 +1,5 @@
--- A tree is prepared in two epochs: stores that nobody sees, and then the links, where one of them changes a word.
+-- A tree is prepared in two epochs: first stores that no reader sees, and then the links, if one of them changes a
+-- word.
 use Rattle.std.specs.Prelude.{◌≡◌, ◌⊎◌, ℕ, ◌+◌, ◌*◌, ◌/◌, ◌%◌, ◌<◌, ◌≤◌, ◌==◌, if◌then◌else◌, List, [], ◌∷◌, ◌++◌, length, slice_set}
 use Rattle.pm_epochs.specs.declared.event.Event.{Event}
 use Rattle.pm_epochs.specs.declared.event.Event.TheVariants.{Barrier}
@@ -20,7 +21,7 @@ use Rattle.bp_append.specs.Built.{InBlocks, IsBuilt}
 use Rattle.bp_append.specs.Filled.{IsUsable}
 use Rattle.bp_append.specs.Visited.{extended, AreHung}
 
--- A sound tree may be prepared for the bytes from an offset on: there are free blocks and room.
+-- The condition to prepare a sound tree for the bytes from an offset on: enough blocks are free, and the log has room.
 pub record CanGrow (memory : Memory) (free : List ℕ) (root size from to : ℕ) : Type 0 where
   pub behind : size ≤ from
   pub order : size ≤ to
@@ -33,23 +34,23 @@ pub record CanGrow (memory : Memory) (free : List ℕ) (root size from to : ℕ)
   pub room : block_words * length (nodes_for (current_words memory) root size from to)
       + room_behind size from to max_height + 4 ≤ room_in memory
 
--- those of the stores, done one after the other, that change a word
+-- the links that change a word, if they are stored one after the other
 abbrev pub changed : Image → List (ℕ × ℕ) → List (ℕ × ℕ)
 changed image [] = []
 changed image (link ∷ links) = if word image link.0 == link.1 then changed image links
     else link ∷ changed (slice_set image link.0 link.1) links
 
--- the links and a barrier behind them; nothing where there are none
+-- the stores of the links and a barrier after them; no event if there are no links
 abbrev pub epoch_of_links : List (ℕ × ℕ) → List Event
 epoch_of_links [] = []
 epoch_of_links (link ∷ links) = links_of (link ∷ links) ++ Barrier ∷ []
 
--- The links that change a word, in an epoch of their own. Where each of them stands already, there is no such epoch.
+-- The stores of the links that change a word, in an epoch of their own. If no link changes a word, there is no such
+-- epoch.
 abbrev pub Links : Memory → Memory → List (ℕ × ℕ) → Type 0
 Links old new links = Adds old new (Barrier ∷ epoch_of_links (changed (current_words old) links))
 
--- A tree with blocks was prepared. Once the links are done, the higher tree holds the old bytes and behind them the
--- given ones.
+-- A tree with blocks was prepared. With the links stored, the tree has its old bytes and after them the given ones.
 pub record Grows (old new : Memory) (free_old free_new : List ℕ) (place root size from to : ℕ)
     (bytes : List ℕ) : Type 0 where
   pub visited : List ℕ
@@ -74,12 +75,13 @@ pub record Grows (old new : Memory) (free_old free_new : List ℕ) (place root s
       (λ b. HasBlock (current_words old) root size b ⊎ Has (visited ++ raised) b)
       (IsFull (current_words old) root size × (from ≡ size))
 
--- each link is in the region
+-- each link is a word of the region
 abbrev pub AreLow : Memory → List (ℕ × ℕ) → Type 0
 AreLow memory [] = Unit {0}
 AreLow memory (link ∷ links) = (link.0 < length memory.base) × AreLow memory links
 
--- A tree of the given bytes, or a null, was made for a tree without blocks, and this is to be its root word.
+-- A tree of the given bytes (or a null pointer) was built for a tree without blocks; `top` is its root word, which is
+-- not stored yet.
 pub record Roots (old new : Memory) (free_old free_new : List ℕ) (root size from to : ℕ) (bytes : List ℕ)
     (top : ℕ) : Type 0 where
   pub taken : List ℕ
@@ -90,7 +92,7 @@ pub record Roots (old new : Memory) (free_old free_new : List ℕ) (root size fr
   pub bits : top % block_size ≡ height_of top
   pub tree : IsBuilt (current_words new) top to (given_at from bytes 0) (Has taken) (from ≡ 0)
 
--- A tree without blocks was prepared: such a root word was made and stored.
+-- A tree without blocks was prepared: its new root word was built and stored.
 pub record Makes (old new : Memory) (free_old free_new : List ℕ) (place root size from to : ℕ)
     (bytes : List ℕ) : Type 0 where
   pub between : Memory

@@ -1,5 +1,5 @@
--- What the parts of a preparation owe and give, told in their own words: a region and its free blocks as a part
--- begins and as it ends, a tree, a node, and the bytes that are wanted.
+-- Conditions and effects of the parts of a preparation, in the types of the code: a region and its free blocks before
+-- and after the part, a tree, a node, and the wanted bytes.
 use Rattle.std.specs.Prelude.{ℕ, suc, ◌+◌, ◌-◌, ◌*◌, ◌≤◌, min, max, List, Option}
 use Rattle.bp_free.specs.Set.{Set, members}
 use Rattle.bp_limits.specs.Limits.{block_words}
@@ -17,9 +17,9 @@ use Rattle.bp_append.specs.Visited.{links_in, CanVisit, Visits, VisitsSlot, Hung
 use Rattle.bp_append.specs.Risen.{CanRise, Rises}
 use Rattle.bp_append.specs.Grown.{CanGrow, Grows, Roots, Makes}
 
--- ---- nodes that are made
+-- ---- nodes that are built
 
--- the node of a level that begins at an offset, with what is below it
+-- a node of a level that starts at an offset is built, with everything below it
 abbrev pub MakesNode : {R : Type 0} → (R → Memory) → R → R → Set → Set → ℕ → ℕ → Wanted → List ℕ → ℕ → Type 0
 MakesNode memory old new blocks_old blocks_new level start wanted bytes pointer =
     Builds (memory old) (memory new) (members blocks_old) (members blocks_new) pointer level
@@ -35,13 +35,13 @@ FillsNode memory old new blocks_old blocks_new node low wanted bytes =
     FillsFrom (memory old) (memory new) (members blocks_old) (members blocks_new) node.block node.level node.start low
     wanted.from wanted.to (given_at wanted.from bytes node.start)
 
--- a leaf takes no block
+-- a leaf is filled; it takes no block
 abbrev pub FillsLeaf : {R : Type 0} → (R → Memory) → R → R → TreeBlock → ℕ → Wanted → List ℕ → Type 0
 FillsLeaf memory old new node low wanted bytes =
     (free : List ℕ) → FillsFrom (memory old) (memory new) free free node.block 0 node.start low wanted.from wanted.to
     (given_at wanted.from bytes node.start)
 
--- ---- nodes that are there
+-- ---- existing nodes
 
 abbrev pub CanVisitNode : {R : Type 0} → (R → Memory) → R → Set → Tree → TreeBlock → Wanted → Type 0
 CanVisitNode memory old blocks tree node wanted =
@@ -53,7 +53,7 @@ VisitsNode memory old new blocks_old blocks_new tree node wanted bytes hung =
     Visits (memory old) (memory new) (members blocks_old) (members blocks_new) tree.root tree.size node.level node.start
     node.block wanted.from wanted.to bytes (links_in hung)
 
--- the part below one slot of a node is gone through
+-- the part of the tree below one slot of a node is done
 abbrev pub PassesSlot : {R : Type 0} → (R → Memory) → R → R → Set → Set → Tree → TreeBlock → ℕ → Wanted → List ℕ
     → Option Link → Type 0
 PassesSlot memory old new blocks_old blocks_new tree node slot wanted bytes hung =
@@ -82,7 +82,7 @@ RaisesTree memory old new blocks_old blocks_new root height wanted bytes top =
     Rises (memory old) (memory new) (members blocks_old) (members blocks_new) root top
     (height_of root) height wanted.from wanted.to bytes
 
--- by one node
+-- the tree gets one level higher
 abbrev pub RaisesOnce : {R : Type 0} → (R → Memory) → R → R → Set → Set → ℕ → Wanted → List ℕ → ℕ → Type 0
 RaisesOnce memory old new blocks_old blocks_new root wanted bytes top =
     RaisesTree memory old new blocks_old blocks_new root (suc (height_of root)) wanted bytes top

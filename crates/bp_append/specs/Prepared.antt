@@ -1,4 +1,4 @@
--- What a preparation asks of an image and leaves in it.
+-- The condition of a preparation and its effect on an image.
 use Rattle.std.specs.Prelude.{◌≡◌, ◌≢◌, ◌⊎◌, ℕ, suc, ◌+◌, ◌-◌, ◌*◌, ◌/◌, ◌<◌, ◌≤◌, List, ◌++◌, length, Bool, false}
 use Rattle.bp_layout.specs.Words.{Image, word, height_of}
 use Rattle.bp_layout.specs.Formatted.{version_of}
@@ -22,21 +22,21 @@ use Rattle.bp_append.specs.Stores.{prep_stores, room_behind}
 use Rattle.bp_append.specs.Given.{given}
 use Rattle.bp_append.specs.Filled.{IsUsable}
 
--- how many blocks tree t lacks for the bytes from one offset up to another
+-- how many blocks tree t lacks for the bytes from offset `from` to the one before `to`
 abbrev pub need_for : Image → ℕ → ℕ → ℕ → ℕ
 need_for image t from to = length (nodes_for image (root_of image t) (size_of image t) from to)
 
--- No node of tree t that has the byte at its size is kept, nor the block with its root word. Besides blocks that it
--- takes, a preparation of the tree stores into these alone.
+-- No node of tree t on the way to the byte at its size is kept, and neither is the block of its root word. Apart from
+-- new blocks, a preparation of the tree stores only to these blocks.
 pub record HasLooseEnd (image : Image) (kept : ℕ → Bool) (t : ℕ) : Type 0 where
   pub nodes : (d k : ℕ) → (live : IsLivePointer (root_of image t) (size_of image t) d k)
       → node image (root_of image t) d k ≢ 0 → size_of image t < k * span live.level + span live.level
       → kept (node image (root_of image t) d k) ≡ false
   pub root : (place : ℕ) → RootPlace image t place → t ≢ 0 → kept (place / block_words) ≡ false
 
--- The image is well formed and reaches tree t, to whose root word the path leads. The bytes lie behind its size; the
--- inode file and directories are prepared from their size on. The numbers are those of free blocks, as many as are
--- needed, and the log has room. What the tree has is stored into only where it is not kept.
+-- The condition of a preparation. The image is well formed and reaches tree t, and the path is that of its root word.
+-- The bytes are past the tree's size; for the inode file and directories they start at the size. The free blocks are
+-- enough, and the log has room. The tree's blocks that are stored to are not kept.
 pub record CanPrepare (kept : ℕ → Bool) (memory : Memory) (free : List ℕ) (t : ℕ) (path : WordPath)
     (from to : ℕ) : Type 0 where
   pub well : IsWellFormed (current_words memory)
@@ -53,8 +53,8 @@ pub record CanPrepare (kept : ℕ → Bool) (memory : Memory) (free : List ℕ) 
   pub room : block_words * need_for (current_words memory) t from to
       + room_behind (size_of (current_words memory) t) from to max_height + 4 ≤ room_in memory
 
--- Tree t is ready for the bytes up to the end: these are the given ones, in its old blocks and those taken. Nothing
--- else has changed that an image means, nor a live word of another tree but the root word of t.
+-- Tree t is prepared for the bytes up to `to`: these are the given ones, in its old blocks and the taken ones. The
+-- meaning of the image is unchanged, and so is every live word of another tree except the root word of t.
 pub record Prepares (old new : Image) (t from to : ℕ) (bytes taken : List ℕ) : Type 0 where
   pub meaning : SameMeaning old new
   pub height : height_of (root_of new t) ≡ height_with (root_of old t) (size_of old t) to
@@ -67,7 +67,7 @@ pub record Prepares (old new : Image) (t from to : ℕ) (bytes taken : List ℕ)
       ⊎ Has taken b
   pub has_old : (b : ℕ) → HasBlock old (root_of old t) (size_of old t) b → HasBlock new (root_of new t) to b
   pub has_taken : (b : ℕ) → Has taken b → HasBlock new (root_of new t) to b
-  -- the nodes that it had stand as high above the leaves as they did
+  -- its old nodes have the same height above the leaves
   pub nodes : (d k : ℕ) → IsLivePointer (root_of old t) (size_of old t) d k → node old (root_of old t) d k ≢ 0 →
       node new (root_of new t) (height_of (root_of new t) - height_of (root_of old t) + d) k ≡ node old (root_of old t) d k
   pub sizes : (u : ℕ) → IsReached old u → size_of new u ≡ size_of old u
@@ -78,8 +78,8 @@ pub record Prepares (old new : Image) (t from to : ℕ) (bytes taken : List ℕ)
       → ((u ≡ 0) → (d ≡ height_of (root_of old 0)) → (k ≡ inode_words * t + root_field) → ⊥) →
       tree_word new (root_of new u) (suc d) k ≡ tree_word old (root_of old u) (suc d) k
 
--- The blocks are the first of the free ones, as many as are needed. Nobody sees the stores at any moment of a crash,
--- each of these blocks gets one, and no other block that was free does.
+-- The effect of a preparation. It takes the first of the free blocks, as many as needed. At each crash point the
+-- meaning of the image is unchanged. Each taken block gets a store, and no other free block does.
 pub record PreparesWith (kept : ℕ → Bool) (old new : Memory) (free_old free_new : List ℕ) (t from to : ℕ)
     (bytes : List ℕ) : Type 0 where
   pub taken : List ℕ
@@ -89,9 +89,9 @@ pub record PreparesWith (kept : ℕ → Bool) (old new : Memory) (free_old free_
       (need_for (current_words old) t from to)) old new
   pub ready : Prepares (current_words old) (current_words new) t from to bytes taken
 
--- ---- what is asked and had of the parts of a file system
+-- ---- conditions and effects on the parts of a file system
 
--- the path leads to the root word of such a tree
+-- the path is that of the root word of a tree that can be prepared
 abbrev pub IsPreparable : {R : Type 0} → (R → Memory) → Parts R → WordPath → ℕ → ℕ → Type 0
 IsPreparable memory parts path from to =
     (t : ℕ) × CanPrepare (kept_of parts) (memory parts.region) (members parts.blocks) t path from to

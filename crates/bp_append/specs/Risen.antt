@@ -1,4 +1,4 @@
--- Higher nodes over a tree, and what they hold behind it.
+-- New nodes above a tree, and their bytes past it.
 use Rattle.std.specs.Prelude.{◌≡◌, ◌⊎◌, ℕ, zero, suc, ◌+◌, ◌-◌, ◌*◌, ◌/◌, ◌<◌, ◌≤◌, min, nat_lt, if◌then◌else◌, List, [], ◌∷◌, ◌++◌, length}
 use Rattle.bp_limits.specs.Limits.{block_words, max_height}
 use Rattle.bp_limits.specs.CallLimits.{max_size}
@@ -14,17 +14,17 @@ use Rattle.bp_append.specs.Tally.{tally}
 use Rattle.bp_append.specs.Built.{InBlocks, IsBuilt}
 use Rattle.bp_append.specs.Filled.{IsUsable}
 
--- 1 where a node at the left edge has none of the bytes that are wanted, and so is made only to hold the tree below it
+-- 1 if the first node of a level has none of the wanted bytes, so that it is built only to hold the tree below it
 abbrev pub idle : ℕ → ℕ → ℕ → ℕ
 idle from to level = if nat_lt from (min to (span level)) then 0 else 1
 
--- how many such nodes there are above one level up to another
+-- the number of such nodes above level `low` and up to a level
 abbrev pub idles : ℕ → ℕ → ℕ → ℕ → ℕ
 idles from to low zero = 0
 idles from to low (suc level) =
     idles from to low level + (if nat_lt low (suc level) then idle from to (suc level) else 0)
 
--- all nodes at the left edge or with bytes that are wanted, in the tree of a height
+-- the number of all nodes that are the first of their level or have wanted bytes, in a tree of a height
 abbrev pub edge : ℕ → ℕ → ℕ → ℕ
 edge from to height = tally (suc height) from (min to (span height))
 
@@ -33,7 +33,7 @@ abbrev pub AreOutside : List ℕ → List (ℕ × ℕ) → Type 0
 AreOutside free [] = Unit {0}
 AreOutside free (link ∷ links) = (Has free (link.0 / block_words) → ⊥) × AreOutside free links
 
--- There are free blocks and room for the nodes above a tree.
+-- The condition to build the nodes above a tree: enough blocks are free, and the log has room.
 pub record CanRise (memory : Memory) (free : List ℕ) (low height from to : ℕ) : Type 0 where
   pub most : height ≤ max_height
   pub some : 0 < to
@@ -43,12 +43,12 @@ pub record CanRise (memory : Memory) (free : List ℕ) (low height from to : ℕ
   pub room : block_words * (edge from to height + idles from to low height) + (height - low)
       ≤ room_in memory + block_words * edge from to low
 
--- the bytes of a tree of a height, and behind them the given ones
+-- the bytes of a tree of height `low`, and after them the given ones
 abbrev pub risen : Image → ℕ → ℕ → ℕ → List ℕ → ℕ → ℕ
 risen image root low from bytes i = if nat_lt i (span low) then byte image root i else given from bytes i
 
--- Over the tree of height `low` stand new nodes up to a height. Whatever links are done, the higher tree holds the
--- lower one, and behind it the given bytes.
+-- New nodes were built above the tree of height `low`, up to a height. With or without the pending links, the higher
+-- tree has the bytes of the lower one, and after them the given bytes.
 pub record Rises (old new : Memory) (free_old free_new : List ℕ) (root top low height from to : ℕ)
     (bytes : List ℕ) : Type 0 where
   pub taken : List ℕ

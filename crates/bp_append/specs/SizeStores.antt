@@ -1,4 +1,4 @@
--- The size of a file is stored behind a preparation.
+-- The store of a file's size after a preparation.
 use Rattle.std.specs.Prelude.{◌≡◌, ℕ, suc, ◌+◌, ◌*◌, ◌<◌, List, Bool}
 use Rattle.pm_epochs.specs.Crash.{commit}
 use Rattle.bp_limits.specs.Limits.{inode_words, size_field}
@@ -9,8 +9,8 @@ use Rattle.pm_region.specs.Memory.{Memory, current_words, Adds}
 use Rattle.bp_commit.specs.Performs.{PerformsThawed}
 use Rattle.bp_append.specs.Prepared.{CanPrepare, PreparesWith}
 
--- A file grows to a size without bytes of its own: its tree is prepared, and then its size word, which stands at a
--- place, is stored alone in its epoch.
+-- A file grows to a size without given bytes: its tree is prepared, and then its size word, at a place, is stored alone
+-- in its epoch.
 pub record GrowsFile (kept : ℕ → Bool) (old middle new : Memory) (free_old free_new : List ℕ) (path : WordPath)
     (n size place : ℕ) : Type 0 where
   pub can : CanPrepare kept old free_old (suc n) path size size
@@ -21,7 +21,8 @@ pub record GrowsFile (kept : ℕ → Bool) (old middle new : Memory) (free_old f
   pub prepared : PreparesWith kept old middle free_old free_new (suc n) size size bytes
   pub stored : Adds middle new (commit place size)
 
--- Such a call is performed: it takes what it needs, and its last store is at the word of the cover.
+-- A call that grows a file by a preparation and a store of its size is performed: it takes the blocks of its need, and
+-- its last store is at the word of the cover.
 abbrev pub GrownFilesArePerformed : Type 0
 GrownFilesArePerformed = (kept : ℕ → Bool) (old middle new : Memory) (free_old free_new : List ℕ) (path : WordPath)
     (n size place : ℕ) → GrowsFile kept old middle new free_old free_new path n size place

@@ -1,4 +1,4 @@
--- What going down a tree to its last byte makes behind its size.
+-- The effect of the walk down a tree to its last byte, past the tree's size.
 use Rattle.std.specs.Prelude.{◌≡◌, ◌≢◌, ◌⊎◌, ℕ, suc, ◌+◌, ◌-◌, ◌*◌, ◌/◌, ◌%◌, ◌<◌, ◌≤◌, min, max, nat_lt, if◌then◌else◌, List, [], ◌∷◌, ◌++◌, length, Option, None, Some}
 use Rattle.bp_limits.specs.Limits.{block_size, block_words, max_height}
 use Rattle.bp_limits.specs.CallLimits.{max_size}
@@ -23,17 +23,18 @@ abbrev pub links_in : Option Link → List (ℕ × ℕ)
 links_in None = []
 links_in (Some link) = (link.place, link.pointer) ∷ []
 
--- the old bytes of a tree that begins at an offset, below the size, and behind it the given ones
+-- the old bytes of a tree that starts at an offset, below the size, and after them the given ones
 abbrev pub extended : Image → ℕ → ℕ → ℕ → List ℕ → ℕ → ℕ → ℕ
 extended image root size from bytes start i =
     if nat_lt (start + i) size then byte image root i else given from bytes (start + i)
 
--- a store behind the size of a tree, into a block of a part of it
+-- a store past the size of a tree, to a block of one part of it
 pub record IsBehindPart (image : Image) (root size part part_size place value : ℕ) : Type 0 where
   pub behind : IsBehind image root size place value
   pub has : HasBlock image part part_size (place / block_words)
 
--- A live pointer of the tree is null, and a tree of the given bytes is made for its place, some of which are wanted.
+-- A live pointer of the tree is null, and a tree of the given bytes was built for it, since some of its bytes are
+-- wanted.
 pub record Hangs (old new : Image) (root size from to place pointer : ℕ) (bytes taken : List ℕ) : Type 0 where
   pub depth : ℕ
   pub index : ℕ
@@ -48,7 +49,7 @@ pub record Hangs (old new : Image) (root size from to place pointer : ℕ) (byte
       (given_at from bytes (index * span live.level)) (Has below) (from ≤ index * span live.level)
   pub wanted : from < index * span live.level + span live.level
 
--- No store must wait, or just one, which hangs such a tree into one of these blocks.
+-- No store is pending, or only one, which links a new tree, for a null pointer, into a block of this part of the tree.
 pub data AreHung (old new : Image) (root size from to : ℕ) (bytes taken : List ℕ) (InPart : ℕ → Type 0)
     (links : List (ℕ × ℕ)) : Type 0 where
   no_link : links ≡ [] → AreHung old new root size from to bytes taken InPart links
@@ -56,7 +57,8 @@ pub data AreHung (old new : Image) (root size from to : ℕ) (bytes taken : List
       → Hangs old new root size from to place pointer bytes taken → InPart place
       → AreHung old new root size from to bytes taken InPart links
 
--- A block of the tree (root word, size) has the tree's last byte, and there are free blocks and room for what it lacks.
+-- The condition to visit a block of the tree: it has the tree's last byte, enough blocks are free, and the log has
+-- room.
 pub record CanVisit (memory : Memory) (free : List ℕ) (root size level start block from to : ℕ) : Type 0 where
   pub depth : ℕ
   pub index : ℕ
@@ -80,8 +82,8 @@ pub record CanVisit (memory : Memory) (free : List ℕ) (root size level start b
   pub room : block_words * tally (suc level) (max from start) (min to (start + span level)) + room_behind size from to level
       ≤ room_in memory + block_words * spine (current_words memory) root size from to (suc level)
 
--- The part of the tree under the block, with the links, has its old bytes and the given ones, in its old blocks and
--- those taken.
+-- With the pending links, the part of the tree under the block has its old bytes and the given ones, in its old blocks
+-- and the taken ones.
 pub record Visits (old new : Memory) (free_old free_new : List ℕ) (root size level start block from to : ℕ)
     (bytes : List ℕ) (links : List (ℕ × ℕ)) : Type 0 where
   pub taken : List ℕ
@@ -99,13 +101,14 @@ pub record Visits (old new : Memory) (free_old free_new : List ℕ) (root size l
       (λ b. HasBlock (current_words old) (block_size * block + level) (size - start) b ⊎ Has taken b)
       (IsFull (current_words old) (block_size * block + level) (size - start) × (from ≡ size))
 
--- the last slot of a node that begins before the size
+-- the last slot of a node that starts before the size
 pub record IsLast (size below start slot : ℕ) : Type 0 where
   pub few : slot < block_words
   pub begun : start + slot * span below < size
   pub ends : size ≤ start + slot * span below + span below
 
--- the same of the part in that slot of the block, whose children stand at this level
+-- With the pending links, the part of the tree in this slot of a block, whose children have this level, has its old
+-- bytes and the given ones, in its old blocks and the taken ones.
 pub record VisitsSlot (old new : Memory) (free_old free_new : List ℕ) (root size below start block slot from to : ℕ)
     (bytes : List ℕ) (links : List (ℕ × ℕ)) : Type 0 where
   pub taken : List ℕ
@@ -130,8 +133,8 @@ pub record VisitsSlot (old new : Memory) (free_old free_new : List ℕ) (root si
       (IsFull (current_words old) (child (current_words old) block below slot) (size - (start + slot * span below))
       × (from ≡ size))
 
--- A tree was made for the place of a null, and a store that puts it there is left, unless the tree is null too: that is
--- where no byte of it is wanted.
+-- A tree was built for a null pointer, and the store that links it is pending. If none of the tree's bytes is wanted,
+-- the tree is null too and no store is pending.
 pub record Hung (old new : Memory) (free_old free_new : List ℕ) (level start from to : ℕ) (bytes : List ℕ) (place : ℕ)
     (links : List (ℕ × ℕ)) : Type 0 where
   pub pointer : ℕ

@@ -1,4 +1,4 @@
-//! Bytes that are laid into a leaf, by runs of words.
+//! Writes bytes into a leaf, by runs of words.
 
 ghost use Rattle.std.specs.Prelude.{◌≡◌, ℕ, ◌+◌, ◌*◌, ◌/◌, ◌^◌, ◌<◌, ◌≤◌, length, slice_index};
 ghost use Rattle.bp_layout.specs.Words.{byte_of};
@@ -11,11 +11,11 @@ use bp_limits::BLOCK_WORDS;
 use pm_region::Region;
 use pm_words::word_at;
 
-/// How many words are stored at once: a cache line of them. The length is known wherever they are copied, so a copy is a few
-/// moves, and a short write fills no array that it doesn't need.
+/// Words that are stored at once: a cache line. The length is known at each copy, so a copy is a few moves, and a short
+/// write fills no larger array than it needs.
 const RUN: usize = 8;
 
-/// What is laid: from the offset `low` on the bytes that are given from the offset `from` on, and 0 where none is.
+/// Bytes to write: from offset `low` on the given bytes, which start at offset `from`, and 0 elsewhere.
 #[derive(Clone, Copy)]
 struct Layer<'a> {
     low: u64,
@@ -23,7 +23,7 @@ struct Layer<'a> {
     bytes: &'a [u8],
 }
 
-/// The given bytes that lie before an offset.
+/// Returns the given bytes that are before an offset.
 fn bytes_before(high: u64, from: u64, bytes: &[u8]) -> &[u8]
     ensures before { (offset : ℕ) → offset < high → given from result.now offset ≡ given from bytes.now offset }
     ensures behind { (offset : ℕ) → high ≤ offset → given from result.now offset ≡ 0 }
@@ -32,7 +32,7 @@ fn bytes_before(high: u64, from: u64, bytes: &[u8]) -> &[u8]
     &bytes[..count as usize]
 }
 
-/// The values of the words of a run that lies whole in the given bytes, its first byte at a place among them.
+/// Returns the words of a run that is fully within the given bytes, from byte `at` of them on.
 fn given_run(bytes: &[u8], at: usize) -> [u64; RUN]
     requires { at + 8 * run_words ≤ length bytes.now }
     ensures { (k c : ℕ) → k < run_words → c < 8 → byte_of (slice_index result k) c ≡ slice_index bytes.now (at + 8 * k + c) }
@@ -44,7 +44,7 @@ fn given_run(bytes: &[u8], at: usize) -> [u64; RUN]
     words
 }
 
-/// The values of the words of a run, the first byte of which is at `start`, where no byte of it stays.
+/// Returns the words of a run that starts at `start`, if it keeps no old byte.
 fn new_run(start: u64, layer: &Layer<'_>) -> [u64; RUN]
     requires few { start + 8 * run_words < 2 ^ 64 }
     ensures { (k c : ℕ) → k < run_words → c < 8 → byte_of (slice_index result k) c ≡
@@ -57,7 +57,7 @@ fn new_run(start: u64, layer: &Layer<'_>) -> [u64; RUN]
     words
 }
 
-/// The values of the words of a run, the first byte of which is at `start`: 0, where it ends before the first given byte.
+/// Returns the words of a run that starts at `start`; 0 if it ends before the first given byte.
 fn early_run(start: u64, layer: &Layer<'_>) -> [u64; RUN]
     requires few { start + 8 * run_words < 2 ^ 64 }
     ensures { (k c : ℕ) → k < run_words → c < 8 → byte_of (slice_index result k) c ≡
@@ -70,8 +70,8 @@ fn early_run(start: u64, layer: &Layer<'_>) -> [u64; RUN]
     new_run(start, layer)
 }
 
-/// The values of the words of a run behind the bytes that stay. The first byte of it is at `start`. A run that lies whole in the
-/// given bytes is read as it stands there, and one that has none of them is 0.
+/// Returns the words of a run that starts at `start`, past the bytes that are kept. A run fully within the given bytes
+/// is copied from them, and a run without any of them is 0.
 fn laid_run(start: u64, layer: &Layer<'_>) -> [u64; RUN]
     requires few { start + 8 * run_words < 2 ^ 64 }
     ensures { (k c : ℕ) → k < run_words → c < 8 → byte_of (slice_index result k) c ≡
@@ -91,7 +91,7 @@ fn laid_run(start: u64, layer: &Layer<'_>) -> [u64; RUN]
     new_run(start, layer)
 }
 
-/// Stores a run of words behind the bytes that stay. The first of them stands at `place`, and its first byte is at `start`.
+/// Stores a run of words past the bytes that are kept. Its first word is at `place`, and its first byte at `start`.
 fn lay_run<R: Region>(region: &mut R, place: u32, start: u64, layer: &Layer<'_>)
     requires in_range { place + run_words ≤ length (R.memory region.old).base }
     requires few { start + 8 * run_words < 2 ^ 64 }
@@ -104,7 +104,7 @@ fn lay_run<R: Region>(region: &mut R, place: u32, start: u64, layer: &Layer<'_>)
     region.store_words(place, &words);
 }
 
-/// The value of a word that stands at `place`, its first byte at `start`. The first byte that is laid may be in it.
+/// Returns the value of the word at `place`, whose first byte is at `start`. Offset `low` may be in this word.
 fn laid_word<R: Region>(region: &R, place: u32, start: u64, layer: &Layer<'_>) -> u64
     requires in_range { place < length (R.memory region.now).base }
     requires few { start + 8 < 2 ^ 64 }
@@ -119,7 +119,7 @@ fn laid_word<R: Region>(region: &R, place: u32, start: u64, layer: &Layer<'_>) -
     word_with(old, start, layer.low, layer.from, layer.bytes)
 }
 
-/// Stores one word, in which the first byte that is laid may be. It stands at `place`, and its first byte is at `start`.
+/// Stores the word at `place`, whose first byte is at `start`. Offset `low` may be in this word.
 fn lay_word<R: Region>(region: &mut R, place: u32, start: u64, layer: &Layer<'_>)
     requires in_range { place < length (R.memory region.old).base }
     requires few { start + 8 < 2 ^ 64 }
@@ -132,8 +132,8 @@ fn lay_word<R: Region>(region: &mut R, place: u32, start: u64, layer: &Layer<'_>
     region.store(place, value);
 }
 
-/// Stores the first of so many words, or a run of them, where there are so many and each of their bytes is laid. Tells how many
-/// it stored. The first of them stands at `place`, and its first byte is at `start`.
+/// Stores the first of `count` words, or a whole run of them if there are enough and none of their bytes is kept.
+/// Returns how many words it stored. The first word is at `place`, and its first byte at `start`.
 fn lay_some<R: Region>(region: &mut R, place: u32, start: u64, count: u32, layer: &Layer<'_>) -> u32
     requires any { 0 < count }
     requires in_range { place + count ≤ length (R.memory region.old).base }
@@ -154,7 +154,7 @@ fn lay_some<R: Region>(region: &mut R, place: u32, start: u64, count: u32, layer
     }
 }
 
-/// Lays the given bytes over those of a leaf, in the region's block `block`, from the offset `low` to `high`. The leaf's first
+/// Writes the given bytes into the leaf at block `block` of the region, from offset `low` to `high`. The leaf's first
 /// byte is at `start`.
 pub(crate) fn lay<R: Region>(
     region: &mut R,

@@ -1,4 +1,4 @@
--- When what a volume remembers of its directories is right.
+-- When a cache of directories is correct for an image.
 use Rattle.std.specs.Prelude.{◌≡◌, ℕ, ⊤, List, Contains}
 use Rattle.bp_cache.specs.declared.cache.DirectoryCache.{DirectoryCache}
 use Rattle.bp_cache.specs.declared.held.Held.{Held}
@@ -13,27 +13,28 @@ use Rattle.bp_layout.specs.Words.{Image}
 use Rattle.bp_names.specs.Names.{known_of}
 use Rattle.bp_tree.specs.declared.tree.Tree.{Tree}
 
--- where inode i is a directory that is reached, the index is that of its entries; it may be gone
+-- If inode `i` is a reachable directory, the index is that of its entries. For any other inode it need not be.
 abbrev pub IsIndexIn : Image → ℕ → Index → Type 0
 IsIndexIn image i index = IsReached image i → IsDirectory image i →
     IsIndexOf image (root_of image i) (size_of image i) index
 
--- what is held of directory i is right
+-- The state held for directory `i` is correct.
 abbrev pub IsHeldOf : Image → ℕ → Held → Type 0
 IsHeldOf image i Lost = ⊤
 IsHeldOf image i (Indexed index) = IsIndexIn image i index
 IsHeldOf image i Unindexed = ⊤
 
--- so is what is held of each of these directories
+-- The states held for all these directories are correct.
 abbrev pub AreHeldOf : Image → List (ℕ × Held) → Type 0
 AreHeldOf image directories = (i : ℕ) (held : Held) → Contains directories (i, held) → IsHeldOf image i held
 
--- The names that are known have their slots, and what is held of directories is right.
+-- The cache is correct for the image: the names that it knows have their slots, and the states held for directories
+-- are correct.
 pub record IsCacheOf (image : Image) (cache : DirectoryCache) : Type 0 where
   pub names : AreRight image (known_of cache.names)
   pub directories : AreHeldOf image cache.directories.entries
 
--- the tree is that of a directory that a well-formed image reaches
+-- The tree is that of a directory that is reachable in a well-formed image.
 pub record HasTree (image : Image) (i : ℕ) (tree : Tree) : Type 0 where
   pub well : IsWellFormed image
   pub reached : IsReached image i

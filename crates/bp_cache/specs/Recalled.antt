@@ -1,4 +1,4 @@
--- What is remembered of a name.
+-- What the cache remembers of a name.
 use Rattle.std.specs.Prelude.{◌≡◌, ⊤, Option, IfSome}
 use Rattle.bp_cache.specs.declared.recalled.Recalled.{Recalled}
 use Rattle.bp_cache.specs.declared.recalled.Recalled.TheVariants.{Told, Unknown}
@@ -9,12 +9,12 @@ use Rattle.bp_layout.specs.Paths.{Name}
 use Rattle.bp_layout.specs.Words.{Image}
 use Rattle.bp_tree.specs.declared.tree.Tree.{Tree}
 
--- what a search for the name in the directory that has this tree finds
+-- The result of a search for the name in the directory with this tree.
 pub record IsSearch (image : Image) (tree : Tree) (name : Name) (found : Option Found) : Type 0 where
   pub slot : found_slot found ≡ slot_named_in image tree.root tree.size name
   pub inumber : IfSome found (λ it. it.inumber ≡ inumber_in image tree.root it.slot)
 
--- where something is remembered of the name, it is that
+-- If anything is remembered of the name, it is the result of a search for it.
 abbrev pub IsRecalled : Image → Tree → Name → Recalled → Type 0
 IsRecalled image tree name (Told found) = IsSearch image tree name found
 IsRecalled image tree name Unknown = ⊤

@@ -30,23 +30,24 @@ use pm_region::Region;
 use std::alloc::{AllocError, Global};
 use std::num::NonZeroUsize;
 
-/// How many names are known at most.
+/// The greatest number of names that are known.
 const KNOWN_NAMES: usize = 256;
 
-/// Of how many large directories an index is held at most.
+/// The greatest number of large directories for which an index is held.
 const HELD_DIRECTORIES: usize = 256;
 
-/// The size in bytes that a directory of 32 entries has. One of no more is searched from its first entry on, which takes no
-/// longer than to recall a name.
+/// The size in bytes of a directory of 32 entries. A directory of at most this size is searched from its first entry
+/// on, which takes no longer than to recall a name.
 const FEW_SIZE: u64 = 32 * ENTRY_SIZE;
 
-/// The size in bytes that a directory of 64 entries has. One of no more entries is small: it gets no index.
+/// The size in bytes of a directory of 64 entries. A directory of at most this size is small: it gets no index.
 const SMALL_SIZE: u64 = 64 * ENTRY_SIZE;
 
-/// Where the names stand that were found last, and the indexes of large directories that are searched often.
+/// The slots of the names that were found last, and the indexes of large directories that are searched often.
 ///
-/// It is right of an image or not (`IsCacheOf`): each change of the names in directories is told to it, by [`enter`], [`leave`],
-/// [`rename`] or [`replace`], and it is right of the image after the change then. Where it finds no memory it remembers less.
+/// The cache can be correct for an image (`IsCacheOf`). The caller reports each change of the names in directories to
+/// it, by [`enter`], [`leave`], [`rename`] or [`replace`]; then it is correct for the image after the change. If
+/// allocation fails, it remembers less.
 ///
 /// [`enter`]: DirectoryCache::enter
 /// [`leave`]: DirectoryCache::leave
@@ -54,21 +55,21 @@ const SMALL_SIZE: u64 = 64 * ENTRY_SIZE;
 /// [`replace`]: DirectoryCache::replace
 #[derive(Drop)]
 pub struct DirectoryCache {
-    // where names stand in small directories
+    // the slots of names in small directories
     names: Names,
-    // what is held of large ones, by their inodes
+    // the state held for large directories, by their inodes
     directories: LruCache<u32, Held>,
-    // how often those were searched of which nothing is held
+    // the number of searches of directories for which no state is held
     searches: Searches,
     alloc: Global,
 }
 
 impl DirectoryCache {
-    /// Remembers nothing yet.
+    /// Makes a cache that remembers nothing.
     ///
     /// # Errors
     ///
-    /// `AllocError` where there is no memory for it.
+    /// - `AllocError`: allocation fails.
     pub fn new(alloc: Global) -> Result<DirectoryCache, AllocError>
         ensures { IfOk result (λ cache. (image : Image) → IsCacheOf image cache) }
     {
@@ -81,7 +82,7 @@ impl DirectoryCache {
         })
     }
 
-    /// What is remembered of a name in a small directory.
+    /// Returns what is remembered of a name in a small directory.
     fn recall_name<R: Region>(&mut self, region: &R, dir: u32, tree: Tree, name: &[u8]) -> Recalled
         requires tree { HasTree (current_words (R.memory region.now)) dir tree }
         requires short { length name.now ≤ max_name }
@@ -98,8 +99,8 @@ impl DirectoryCache {
         }
     }
 
-    /// What is remembered of a name in a large directory. An index that is held tells it. Else the search is counted, and an
-    /// index is made where there were many.
+    /// Returns what is remembered of a name in a large directory, by its index if one is held. Else it counts the
+    /// search, and makes an index after many searches.
     fn recall_large<R: Region>(&mut self, region: &R, dir: u32, tree: Tree, name: &[u8]) -> Recalled
         requires tree { HasTree (current_words (R.memory region.now)) dir tree }
         requires short { length name.now ≤ max_name }
@@ -120,7 +121,7 @@ impl DirectoryCache {
         }
     }
 
-    /// What is remembered of a name in a directory of more than a few entries.
+    /// Returns what is remembered of a name in a directory of more than 32 entries.
     #[inline(never)]
     fn recall_larger<R: Region>(
         &mut self,
@@ -141,7 +142,7 @@ impl DirectoryCache {
         self.recall_large(region, dir, tree, name)
     }
 
-    /// What is remembered of a name in a directory.
+    /// Returns what is remembered of a name in a directory.
     fn recall<R: Region>(&mut self, region: &R, dir: u32, tree: Tree, name: &[u8]) -> Recalled
         requires tree { HasTree (current_words (R.memory region.now)) dir tree }
         requires short { length name.now ≤ max_name }
@@ -155,7 +156,7 @@ impl DirectoryCache {
         self.recall_larger(region, dir, tree, name)
     }
 
-    /// Learns the slot of a name that was found in a small directory.
+    /// Records the slot of a name that was found in a small directory.
     #[inline(never)]
     fn learn(&mut self, dir: u32, name: &[u8], slot: u64)
         requires short { length name.now ≤ max_name }
@@ -164,7 +165,8 @@ impl DirectoryCache {
         self.names.learn(dir, name, slot);
     }
 
-    /// Whether an index of a directory is held, or that none can be made of it. The directory is the most recent then.
+    /// Returns whether an index of a directory is held, or is known to be impossible. Marks the directory as the one
+    /// used last.
     fn is_held(&mut self, dir: u32) -> bool
         ensures { (image : Image) → IsCacheOf image self.old → IsCacheOf image self.new }
     {
@@ -178,8 +180,8 @@ impl DirectoryCache {
         }
     }
 
-    /// Counts a search of a large directory of which nothing is held, and makes an index of it where it was searched
-    /// often. Tells whether something is held of it then.
+    /// Counts a search of a large directory for which no state is held, and makes an index of it if it was searched
+    /// often. Returns whether a state is held for it then.
     fn make_held<R: Region>(&mut self, region: &R, dir: u32, tree: Tree) -> bool
         requires tree { HasTree (current_words (R.memory region.now)) dir tree }
         requires right { IsCacheOf (current_words (R.memory region.now)) self.old }
@@ -193,8 +195,8 @@ impl DirectoryCache {
         true
     }
 
-    /// Counts a search of a large directory, and makes an index of it where it was searched often. Tells whether
-    /// something is held of it.
+    /// Counts a search of a large directory, and makes an index of it if it was searched often. Returns whether a
+    /// state is held for it.
     fn count_search<R: Region>(&mut self, region: &R, dir: u32, tree: Tree) -> bool
         requires tree { HasTree (current_words (R.memory region.now)) dir tree }
         requires right { IsCacheOf (current_words (R.memory region.now)) self.old }
@@ -203,7 +205,7 @@ impl DirectoryCache {
         self.is_held(dir) || self.make_held(region, dir, tree)
     }
 
-    /// What [`bp_dirs::find_or_free`] tells of a directory, which is told by its inode and has this tree.
+    /// Returns what [`bp_dirs::find_or_free`] returns for a directory, given its inode and its tree.
     pub fn find_or_free<R: Region>(&mut self, region: &R, dir: u32, tree: Tree, name: &[u8]) -> Spot
         requires well { IsWellFormed (current_words (R.memory region.now)) }
         requires reached { IsReached (current_words (R.memory region.now)) dir }
@@ -228,8 +230,8 @@ impl DirectoryCache {
         }
     }
 
-    /// What [`Finder::find`] tells of one name and [`DirectoryCache::find_or_free`] of another one in the same
-    /// directory: by one scan, where the first is not remembered.
+    /// Returns what [`Finder::find`] returns for one name and [`DirectoryCache::find_or_free`] for another one in the
+    /// same directory, by one scan if the first is not remembered.
     pub fn find_both<R: Region>(
         &mut self,
         region: &R,
@@ -262,38 +264,38 @@ impl DirectoryCache {
         }
     }
 
-    /// What is held of a directory is told that a name comes to its slot.
+    /// Updates the state held for a directory after a name was added in its slot.
     fn enter_held(&mut self, at: NameAt<'_>)
         ensures names { self.new.names ≡ self.old.names }
         ensures held { ChangesOne at.entry.dir (Enters at.entry) self.old.directories.entries self.new.directories.entries }
     {
-        // its clauses tell that no directory is held twice
+        // The postconditions of `len` state that no directory is held twice.
         let _held = self.directories.len();
         if let Some(held) = self.directories.peek_mut(&at.dir) {
             held.enter(at.name, at.slot);
         }
     }
 
-    /// What is held of a directory is told that a name leaves its slot.
+    /// Updates the state held for a directory after a name was removed from its slot.
     fn leave_held(&mut self, at: NameAt<'_>)
         ensures names { self.new.names ≡ self.old.names }
         ensures held { ChangesOne at.entry.dir (Leaves at.entry) self.old.directories.entries self.new.directories.entries }
     {
-        // its clauses tell that no directory is held twice
+        // The postconditions of `len` state that no directory is held twice.
         let _held = self.directories.len();
         if let Some(held) = self.directories.peek_mut(&at.dir) {
             held.leave(at.name, at.slot);
         }
     }
 
-    /// A name comes to its slot.
+    /// Updates the cache after a name was added in its slot.
     pub fn enter(&mut self, at: NameAt<'_>)
         ensures { (old new : Image) → IsCacheOf old self.old → NameEnters old new at.entry → IsCacheOf new self.new }
     {
         self.enter_held(at);
     }
 
-    /// A name leaves its slot.
+    /// Updates the cache after a name was removed from its slot.
     pub fn leave(&mut self, at: NameAt<'_>)
         ensures { (old new : Image) → IsCacheOf old self.old → NameLeaves old new at.entry → IsCacheOf new self.new }
     {
@@ -310,7 +312,7 @@ impl DirectoryCache {
         self.names.forget(other.dir, other.name);
     }
 
-    /// A name leaves its slot, and another comes to its own.
+    /// Updates the cache after a name was removed from its slot and another one was added in its own.
     pub fn rename(&mut self, from: NameAt<'_>, to: NameAt<'_>)
         ensures { (old new : Image) → IsCacheOf old self.old → NameMoves old new from.entry to.entry → IsCacheOf new self.new }
     {
@@ -319,7 +321,8 @@ impl DirectoryCache {
         self.enter_held(to);
     }
 
-    /// A name leaves its slot for one that is there: the inode that had that one has it no more.
+    /// Updates the cache after a name replaced another one: the name `from` was removed from its slot, and the entry
+    /// of the name `to` may refer to another inode now.
     pub fn replace(&mut self, from: NameAt<'_>, to: NameAt<'_>)
         ensures { (old new : Image) → IsCacheOf old self.old → NameReplaces old new from.entry to.entry → IsCacheOf new self.new }
     {
@@ -327,14 +330,14 @@ impl DirectoryCache {
         self.leave_held(from);
     }
 
-    /// Forgets what is held of a directory, which may be gone.
+    /// Drops the state held for a directory, which may have been removed.
     pub fn drop_directory(&mut self, dir: u32)
         ensures { (image : Image) → IsCacheOf image self.old → IsCacheOf image self.new }
     {
         let _held = self.directories.pop(&dir);
     }
 
-    /// Forgets all.
+    /// Forgets everything.
     pub fn clear(&mut self)
         ensures { (image : Image) → IsCacheOf image self.new }
     {
@@ -349,7 +352,7 @@ impl Finder for DirectoryCache {
 
     ghost same_references = { λ _ _. ⊤ };
 
-    /// Where a name stands in a directory: by what is known, by the directory's index, or by a scan.
+    /// Finds a name in a directory: by the names that are known, by the directory's index, or by a scan.
     fn find<R: Region>(&mut self, region: &R, dir: u32, tree: Tree, name: &[u8]) -> Option<Found> {
         if let Recalled::Told(told) = self.recall(region, dir, tree, name) {
             return told;

@@ -1,4 +1,4 @@
-//! What is held of a large directory.
+//! The state that is held for a large directory.
 
 ghost use Rattle.std.specs.Prelude.{◌≡◌, ◌≤◌, length};
 ghost use Rattle.bp_cache.specs.Held.{Becomes, IndexIs};
@@ -17,19 +17,19 @@ use bp_tree::Tree;
 use pm_region::Region;
 use std::alloc::Global;
 
-/// What is held of a large directory.
+/// The state that is held for a large directory.
 #[derive(Drop)]
 pub(crate) enum Held {
     /// Its index.
     Indexed(Index),
-    /// It had an index, which could not tell a name that came. Another one may be made.
+    /// Its index was dropped because a new name could not be added. The next search may rebuild it.
     Lost,
-    /// No index could be made of it.
+    /// An index of it could not be made.
     Unindexed,
 }
 
 impl Held {
-    /// An index of the directory that has this tree, if one can be made.
+    /// Makes an index of the directory with this tree, if possible.
     pub fn of<R: Region>(alloc: Global, region: &R, tree: Tree) -> Held
         requires { IsSound (current_words (R.memory region.now)) tree.root tree.size }
         ensures { IndexIs (IsIndexOf (current_words (R.memory region.now)) tree.root tree.size) result }
@@ -40,7 +40,7 @@ impl Held {
         }
     }
 
-    /// What the index tells of a name in the directory that has this tree.
+    /// Returns what the index records of a name in the directory with this tree.
     pub fn recall<R: Region>(&self, region: &R, tree: Tree, name: &[u8]) -> Recalled
         requires sound { IsSound (current_words (R.memory region.now)) tree.root tree.size }
         requires short { length name.now ≤ max_name }
@@ -53,7 +53,7 @@ impl Held {
         }
     }
 
-    /// What [`find_or_free`] tells, by the index if there is one.
+    /// Returns what [`find_or_free`] returns, by the index if there is one.
     pub fn find_or_free<R: Region>(&mut self, region: &R, tree: Tree, name: &[u8]) -> Spot
         requires sound { IsSound (current_words (R.memory region.now)) tree.root tree.size }
         requires short { length name.now ≤ max_name }
@@ -69,7 +69,8 @@ impl Held {
         }
     }
 
-    /// A name comes to its slot. An index that can't tell it goes, and the next search makes another, if one can be made.
+    /// Updates the index after a name was added in its slot. An index that cannot hold the name is dropped, and the
+    /// next search makes another one, if possible.
     pub fn enter(&mut self, name: &[u8], slot: u64)
         ensures { Becomes (λ before after. EntersSlot before after name.now slot) self.old self.new }
     {
@@ -81,7 +82,7 @@ impl Held {
         }
     }
 
-    /// A name leaves its slot.
+    /// Updates the index after a name was removed from its slot.
     pub fn leave(&mut self, name: &[u8], slot: u64)
         ensures { Becomes (λ before after. LeavesSlot before after name.now slot) self.old self.new }
     {

@@ -1,7 +1,8 @@
-//! What a volume remembers of its directories, so that a name is found without a scan: where the names stand that were found
+//! A cache of a volume's directories, by which names are found without a scan: the slots of the names that were found
 //! last, and an index of each large directory that is searched often.
 //!
-//! It is memory of the program alone. What is not remembered, or finds no memory, is searched for in the image.
+//! The cache is in the memory of the program only. Names that it does not hold are searched for in the image, also if
+//! allocation failed.
 #![tactic(auto)]
 
 mod cache;

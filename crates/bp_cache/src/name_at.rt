@@ -3,7 +3,7 @@
 /// A name in a directory, and the slot of its entry there.
 #[derive(Clone, Copy)]
 pub struct NameAt<'a> {
-    /// The directory's inode.
+    /// The number of the directory's inode.
     pub dir: u32,
     /// The name.
     pub name: &'a [u8],

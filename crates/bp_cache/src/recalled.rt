@@ -1,11 +1,11 @@
-//! What is remembered of a name.
+//! What the cache remembers of a name.
 
 use bp_dirs::Found;
 
-/// What is remembered of a name in a directory.
+/// What the cache remembers of a name in a directory.
 #[derive(Clone, Copy)]
 pub(crate) enum Recalled {
-    /// What a search for it finds.
+    /// The result of a search for it.
     Told(Option<Found>),
     /// Nothing.
     Unknown,

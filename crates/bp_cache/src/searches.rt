@@ -1,34 +1,36 @@
 //! Counts of the searches of directories.
 
-/// How many searches of a large directory come before an index is made of it. To make one takes about as long as 16 to 22
-/// of them where the directory's blocks come from memory, and as 30 to 47 where they are in the processor's caches.
+/// The number of searches of a large directory before an index is made of it. To make an index takes about as long as
+/// 16 to 22 searches if the directory's blocks come from memory, and as 30 to 47 if they are in the processor's
+/// caches.
 const SEARCHES: u32 = 16;
 
-/// Of how many directories searches are counted at most.
+/// The greatest number of directories whose searches are counted.
 const COUNTED: usize = 256;
 
-/// How often a directory was searched.
+/// The number of searches of a directory.
 #[derive(Clone, Copy)]
 struct Searched {
     dir: u32,
     times: u32,
 }
 
-/// How often directories were searched since they were searched first, or since another one was that shares their place.
+/// The number of searches of each directory, since its first search, or since its place was last taken over from
+/// another directory.
 #[derive(Drop)]
 pub(crate) struct Searches {
     places: [Searched; COUNTED],
 }
 
 impl Searches {
-    /// No searches.
+    /// Makes counts without searches.
     pub fn new() -> Searches {
         Searches {
             places: [Searched { dir: 0, times: 0 }; COUNTED],
         }
     }
 
-    /// Counts a search of a directory, and tells whether it was searched often before.
+    /// Counts a search of a directory, and returns whether it was searched often before.
     pub fn count(&mut self, dir: u32) -> bool {
         let place = &mut self.places[dir as usize % COUNTED];
         if place.dir != dir {

@@ -1,4 +1,4 @@
--- What a file asks that gets longer without bytes of its own.
+-- Preconditions for making a file longer without new bytes.
 use Rattle.std.specs.Prelude.{◌≡◌, ℕ, ◌<◌, ◌≤◌, [], Bool}
 use Rattle.bp_free.specs.Set.{Set}
 use Rattle.bp_layout.specs.Inode.{IsFile, size_of}
@@ -12,8 +12,9 @@ use Rattle.bp_calls.specs.Space.{HasRoomThawed}
 use Rattle.pm_region.specs.Memory.{Memory, current_words}
 use Rattle.bp_layout.specs.Thaw.{thawed}
 
--- The image is well formed, the sets are exact, and inode i is a file, shorter than this size, which one of the image's
--- version may have. Nothing is left to thaw. The log has room for the change, where enough blocks are free.
+-- The image is well formed, the sets are exact, and inode `i` is a file that is shorter than `size`, which is within
+-- the limit of the image's version. No block is left to thaw. If enough blocks are free, the log has room for the
+-- change.
 pub record CanGrowFile (kept : ℕ → Bool) (memory : Memory) (blocks inodes : Set) (i size : ℕ) : Type 0 where
   pub well_formed : IsWellFormed (current_words memory)
   pub exact : AreExact (current_words memory) kept blocks inodes

@@ -1,4 +1,4 @@
--- What a write into a file asks.
+-- Preconditions for a write into a file.
 use Rattle.std.specs.Prelude.{◌≡◌, ℕ, ◌+◌, ◌≤◌, List, [], length, Bool}
 use Rattle.bp_shapes.specs.Sets.{AreExact}
 use Rattle.bp_free.specs.Set.{Set}
@@ -13,8 +13,8 @@ use Rattle.bp_calls.specs.Space.{HasRoomThawed}
 use Rattle.pm_region.specs.Memory.{Memory, current_words}
 use Rattle.bp_layout.specs.Thaw.{thawed}
 
--- Inode i is a file. There are bytes, no more than one call writes, and they end where a file of the image's version may
--- end.
+-- Inode `i` is a file. There are bytes, no more than one call may write, and they end within the greatest size of a
+-- file in the image's version.
 pub record CanWrite (image : Image) (i off : ℕ) (bytes : List ℕ) : Type 0 where
   pub reached : IsReached image i
   pub file : IsFile image i
@@ -22,14 +22,14 @@ pub record CanWrite (image : Image) (i off : ℕ) (bytes : List ℕ) : Type 0 wh
   pub short : length bytes ≤ max_write
   pub fits : off + length bytes ≤ greatest_size (version_of image)
 
--- The same, where the image is well formed and the sets are exact.
+-- `CanWrite`, in a well-formed image with exact sets.
 pub record CanWriteInto (kept : ℕ → Bool) (image : Image) (blocks inodes : Set) (i off : ℕ) (bytes : List ℕ)
     : Type 0 where
   pub well_formed : IsWellFormed image
   pub exact : AreExact image kept blocks inodes
   pub can : CanWrite image i off bytes
 
--- The same, where nothing is left to thaw. The log has room for the change, where enough blocks are free.
+-- `CanWriteInto`, with no block left to thaw. If enough blocks are free, the log has room for the change.
 pub record CanWriteThawed (kept : ℕ → Bool) (memory : Memory) (blocks inodes : Set) (i off : ℕ) (bytes : List ℕ) : Type 0 where
   pub into : CanWriteInto kept (current_words memory) blocks inodes i off bytes
   pub clear : thawed (current_words memory) kept (writes i off (length bytes)) ≡ []

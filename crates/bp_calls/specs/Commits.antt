@@ -1,4 +1,4 @@
--- What a call makes of the parts of a file system: it commits a change, or lacks blocks and leaves all as it was.
+-- The effect of a call on the parts of a file system: it commits a change, or lacks blocks and changes nothing.
 use Rattle.std.specs.Prelude.{◌≡◌, ℕ, IfErr, OnErr, OnOk, Result, length}
 use Rattle.bp_calls.specs.Created.{EntersName}
 use Rattle.bp_calls.specs.Entrant.{ForCreation}
@@ -15,16 +15,16 @@ use Rattle.bp_layout.specs.declared.fields.Kind.{Kind}
 use Rattle.bp_shapes.specs.Sets.{IsExact, kept_of}
 use Rattle.pm_region.specs.Memory.{Memory, current_words}
 
--- The change is done, where nothing has to be thawed any more. The sets and counts of the parts are just those of the
--- image again, and the same blocks are kept.
+-- The change is made, and no block was left to thaw before it. The sets and counts of the new parts are exactly those
+-- of the new image, and the frozen blocks are the same.
 pub record CommitsChange {R : Type 0} (memory : R → Memory) (old new : Parts R) (change : Change)
     (Effect : Image → Image → Type 0) : Type 0 where
   pub performs : PerformsThawed (kept_of old) (memory old.region) (memory new.region) change Effect
   pub frozen : new.frozen ≡ old.frozen
   pub exact : IsExact (current_words (memory new.region)) new
 
--- The same where as many blocks are free as the change needs. Where fewer are, the error tells both numbers, and
--- nothing has changed.
+-- The change is made, with no block left to thaw before it; or fewer blocks are free than it needs, the error holds
+-- both numbers, and nothing has changed.
 pub record CommitsOrLacksBlocks {R T : Type 0} (memory : R → Memory) (old new : Parts R) (result : Result T NoSpace)
     (change : Change) (Effect : Image → Image → Type 0) : Type 0 where
   pub performs : OnOk result (PerformsThawed (kept_of old) (memory old.region) (memory new.region) change Effect)
@@ -35,8 +35,9 @@ pub record CommitsOrLacksBlocks {R T : Type 0} (memory : R → Memory) (old new 
   pub free : IfErr result (λ lacks. lacks.free ≡ length (members old.blocks))
   pub same : OnErr result (new ≡ old)
 
--- The same of a whole call, which first thaws what is kept on the ways to its change: the blocks for that are among
--- those that it needs, and its effect is the one of the change, behind the thaw.
+-- The effect of a whole call, which first thaws the blocks of the snapshot on the paths to its change. Its need
+-- includes those blocks, and its effect is that of the change, after the thaw. If fewer blocks are free than it needs,
+-- the error holds both numbers, and nothing has changed.
 pub record CommitsOrLacksSpace {R T : Type 0} (memory : R → Memory) (old new : Parts R) (result : Result T NoSpace)
     (change : Change) (Effect : Image → Image → Type 0) : Type 0 where
   pub performs : OnOk result (Performs (kept_of old) (memory old.region) (memory new.region) change (AfterThaw Effect))
@@ -45,8 +46,8 @@ pub record CommitsOrLacksSpace {R T : Type 0} (memory : R → Memory) (old new :
   pub refused : IfErr result (LacksSpace (current_words (memory old.region)) (kept_of old) change)
   pub same : OnErr result (new ≡ old)
 
--- The same of a call that creates a name in directory i. Its change is told by the least free inode, or as one by which
--- the inode file grows, where none is free.
+-- The effect of a whole call that creates a name in directory `i`, with the same two outcomes. Its change is determined
+-- by the least free inode; if none is free, the change includes the growth of the inode file.
 pub record CreatesOrLacksSpace {R T : Type 0} (memory : R → Memory) (old new : Parts R) (result : Result T NoSpace)
     (i : ℕ) (name : Name) (kind : Kind) : Type 0 where
   pub performs : OnOk result (ForCreation (current_words (memory old.region)) i (λ change.

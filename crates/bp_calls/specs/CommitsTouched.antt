@@ -1,4 +1,4 @@
--- A commit of what is touched below the sizes of files.
+-- A commit of touched bytes and words below the sizes of files.
 use Rattle.std.specs.Prelude.{◌≡◌, ◌<◌, ◌≤◌, IfErr, OnErr, OnOk, Result, length}
 use Rattle.bp_cow.specs.CanCommit.{CanCommit}
 use Rattle.bp_cow.specs.Commit.{CommitsTouched, HasRoom}
@@ -11,20 +11,20 @@ use Rattle.bp_layout.specs.Inode.{size_of}
 use Rattle.bp_shapes.specs.Sets.{kept_of}
 use Rattle.pm_region.specs.Memory.{Memory, current_words}
 
--- it may be done, with the free blocks of the parts and below the sizes that the trees have
+-- The commit may be made, with the free blocks of the parts, and below the sizes of the trees.
 abbrev pub CanCommitTouched : {R : Type 0} → (R → Memory) → Parts R → Touched → Type 0
 CanCommitTouched memory parts touched =
     CanCommit (current_words (memory parts.region)) (size_of (current_words (memory parts.region))) (kept_of parts) touched
     (has parts.blocks)
 
--- the log has room for it, where as many blocks are free as are copied
+-- If as many blocks are free as the commit copies, the log has room for it.
 abbrev pub HasRoomToCommit : {R : Type 0} → (R → Memory) → Parts R → Touched → Type 0
 HasRoomToCommit memory parts touched =
     copied_count (current_words (memory parts.region)) touched ≤ length (members parts.blocks)
     → HasRoom (memory parts.region) touched
 
--- It is done where as many blocks are free as are copied. Where fewer are, the error tells both numbers, and nothing
--- has changed. The inodes, their counts and the blocks that are kept stay in any case.
+-- The commit is made; or fewer blocks are free than it copies, the error holds both numbers, and nothing has changed.
+-- The inodes, their counts and the frozen blocks are the same in both cases.
 pub record CommitsTouchedOrLacks {R T : Type 0} (memory : R → Memory) (old new : Parts R) (result : Result T NoSpace)
     (touched : Touched) : Type 0 where
   pub commits : OnOk result (CommitsTouched (size_of (current_words (memory old.region))) (kept_of old) touched

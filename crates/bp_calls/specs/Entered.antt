@@ -1,4 +1,4 @@
--- What stands ready for a new name, before the one store that shows it.
+-- The state before the one store that makes a new name visible.
 use Rattle.std.specs.Prelude.{◌≡◌, ◌≢◌, ℕ, ◌+◌, ◌/◌, ◌<◌, ◌≤◌}
 use Rattle.bp_layout.specs.Formatted.{version_of}
 use Rattle.bp_limits.specs.Limits.{entry_size, greatest_height}
@@ -10,7 +10,7 @@ use Rattle.bp_layout.specs.Reached.{IsReached}
 use Rattle.bp_layout.specs.Tree.{HasBlock, IsSound, IsFull}
 use Rattle.bp_layout.specs.Words.{Image, height_of}
 
--- inode j, which no path reaches, is a file or a directory without bytes
+-- Inode `j`, which no path reaches, is a file or a directory without bytes.
 pub record IsNewInode (image : Image) (j kind : ℕ) : Type 0 where
   pub free : IsFreeInode image j
   pub kind_is : kind_of image j ≡ kind
@@ -18,7 +18,7 @@ pub record IsNewInode (image : Image) (j kind : ℕ) : Type 0 where
   pub most : kind ≤ 2
   pub empty : size_of image j ≡ 0
 
--- entry s of directory i is empty, and has this name in its other words
+-- Entry `s` of directory `i` is empty, and its other words hold this name.
 pub record IsReadyEntry (image : Image) (i s : ℕ) (name : Name) : Type 0 where
   pub reached : IsReached image i
   pub directory : IsDirectory image i
@@ -26,8 +26,8 @@ pub record IsReadyEntry (image : Image) (i s : ℕ) (name : Name) : Type 0 where
   pub empty : inumber_at image i s ≡ 0
   pub spelled : name_at image i s ≡ name
 
--- Behind the last entry of directory i there is one for inode j with this name. Read with one entry more the tree is
--- sound and without a null, and no other tree has a block of it.
+-- After the last entry of directory `i` there is one with this name for inode `j`. Read with one more entry the
+-- directory's tree is sound and has no null pointer, and it shares no block with another tree.
 pub record IsReadyBehind (image : Image) (i j : ℕ) (name : Name) : Type 0 where
   pub reached : IsReached image i
   pub directory : IsDirectory image i

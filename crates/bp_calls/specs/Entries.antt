@@ -1,4 +1,4 @@
--- An entry behind the last one of a directory: its bytes, and what stands of it before the size takes it in.
+-- An entry after the last one of a directory: its bytes, and the tree before the size includes it.
 use Rattle.std.specs.Prelude.{◌≡◌, ℕ, ◌+◌, ◌-◌, ◌<◌, List, length, nat_lt, slice_index, Bool, if◌then◌else◌}
 use Rattle.bp_append.specs.Prepared.{PreparesWith}
 use Rattle.bp_free.specs.Set.{members}
@@ -11,19 +11,19 @@ use Rattle.bp_limits.specs.Limits.{entry_size}
 use Rattle.bp_shapes.specs.Sets.{kept_of}
 use Rattle.pm_region.specs.Memory.{Memory, current_words}
 
--- A byte of an entry: eight of the inumber, the lowest first, eight of the name's length, and then the name, with zeros
--- behind it.
+-- A byte of an entry: eight bytes of the inode number, least significant first, eight of the name's length, and then
+-- the name, followed by zeros.
 abbrev pub entry_byte : ℕ → Name → ℕ → ℕ
 entry_byte inumber name at =
     if nat_lt at 8 then byte_of inumber at
     else if nat_lt at 16 then byte_of (length name) (at - 8)
     else slice_index name (at - 16)
 
--- these are the bytes of an entry
+-- The bytes are those of an entry with this inode number and name.
 abbrev pub AreEntryBytes : ℕ → Name → List ℕ → Type 0
 AreEntryBytes inumber name bytes = (at : ℕ) → at < entry_size → slice_index bytes at ≡ entry_byte inumber name at
 
--- Directory i is prepared for one entry more, which names inode j. Nobody sees it.
+-- Directory `i` is prepared for one more entry, which refers to inode `j`. The entry is not visible yet.
 pub record PutsBehind (kept : ℕ → Bool) (old new : Memory) (free_old free_new : List ℕ) (i j : ℕ) (name : Name) : Type 0 where
   pub bytes : List ℕ
   pub prepared : PreparesWith kept old new free_old free_new i (size_of (current_words old) i)
@@ -31,7 +31,7 @@ pub record PutsBehind (kept : ℕ → Bool) (old new : Memory) (free_old free_ne
   pub inumber : inumber_in (current_words new) (root_of (current_words new) i) (entry_count (current_words old) i) ≡ j
   pub spelled : name_in (current_words new) (root_of (current_words new) i) (entry_count (current_words old) i) ≡ name
 
--- the same of the parts of a file system, with the blocks that are free
+-- `PutsBehind` for the parts of a file system, with their free blocks.
 abbrev pub PutsEntry : {R : Type 0} → (R → Memory) → Parts R → Parts R → ℕ → ℕ → Name → Type 0
 PutsEntry memory old new i j name = PutsBehind (kept_of old) (memory old.region) (memory new.region) (members old.blocks)
     (members new.blocks) i j name

@@ -1,8 +1,8 @@
--- Blocks that come back into a set of free ones.
+-- Blocks that return to the set of free blocks.
 use Rattle.std.specs.Prelude.{◌≡◌, ◌⊎◌, ℕ, length, Bool, true, false}
 use Rattle.bp_free.specs.Set.{Set, has}
 
--- the new set has the numbers of the old one and those of the gone ones that are not kept, and no others
+-- The new set has the members of the old one and the blocks that are gone and not kept, and no others.
 pub record GivesBack (kept : ℕ → Bool) (Gone : ℕ → Type 0) (old new : Set) : Type 0 where
   pub room : length new ≡ length old
   pub given : (b : ℕ) → Gone b → kept b ≡ false → has new b ≡ true

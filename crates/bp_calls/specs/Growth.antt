@@ -1,4 +1,4 @@
--- The inode file gets one more leaf of inodes where none is free, and a call goes on behind that.
+-- Growth of the inode file by one leaf of inodes, for a call that finds none free.
 use Rattle.std.specs.Prelude.{◌≡◌, ◌≢◌, ◌⊎◌, ℕ, suc, ◌+◌, ◌-◌, ◌*◌, ◌<◌, ◌≤◌, List, length, Bool}
 use Rattle.bp_changes.specs.SameMeaning.{SameMeaning}
 use Rattle.bp_free.specs.Set.{Set, members}
@@ -18,12 +18,13 @@ use Rattle.bp_commit.specs.Performs.{AddsTaking, room_for}
 use Rattle.pm_region.specs.Memory.{Memory, current_words, room_in}
 use Rattle.bp_append.specs.Prepared.{HasLooseEnd}
 
--- how many blocks the inode file takes for one more leaf: as many in each change that needs an inode and finds none
+-- The number of blocks that the inode file takes for one more leaf. It is the same for each change that needs an inode
+-- and finds none free.
 abbrev pub growth_need : Image → ℕ
 growth_need image = growth_count image (enters 1 grown)
 
--- The image is well formed, and the sets are exact. As many blocks are free as the inode file takes, and its end is not
--- kept. The log has room for a call behind a thaw that needs so many.
+-- The image is well formed, and the sets are exact. As many blocks are free as the growth takes, and the end of the
+-- inode file is not shared with the snapshot. The log has room for the growth and the rest of the call, after a thaw.
 pub record CanGrowInodes (kept : ℕ → Bool) (memory : Memory) (blocks inodes : Set) : Type 0 where
   pub well_formed : IsWellFormed (current_words memory)
   pub exact : AreExact (current_words memory) kept blocks inodes
@@ -31,8 +32,8 @@ pub record CanGrowInodes (kept : ℕ → Bool) (memory : Memory) (blocks inodes 
   pub loose : HasLooseEnd (current_words memory) kept 0
   pub room : room_for (growth_need (current_words memory)) ≤ room_in memory + 2
 
--- The inode file has one more leaf, whose inodes are all zero. Its blocks are those that it had and the ones taken. All
--- else that the image means is as it was, and each other tree stands where it stood.
+-- The inode file has one more leaf, whose inodes are all zero. Its blocks are the old ones and those taken. The image
+-- otherwise means the same, and each other tree keeps its root and its nodes.
 pub record AddsInodes (old new : Image) (taken : List ℕ) : Type 0 where
   pub meaning : SameMeaning old new
   pub size : size_of new 0 ≡ size_of old 0 + block_size
@@ -44,7 +45,7 @@ pub record AddsInodes (old new : Image) (taken : List ℕ) : Type 0 where
   pub has_old : (b : ℕ) → HasBlock old (root_of old 0) (size_of old 0) b →
       HasBlock new (root_of new 0) (size_of new 0) b
   pub has_taken : (b : ℕ) → Has taken b → HasBlock new (root_of new 0) (size_of new 0) b
-  -- the nodes that it had stand as high above the leaves as they did
+  -- The old nodes of the inode file are as high above the leaves as before.
   pub nodes : (d k : ℕ) → IsLivePointer (root_of old 0) (size_of old 0) d k → node old (root_of old 0) d k ≢ 0 →
       node new (root_of new 0) (height_of (root_of new 0) - height_of (root_of old 0) + d) k ≡ node old (root_of old 0) d k
   pub roots : (u : ℕ) → IsReached old u → u ≢ 0 → root_of new u ≡ root_of old u
@@ -53,17 +54,17 @@ pub record AddsInodes (old new : Image) (taken : List ℕ) : Type 0 where
 
 -- ---- stores
 
--- how many stores the growth makes at most that takes so many blocks
+-- The greatest number of stores of a growth that takes this number of blocks.
 abbrev pub growth_stores : ℕ → ℕ
 growth_stores needed = block_words * (needed + 2)
 
--- and how many a call makes at most behind it that needs so many more: with those of the growth no more than a call may
--- make
+-- The greatest number of stores of the rest of a call that needs this number of blocks after a growth. With those of
+-- the growth they are within the bound for a call.
 abbrev pub stores_behind_growth : ℕ → ℕ
 stores_behind_growth needed = block_words * (needed + 4) + 64
 
--- Nobody sees at any moment of a crash that the inode file grows. It takes as many blocks as it needs, and each gets a
--- store.
+-- The inode file grows, invisibly at every crash point. It takes as many blocks as it needs, and stores to each of
+-- them.
 pub record GrowsInodes (kept : ℕ → Bool) (old new : Memory) : Type 0 where
   pub taken : List ℕ
   pub adds : AddsTaking kept taken 3 (growth_stores (length taken)) old new

@@ -1,4 +1,4 @@
--- A write that changes one word of a file in its place.
+-- A write that changes one word of a file in place.
 use Rattle.std.specs.Prelude.{◌≢◌, ℕ, ◌+◌, ◌%◌, ◌/◌, ◌≤◌}
 use Rattle.bp_layout.specs.Inode.{IsFile, root_of, size_of}
 use Rattle.bp_layout.specs.Reached.{IsReached}
@@ -6,8 +6,8 @@ use Rattle.bp_layout.specs.Tree.{node}
 use Rattle.bp_layout.specs.Words.{Image, height_of}
 use Rattle.bp_limits.specs.Limits.{block_size}
 
--- Some bytes of file i from an offset on, as many as told, lie below its size, in one word, and the file has their
--- block: they are not in a hole.
+-- `len` bytes of file `i` from offset `off` on lie below its size, in one word, and the file has their block: they are
+-- not in a hole.
 pub record LiesInWord (image : Image) (i off len : ℕ) : Type 0 where
   pub reached : IsReached image i
   pub file : IsFile image i

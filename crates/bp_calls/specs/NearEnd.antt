@@ -1,4 +1,4 @@
--- The words near which a change stores that goes by the size of a tree, as the code finds them.
+-- The words near which a change at the size of a tree stores, as the code finds them.
 use Rattle.std.specs.Prelude.{◌≡◌, ℕ, ◌+◌, ◌<◌, ◌≤◌, List}
 use Rattle.bp_layout.specs.Inode.{root_of, size_of}
 use Rattle.bp_layout.specs.Need.Change.{resizes, writes}
@@ -7,25 +7,25 @@ use Rattle.bp_layout.specs.WordPaths.{WordPath}
 use Rattle.bp_layout.specs.Words.{Image}
 use Rattle.bp_tree.specs.declared.tree.Tree.{Tree}
 
--- It holds of each tree of an image that has this root word and this size, and to whose root word this path leads.
+-- The property holds of each tree of an image that has this root word, this size, and this path to its root word.
 abbrev pub ForTree : WordPath → Tree → (Image → ℕ → Type 0) → Type 0
 ForTree root tree Holds = (image : Image) (t : ℕ) → root ≡ root_path_now image t → tree.root ≡ root_of image t
     → tree.size ≡ size_of image t → Holds image t
 
--- These are the paths of the words for bytes that begin below the size of inode i and end past it,
+-- These are the targets of a write of bytes that begin below the size of inode `i` and end past it.
 abbrev pub AreTargetsAcross : Image → ℕ → List WordPath → Type 0
 AreTargetsAcross image i paths = (off len : ℕ) → off < size_of image i → size_of image i < off + len
     → paths ≡ targets image (writes i off len)
 
--- for bytes that begin at the size or past it,
+-- These are the targets of a write of bytes that begin at the size of inode `i` or past it.
 abbrev pub AreTargetsBehind : Image → ℕ → List WordPath → Type 0
 AreTargetsBehind image i paths = (off len : ℕ) → size_of image i ≤ off → 1 ≤ len
     → paths ≡ targets image (writes i off len)
 
--- for a greater size,
+-- These are the targets of a change of the size of inode `i` to a greater one.
 abbrev pub AreTargetsLonger : Image → ℕ → List WordPath → Type 0
 AreTargetsLonger image i paths = (size : ℕ) → size_of image i < size → paths ≡ targets image (resizes i size)
 
--- and for one that is no greater.
+-- These are the targets of a change of the size of inode `i` to one that is not greater.
 abbrev pub AreTargetsShorter : Image → ℕ → List WordPath → Type 0
 AreTargetsShorter image i paths = (size : ℕ) → size ≤ size_of image i → paths ≡ targets image (resizes i size)

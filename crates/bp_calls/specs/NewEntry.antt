@@ -1,5 +1,5 @@
--- A name comes into a directory for an inode that is there: the change that its stores are, and the sets of free numbers
--- behind it.
+-- A new name in a directory, for an existing inode: the change that the stores make, and the sets of free blocks and
+-- inodes after it.
 use Rattle.std.specs.Prelude.{ℕ, ◌+◌, ◌*◌, Bool, Option}
 use Rattle.bp_calls.specs.Created.{EntersName, LinksEntry}
 use Rattle.bp_calls.specs.Entrant.{ForCreation, entrant_of}
@@ -18,48 +18,50 @@ use Rattle.bp_limits.specs.Limits.{entry_words, inode_words}
 use Rattle.bp_shapes.specs.Sets.{AreExact}
 use Rattle.pm_region.specs.Memory.{Memory, current_words}
 
--- The new entry of directory i is performed in as many blocks as a name takes whose inode is there, with 5 barriers and
--- no more stores than a call may make behind a growth of the inode file.
+-- The new entry of directory `i` is made in as many blocks as a name for an existing inode takes, with 5 barriers and
+-- within the bound on stores after a growth of the inode file.
 abbrev pub PerformsEntry : (ℕ → Bool) → Memory → Memory → ℕ → Entrant → (Image → Image → Type 0) → Type 0
 PerformsEntry kept old new i entrant Effect = PerformsWithin kept (name_need (current_words old) i) 5
     (stores_behind_growth (name_need (current_words old) i)) old new (enters i entrant) Effect
 
--- in slot s, for inode j that is free, whichever blocks are kept but those of the entry and of the inode
+-- A new name in slot `s` for the free inode `j`. Any blocks may be those of the snapshot, except the blocks of the
+-- entry and of the inode.
 abbrev pub EntersInSlot : Memory → Memory → ℕ → ℕ → ℕ → Name → Kind → Type 0
 EntersInSlot old new i s j name kind =
     (kept : ℕ → Bool) → HasLooseWord (current_words old) kept i (entry_words * s + 0)
     → HasLooseWord (current_words old) kept 0 (inode_words * j + 0)
     → PerformsEntry kept old new i (taken j) (EntersName i name kind)
 
--- in slot s, for file j, whichever blocks are kept but that of the entry
+-- A new name in slot `s` for file `j`. Any blocks may be those of the snapshot, except the block of the entry.
 abbrev pub LinksInSlot : Memory → Memory → ℕ → ℕ → Name → ℕ → Type 0
 LinksInSlot old new i s name j =
     (kept : ℕ → Bool) → HasLooseWord (current_words old) kept i (entry_words * s + 0)
     → PerformsEntry kept old new i linked (LinksEntry i name j)
 
--- for the least free inode, as many blocks as are taken for one that is there
+-- A new name for the least free inode. It takes as many blocks as a name for an existing inode.
 abbrev pub EntersLeastFree : (ℕ → Bool) → Memory → Memory → ℕ → Name → Kind → Type 0
 EntersLeastFree kept old new i name kind = (free : Option ℕ) → IsLeastFree (current_words old) free
     → PerformsEntry kept old new i (entrant_of free) (EntersName i name kind)
 
--- The creation of a name in directory i is performed, where nothing is left to thaw.
+-- The creation of a name in directory `i` is made, with no block left to thaw before it.
 abbrev pub PerformsCreation : (ℕ → Bool) → Memory → Memory → ℕ → Name → Kind → Type 0
 PerformsCreation kept old new i name kind =
     ForCreation (current_words old) i (λ change. PerformsThawed kept old new change (EntersName i name kind))
 
 -- ---- sets: with the same blocks kept, one set of blocks before and one after
 
--- inodes that are just the free ones before are so after
+-- A set that holds exactly the free inodes before holds exactly those after.
 abbrev pub KeepsFreeInodes : (ℕ → Bool) → Memory → Memory → Set → Set → Type 0
 KeepsFreeInodes kept old new blocks after = (inodes : Set) → AreExact (current_words old) kept blocks inodes
     → AreExact (current_words new) kept after inodes
 
--- they are so after once inode j is none of them
+-- A set that holds exactly the free inodes before holds exactly those after, once inode `j` is taken out.
 abbrev pub TakesFreeInode : (ℕ → Bool) → Memory → Memory → Set → Set → ℕ → Type 0
 TakesFreeInode kept old new blocks after j = (inodes : Set) → AreExact (current_words old) kept blocks inodes
     → AreExact (current_words new) kept after (without inodes j)
 
--- the same with the same set of blocks, whichever are kept
+-- Sets of free inodes and of free blocks stay exact, with the same blocks free, whichever blocks are those of the
+-- snapshot.
 abbrev pub KeepsFree : Memory → Memory → Type 0
 KeepsFree old new = (kept : ℕ → Bool) (blocks : Set) → KeepsFreeInodes kept old new blocks blocks
 

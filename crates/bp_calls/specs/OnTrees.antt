@@ -1,4 +1,4 @@
--- What calls make of the plain tree, at each path that finds the directory or the file that they change.
+-- The effect of calls on the abstract tree, at each path that finds the directory or the file that they change.
 use Rattle.std.specs.Prelude.{◌≡◌, ℕ, List, [], ◌∷◌, ◌++◌, Some}
 use Rattle.bp_changes.specs.Overwrites.{OverwritesFiles, Patch}
 use Rattle.bp_changes.specs.Thawed.{AfterThaw}
@@ -14,44 +14,47 @@ use Rattle.bp_plain.specs.PlainTree.{PathMap}
 use Rattle.bp_plain.specs.Stands.{Shows}
 use Rattle.bp_stands.specs.Pieces.{ArePatches}
 
--- a file without bytes at the path, or a directory without names
+-- The tree with an empty file, or with an empty directory, at the path.
 abbrev pub with_new : Kind → PathMap → Path → PathMap
 with_new File map path = with_file map path
 with_new Dir map path = with_dir map path
 
--- The directory gains the name: wherever a path finds it, the second image shows an empty file or directory there.
+-- Directory `i` gains the name: at each path that finds the directory, the second image has an empty file or directory
+-- of this name.
 abbrev pub GainsName : ℕ → Name → Kind → Image → Image → Type 0
 GainsName i name kind old new = (map : PathMap) (here : Path) → Shows old map → lookup old here ≡ Some i →
     Shows new (with_new kind map (here ++ name ∷ []))
 
--- File j has the name besides those that it has: wherever a path finds the directory, the second image shows the file
--- there too, as one with that at each path that finds it.
+-- File `j` gains the name as another link: at each path that finds the directory, the second image has the file under
+-- this name, as one file with that at each of its other paths.
 abbrev pub SharesName : ℕ → Name → ℕ → Image → Image → Type 0
 SharesName i name j old new = (map : PathMap) (from here : Path) → Shows old map → lookup old from ≡ Some j →
     lookup old here ≡ Some i → Shows new (with_name map from (here ++ name ∷ []))
 
--- wherever a path finds directory i, the second image shows nothing at the name that slot s had
+-- Directory `i` loses a name: at each path that finds it, the second image has nothing under the name that slot `s`
+-- had.
 abbrev pub LosesName : ℕ → ℕ → Image → Image → Type 0
 LosesName i s old new = (map : PathMap) (here : Path) → Shows old map → lookup old here ≡ Some i →
     Shows new (with_nothing map (here ++ name_at old i s ∷ []))
 
--- Wherever a path finds file i, the second image shows it with this size at each of its paths: the front of its bytes,
+-- At each path that finds file `i`, the second image has the file with this size at all its paths: its first bytes,
 -- filled up with zeros.
 abbrev pub GetsSize : ℕ → ℕ → Image → Image → Type 0
 GetsSize i size old new = (map : PathMap) (here : Path) → Shows old map → lookup old here ≡ Some i →
     Shows new (with_content map here (resized (bytes_at map.nodes here) size))
 
--- wherever a path finds file i, the second image shows it with these bytes from an offset on at each of its paths,
--- behind zeros where it ended before
+-- At each path that finds file `i`, the second image has the file at all its paths with these bytes from an offset on,
+-- after zeros if it ended before.
 abbrev pub GetsBytes : ℕ → ℕ → List ℕ → Image → Image → Type 0
 GetsBytes i off bytes old new = (map : PathMap) (here : Path) → Shows old map → lookup old here ≡ Some i →
     Shows new (with_content map here (written (bytes_at map.nodes here) off bytes))
 
--- the second image shows the pieces of a batch, laid one after the other into the files that their paths find
+-- The second image has the pieces of a batch, written one after the other into the files that their paths find.
 abbrev pub GetsPieces : List Piece → Image → Image → Type 0
 GetsPieces pieces old new = (map : PathMap) → Shows old map → Shows new (with_pieces map pieces)
 
--- the pieces are patches of the files that their paths find, and these patches are laid over the files, behind a thaw
+-- The pieces are patches of the files that their paths find, and these patches are written over the files, after a
+-- thaw.
 pub record OverwritesPieces (pieces : List Piece) (old new : Image) : Type 0 where
   pub patches : List Patch
   pub are : ArePatches old pieces patches

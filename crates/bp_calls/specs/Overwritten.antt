@@ -1,4 +1,4 @@
--- What bytes for several files ask, and what they touch.
+-- Preconditions for bytes written into several files at once, and what they touch.
 use Rattle.std.specs.Prelude.{◌≡◌, ℕ, ◌+◌, ◌≤◌, List, [], ◌∷◌, length, map, Bool}
 use Rattle.bp_limits.specs.Limits.{max_pieces}
 use Rattle.bp_limits.specs.CallLimits.{max_batch}
@@ -19,21 +19,21 @@ use Rattle.bp_calls.specs.Space.{HasRoomThawed}
 use Rattle.bp_calls.specs.TouchedBelow.{IsRunFor}
 use Rattle.pm_region.specs.Memory.{Memory, current_words}
 
--- the patches of code as those of the definitions
+-- A patch of the code as a patch of the definitions.
 abbrev pub patch_seen : GivenPatch → Patch
 patch_seen patch = record { inode = patch.inode; off = patch.off; bytes = patch.bytes.now }
 
 abbrev pub patches_seen : List GivenPatch → List Patch
 patches_seen patches = map patch_seen patches
 
--- the bytes that they change, by their place alone
+-- The bytes that a patch changes, by their place only.
 abbrev pub stretch_of : Patch → Stretch
 stretch_of patch = record { inode = patch.inode; off = patch.off; len = length patch.bytes }
 
 abbrev pub stretches_of : List Patch → List Stretch
 stretches_of patches = map stretch_of patches
 
--- the change that a batch of them is
+-- The change that a batch of patches makes.
 abbrev pub batch_change : List GivenPatch → Change
 batch_change patches = overwrites (stretches_of (patches_seen patches))
 
@@ -41,21 +41,22 @@ abbrev pub byte_count : List Patch → ℕ
 byte_count [] = 0
 byte_count (patch ∷ patches) = length patch.bytes + byte_count patches
 
--- the inode is a file, and the bytes end at its size at most
+-- The inode is a file, and the bytes end at or below its size.
 pub record IsPatchIn (image : Image) (patch : Patch) : Type 0 where
   pub reached : IsReached image patch.inode
   pub is_file : IsFile image patch.inode
   pub within : patch.off + length patch.bytes ≤ size_of image patch.inode
 
--- The patches lie in files, so many at most. Some of them has a byte, and all have no more than one call writes.
+-- The patches lie in files, and there are at most `max_pieces`. Together they have at least one byte, and no more
+-- bytes than one call may write.
 pub record CanOverwrite (image : Image) (patches : List Patch) : Type 0 where
   pub few : length patches ≤ max_pieces
   pub each : Each (IsPatchIn image) patches
   pub some : 1 ≤ byte_count patches
   pub short : byte_count patches ≤ max_batch
 
--- The same, where the image is well formed, the sets are exact, and nothing is left to thaw. The log has room for the
--- change, where enough blocks are free.
+-- `CanOverwrite`, in a well-formed image with exact sets and no block left to thaw. If enough blocks are free, the log
+-- has room for the change.
 pub record CanOverwriteThawed (kept : ℕ → Bool) (memory : Memory) (blocks inodes : Set) (patches : List Patch) : Type 0 where
   pub well_formed : IsWellFormed (current_words memory)
   pub exact : AreExact (current_words memory) kept blocks inodes
@@ -63,7 +64,7 @@ pub record CanOverwriteThawed (kept : ℕ → Bool) (memory : Memory) (blocks in
   pub clear : thawed (current_words memory) kept (overwrites (stretches_of patches)) ≡ []
   pub room : HasRoomThawed memory blocks (overwrites (stretches_of patches))
 
--- the runs of the patches that have bytes, in their order
+-- The runs of those patches that have bytes, in their order.
 pub data AreRuns (image : Image) : List Patch → List Run → Type 0 where
   none : AreRuns image [] []
   empty : {patch : Patch} {patches : List Patch} {runs : List Run} → length patch.bytes ≡ 0 →

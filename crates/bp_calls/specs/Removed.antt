@@ -1,4 +1,4 @@
--- What a call that takes a name out of a directory is asked for.
+-- Preconditions for a call that removes a name from a directory.
 use Rattle.std.specs.Prelude.{◌≡◌, ℕ, [], ◌∷◌, ◌++◌, Some}
 use Rattle.bp_dirs.specs.Names.{name_count}
 use Rattle.bp_layout.specs.Directory.{slot_named}
@@ -7,12 +7,12 @@ use Rattle.bp_layout.specs.Inode.{root_of, size_of}
 use Rattle.bp_layout.specs.Lookup.{lookup}
 use Rattle.bp_layout.specs.Words.{Image}
 
--- the path of this name in a directory finds inode j: the directory is i, and the name stands at slot s
+-- The path of this name in its parent directory finds inode `j`: the directory is `i`, and the name is in slot `s`.
 pub record IsFoundAt (image : Image) (parent : Path) (name : Name) (i s j : ℕ) : Type 0 where
   pub directory : lookup image parent ≡ Some i
   pub slot : slot_named image i name ≡ Some s
   pub inode : lookup image (parent ++ name ∷ []) ≡ Some j
 
--- no entry of directory j names an inode
+-- Directory `j` is empty: no entry of it refers to an inode.
 abbrev pub HasNoName : Image → ℕ → Type 0
 HasNoName image j = name_count image (root_of image j) (size_of image j) ≡ 0

@@ -1,4 +1,4 @@
--- Why a call has no space, and the room that it asks of the log where it has.
+-- Why a call has no space, and the room that a call needs in the log.
 use Rattle.std.specs.Prelude.{◌≡◌, ◌+◌, ◌<◌, ◌≤◌, ℕ, Bool, length}
 use Rattle.bp_calls.specs.Entrant.{ForCreation}
 use Rattle.bp_free.specs.Set.{Set, members}
@@ -10,30 +10,31 @@ use Rattle.bp_layout.specs.Words.{Image}
 use Rattle.bp_commit.specs.Performs.{HasRoomFor, room_for}
 use Rattle.pm_region.specs.Memory.{Memory, current_words, room_in}
 
--- it tells the blocks that are needed, and those that are free, which are fewer
+-- Fewer blocks are free than the wanted number, and the error holds both numbers.
 pub record LacksBlocks (image : Image) (kept : ℕ → Bool) (wanted : ℕ) (lacks : NoSpace) : Type 0 where
   pub needed : wanted ≡ lacks.need
   pub free : HasFree image kept lacks.free
   pub fewer : lacks.free < lacks.need
 
--- those that the change needs, with those that are thawed among them
+-- Fewer blocks are free than the change needs, including those that it thaws.
 abbrev pub LacksSpace : Image → (ℕ → Bool) → Change → NoSpace → Type 0
 LacksSpace image kept change lacks = LacksBlocks image kept (full_need image kept change) lacks
 
--- the same of the creation of a name in directory i
+-- `LacksSpace` for the creation of a name in directory `i`.
 abbrev pub LacksSpaceToCreate : Image → (ℕ → Bool) → ℕ → NoSpace → Type 0
 LacksSpaceToCreate image kept i lacks = ForCreation image i (λ change. LacksSpace image kept change lacks)
 
--- Where as many blocks are free as the change needs, the log has room for it. A call that lacks space asks for no room.
+-- If as many blocks are free as the change needs, the log has room for it. A call that lacks space needs no room.
 abbrev pub HasRoomWhereFree : Memory → (ℕ → Bool) → Set → Change → Type 0
 HasRoomWhereFree memory kept blocks change =
     full_need (current_words memory) kept change ≤ length (members blocks) → HasRoomFor memory kept change
 
--- the same for the creation of a name in directory i
+-- `HasRoomWhereFree` for the creation of a name in directory `i`.
 abbrev pub HasRoomToCreate : Memory → (ℕ → Bool) → Set → ℕ → Type 0
 HasRoomToCreate memory kept blocks i = ForCreation (current_words memory) i (HasRoomWhereFree memory kept blocks)
 
--- the same behind a thaw, whose two barriers are then spent
+-- If as many blocks are free as the change needs, the log has room for it after a thaw, whose two barriers are then
+-- spent.
 abbrev pub HasRoomThawed : Memory → Set → Change → Type 0
 HasRoomThawed memory blocks change = need (current_words memory) change ≤ length (members blocks)
     → room_for (need (current_words memory) change) ≤ room_in memory + 2

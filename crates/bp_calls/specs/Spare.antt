@@ -1,8 +1,8 @@
--- The words of an image that nobody reads.
+-- The words of an image that nothing reads.
 use Rattle.std.specs.Prelude.{ℕ}
 use Rattle.bp_changes.specs.Harmless.{IsHarmless}
 use Rattle.bp_layout.specs.Words.{Image}
 
--- any value may stand at the place
+-- Any value may be at this place.
 abbrev pub IsSpare : Image → ℕ → Type 0
 IsSpare image place = (value : ℕ) → IsHarmless image place value

@@ -1,4 +1,4 @@
--- What stands before a name is entered in a directory.
+-- Preconditions for the steps that enter a name in a directory.
 use Rattle.std.specs.Prelude.{◌≡◌, ◌≢◌, ℕ, ◌+◌, ◌*◌, ◌/◌, ◌≤◌, [], None, Some, Bool, false, length}
 use Rattle.bp_append.specs.Prepared.{HasLooseEnd, need_for}
 use Rattle.bp_free.specs.Set.{IsLeast, Set, members}
@@ -18,7 +18,7 @@ use Rattle.bp_limits.specs.Limits.{block_words, entry_size, entry_words, inode_w
 use Rattle.bp_shapes.specs.Sets.{AreExact}
 use Rattle.pm_region.specs.Memory.{Memory, current_words, room_in}
 
--- directory i is reached, and has no such name
+-- Directory `i` is reachable and does not have this name.
 pub record LacksName (image : Image) (i : ℕ) (name : Name) : Type 0 where
   pub well_formed : IsWellFormed image
   pub reached : IsReached image i
@@ -26,41 +26,43 @@ pub record LacksName (image : Image) (i : ℕ) (name : Name) : Type 0 where
   pub form : IsName name
   pub missing : slot_named image i name ≡ None
 
--- the same, and inode j is free for it
+-- `LacksName`, and inode `j` is free for the name.
 pub record CanName (image : Image) (i j : ℕ) (name : Name) : Type 0 where
   pub lacks : LacksName image i name
   pub free : IsFreeInode image j
 
--- the same, and inode j is a file that has a name
+-- `LacksName`, and inode `j` is a file that has a link.
 pub record CanLink (image : Image) (i j : ℕ) (name : Name) : Type 0 where
   pub lacks : LacksName image i name
   pub there : IsReached image j
   pub file : IsFile image j
 
--- the room in the log that a name asks once an inode is there, where it needs so many blocks: for its stores, 5 barriers
--- and its mark
+-- The room in the log for a name that needs this number of blocks, once its inode exists: for its stores, 5 barriers
+-- and its end-of-call marker.
 abbrev pub entering_room : ℕ → ℕ
 entering_room needed = stores_behind_growth needed + 5 + 1
 
--- how many blocks a name takes in directory i, where its inode is there: as many whichever inode that is
+-- The number of blocks that a name takes in directory `i` if its inode exists. It is the same for each inode.
 abbrev pub name_need : Image → ℕ → ℕ
 name_need image i = need image (enters i linked)
 
--- how many blocks directory i lacks for one entry more
+-- The number of blocks that directory `i` lacks for one more entry.
 abbrev pub entry_need_for : Image → ℕ → ℕ
 entry_need_for image i = need_for image i (size_of image i) (size_of image i + entry_size)
 
--- the block with a content word of a tree is not kept
+-- The block of a content word of a tree is not kept for the snapshot.
 abbrev pub HasLooseWord : Image → (ℕ → Bool) → ℕ → ℕ → Type 0
 HasLooseWord image kept t k = (place : ℕ) → ContentStandsAt image t k place → kept (place / block_words) ≡ false
 
--- What an entry more is stored into is not kept: its block, where an entry is empty, or else the end of the directory.
+-- The blocks to which one more entry is stored are not kept for the snapshot: the block of the least empty entry, or
+-- the end of the directory if no entry is empty.
 pub record HasLooseEntry (image : Image) (kept : ℕ → Bool) (i : ℕ) : Type 0 where
   pub slot : (s : ℕ) → empty_slot image i ≡ Some s → HasLooseWord image kept i (entry_words * s + 0)
   pub behind : empty_slot image i ≡ None → HasLooseEnd image kept i
 
--- Directory i lacks the name, no entry is empty, and as many blocks are free as the directory lacks for one entry more.
--- The set of blocks is exact, with one of inodes, and no block is kept with the end of the directory.
+-- Directory `i` does not have the name, no entry is empty, and as many blocks are free as the directory lacks for one
+-- more entry. The set of blocks is exact, with some set of inodes, and the blocks at the end of the directory are not
+-- kept for the snapshot.
 pub record CanPutBehind (kept : ℕ → Bool) (memory : Memory) (blocks : Set) (i : ℕ) (name : Name) : Type 0 where
   pub lacks : LacksName (current_words memory) i name
   pub none : empty_slot (current_words memory) i ≡ None
@@ -70,20 +72,20 @@ pub record CanPutBehind (kept : ℕ → Bool) (memory : Memory) (blocks : Set) (
   pub loose : HasLooseEnd (current_words memory) kept i
   pub room : entering_room (entry_need_for (current_words memory) i) ≤ room_in memory
 
--- the same, and inode j is free for it, in a block that is not kept
+-- `CanPutBehind`, and inode `j` is free for the name, in a block that is not kept for the snapshot.
 pub record CanEnterBehind (kept : ℕ → Bool) (memory : Memory) (blocks : Set) (i j : ℕ) (name : Name) : Type 0 where
   pub can : CanPutBehind kept memory blocks i name
   pub free : IsFreeInode (current_words memory) j
   pub loose : HasLooseWord (current_words memory) kept 0 (inode_words * j + 0)
 
--- or inode j is a file that has a name
+-- `CanPutBehind`, and inode `j` is a file that has a link.
 pub record CanLinkBehind (kept : ℕ → Bool) (memory : Memory) (blocks : Set) (i j : ℕ) (name : Name) : Type 0 where
   pub can : CanPutBehind kept memory blocks i name
   pub there : IsReached (current_words memory) j
   pub file : IsFile (current_words memory) j
 
--- The directory lacks the name, the sets are exact, an inode is free, and so are as many blocks as the name needs. What
--- the name is stored into is not kept.
+-- The directory does not have the name, the sets are exact, an inode is free, and so are as many blocks as the name
+-- needs. The blocks to which the name is stored are not kept for the snapshot.
 pub record CanEnter (kept : ℕ → Bool) (memory : Memory) (blocks inodes : Set) (i : ℕ) (name : Name) : Type 0 where
   pub lacks : LacksName (current_words memory) i name
   pub exact : AreExact (current_words memory) kept blocks inodes
@@ -93,7 +95,7 @@ pub record CanEnter (kept : ℕ → Bool) (memory : Memory) (blocks inodes : Set
   pub loose_inode : (j : ℕ) → IsLeast inodes j → HasLooseWord (current_words memory) kept 0 (inode_words * j + 0)
   pub room : entering_room (name_need (current_words memory) i) ≤ room_in memory
 
--- the same of file j, which is there
+-- `CanEnter` for the existing file `j`.
 pub record CanShare (kept : ℕ → Bool) (memory : Memory) (blocks inodes : Set) (i j : ℕ) (name : Name) : Type 0 where
   pub link : CanLink (current_words memory) i j name
   pub exact : AreExact (current_words memory) kept blocks inodes

@@ -1,4 +1,4 @@
--- What a change asks behind its thaw.
+-- Preconditions for a change after its thaw.
 use Rattle.std.specs.Prelude.{◌≡◌, ◌+◌, ◌≤◌, ℕ, [], Bool, length}
 use Rattle.bp_free.specs.Set.{Set, members}
 use Rattle.bp_free.specs.declared.parts.Parts.{Parts}
@@ -8,12 +8,12 @@ use Rattle.bp_commit.specs.Performs.{room_for}
 use Rattle.bp_shapes.specs.Sets.{kept_of}
 use Rattle.pm_region.specs.Memory.{Memory, current_words, room_in}
 
--- Nothing is left to thaw, as many blocks are free as the change needs, and the log has room for it.
+-- No block is left to thaw, as many blocks are free as the change needs, and the log has room for it.
 pub record IsThawedFor (kept : ℕ → Bool) (memory : Memory) (blocks : Set) (change : Change) : Type 0 where
   pub clear : thawed (current_words memory) kept change ≡ []
   pub enough : need (current_words memory) change ≤ length (members blocks)
   pub room : room_for (need (current_words memory) change) ≤ room_in memory + 2
 
--- the same of the parts of a file system
+-- `IsThawedFor` for the parts of a file system.
 abbrev pub AreThawedFor : {R : Type 0} → (R → Memory) → Parts R → Change → Type 0
 AreThawedFor memory parts change = IsThawedFor (kept_of parts) (memory parts.region) parts.blocks change

@@ -1,4 +1,4 @@
--- What a call does before its change, where some blocks are kept.
+-- The thaw of a call before its change: copy-on-write for the snapshot.
 use Rattle.std.specs.Prelude.{◌≡◌, ◌+◌, ◌≤◌, ℕ, List, length}
 use Rattle.bp_calls.specs.Space.{LacksBlocks}
 use Rattle.bp_free.specs.Set.{members}
@@ -12,27 +12,27 @@ use Rattle.bp_shapes.specs.Sets.{IsExact, kept_of}
 use Rattle.bp_thaw.specs.Thaws.{Thaws}
 use Rattle.pm_region.specs.Memory.{Memory, current_words, room_in}
 
--- so many blocks are thawed on these ways
+-- The number of blocks that are thawed on these paths.
 abbrev pub thaw_count : {R : Type 0} → (R → Memory) → List WordPath → Parts R → ℕ
 thaw_count memory paths parts = length (thawed_on (current_words (memory parts.region)) (kept_of parts) paths)
 
--- where as many blocks are free as that and so many more, the log has room for a call that takes them all
+-- If as many blocks are free as the thaw and `more`, the log has room for a call that takes them all.
 abbrev pub HasRoomToThaw : {R : Type 0} → (R → Memory) → List WordPath → Parts R → ℕ → Type 0
 HasRoomToThaw memory paths parts more = thaw_count memory paths parts + more ≤ length (members parts.blocks)
     → room_for (thaw_count memory paths parts + more) ≤ room_in (memory parts.region)
 
--- fewer are free, and the error tells how many are needed
+-- Fewer blocks are free than the thaw and `more`, and the error holds both numbers.
 abbrev pub LacksBlocksToThaw : {R : Type 0} → (R → Memory) → List WordPath → Parts R → ℕ → NoSpace → Type 0
 LacksBlocksToThaw memory paths parts more lacks =
     LacksBlocks (current_words (memory parts.region)) (kept_of parts) (thaw_count memory paths parts + more) lacks
 
--- The blocks on the ways are thawed. The sets and counts of the parts are still just those of the image, and the same
--- blocks are kept.
+-- The blocks of the snapshot on the paths are thawed. The sets and counts of the parts are still exactly those of the
+-- image, and the frozen blocks are the same.
 pub record ThawsFor {R : Type 0} (memory : R → Memory) (paths : List WordPath) (old new : Parts R) : Type 0 where
   pub thaws : Thaws (kept_of old) paths (memory old.region) (memory new.region) old.blocks new.blocks
   pub exact : IsExact (current_words (memory new.region)) new
   pub frozen : new.frozen ≡ old.frozen
 
--- the same on the ways to the words near which a change stores
+-- `ThawsFor` on the paths to the words near which a change stores.
 abbrev pub ThawsBefore : {R : Type 0} → (R → Memory) → Parts R → Parts R → Change → Type 0
 ThawsBefore memory old new change = ThawsFor memory (targets (current_words (memory old.region)) change) old new

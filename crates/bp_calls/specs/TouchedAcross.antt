@@ -18,12 +18,12 @@ use Rattle.bp_calls.specs.CanWrite.{CanWriteInto}
 use Rattle.bp_calls.specs.declared.writing.across.Plan.{Plan}
 use Rattle.pm_region.specs.Memory.{Memory, current_words}
 
--- the word of the size of inode i alone, with the value that it is given
+-- The only word is that of the size of inode `i`, with its new value `end`.
 pub record IsSizeWord (image : Image) (i end : ℕ) (words : List (ArrayVec ℕ × ℕ)) : Type 0 where
   pub path : map (λ word. word.0.items) words ≡ inode_path (height_of (root_of image 0)) i size_field ∷ []
   pub value : map (λ word. word.1) words ≡ end ∷ []
 
--- the run of these bytes from an offset on, in the tree of inode i once it is high enough for an end
+-- The run of these bytes from an offset on, in the tree of inode `i` once it is high enough for `end`.
 pub record IsRunAcross (image : Image) (i off end : ℕ) (bytes : List ℕ) (run : Run) : Type 0 where
   pub root : run.root.items ≡ inode_path (height_of (root_of image 0)) i root_field
   pub height : run.height ≡ height_with (root_of image i) (size_of image i) end
@@ -31,7 +31,7 @@ pub record IsRunAcross (image : Image) (i off end : ℕ) (bytes : List ℕ) (run
   pub from : run.off ≡ off
   pub bytes_are : run.bytes.now ≡ bytes
 
--- that run, and the word of the inode's size, which gets that end
+-- The write touches this run, and the word of the inode's size, which becomes `end`.
 pub record TouchesAcross (image : Image) (i off end : ℕ) (bytes : List ℕ) (touched : Touched) : Type 0 where
   pub run : Run
   pub one : touched.runs.now ≡ run ∷ []
@@ -40,8 +40,8 @@ pub record TouchesAcross (image : Image) (i off end : ℕ) (bytes : List ℕ) (t
   pub value : word_values touched ≡ end ∷ []
   pub no_trees : touched.trees.now ≡ []
 
--- Bytes that begin below the size of a file and end past it, and what is touched for them: those below the size, and
--- the size.
+-- Bytes that begin below the size of a file and end past it, and what the write touches: the bytes below the size, and
+-- the word of the size.
 pub record WritesAcross (kept : ℕ → Bool) (memory : Memory) (blocks inodes : Set) (i off : ℕ) (bytes : List ℕ)
     (touched : Touched) : Type 0 where
   pub into : CanWriteInto kept (current_words memory) blocks inodes i off bytes
@@ -50,8 +50,8 @@ pub record WritesAcross (kept : ℕ → Bool) (memory : Memory) (blocks inodes :
   pub touches : TouchesAcross (current_words memory) i off (off + length bytes)
       (take (size_of (current_words memory) i - off) bytes) touched
 
--- A write of these bytes into inode i, as it is planned: with the file's tree, the word of its size, and the run of the bytes
--- below that.
+-- The plan of a write of these bytes into inode `i`: the file's tree, the word of its size, and the run of the bytes
+-- below the size.
 pub record IsPlanFor (image : Image) (i off : ℕ) (bytes : List ℕ) (plan : Plan) : Type 0 where
   pub inode : plan.inode ≡ i
   pub from : plan.off ≡ off
@@ -61,12 +61,12 @@ pub record IsPlanFor (image : Image) (i off : ℕ) (bytes : List ℕ) (plan : Pl
   pub sized : IsSizeWord image i (off + length bytes) (plan.sized ∷ [])
   pub run : IsRunAcross image i off (off + length bytes) (take (size_of image i - off) bytes) plan.run
 
--- ---- as the plan tells it
+-- ---- as determined by the plan
 
 abbrev pub planned_change : Plan → Change
 planned_change plan = writes plan.inode plan.off (length plan.bytes.now)
 
--- the planned bytes begin below the size and end past it, and this is touched for them
+-- The planned bytes begin below the size and end past it, and the write touches this.
 abbrev pub WritesPlanned : {R : Type 0} → (R → Memory) → Parts R → Plan → Touched → Type 0
 WritesPlanned memory parts plan touched =
     WritesAcross (kept_of parts) (memory parts.region) parts.blocks parts.inodes plan.inode plan.off plan.bytes.now touched

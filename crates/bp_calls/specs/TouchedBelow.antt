@@ -10,17 +10,17 @@ use Rattle.bp_limits.specs.Limits.{root_field}
 use Rattle.bp_calls.specs.CanWrite.{CanWriteInto}
 use Rattle.pm_region.specs.Memory.{Memory, current_words}
 
--- the run of these bytes from an offset on, in the tree of inode i
+-- The run of these bytes from an offset on, in the tree of inode `i`.
 pub record IsRunFor (image : Image) (i off : ℕ) (bytes : List ℕ) (run : Run) : Type 0 where
   pub root : run.root.items ≡ inode_path (height_of (root_of image 0)) i root_field
   pub height : run.height ≡ height_of (root_of image i)
   pub size : run.size ≡ size_of image i
   pub from : run.off ≡ off
   pub bytes_are : run.bytes.now ≡ bytes
-  -- each byte is one
+  -- Each byte is less than 256.
   pub small : (k : ℕ) → slice_index run.bytes.now k < 256
 
--- that run and no other word
+-- The write touches this run, and no other word.
 pub record TouchesBelow (image : Image) (i off : ℕ) (bytes : List ℕ) (touched : Touched) : Type 0 where
   pub run : Run
   pub one : touched.runs.now ≡ run ∷ []
@@ -28,7 +28,7 @@ pub record TouchesBelow (image : Image) (i off : ℕ) (bytes : List ℕ) (touche
   pub no_trees : touched.trees.now ≡ []
   pub is : IsRunFor image i off bytes run
 
--- bytes that end below the size of a file or with it, and what is touched for them
+-- Bytes that end at or below the size of a file, and what the write touches.
 pub record WritesBelow (kept : ℕ → Bool) (memory : Memory) (blocks inodes : Set) (i off : ℕ)
     (bytes : List ℕ) (touched : Touched) : Type 0 where
   pub into : CanWriteInto kept (current_words memory) blocks inodes i off bytes

@@ -1,4 +1,4 @@
--- Bytes are written into a file.
+-- A write of bytes into a file.
 use Rattle.std.specs.Prelude.{◌≡◌, ℕ, ◌+◌, ◌<◌, nat_lt, max, if◌then◌else◌, List, length}
 use Rattle.bp_layout.specs.Inode.{root_of, size_of}
 use Rattle.bp_layout.specs.Tree.{byte}
@@ -6,12 +6,12 @@ use Rattle.bp_layout.specs.Words.{Image}
 use Rattle.bp_changes.specs.Effects.{ChangesFile}
 use Rattle.pm_words.specs.Overlay.{byte_over}
 
--- one byte of a file once bytes were written from an offset on, where it had this size and this byte
+-- One byte of a file after bytes were written from an offset on, given its old size and its old bytes.
 abbrev pub written_byte : ℕ → List ℕ → ℕ → (ℕ → ℕ) → ℕ → ℕ
 written_byte off bytes size old o = byte_over off bytes o (if nat_lt o size then old o else 0)
 
--- File i reaches to the end of these bytes at least and has them from an offset on. Its other bytes are those that it
--- had, and 0 where it had none. All else is as it was.
+-- File `i` reaches at least to the end of these bytes, and has them from the offset on. Its other bytes are the old
+-- ones, or 0 past its old end. The image otherwise means the same.
 pub record WritesFile (i off : ℕ) (bytes : List ℕ) (old new : Image) : Type 0 where
   pub changes : ChangesFile old new i
   pub size : size_of new i ≡ max (size_of old i) (off + length bytes)

@@ -1,4 +1,4 @@
-//! Bytes into several files at once.
+//! Writes of bytes into several files at once.
 
 ghost use Rattle.std.specs.Prelude.{◌≡◌, ◌+◌, ◌≤◌, [], ◌∷◌, length, IfErr, OnErr, OnOk};
 ghost use Rattle.bp_calls.specs.Commits.{CommitsOrLacksBlocks, CommitsOrLacksSpace};
@@ -35,13 +35,13 @@ use pm_region::Region;
 pub struct Patch<'a> {
     /// The number of the file's inode.
     pub inode: u32,
-    /// Where the bytes begin, in bytes from the file's first one.
+    /// The offset of the bytes in the file, in bytes.
     pub off: u64,
-    /// The bytes. They end at the file's size at most.
+    /// The bytes. They end at or below the file's size.
     pub bytes: &'a [u8],
 }
 
-/// The run of a patch that has bytes.
+/// Returns the run of a patch that has bytes.
 fn run_of<'a, R: Region>(region: &R, patch: &Patch<'a>) -> Run<'a>
     requires well_formed { IsWellFormed (current_words (R.memory region.now)) }
     requires inside { IsPatchIn (current_words (R.memory region.now)) (patch_seen patch.now) }
@@ -51,7 +51,7 @@ fn run_of<'a, R: Region>(region: &R, patch: &Patch<'a>) -> Run<'a>
     run_for(region, patch.inode, tree, patch.off, patch.bytes)
 }
 
-/// The runs of those patches that have bytes, in their order.
+/// Returns the runs of those patches that have bytes, in their order.
 fn runs_of<'a, R: Region>(region: &R, patches: &[Patch<'a>]) -> ArrayVec<Run<'a>, MAX_PIECES>
     requires well_formed { IsWellFormed (current_words (R.memory region.now)) }
     requires few { length patches.now ≤ max_pieces }
@@ -67,7 +67,7 @@ fn runs_of<'a, R: Region>(region: &R, patches: &[Patch<'a>]) -> ArrayVec<Run<'a>
     runs
 }
 
-/// Where bytes below the sizes of files change: the word that covers them all.
+/// Returns where bytes below the sizes of files change: the word that covers them all.
 fn covering<R: Region>(region: &R, touched: &Touched<'_>) -> Targets
     requires touched { IsTouched touched.now }
     requires some { block_words ≤ length (current_words (R.memory region.now)) }
@@ -79,11 +79,13 @@ fn covering<R: Region>(region: &R, touched: &Touched<'_>) -> Targets
     targets
 }
 
-/// What [`batch`] does once nothing is left to thaw.
+/// Does what [`batch`] does once no block is left to thaw.
 ///
 /// # Errors
 ///
-/// Where fewer blocks are free than are copied. Nothing has changed then.
+/// Nothing has changed then.
+///
+/// - `NoSpace`: fewer blocks are free than the call copies.
 fn overlay<R: Region>(parts: &mut Parts<R>, patches: &[Patch<'_>]) -> Result<(), NoSpace>
     requires can { CanOverwriteThawed (kept_of parts.old) (R.memory parts.old.region) parts.old.blocks parts.old.inodes
         (patches_seen patches.now) }
@@ -96,11 +98,14 @@ fn overlay<R: Region>(parts: &mut Parts<R>, patches: &[Patch<'_>]) -> Result<(),
     commit_below(parts, &touched)
 }
 
-/// Thaws what is kept on the way to the word that covers all the bytes, where enough blocks are free for the copies too.
+/// Thaws the blocks of the snapshot on the path to the word that covers all the bytes, if enough blocks are free for
+/// the copies of the batch too.
 ///
 /// # Errors
 ///
-/// `NoSpace` exactly where fewer blocks are free than the call needs. Nothing has changed then.
+/// Nothing has changed then.
+///
+/// - `NoSpace`: fewer blocks are free than the call needs. It is returned in exactly this case.
 fn thaw_batch<R: Region>(parts: &mut Parts<R>, patches: &[Patch<'_>]) -> Result<(), NoSpace>
     requires mounted { IsMounted (current_words (R.memory parts.old.region)) parts.old }
     requires can { CanOverwrite (current_words (R.memory parts.old.region)) (patches_seen patches.now) }
@@ -122,13 +127,15 @@ fn thaw_batch<R: Region>(parts: &mut Parts<R>, patches: &[Patch<'_>]) -> Result<
     thaw_before(parts, &targets, copies)
 }
 
-/// Writes bytes into files, below their sizes, all of them by one store alone in its epoch. Where two patches give the
-/// same byte, that of the later one stands.
+/// Writes bytes into files, below their sizes, all of them by one store alone in its epoch. If two patches write the
+/// same byte, the later one wins.
 ///
 /// # Errors
 ///
-/// `NoSpace` exactly where fewer blocks are free than are copied: each block on the ways to the bytes, from the word
-/// that covers all of them down, once, and those that are thawed. Nothing has changed then.
+/// Nothing has changed then.
+///
+/// - `NoSpace`: fewer blocks are free than the call copies. It copies once each block on the paths to the bytes from
+///   the word that covers all of them down, and those that it thaws. It is returned in exactly this case.
 pub fn batch<R: Region>(parts: &mut Parts<R>, patches: &[Patch<'_>]) -> Result<(), NoSpace>
     requires mounted { IsMounted (current_words (R.memory parts.old.region)) parts.old }
     requires can { CanOverwrite (current_words (R.memory parts.old.region)) (patches_seen patches.now) }
@@ -141,7 +148,7 @@ pub fn batch<R: Region>(parts: &mut Parts<R>, patches: &[Patch<'_>]) -> Result<(
         return overlay(parts, patches);
     }
     match thaw_batch(parts, patches) {
-        // Behind a thaw enough blocks are free for the copies, so this succeeds.
+        // After a thaw enough blocks are free for the copies, so this succeeds.
         Ok(()) => overlay(parts, patches),
         Err(lacks) => Err(lacks),
     }

@@ -17,7 +17,7 @@ use bp_inodes::root_path;
 use bp_tree::Tree;
 use pm_region::Region;
 
-/// The run of bytes that lie below the size of a file, in its tree.
+/// Returns the run of bytes that lie below the size of a file, in its tree.
 pub(crate) fn run_for<'a, R: Region>(
     region: &R,
     i: u32,
@@ -39,7 +39,7 @@ pub(crate) fn run_for<'a, R: Region>(
     }
 }
 
-/// What is touched by runs alone.
+/// Returns what runs alone touch.
 pub fn touched_by<'a>(runs: &'a [Run<'a>]) -> Touched<'a>
     ensures runs { result.runs.now ≡ runs.now }
     ensures words { result.words.now ≡ [] }
@@ -52,11 +52,11 @@ pub fn touched_by<'a>(runs: &'a [Run<'a>]) -> Touched<'a>
     }
 }
 
-/// Commits what is touched below the sizes of files, given its ways, where enough blocks are free.
+/// Commits touched bytes and words below the sizes of files, given the paths to them, if enough blocks are free.
 ///
 /// # Errors
 ///
-/// Where fewer blocks are free than are copied.
+/// - `NoSpace`: fewer blocks are free than the commit copies.
 pub(crate) fn commit_found<R: Region>(
     parts: &mut Parts<R>,
     touched: &Touched<'_>,
@@ -80,11 +80,11 @@ pub(crate) fn commit_found<R: Region>(
     Ok(())
 }
 
-/// Commits what is touched below the sizes of files, where enough blocks are free.
+/// Commits touched bytes and words below the sizes of files, if enough blocks are free.
 ///
 /// # Errors
 ///
-/// Where fewer blocks are free than are copied.
+/// - `NoSpace`: fewer blocks are free than the commit copies.
 pub(crate) fn commit_below<R: Region>(
     parts: &mut Parts<R>,
     touched: &Touched<'_>,

@@ -1,4 +1,4 @@
-//! New names.
+//! Creation of names.
 
 ghost use Rattle.std.specs.Prelude.{◌≡◌, ◌<◌, ◌≤◌, ◌^◌, [], None, IfErr, MatchOption, OnErr, OnOk};
 ghost use Rattle.bp_calls.specs.Commits.{CommitsChange, CreatesOrLacksSpace};
@@ -38,8 +38,8 @@ use bp_limits::{ENTRY_SIZE, INODE_SIZE};
 use bp_tree::{Slots, word_path};
 use pm_region::Region;
 
-/// How many blocks a name takes where its inode is there, given its directory's least empty slot: those that the tree lacks
-/// for one entry more, where no slot is empty.
+/// Returns the number of blocks that a name for an existing inode takes, given its directory's least empty slot. If no
+/// slot is empty, these are the blocks that the tree lacks for one more entry.
 pub(crate) fn entry_need<R: Region>(region: &R, dir: u32, slot: Option<u64>) -> u32
     requires well_formed { IsWellFormed (current_words (R.memory region.now)) }
     requires reached { IsReached (current_words (R.memory region.now)) dir }
@@ -57,8 +57,8 @@ pub(crate) fn entry_need<R: Region>(region: &R, dir: u32, slot: Option<u64>) -> 
     }
 }
 
-/// How many blocks a new name takes in a directory, given its least empty slot: with those of the inode file, where no
-/// inode is free.
+/// Returns the number of blocks that a new name takes in a directory, given its least empty slot. If no inode is free,
+/// it includes those of the inode file.
 fn new_need<R: Region>(parts: &Parts<R>, dir: u32, slot: Option<u64>) -> u32
     requires mounted { IsMounted (current_words (R.memory parts.now.region)) parts.now }
     requires reached { IsReached (current_words (R.memory parts.now.region)) dir }
@@ -75,7 +75,7 @@ fn new_need<R: Region>(parts: &Parts<R>, dir: u32, slot: Option<u64>) -> u32
     entry + grow_need(&parts.region)
 }
 
-/// The least free inode, None where none is free. It is taken out and put back.
+/// Returns the least free inode, or `None` if none is free. The inode is taken out of the set and put back.
 fn least(inodes: &mut Inodes) -> Option<u32>
     ensures least { MatchOption result (members inodes.old ≡ []) (IsLeast inodes.old) }
     ensures same { inodes.new ≡ inodes.old }
@@ -85,8 +85,8 @@ fn least(inodes: &mut Inodes) -> Option<u32>
     Some(least)
 }
 
-/// Where a new name comes into a directory, given its least empty slot: the words of the entry, and the inode that it
-/// takes, or else those by which the inode file grows.
+/// Returns the words near which a new name of a directory is stored, given its least empty slot: the words of the
+/// entry, and those of its inode, or those by which the inode file grows.
 fn entering_new<R: Region>(parts: &mut Parts<R>, dir: u32, slot: Option<u64>) -> Targets
     requires mounted { IsMounted (current_words (R.memory parts.old.region)) parts.old }
     requires reached { IsReached (current_words (R.memory parts.old.region)) dir }
@@ -105,11 +105,14 @@ fn entering_new<R: Region>(parts: &mut Parts<R>, dir: u32, slot: Option<u64>) ->
     targets
 }
 
-/// Thaws what is kept near the words where a new name comes into a directory, given its least empty slot.
+/// Thaws the blocks of the snapshot near the words where a new name of a directory is stored, given its least empty
+/// slot.
 ///
 /// # Errors
 ///
-/// `NoSpace` exactly where fewer blocks are free than that takes, with those of the name. Nothing has changed then.
+/// Nothing has changed then.
+///
+/// - `NoSpace`: fewer blocks are free than the thaw and the name take. It is returned in exactly this case.
 fn thaw_new<R: Region>(parts: &mut Parts<R>, dir: u32, slot: Option<u64>) -> Result<(), NoSpace>
     requires mounted { IsMounted (current_words (R.memory parts.old.region)) parts.old }
     requires reached { IsReached (current_words (R.memory parts.old.region)) dir }
@@ -135,7 +138,7 @@ fn thaw_new<R: Region>(parts: &mut Parts<R>, dir: u32, slot: Option<u64>) -> Res
     thaw_before(parts, &targets, need)
 }
 
-/// Names the least free inode in a directory, in its least empty slot or behind its last entry.
+/// Enters a name for the least free inode in a directory, in its least empty slot or after its last entry.
 fn enter<R: Region>(parts: &mut Parts<R>, dir: u32, slot: Option<u64>, name: &[u8], kind: Kind)
     requires can { CanEnter (kept_of parts.old) (R.memory parts.old.region) parts.old.blocks parts.old.inodes dir name.now }
     requires exact { IsExact (current_words (R.memory parts.old.region)) parts.old }
@@ -153,7 +156,8 @@ fn enter<R: Region>(parts: &mut Parts<R>, dir: u32, slot: Option<u64>, name: &[u
     }
 }
 
-/// The same where no inode is free and nothing is left to thaw: the inode file grows by a leaf first.
+/// Grows the inode file by a leaf and then enters the name as [`enter`] does, for a directory of a volume with no free
+/// inode and no block left to thaw.
 fn grow_and_enter<R: Region>(
     parts: &mut Parts<R>,
     dir: u32,
@@ -172,7 +176,7 @@ fn grow_and_enter<R: Region>(
     enter(parts, dir, slot, name, kind);
 }
 
-/// What [`create_in`] does once nothing is left to thaw.
+/// Does what [`create_in`] does once no block is left to thaw.
 fn enter_new<R: Region>(parts: &mut Parts<R>, dir: u32, slot: Option<u64>, name: &[u8], kind: Kind)
     requires lacks { LacksName (current_words (R.memory parts.old.region)) dir name.now }
     requires exact { IsExact (current_words (R.memory parts.old.region)) parts.old }
@@ -190,12 +194,12 @@ fn enter_new<R: Region>(parts: &mut Parts<R>, dir: u32, slot: Option<u64>, name:
     enter(parts, dir, slot, name, kind);
 }
 
-/// What [`create`] does, for a caller that has found the directory's least empty slot, None where no entry is empty. No
-/// scan of the directory is left.
+/// Does what [`create`] does, for a caller that has found the directory's least empty slot (`None` if no entry is
+/// empty). It does not scan the directory.
 ///
 /// # Errors
 ///
-/// As those of [`create`].
+/// Those of [`create`].
 pub fn create_in<R: Region>(
     parts: &mut Parts<R>,
     dir: u32,
@@ -221,14 +225,14 @@ pub fn create_in<R: Region>(
     }
 }
 
-/// Creates a file or a directory without bytes, under a name that directory `dir` doesn't have, by one store alone in
-/// its epoch.
+/// Creates an empty file or directory, under a name that directory `dir` does not have, by one store alone in its
+/// epoch.
 ///
 /// # Errors
 ///
-/// `NoSpace` exactly where fewer blocks are free than it needs: those that the directory lacks for one entry more,
-/// where no entry is empty, those that the inode file lacks for one leaf more, where no inode is free, and those that
-/// it thaws.
+/// - `NoSpace`: fewer blocks are free than the call needs. It needs those that the directory lacks for one more entry
+///   if no entry is empty, those that the inode file lacks for one more leaf if no inode is free, and those that it
+///   thaws. It is returned in exactly this case.
 pub fn create<R: Region>(
     parts: &mut Parts<R>,
     dir: u32,

@@ -1,4 +1,4 @@
-//! A name and its inode in a directory: in an empty entry, or in one behind the last.
+//! Entry of a name and its inode in a directory: in an empty entry, or in one after the last.
 
 ghost use Rattle.std.specs.Prelude.{Some, ◌≡◌, ◌≤◌, length};
 ghost use Rattle.bp_shapes.specs.Sets.{kept_of};
@@ -27,14 +27,14 @@ use bp_limits::{ENTRY_SIZE, SIZE_FIELD, WORD_SIZE};
 use bp_tree::{Tree, content_word};
 use pm_region::Region;
 
-/// The bytes of a word of an entry: of the inumber, and of the length of the name behind it.
+/// The size of a word of an entry in bytes. The first word is the inode number, the second the length of the name.
 const WORD: usize = WORD_SIZE as usize;
 
-/// Where the name begins in an entry, in bytes: behind these two words.
+/// The offset of the name in an entry, in bytes: after these two words.
 const NAME_AT: usize = 2 * WORD;
 
-/// Where a name comes into a directory, given its least empty slot: at the inumber of the entry there, or else at the
-/// size, which takes in an entry behind the last one.
+/// Returns the words near which a name of a directory is stored, given its least empty slot: the inode number of the
+/// entry there, or else the size, which then includes an entry after the last one.
 pub(crate) fn entering<R: Region>(region: &R, dir: u32, slot: Option<u64>) -> Targets
     requires well_formed { IsWellFormed (current_words (R.memory region.now)) }
     requires reached { IsReached (current_words (R.memory region.now)) dir }
@@ -54,7 +54,8 @@ pub(crate) fn entering<R: Region>(region: &R, dir: u32, slot: Option<u64>) -> Ta
     targets
 }
 
-/// Names a new inode in an empty entry of a directory, once no block of these is kept.
+/// Enters a name for a new inode in an empty entry of a directory, if no block to which it stores is kept for the
+/// snapshot.
 pub(crate) fn enter_slot<R: Region>(
     region: &mut R,
     dir: u32,
@@ -78,8 +79,8 @@ pub(crate) fn enter_slot<R: Region>(
     commit_word(region, entry, u64::from(inode));
 }
 
-/// A byte of an entry: eight are the number of the inode that it names, the lowest first, eight the length of the name,
-/// and then comes the name, with zeros behind it.
+/// Returns a byte of an entry: eight are the inode number, least significant first, eight the length of the name, and
+/// then comes the name, followed by zeros.
 fn entry_byte(inode: u32, name: &[u8], at: usize) -> u8
     ensures { result ≡ entry_byte inode name.now at }
 {
@@ -94,7 +95,7 @@ fn entry_byte(inode: u32, name: &[u8], at: usize) -> u8
     }
 }
 
-/// The bytes of an entry.
+/// Returns the bytes of an entry.
 fn entry_bytes(inode: u32, name: &[u8]) -> [u8; ENTRY_SIZE as usize]
     ensures { AreEntryBytes inode name.now result }
 {
@@ -105,8 +106,8 @@ fn entry_bytes(inode: u32, name: &[u8]) -> [u8; ENTRY_SIZE as usize]
     bytes
 }
 
-/// Writes an entry behind the last one of a directory, where nobody sees it: the directory's tree is prepared for one
-/// entry more.
+/// Writes an entry after the last one of a directory, where it is not visible: the directory's tree is prepared for
+/// one more entry.
 pub fn put_behind<R: Region>(parts: &mut Parts<R>, dir: u32, tree: Tree, inode: u32, name: &[u8])
     requires can { CanPutBehind (kept_of parts.old) (R.memory parts.old.region) parts.old.blocks dir name.now }
     requires root { tree.root ≡ root_of (current_words (R.memory parts.old.region)) dir }
@@ -124,14 +125,14 @@ pub fn put_behind<R: Region>(parts: &mut Parts<R>, dir: u32, tree: Tree, inode: 
         root: tree_of(&parts.region, dir).root,
         size: end,
     };
-    // A preparation tells of bytes. What two words are follows once they are read, as words of 64 bits.
+    // A preparation describes bytes. The values of two words follow once they are read, as words of 64 bits.
     let inumber = content_word(&parts.region, prepared, tree.size / WORD_SIZE);
     let length = content_word(&parts.region, prepared, tree.size / WORD_SIZE + 1);
     prove_eq!(inumber, u64::from(inode));
     prove_eq!(length, name.len() as u64);
 }
 
-/// Names a new inode in an entry behind the last one of a directory, whose size then takes it in.
+/// Enters a name for a new inode in an entry after the last one of a directory, whose size then includes it.
 pub(crate) fn enter_behind<R: Region>(
     parts: &mut Parts<R>,
     dir: u32,

@@ -1,4 +1,4 @@
-//! The blocks of a tree that lie behind a smaller size are given back.
+//! Release of the blocks of a tree past a smaller size.
 
 ghost use Rattle.std.specs.Prelude.{◌≡◌, ℕ, ◌-◌, ◌*◌, ◌<◌, false, length};
 ghost use Rattle.bp_calls.specs.GivenUp.{IsTopGivenUp};
@@ -14,7 +14,7 @@ use bp_tree::{Tree, child};
 use pm_region::Region;
 use pm_words::span;
 
-/// Gives the topmost block of a tree back, where nothing is left of the tree and the block is not kept.
+/// Frees the topmost block of a tree, if nothing is left of the tree and the block is not kept for the snapshot.
 fn give_top(blocks: &mut Blocks, frozen: &Blocks, top: u32, shorter: u64)
     requires in_range { top < length blocks.old }
     requires known { top < length frozen.now }
@@ -26,9 +26,8 @@ fn give_top(blocks: &mut Blocks, frozen: &Blocks, top: u32, shorter: u64)
     }
 }
 
-/// Gives back the blocks of a tree that hold no byte below `shorter`, a size in bytes: all of them where that is 0. Those
-/// that are kept stay where they are. The size of `tree` is the one that it had before, and the words of its blocks are
-/// still as they were then.
+/// Frees the blocks of a tree that hold no byte below `shorter`, a size in bytes; all of them if that is 0. Blocks of
+/// the snapshot are not freed. The size of `tree` is its old one, and the words of its blocks are still the old ones.
 pub fn give_back<R: Region>(
     region: &R,
     tree: Tree,

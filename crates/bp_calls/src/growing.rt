@@ -1,4 +1,4 @@
-//! The inode file gets one more leaf of inodes.
+//! Growth of the inode file by one leaf of inodes.
 
 ghost use Rattle.std.specs.Prelude.{◌≡◌, ◌+◌, ◌≤◌, length};
 ghost use Rattle.bp_calls.specs.FewBlocks.{most_for_leaf};
@@ -15,7 +15,7 @@ use bp_limits::{BLOCK_SIZE, INODE_SIZE, SUPER_SIZE};
 use bp_tree::Slots;
 use pm_region::Region;
 
-/// How many blocks [`grow`] takes.
+/// Returns the number of blocks that [`grow`] takes.
 pub(crate) fn grow_need<R: Region>(region: &R) -> u32
     requires { IsWellFormed (current_words (R.memory region.now)) }
     ensures need { result ≡ growth_need (current_words (R.memory region.now)) }
@@ -25,10 +25,11 @@ pub(crate) fn grow_need<R: Region>(region: &R) -> u32
     need_prep(region, inodes, inodes.size, inodes.size + BLOCK_SIZE)
 }
 
-/// Lets the inode file grow by one leaf, whose inodes are zero and free. It takes the blocks that [`grow_need`] counts.
+/// Grows the inode file by one leaf, whose inodes are zero and free. It takes the number of blocks that [`grow_need`]
+/// returns.
 ///
-/// Nobody sees it at any moment of a crash: the size is stored once the leaf is linked, and a longer inode file reaches
-/// no inode more.
+/// The growth is invisible at every crash point: the size is stored once the leaf is linked, and a longer inode file
+/// makes no further inode reachable.
 pub(crate) fn grow<R: Region>(parts: &mut Parts<R>)
     requires can { CanGrowInodes (kept_of parts.old) (R.memory parts.old.region) parts.old.blocks parts.old.inodes }
     requires exact { IsExact (current_words (R.memory parts.old.region)) parts.old }
@@ -42,8 +43,8 @@ pub(crate) fn grow<R: Region>(parts: &mut Parts<R>)
     let end = size + BLOCK_SIZE;
     prep(parts, &Slots::new(), size, &[], end);
     parts.region.store(SUPER_SIZE, end);
-    // The size is in memory before any store to an inode of the new leaf: so no crash leaves such a store behind the end of
-    // the inode file, and what a caller stores next is told of the longer file alone.
+    // The size is durable before any store to an inode of the new leaf. So no crash leaves such a store past the end
+    // of the inode file, and the contracts of the caller's next stores concern the longer file only.
     parts.region.barrier();
     let from = (size / INODE_SIZE) as u32;
     let to = (end / INODE_SIZE) as u32;

@@ -1,5 +1,5 @@
-//! Laws of the paths of words, of free blocks, and of what calls make of the plain tree. Each is the contract of a
-//! function that does nothing.
+//! Properties of the paths of words, of free blocks, and of the effect of calls on the abstract tree. Each is the
+//! contract of a function with an empty body.
 
 ghost use Rattle.std.specs.Prelude.{◌≡◌, ◌≤◌, ℕ, Bool, List, [], length};
 ghost use Rattle.bp_calls.specs.ContentPaths.{HasContentWord, KeepsHeights, WholePathExists};
@@ -26,21 +26,21 @@ ghost use Rattle.bp_plain.specs.Calls.{Piece};
 
 use bp_free::Blocks;
 
-/// Where a change keeps the heights of the inode file and of a tree without a null, the whole path of each content word
-/// of the tree exists.
+/// States that the whole path of each content word of a tree exists, if the tree has no null pointer and the change
+/// keeps its height and that of the inode file.
 pub fn content_paths_exist(image: &[u64])
     requires { IsWellFormed image.now }
     ensures { (change : Change) (t k : ℕ) → HasContentWord image.now t k → KeepsHeights image.now change t
         → WholePathExists image.now change t k }
 {}
 
-/// An image has one number of free blocks, whichever are kept.
+/// States that an image has one number of free blocks.
 pub fn one_number_is_free(image: &[u64])
     ensures { (kept : ℕ → Bool) (one other : ℕ) → HasFree image.now kept one → HasFree image.now kept other
         → one ≡ other }
 {}
 
-/// The blocks of an exact set are as many as the image has free.
+/// States that an exact set has as many blocks as the image has free.
 pub fn set_has_the_free(image: &[u64], blocks: &Blocks)
     requires room { length blocks.now ≡ block_count image.now }
     ensures count { (kept : ℕ → Bool) → AreFreeBlocks image.now kept (has blocks.now)
@@ -49,7 +49,7 @@ pub fn set_has_the_free(image: &[u64], blocks: &Blocks)
         → HasFree image.now kept 0 }
 {}
 
-/// A change that is one store in its place needs no block: a name leaves, a file gets no more bytes than it has, or
+/// States that a change that is one store in place needs no block: a name is removed, a file is not made longer, or
 /// bytes are written that lie in one word below its size, and not in a hole.
 pub fn changes_in_place_need_no_block(image: &[u64])
     requires { IsWellFormed image.now }
@@ -59,30 +59,31 @@ pub fn changes_in_place_need_no_block(image: &[u64])
     ensures in_word { (i off len : ℕ) → LiesInWord image.now i off len → need image.now (writes i off len) ≡ 0 }
 {}
 
-/// A directory into which a name came gains it in the plain tree, at each path that finds the directory.
+/// States that a directory with a new name gains it in the abstract tree, at each path that finds the directory.
 pub fn entered_names_are_gained(old: &[u64], new: &[u64])
     requires { IsWellFormed old.now }
     ensures { (i : ℕ) (name : Name) (kind : Kind) → AfterThaw (EntersName i name kind) old.now new.now
         → GainsName i name kind old.now new.now }
 {}
 
-/// A file that was named in a directory is there too in the plain tree, at each path that finds the directory.
+/// States that a file with a new link in a directory is there too in the abstract tree, at each path that finds the
+/// directory.
 pub fn linked_names_are_shared(old: &[u64], new: &[u64])
     requires { IsWellFormed old.now }
     ensures { (i : ℕ) (name : Name) (j : ℕ) → AfterThaw (LinksEntry i name j) old.now new.now
         → SharesName i name j old.now new.now }
 {}
 
-/// A directory of which an entry was emptied loses the entry's name in the plain tree, at each path that finds the
-/// directory, where the entry named a file or an empty directory.
+/// States that a directory loses the name of an emptied entry in the abstract tree, at each path that finds the
+/// directory, if the entry referred to a file or an empty directory.
 pub fn removed_names_are_lost(old: &[u64], new: &[u64])
     requires { IsWellFormed old.now }
     ensures { (i s j : ℕ) → CanUnlink old.now i s j → AfterThaw (λ image after. RemovesEntry image after i s) old.now new.now
         → LosesName i s old.now new.now }
 {}
 
-/// What a path finds may leave its directory where it is a file, or a directory in which no name is counted. No other
-/// directory may.
+/// States that an entry may be removed if a path finds a file by it, or a directory without names. No other directory
+/// may be removed.
 pub fn files_and_empty_directories_may_leave(image: &[u64])
     ensures inumber { (parent : Path) (name : Name) (i s j : ℕ) → IsFoundAt image.now parent name i s j
         → inumber_at image.now i s ≡ j }
@@ -95,23 +96,23 @@ pub fn files_and_empty_directories_may_leave(image: &[u64])
     ensures no_other { (i s j : ℕ) → CanUnlink image.now i s j → IsDirectory image.now j → HasNoName image.now j }
 {}
 
-/// A file that got another size has the front of its bytes in the plain tree, or zeros behind them, at each path that
-/// finds it.
+/// States that a resized file has its first bytes in the abstract tree, or zeros after them, at each path that finds
+/// it.
 pub fn resized_files_get_their_size(old: &[u64], new: &[u64])
     requires { IsWellFormed old.now }
     ensures { (i size : ℕ) → AfterThaw (ResizesFile i size) old.now new.now → GetsSize i size old.now new.now }
 {}
 
-/// A file into which bytes were written has them in the plain tree, at each path that finds it: in place of those that
-/// it had there, and behind zeros where they begin past its end.
+/// States that a file into which bytes were written has them in the abstract tree, at each path that finds it: in
+/// place of its old bytes, and after zeros if they begin past its end.
 pub fn written_files_get_their_bytes(old: &[u64], new: &[u64])
     requires { IsWellFormed old.now }
     ensures { (i off : ℕ) (bytes : List ℕ) → AfterThaw (WritesFile i off bytes) old.now new.now →
         GetsBytes i off bytes old.now new.now }
 {}
 
-/// Files into which the pieces of a batch were laid have them in the plain tree, one piece after the other, at each path
-/// that finds one of the files.
+/// States that files into which the pieces of a batch were written have them in the abstract tree, one piece after the
+/// other, at each path that finds one of the files.
 pub fn overwritten_files_get_their_bytes(old: &[u64], new: &[u64])
     requires { IsWellFormed old.now }
     ensures { (pieces : List Piece) → OverwritesPieces pieces old.now new.now → GetsPieces pieces old.now new.now }

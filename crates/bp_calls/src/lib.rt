@@ -1,4 +1,4 @@
-//! The calls of a file system on inodes: what is left of a call once its path was walked.
+//! The calls of a file system on inodes: the part of a call after its path is resolved.
 #![tactic(auto)]
 
 mod batching;

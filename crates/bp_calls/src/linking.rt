@@ -1,4 +1,4 @@
-//! Names more for files.
+//! Hard links.
 
 ghost use Rattle.std.specs.Prelude.{Some, ◌≡◌, ◌≤◌, None, IfErr, OnErr, OnOk};
 ghost use Rattle.bp_calls.specs.Commits.{CommitsChange, CommitsOrLacksSpace};
@@ -28,7 +28,8 @@ use bp_inplace::commit_word;
 use bp_limits::{ENTRY_SIZE, SIZE_FIELD};
 use pm_region::Region;
 
-/// Names a file in an empty entry of a directory, once its block is not kept.
+/// Enters a name for an existing file in an empty entry of a directory, if the block of the entry is not kept for the
+/// snapshot.
 fn link_slot<R: Region>(region: &mut R, dir: u32, slot: u64, i: u32, name: &[u8])
     requires can { CanLink (current_words (R.memory region.old)) dir i name.now }
     requires found { empty_slot (current_words (R.memory region.old)) dir ≡ Some slot }
@@ -44,7 +45,7 @@ fn link_slot<R: Region>(region: &mut R, dir: u32, slot: u64, i: u32, name: &[u8]
     commit_word(region, entry, u64::from(i));
 }
 
-/// Names a file in an entry behind the last one of a directory, whose size then takes it in.
+/// Enters a name for an existing file in an entry after the last one of a directory, whose size then includes it.
 fn link_behind<R: Region>(parts: &mut Parts<R>, dir: u32, i: u32, name: &[u8])
     requires can { CanLinkBehind (kept_of parts.old) (R.memory parts.old.region) parts.old.blocks dir i name.now }
     ensures performs { PerformsEntry (kept_of parts.old) (R.memory parts.old.region) (R.memory parts.new.region) dir linked
@@ -63,11 +64,14 @@ fn link_behind<R: Region>(parts: &mut Parts<R>, dir: u32, i: u32, name: &[u8])
     commit_word(&mut parts.region, size_place, tree.size + ENTRY_SIZE);
 }
 
-/// Thaws what is kept near the words where a file's name comes into a directory, given its least empty slot.
+/// Thaws the blocks of the snapshot near the words where the name of an existing file is stored in a directory, given
+/// its least empty slot.
 ///
 /// # Errors
 ///
-/// `NoSpace` exactly where fewer blocks are free than that takes, with those of the name. Nothing has changed then.
+/// Nothing has changed then.
+///
+/// - `NoSpace`: fewer blocks are free than the thaw and the name take. It is returned in exactly this case.
 fn thaw_linked<R: Region>(parts: &mut Parts<R>, dir: u32, slot: Option<u64>) -> Result<(), NoSpace>
     requires mounted { IsMounted (current_words (R.memory parts.old.region)) parts.old }
     requires reached { IsReached (current_words (R.memory parts.old.region)) dir }
@@ -92,7 +96,8 @@ fn thaw_linked<R: Region>(parts: &mut Parts<R>, dir: u32, slot: Option<u64>) -> 
     thaw_before(parts, &targets, need)
 }
 
-/// Gives a file one more name, in a directory's least empty slot or behind its last entry, once nothing is left to thaw.
+/// Gives a file another link, in a directory's least empty slot or after its last entry, once no block is left to
+/// thaw.
 fn share<R: Region>(parts: &mut Parts<R>, dir: u32, slot: Option<u64>, name: &[u8], i: u32)
     requires can { CanShare (kept_of parts.old) (R.memory parts.old.region) parts.old.blocks parts.old.inodes dir i name.now }
     requires exact { IsExact (current_words (R.memory parts.old.region)) parts.old }
@@ -107,13 +112,13 @@ fn share<R: Region>(parts: &mut Parts<R>, dir: u32, slot: Option<u64>, name: &[u
     }
 }
 
-/// Gives file `i` one more name, which directory `dir` doesn't have, by one store alone in its epoch, for a caller that
-/// has found the directory's least empty slot, None where no entry is empty.
+/// Gives file `i` another link, under a name that directory `dir` does not have, by one store alone in its epoch. The
+/// caller has found the directory's least empty slot (`None` if no entry is empty).
 ///
 /// # Errors
 ///
-/// `NoSpace` exactly where fewer blocks are free than it needs: those that the directory lacks for one entry more,
-/// where no entry is empty, and those that it thaws.
+/// - `NoSpace`: fewer blocks are free than the call needs: those that the directory lacks for one more entry if no
+///   entry is empty, and those that it thaws. It is returned in exactly this case.
 pub fn link_in<R: Region>(
     parts: &mut Parts<R>,
     dir: u32,

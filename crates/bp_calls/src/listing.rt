@@ -1,4 +1,4 @@
-//! The names in a directory.
+//! Listings of directories.
 
 ghost use Rattle.std.specs.Prelude.{◌≡◌, IfOk, OnOk};
 ghost use Rattle.bp_calls.specs.Asked.{ListsNames, entries_seen};
@@ -17,14 +17,14 @@ use bp_tree::leaf_words;
 use pm_region::Region;
 use std::alloc::{AllocError, Global};
 
-/// The words of an entry, as a length.
+/// The length of an entry in words.
 const ENTRY: usize = ENTRY_WORDS as usize;
 
-/// The names in directory `i` with their kinds, in the order of their bytes.
+/// Returns the names in directory `i` with their kinds, in byte order of the names.
 ///
 /// # Errors
 ///
-/// Where there is no memory for them.
+/// - `AllocError`: allocation fails.
 pub fn list<R: Region>(alloc: Global, region: &R, i: u32) -> Result<Listing, AllocError>
     requires well_formed { IsWellFormed (current_words (R.memory region.now)) }
     requires reached { IsReached (current_words (R.memory region.now)) i }
@@ -36,7 +36,7 @@ pub fn list<R: Region>(alloc: Global, region: &R, i: u32) -> Result<Listing, All
     Ok(listing)
 }
 
-/// The kinds and names of the entries of directory `i` that name an inode, in the order of their slots.
+/// Returns the kinds and names of the entries of directory `i` that refer to an inode, in the order of their slots.
 fn entries<R: Region>(alloc: Global, region: &R, i: u32) -> Result<Listing, AllocError>
     requires well_formed { IsWellFormed (current_words (R.memory region.now)) }
     requires reached { IsReached (current_words (R.memory region.now)) i }
@@ -56,7 +56,7 @@ fn entries<R: Region>(alloc: Global, region: &R, i: u32) -> Result<Listing, Allo
     Ok(listing)
 }
 
-/// Adds the kinds and names of those entries of a directory in a row that name an inode.
+/// Adds the kinds and names of those of some consecutive entries of a directory that refer to an inode.
 fn list_row<R: Region>(region: &R, words: &[u64], listing: &mut Listing) -> Result<(), AllocError>
     requires well_formed { IsWellFormed (current_words (R.memory region.now)) }
     requires entries { AreEntries (current_words (R.memory region.now)) words.now }
@@ -69,7 +69,7 @@ fn list_row<R: Region>(region: &R, words: &[u64], listing: &mut Listing) -> Resu
     Ok(())
 }
 
-/// Adds the kind and the name of an entry of a directory, where it names an inode.
+/// Adds the kind and the name of an entry of a directory, if it refers to an inode.
 fn list_entry<R: Region>(
     region: &R,
     view: EntryView<'_>,

@@ -16,8 +16,8 @@ use bp_layout::{Kind, Stat};
 use bp_tree::Tree;
 use pm_region::Region;
 
-/// Reads bytes of a file from an offset on, as many as `into` has room for and the file has there, and says how many
-/// these are. There are none at and past the end of the file. The rest of `into` stays as it was.
+/// Reads bytes of a file from an offset on, and returns their number: as many as `into` has room for and the file has
+/// from there on. At and past the end of the file there are none. The rest of `into` is unchanged.
 pub fn read<R: Region>(region: &R, i: u32, off: u64, into: &mut [u8]) -> usize
     requires well_formed { IsWellFormed (current_words (R.memory region.now)) }
     requires reached { IsReached (current_words (R.memory region.now)) i }
@@ -30,7 +30,7 @@ pub fn read<R: Region>(region: &R, i: u32, off: u64, into: &mut [u8]) -> usize
     bp_tree::read(region, tree_of(region, i), off, into)
 }
 
-/// What there is to tell of an inode: a file's size in bytes, or how many names a directory has.
+/// Returns the size in bytes of a file, or the number of names of a directory.
 pub fn stat<R: Region>(region: &R, i: u32) -> Stat
     requires well_formed { IsWellFormed (current_words (R.memory region.now)) }
     requires reached { IsReached (current_words (R.memory region.now)) i }
@@ -50,7 +50,7 @@ pub fn stat<R: Region>(region: &R, i: u32) -> Stat
     }
 }
 
-/// How many names an inode has.
+/// Returns the number of links of an inode.
 pub fn links<R: Region>(parts: &Parts<R>, i: u32) -> u32
     requires mounted { IsMounted (current_words (R.memory parts.now.region)) parts.now }
     requires reached { IsReached (current_words (R.memory parts.now.region)) i }

@@ -1,4 +1,4 @@
-//! A name leaves its directory.
+//! Removal of names from directories.
 
 ghost use Rattle.std.specs.Prelude.{◌≡◌, ◌≤◌, [], IfErr, OnErr, OnOk};
 ghost use Rattle.bp_calls.specs.Commits.{CommitsChange, CommitsOrLacksSpace};
@@ -21,11 +21,13 @@ use bp_inodes::tree_of;
 use bp_inplace::commit_word;
 use pm_region::Region;
 
-/// Thaws what is kept on the way to the inumber of an entry.
+/// Thaws the blocks of the snapshot on the path to the inode number of an entry.
 ///
 /// # Errors
 ///
-/// `NoSpace` exactly where fewer blocks are free than that takes. Nothing has changed then.
+/// Nothing has changed then.
+///
+/// - `NoSpace`: fewer blocks are free than the thaw takes. It is returned in exactly this case.
 fn thaw_entry<R: Region>(parts: &mut Parts<R>, dir: u32, slot: u64) -> Result<(), NoSpace>
     requires mounted { IsMounted (current_words (R.memory parts.old.region)) parts.old }
     requires can { CanUnlink (current_words (R.memory parts.old.region)) dir slot
@@ -44,7 +46,7 @@ fn thaw_entry<R: Region>(parts: &mut Parts<R>, dir: u32, slot: u64) -> Result<()
     thaw_before(parts, &targets, 0)
 }
 
-/// What [`remove`] does once nothing is left to thaw.
+/// Does what [`remove`] does once no block is left to thaw.
 fn take_out<R: Region>(parts: &mut Parts<R>, dir: u32, slot: u64)
     requires mounted { IsMounted (current_words (R.memory parts.old.region)) parts.old }
     requires can { CanUnlink (current_words (R.memory parts.old.region)) dir slot
@@ -69,14 +71,16 @@ fn take_out<R: Region>(parts: &mut Parts<R>, dir: u32, slot: u64)
     parts.inodes.give(inode);
 }
 
-/// Takes a name out of a directory, where it names a file or an empty directory, by one store alone in its epoch: of 0
-/// to the inumber of the entry in `slot`. It needs no block but for what it thaws. Where the inode has no other name
-/// nobody reaches it then: its words stay as they were, and its number and those of its blocks that are not kept come
-/// back.
+/// Removes a name from a directory, if it refers to a file or an empty directory, by one store alone in its epoch: of
+/// 0 to the inode number of the entry in `slot`. It needs no block except those that it thaws. If the inode has no
+/// other name, no path reaches it then: its words stay as they were, and its number and its blocks are freed, except
+/// the blocks of the snapshot.
 ///
 /// # Errors
 ///
-/// `NoSpace` exactly where fewer blocks are free than it needs. Nothing has changed then.
+/// Nothing has changed then.
+///
+/// - `NoSpace`: fewer blocks are free than the call needs. It is returned in exactly this case.
 pub fn remove<R: Region>(parts: &mut Parts<R>, dir: u32, slot: u64) -> Result<(), NoSpace>
     requires mounted { IsMounted (current_words (R.memory parts.old.region)) parts.old }
     requires can { CanUnlink (current_words (R.memory parts.old.region)) dir slot

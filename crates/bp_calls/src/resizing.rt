@@ -1,4 +1,4 @@
-//! A file gets another size.
+//! Changes of the size of a file.
 
 ghost use Rattle.std.specs.Prelude.{◌≡◌, ◌≢◌, ◌<◌, ◌≤◌, [], IfErr, OnErr, OnOk, length};
 ghost use Rattle.bp_calls.specs.Commits.{CommitsChange, CommitsOrLacksSpace};
@@ -28,8 +28,8 @@ use bp_inplace::commit_word;
 use bp_limits::SIZE_FIELD;
 use pm_region::Region;
 
-/// Gives a file a size above its own, with zeros behind its bytes, once nothing is left to thaw and enough blocks are
-/// free: a preparation makes its tree high enough and clears the rest of its last leaf, and then the size is stored.
+/// Makes a file longer, with zeros after its bytes, once no block is left to thaw and enough blocks are free. A
+/// preparation makes its tree high enough and clears the rest of its last leaf, and then the size is stored.
 fn lengthen<R: Region>(parts: &mut Parts<R>, i: u32, size: u64)
     requires can { CanGrowFile (kept_of parts.old) (R.memory parts.old.region) parts.old.blocks parts.old.inodes i size }
     requires exact { IsExact (current_words (R.memory parts.old.region)) parts.old }
@@ -42,11 +42,13 @@ fn lengthen<R: Region>(parts: &mut Parts<R>, i: u32, size: u64)
     commit_word(&mut parts.region, size_place, size);
 }
 
-/// Thaws what is kept on the way to the size of a file that is to get smaller.
+/// Thaws the blocks of the snapshot on the path to the size of a file that is to become shorter.
 ///
 /// # Errors
 ///
-/// `NoSpace` exactly where fewer blocks are free than that takes. Nothing has changed then.
+/// Nothing has changed then.
+///
+/// - `NoSpace`: fewer blocks are free than the thaw takes. It is returned in exactly this case.
 fn thaw_size<R: Region>(parts: &mut Parts<R>, i: u32, size: u64) -> Result<(), NoSpace>
     requires mounted { IsMounted (current_words (R.memory parts.old.region)) parts.old }
     requires reached { IsReached (current_words (R.memory parts.old.region)) i }
@@ -66,8 +68,8 @@ fn thaw_size<R: Region>(parts: &mut Parts<R>, i: u32, size: u64) -> Result<(), N
     thaw_before(parts, &targets, 0)
 }
 
-/// What [`shrink_file`] does once nothing is left to thaw: the size is stored, and then the blocks come back that hold
-/// no byte below it and are not kept.
+/// Does what [`shrink_file`] does once no block is left to thaw: it stores the size, and then frees the blocks that
+/// hold no byte below it and are not kept for the snapshot.
 fn shorten<R: Region>(parts: &mut Parts<R>, i: u32, size: u64)
     requires mounted { IsMounted (current_words (R.memory parts.old.region)) parts.old }
     requires reached { IsReached (current_words (R.memory parts.old.region)) i }
@@ -84,11 +86,13 @@ fn shorten<R: Region>(parts: &mut Parts<R>, i: u32, size: u64)
     give_back(&parts.region, tree, size, &mut parts.blocks, frozen);
 }
 
-/// Gives a file a size below its own. It needs no block but for what it thaws.
+/// Makes a file shorter. It needs no block except those that it thaws.
 ///
 /// # Errors
 ///
-/// `NoSpace` exactly where fewer blocks are free than it needs. Nothing has changed then.
+/// Nothing has changed then.
+///
+/// - `NoSpace`: fewer blocks are free than the call needs. It is returned in exactly this case.
 fn shrink_file<R: Region>(parts: &mut Parts<R>, i: u32, size: u64) -> Result<(), NoSpace>
     requires mounted { IsMounted (current_words (R.memory parts.old.region)) parts.old }
     requires reached { IsReached (current_words (R.memory parts.old.region)) i }
@@ -106,12 +110,15 @@ fn shrink_file<R: Region>(parts: &mut Parts<R>, i: u32, size: u64) -> Result<(),
     }
 }
 
-/// Thaws what is kept on the ways to the size of a file that is to get longer, and to the end of its tree.
+/// Thaws the blocks of the snapshot on the paths to the size of a file that is to become longer, and to the end of its
+/// tree.
 ///
 /// # Errors
 ///
-/// `NoSpace` exactly where fewer blocks are free than that takes, with those that make the tree high enough. Nothing has
-/// changed then.
+/// Nothing has changed then.
+///
+/// - `NoSpace`: fewer blocks are free than the thaw takes, together with those that make the tree high enough. It is
+///   returned in exactly this case.
 fn thaw_end<R: Region>(parts: &mut Parts<R>, i: u32, size: u64) -> Result<(), NoSpace>
     requires mounted { IsMounted (current_words (R.memory parts.old.region)) parts.old }
     requires reached { IsReached (current_words (R.memory parts.old.region)) i }
@@ -136,11 +143,13 @@ fn thaw_end<R: Region>(parts: &mut Parts<R>, i: u32, size: u64) -> Result<(), No
     thaw_before(parts, &targets, need)
 }
 
-/// Gives a file a size above its own. A tree that gets higher takes a block for each level.
+/// Makes a file longer. A tree that becomes higher takes a block for each level.
 ///
 /// # Errors
 ///
-/// `NoSpace` exactly where fewer blocks are free than it needs. Nothing has changed then.
+/// Nothing has changed then.
+///
+/// - `NoSpace`: fewer blocks are free than the call needs. It is returned in exactly this case.
 fn grow_file<R: Region>(parts: &mut Parts<R>, i: u32, size: u64) -> Result<(), NoSpace>
     requires mounted { IsMounted (current_words (R.memory parts.old.region)) parts.old }
     requires reached { IsReached (current_words (R.memory parts.old.region)) i }
@@ -159,13 +168,16 @@ fn grow_file<R: Region>(parts: &mut Parts<R>, i: u32, size: u64) -> Result<(), N
     }
 }
 
-/// Gives a file another size in bytes, by one store alone in its epoch: it ends there, or gets zeros behind its old
+/// Changes the size of a file in bytes, by one store alone in its epoch: the file is cut, or zeros follow its old
 /// bytes.
 ///
 /// # Errors
 ///
-/// `NoSpace` exactly where fewer blocks are free than it needs: one for each block on the ways to what it stores to that is
-/// kept for the snapshot, and one for each level by which a tree gets higher. Nothing has changed then.
+/// Nothing has changed then.
+///
+/// - `NoSpace`: fewer blocks are free than the call needs: one for each block of the snapshot on the paths to the
+///   words to which it stores, and one for each level by which a tree becomes higher. It is returned in exactly this
+///   case.
 pub fn truncate<R: Region>(parts: &mut Parts<R>, i: u32, size: u64) -> Result<(), NoSpace>
     requires mounted { IsMounted (current_words (R.memory parts.old.region)) parts.old }
     requires reached { IsReached (current_words (R.memory parts.old.region)) i }

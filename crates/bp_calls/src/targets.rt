@@ -27,10 +27,10 @@ use bp_tree::{Slots, Tree, word_path};
 use pm_region::Region;
 use pm_words::span;
 
-/// The ways to these words. No change has more than eight.
+/// The paths to these words. No change has more than eight.
 pub type Targets = ArrayVec<Slots, 8>;
 
-/// The path of the word of a byte of a tree other than the inode file, given the tree.
+/// Returns the path of the word that holds a byte of a tree other than the inode file, given the tree.
 pub(crate) fn content_path<R: Region>(region: &R, i: u32, tree: Tree, off: u64) -> Slots
     requires well_formed { IsWellFormed (current_words (R.memory region.now)) }
     requires reached { IsReached (current_words (R.memory region.now)) i }
@@ -47,7 +47,7 @@ pub(crate) fn content_path<R: Region>(region: &R, i: u32, tree: Tree, off: u64) 
     }
 }
 
-/// The path of the inumber of an entry.
+/// Returns the path of the inode number of an entry.
 pub fn entry_path<R: Region>(region: &R, dir: u32, slot: u64) -> Slots
     requires well_formed { IsWellFormed (current_words (R.memory region.now)) }
     requires reached { IsReached (current_words (R.memory region.now)) dir }
@@ -58,7 +58,7 @@ pub fn entry_path<R: Region>(region: &R, dir: u32, slot: u64) -> Slots
     content_path(region, dir, tree_of(region, dir), slot * ENTRY_SIZE)
 }
 
-/// Where a name leaves the entry in `slot`: the inumber alone.
+/// Returns the target of the removal of the entry in `slot`: its inode number alone.
 pub(crate) fn leaving<R: Region>(region: &R, dir: u32, slot: u64) -> Targets
     requires well_formed { IsWellFormed (current_words (R.memory region.now)) }
     requires can { CanUnlink (current_words (R.memory region.now)) dir slot
@@ -70,7 +70,7 @@ pub(crate) fn leaving<R: Region>(region: &R, dir: u32, slot: u64) -> Targets
     targets
 }
 
-/// Where a file ends earlier, or where it did: the word of its size alone.
+/// Returns the target of making a file no longer: the word of its size alone.
 pub(crate) fn shrinking<R: Region>(region: &R, i: u32) -> Targets
     requires well_formed { IsWellFormed (current_words (R.memory region.now)) }
     requires reached { IsReached (current_words (R.memory region.now)) i }
@@ -81,7 +81,7 @@ pub(crate) fn shrinking<R: Region>(region: &R, i: u32) -> Targets
     targets
 }
 
-/// The same path.
+/// Returns a copy of a path.
 fn copy_of(path: &Slots) -> Slots
     ensures { result.items ≡ path.now.items }
 {
@@ -92,7 +92,7 @@ fn copy_of(path: &Slots) -> Slots
     }
 }
 
-/// A word, and those near which bytes come behind the size of a file.
+/// Returns a word, and those near which bytes past the size of a file are stored.
 fn with_end<R: Region>(region: &R, i: u32, word: Slots) -> Targets
     requires well_formed { IsWellFormed (current_words (R.memory region.now)) }
     requires reached { IsReached (current_words (R.memory region.now)) i }
@@ -106,7 +106,8 @@ fn with_end<R: Region>(region: &R, i: u32, word: Slots) -> Targets
     targets
 }
 
-/// Where a file ends later, with zeros or with bytes behind its size: the word of its size, and the end of its tree.
+/// Returns the targets of making a file longer, with zeros or with bytes past its size: the word of its size, and the
+/// end of its tree.
 pub(crate) fn lengthening<R: Region>(region: &R, i: u32) -> Targets
     requires well_formed { IsWellFormed (current_words (R.memory region.now)) }
     requires reached { IsReached (current_words (R.memory region.now)) i }
@@ -117,8 +118,8 @@ pub(crate) fn lengthening<R: Region>(region: &R, i: u32) -> Targets
     with_end(region, i, size_path(region, i))
 }
 
-/// Where a file gets bytes on both sides of its size: the pointer to the leaf with its inode, below which stand both the
-/// word of its size and its root word, and the end of its tree.
+/// Returns the targets of a write on both sides of a file's size: the pointer to the leaf with its inode, which holds
+/// both the word of its size and its root word, and the end of its tree.
 fn crossing<R: Region>(region: &R, i: u32) -> Targets
     requires well_formed { IsWellFormed (current_words (R.memory region.now)) }
     requires reached { IsReached (current_words (R.memory region.now)) i }
@@ -130,7 +131,7 @@ fn crossing<R: Region>(region: &R, i: u32) -> Targets
     with_end(region, i, leaf)
 }
 
-/// Where a file gets bytes below its size: the word that covers them.
+/// Returns the target of a write below a file's size: the word that covers the bytes.
 fn covering<R: Region>(parts: &Parts<R>, i: u32, off: u64, bytes: &[u8]) -> Targets
     requires mounted { IsMounted (current_words (R.memory parts.now.region)) parts.now }
     requires can { CanWrite (current_words (R.memory parts.now.region)) i off bytes.now }
@@ -144,7 +145,7 @@ fn covering<R: Region>(parts: &Parts<R>, i: u32, off: u64, bytes: &[u8]) -> Targ
     targets
 }
 
-/// Where a file gets bytes.
+/// Returns the targets of a write.
 pub(crate) fn writing<R: Region>(parts: &Parts<R>, i: u32, off: u64, bytes: &[u8]) -> Targets
     requires mounted { IsMounted (current_words (R.memory parts.now.region)) parts.now }
     requires can { CanWrite (current_words (R.memory parts.now.region)) i off bytes.now }
@@ -160,8 +161,8 @@ pub(crate) fn writing<R: Region>(parts: &Parts<R>, i: u32, off: u64, bytes: &[u8
     crossing(&parts.region, i)
 }
 
-/// The path of the word of the byte at the size of a tree, or that of its root word where it is empty or too low for
-/// the byte, given the path of its root word.
+/// Returns the path of the word of the byte at the size of a tree, given the path of its root word. If the tree is
+/// empty or too low for the byte, it is the path of the root word.
 fn end_path(root: &Slots, tree: Tree) -> Slots
     requires low { 0 < tree.size → height_of tree.root ≤ max_height }
     requires short { length root.now.items ≤ 6 }
@@ -178,8 +179,8 @@ fn end_path(root: &Slots, tree: Tree) -> Slots
     }
 }
 
-/// Adds the words near which bytes come behind the size of a tree, given the path of its root word: that word, and the
-/// one of the byte at the size.
+/// Adds the words near which bytes past the size of a tree are stored, given the path of its root word: that word, and
+/// the word of the byte at the size.
 pub fn push_end(targets: &mut Targets, root: &Slots, tree: Tree)
     requires low { 0 < tree.size → height_of tree.root ≤ max_height }
     requires short { length root.now.items ≤ 6 }

@@ -1,4 +1,4 @@
-//! What is kept near the words of a change is thawed before the change.
+//! Thaws before changes: copy-on-write of the blocks of the snapshot near the words of a change.
 
 ghost use Rattle.std.specs.Prelude.{◌≡◌, ◌+◌, ◌^◌, ◌<◌, ◌≤◌, IfErr, OnErr, OnOk, length};
 ghost use Rattle.bp_calls.specs.Mounted.{IsMounted};
@@ -17,11 +17,11 @@ use bp_free::{NoSpace, Parts};
 use bp_thaw::{thaw, thaw_need};
 use pm_region::Region;
 
-/// Whether so many blocks are free, for a change that thaws nothing.
+/// Checks whether `need` blocks are free, for a change that thaws nothing.
 ///
 /// # Errors
 ///
-/// Where fewer blocks are free.
+/// - `NoSpace`: fewer blocks are free.
 pub(crate) fn enough_free<R: Region>(parts: &Parts<R>, need: u32) -> Result<(), NoSpace>
     requires { IsMounted (current_words (R.memory parts.now.region)) parts.now }
     ensures enough { OnOk result (need ≤ length (members parts.now.blocks)) }
@@ -35,11 +35,13 @@ pub(crate) fn enough_free<R: Region>(parts: &Parts<R>, need: u32) -> Result<(), 
     Ok(())
 }
 
-/// Thaws what is kept on the ways to some words, for a change that takes `more` blocks after that.
+/// Thaws the blocks of the snapshot on the paths to some words, for a change that takes `more` blocks after that.
 ///
 /// # Errors
 ///
-/// Where fewer blocks are free than are taken in all. Nothing has changed then.
+/// Nothing has changed then.
+///
+/// - `NoSpace`: fewer blocks are free than the thaw and the change take together.
 pub fn thaw_before<R: Region>(
     parts: &mut Parts<R>,
     targets: &Targets,

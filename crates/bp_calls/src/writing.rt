@@ -1,4 +1,4 @@
-//! Bytes into a file: three ways, by where they lie to its size.
+//! Writes of bytes into a file. There are three cases, by the position of the bytes relative to its size.
 
 ghost use Rattle.std.specs.Prelude.{◌≡◌, ◌+◌, ◌<◌, ◌≤◌, [], length, true, IfErr, OnErr, OnOk};
 ghost use Rattle.bp_calls.specs.Commits.{CommitsChange, CommitsOrLacksBlocks, CommitsOrLacksSpace};
@@ -32,7 +32,7 @@ use bp_thaw::thaw_need;
 use bp_tree::Tree;
 use pm_region::Region;
 
-/// How many blocks bytes take that begin behind the size of a file, or at it, given its tree.
+/// Returns the number of blocks that bytes take that begin at or past the size of a file, given its tree.
 fn need_behind<R: Region>(parts: &Parts<R>, i: u32, tree: Tree, off: u64, bytes: &[u8]) -> u32
     requires root { tree.root ≡ root_of (current_words (R.memory parts.now.region)) i }
     requires size { tree.size ≡ size_of (current_words (R.memory parts.now.region)) i }
@@ -45,8 +45,8 @@ fn need_behind<R: Region>(parts: &Parts<R>, i: u32, tree: Tree, off: u64, bytes:
     need_prep(&parts.region, tree, off, off + bytes.len() as u64)
 }
 
-/// How many blocks bytes below the size of a file take, given its tree: one for each block on the ways to them, from the
-/// word that covers them down, and none where they lie in one word.
+/// Returns the number of blocks that bytes below the size of a file take, given its tree. It is one for each block on
+/// the paths to them from the word that covers them down, and 0 if they lie in one word.
 fn need_below<R: Region>(parts: &Parts<R>, i: u32, tree: Tree, off: u64, bytes: &[u8]) -> u32
     requires root { tree.root ≡ root_of (current_words (R.memory parts.now.region)) i }
     requires size { tree.size ≡ size_of (current_words (R.memory parts.now.region)) i }
@@ -60,7 +60,7 @@ fn need_below<R: Region>(parts: &Parts<R>, i: u32, tree: Tree, off: u64, bytes: 
     need_cover(&parts.region, &touched_by(&runs))
 }
 
-/// How many blocks bytes that are written into a file take, besides those that are thawed, given its tree.
+/// Returns the number of blocks that a write into a file takes besides those that are thawed, given its tree.
 fn need_write<R: Region>(parts: &Parts<R>, i: u32, tree: Tree, off: u64, bytes: &[u8]) -> u32
     requires root { tree.root ≡ root_of (current_words (R.memory parts.now.region)) i }
     requires size { tree.size ≡ size_of (current_words (R.memory parts.now.region)) i }
@@ -78,7 +78,7 @@ fn need_write<R: Region>(parts: &Parts<R>, i: u32, tree: Tree, off: u64, bytes: 
     need_across(parts, i, tree, off, bytes)
 }
 
-/// Whether nothing that is kept has to be thawed before bytes come into a file.
+/// Returns whether no block of the snapshot has to be thawed before bytes are written into a file.
 fn is_clear<R: Region>(parts: &Parts<R>, i: u32, off: u64, bytes: &[u8]) -> bool
     requires mounted { IsMounted (current_words (R.memory parts.now.region)) parts.now }
     requires can { CanWrite (current_words (R.memory parts.now.region)) i off bytes.now }
@@ -92,8 +92,9 @@ fn is_clear<R: Region>(parts: &Parts<R>, i: u32, off: u64, bytes: &[u8]) -> bool
     thaw_need(parts, &targets) == 0
 }
 
-/// The same for the run of bytes that end at the size of the file at most, given its tree and how many slots the path has
-/// that covers what they touch.
+/// Returns whether no block of the snapshot has to be thawed before a run of bytes is written. The run ends at or
+/// below the size of the file. Given are the file's tree, and the number of slots of the path that covers the words
+/// that the bytes touch.
 fn is_clear_below<R: Region>(
     parts: &Parts<R>,
     i: u32,
@@ -118,12 +119,13 @@ fn is_clear_below<R: Region>(
     bp_thaw::is_clear(parts, &path)
 }
 
-/// Thaws what is kept on the ways to the words near which bytes come into a file.
+/// Thaws the blocks of the snapshot on the paths to the words near which bytes are written into a file.
 ///
 /// # Errors
 ///
-/// `NoSpace` exactly where fewer blocks are free than that takes, with those that the bytes take. Nothing has changed
-/// then.
+/// Nothing has changed then.
+///
+/// - `NoSpace`: fewer blocks are free than the thaw and the bytes take. It is returned in exactly this case.
 fn thaw_write<R: Region>(
     parts: &mut Parts<R>,
     i: u32,
@@ -149,8 +151,8 @@ fn thaw_write<R: Region>(
     thaw_before(parts, &targets, need)
 }
 
-/// Writes bytes behind the size of a file, once nothing is left to thaw and enough blocks are free. Its tree is prepared
-/// for them, and then its size takes them in.
+/// Writes bytes that begin at or past the size of a file, once no block is left to thaw and enough blocks are free.
+/// The file's tree is prepared for them, and then its size includes them.
 fn write_behind<R: Region>(parts: &mut Parts<R>, i: u32, off: u64, bytes: &[u8])
     requires can { CanWriteThawed (kept_of parts.old) (R.memory parts.old.region) parts.old.blocks parts.old.inodes i off bytes.now }
     requires exact { IsExact (current_words (R.memory parts.old.region)) parts.old }
@@ -166,12 +168,12 @@ fn write_behind<R: Region>(parts: &mut Parts<R>, i: u32, off: u64, bytes: &[u8])
     commit_word(&mut parts.region, size_place, end);
 }
 
-/// Writes bytes below the size of a file, once nothing is left to thaw, by one commit of them, given its tree.
+/// Writes bytes below the size of a file, once no block is left to thaw, by one commit, given its tree.
 ///
 /// # Errors
 ///
-/// Where fewer blocks are free than are needed: one for each block on the ways to the bytes, from the word that covers
-/// them down, and none where they lie in one word.
+/// - `NoSpace`: fewer blocks are free than the write needs: one for each block on the paths to the bytes from the word
+///   that covers them down, and none if they lie in one word.
 fn write_below<R: Region>(
     parts: &mut Parts<R>,
     i: u32,
@@ -191,11 +193,14 @@ fn write_below<R: Region>(
     commit_below(parts, &touched)
 }
 
-/// What [`write`] does where some bytes lie past the size of the file, once nothing is left to thaw, given its tree.
+/// Does what [`write`] does if some bytes lie past the size of the file, once no block is left to thaw, given its
+/// tree.
 ///
 /// # Errors
 ///
-/// Where fewer blocks are free than are needed. Nothing has changed then.
+/// Nothing has changed then.
+///
+/// - `NoSpace`: fewer blocks are free than the write needs.
 fn write_longer<R: Region>(
     parts: &mut Parts<R>,
     i: u32,
@@ -223,11 +228,13 @@ fn write_longer<R: Region>(
     }
 }
 
-/// What [`write`] does once nothing is left to thaw.
+/// Does what [`write`] does once no block is left to thaw.
 ///
 /// # Errors
 ///
-/// Where fewer blocks are free than are needed. Nothing has changed then.
+/// Nothing has changed then.
+///
+/// - `NoSpace`: fewer blocks are free than the write needs.
 fn write_thawed<R: Region>(
     parts: &mut Parts<R>,
     i: u32,
@@ -245,11 +252,11 @@ fn write_thawed<R: Region>(
     write_longer(parts, i, tree, off, bytes)
 }
 
-/// What [`write`] does where something that is kept may have to be thawed.
+/// Does what [`write`] does if blocks of the snapshot may have to be thawed.
 ///
 /// # Errors
 ///
-/// As [`write`].
+/// Those of [`write`].
 fn thaw_and_write<R: Region>(
     parts: &mut Parts<R>,
     i: u32,
@@ -268,11 +275,12 @@ fn thaw_and_write<R: Region>(
     }
 }
 
-/// What [`write`] does where the bytes end at the size of the file at most, given its tree. What covers them is found once.
+/// Does what [`write`] does if the bytes end at or below the size of the file, given its tree. The word that covers
+/// them is searched for once.
 ///
 /// # Errors
 ///
-/// As [`write`].
+/// Those of [`write`].
 fn write_within<R: Region>(
     parts: &mut Parts<R>,
     i: u32,
@@ -298,14 +306,16 @@ fn write_within<R: Region>(
     thaw_and_write(parts, i, off, bytes)
 }
 
-/// Writes bytes into a file from an offset in bytes on, by one store alone in its epoch. The file then reaches to their
-/// end at least, with zeros where it had no bytes.
+/// Writes bytes into a file from an offset in bytes on, by one store alone in its epoch. The file then reaches at
+/// least to their end, with zeros where it had no bytes.
 ///
 /// # Errors
 ///
-/// `NoSpace` exactly where fewer blocks are free than it needs: one for each block on the ways to what it stores to that is
-/// kept for the snapshot, those for bytes past the size, and those that are copied for bytes below it. Nothing has
-/// changed then.
+/// Nothing has changed then.
+///
+/// - `NoSpace`: fewer blocks are free than the call needs. It needs one for each block of the snapshot on the paths to
+///   the words to which it stores, those for bytes past the size, and those that it copies for bytes below the size.
+///   It is returned in exactly this case.
 pub fn write<R: Region>(parts: &mut Parts<R>, i: u32, off: u64, bytes: &[u8]) -> Result<(), NoSpace>
     requires mounted { IsMounted (current_words (R.memory parts.old.region)) parts.old }
     requires can { CanWrite (current_words (R.memory parts.old.region)) i off bytes.now }

@@ -1,5 +1,5 @@
--- What a change makes of an image: told of the trees that the first image reaches, by slots and inodes. The second may
--- have its trees in other blocks.
+-- The effect of each change on an image, in terms of inodes and slots of the trees reachable before. The trees may be
+-- in other blocks afterwards.
 use Rattle.std.specs.Prelude.{◌≡◌, ◌≢◌, ◌⊎◌, ℕ, ◌+◌, ◌*◌, ◌%◌, ◌<◌, ◌≤◌}
 use Rattle.bp_limits.specs.Limits.{block_size, entry_size, entry_words}
 use Rattle.bp_layout.specs.Words.{Image}
@@ -10,7 +10,7 @@ use Rattle.bp_layout.specs.Paths.{IsName}
 use Rattle.bp_layout.specs.Reached.{IsReached}
 use Rattle.bp_changes.specs.KeepsTrees.{KeepsTrees}
 
--- each tree has the blocks that it had
+-- each tree has the same blocks as before
 pub record KeepsBlocks (old new : Image) : Type 0 where
   pub back : (t b : ℕ) → IsReached old t →
       HasBlock new (root_of new t) (size_of new t) b → HasBlock old (root_of old t) (size_of old t) b
@@ -19,7 +19,7 @@ pub record KeepsBlocks (old new : Image) : Type 0 where
 
 -- ---- the bytes of one file
 
--- the bytes of file x and their number may be others
+-- the bytes and the size of file x may change; nothing else does
 pub record ChangesFile (old new : Image) (x : ℕ) : Type 0 where
   pub reached : IsReached old x
   pub is_file : IsFile old x
@@ -35,7 +35,7 @@ pub record ChangesFile (old new : Image) (x : ℕ) : Type 0 where
 
 -- ---- an inumber
 
--- this inumber at slot s of directory i, and all else as it was
+-- slot s of directory i gets this inumber, and nothing else changes
 pub record SetsInumber (old new : Image) (i s value : ℕ) : Type 0 where
   pub trees : KeepsTrees old new
   pub kind : (u : ℕ) → u < inode_count old → kind_of new u ≡ kind_of old u
@@ -46,16 +46,16 @@ pub record SetsInumber (old new : Image) (i s value : ℕ) : Type 0 where
   pub bytes : (u o : ℕ) → IsReached old u → IsFile old u → o < size_of old u →
       byte new (root_of new u) o ≡ byte old (root_of old u) o
 
--- ---- one name more
+-- ---- a new name
 
--- an entry of the second image that the first has not
+-- the entry that only the second image has
 pub record IsNewEntry (i s j u r k : ℕ) : Type 0 where
   pub directory : u ≡ i
   pub slot : r ≡ s
   pub inode : k ≡ j
 
--- One more entry, at slot s of directory i, for an inode without bytes that nobody named. The slot was empty, or the
--- directory grew by it. The inode file may have grown too, and the inode may lie in what it got.
+-- A new entry, at slot s of directory i, for an inode without bytes that no entry named. The slot was empty, or the
+-- directory grew by it. The inode file may have grown too, and the inode may be in its new part.
 pub record AddsNames (old new : Image) (i s j : ℕ) : Type 0 where
   pub reached : IsReached old i
   pub fresh : IsReached old j → ⊥
@@ -79,8 +79,8 @@ pub record AddsNames (old new : Image) (i s j : ℕ) : Type 0 where
   pub bytes : (u o : ℕ) → IsReached old u → IsFile old u → o < size_of old u →
       byte new (root_of new u) o ≡ byte old (root_of old u) o
 
--- One more entry, at slot s of directory i, for file j, which has a name. The slot was empty, or the directory grew by
--- it. All else is as it was.
+-- A new entry, at slot s of directory i, for file j, which has a name already. The slot was empty, or the directory
+-- grew by it. Nothing else changes.
 pub record LinksName (old new : Image) (i s j : ℕ) : Type 0 where
   pub reached : IsReached old i
   pub other : IsReached old j
@@ -101,13 +101,13 @@ pub record LinksName (old new : Image) (i s j : ℕ) : Type 0 where
   pub bytes : (u o : ℕ) → IsReached old u → IsFile old u → o < size_of old u →
       byte new (root_of new u) o ≡ byte old (root_of old u) o
 
--- ---- one name fewer
+-- ---- a removed name
 
 -- no other entry names the inode of this one
 abbrev pub IsLastName : Image → ℕ → ℕ → ℕ → Type 0
 IsLastName old i s j = (u r : ℕ) → IsReached old u → EntryNames old u r j → (u ≡ i) × (r ≡ s)
 
--- another entry does
+-- another entry names the inode of this one
 pub record HasOtherName (old : Image) (i s j : ℕ) : Type 0 where
   pub directory : ℕ
   pub slot : ℕ
@@ -121,13 +121,14 @@ pub record CanUnlink (old : Image) (i s j : ℕ) : Type 0 where
   pub entry : EntryNames old i s j
   pub alone : (r k : ℕ) → EntryNames old j r k → ⊥
 
--- an empty entry there, and all else as it was
+-- the entry becomes empty, and nothing else changes
 abbrev pub RemovesEntry : Image → Image → ℕ → ℕ → Type 0
 RemovesEntry old new i s = SetsInumber old new i s 0
 
--- ---- a name moved
+-- ---- a name moved within the existing entries
 
--- The source entry (i, s) names j. The target entry (k, r) is empty or names a file or an empty directory.
+-- The condition of a move: the source entry (i, s) names j. The target entry (k, r) is empty or names a file or an
+-- empty directory.
 pub record CanMoveEntry (old : Image) (i s k r j : ℕ) : Type 0 where
   pub reached : IsReached old i
   pub entry : EntryNames old i s j
@@ -139,7 +140,7 @@ pub record CanMoveEntry (old : Image) (i s k r j : ℕ) : Type 0 where
   pub name : IsName (name_at old k r)
   pub new_name : (x l : ℕ) → EntryNames old k x l → name_at old k x ≡ name_at old k r → x ≡ r
 
--- the inumber in the target entry, none in the source entry, and all else as it was
+-- the target entry gets the inumber, the source entry becomes empty, and nothing else changes
 pub record MovesEntry (old new : Image) (i s k r j : ℕ) : Type 0 where
   pub trees : KeepsTrees old new
   pub kind : (u : ℕ) → u < inode_count old → kind_of new u ≡ kind_of old u
@@ -153,7 +154,7 @@ pub record MovesEntry (old new : Image) (i s k r j : ℕ) : Type 0 where
   pub bytes : (u o : ℕ) → IsReached old u → IsFile old u → o < size_of old u →
       byte new (root_of new u) o ≡ byte old (root_of old u) o
 
--- another name in entry s of directory i, new to that directory, and all else as it was
+-- entry s of directory i gets another name, which is new to that directory, and nothing else changes
 pub record RespellsEntry (old new : Image) (i s j : ℕ) : Type 0 where
   pub reached : IsReached old i
   pub names : EntryNames old i s j
@@ -170,20 +171,21 @@ pub record RespellsEntry (old new : Image) (i s j : ℕ) : Type 0 where
   pub bytes : (u o : ℕ) → IsReached old u → IsFile old u → o < size_of old u →
       byte new (root_of new u) o ≡ byte old (root_of old u) o
 
--- ---- a name carried to another directory
+-- ---- a name moved to a new entry of another directory
 
--- inode j, and each inode that a path from it finds
+-- inode j, and each inode to which a path from it leads
 pub data IsAtOrBelow (image : Image) (j : ℕ) : ℕ → Type 0 where
   itself : {k : ℕ} → k ≡ j → IsAtOrBelow image j k
   named : {i k : ℕ} → (slot : ℕ) → IsAtOrBelow image j i → EntryNames image i slot k → IsAtOrBelow image j k
 
--- an entry that the first image has, and not the one at slot s of directory i
+-- an entry of the first image other than the one at slot s of directory i
 pub record IsOldEntry (old : Image) (i s u x l : ℕ) : Type 0 where
   pub before : EntryNames old u x l
   pub other : (u ≡ i) → (x ≡ s) → ⊥
 
--- Entry (k, r) names j, which entry (i, s) named, under a name that is new to directory k. The target was empty, or the
--- directory grew by it. The source is empty. All other entries keep their slots, their names and what they name.
+-- Entry (k, r) names j, which entry (i, s) named before, under a name that is new to directory k. The target entry was
+-- empty, or the directory grew by it. The source entry becomes empty. All other entries keep their slots, names and
+-- inodes.
 pub record CarriesEntry (old new : Image) (i s k r j : ℕ) : Type 0 where
   pub reached : IsReached old i
   pub names : EntryNames old i s j

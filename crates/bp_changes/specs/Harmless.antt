@@ -1,4 +1,4 @@
--- Which values may stand at a place of an image without a change of what it means.
+-- Which values may be stored at a place of an image without a change of its meaning.
 use Rattle.std.specs.Prelude.{◌≡◌, ℕ, suc, ◌+◌, ◌*◌, ◌/◌, ◌%◌, ◌<◌, ◌≤◌, length}
 use Rattle.bp_limits.specs.Limits.{entry_words, inode_words, super_size}
 use Rattle.bp_layout.specs.Words.{Image, word, byte_of}
@@ -11,7 +11,7 @@ pub record IsHarmless (image : Image) (place value : ℕ) : Type 0 where
   pub superblock : place ≤ super_size → value ≡ word image place
   pub pointers : (t d k : ℕ) → IsReached image t → IsLivePointer (root_of image t) (size_of image t) (suc d) k →
       StandsAt image t d k place → value ≡ word image place
-  -- an inode's kind and size, and its root word where it has bytes
+  -- an inode's kind and size, and its root word if it has bytes
   pub inodes : (i f : ℕ) → IsReached image (suc i) → f < 3 → (f ≡ 1 → 0 < size_of image (suc i)) →
       ContentStandsAt image 0 (inode_words * suc i + f) place → value ≡ word image place
   pub inumbers : (i s : ℕ) → IsReached image i → IsDirectory image i → s < entry_count image i →
@@ -21,7 +21,7 @@ pub record IsHarmless (image : Image) (place value : ℕ) : Type 0 where
   pub bytes : (i o : ℕ) → IsReached image i → IsFile image i → o < size_of image i →
       ContentStandsAt image i (o / 8) place → byte_of value (o % 8) ≡ byte_of (word image place) (o % 8)
 
--- each word of the second image may stand in the first
+-- each word of the second image may be stored in the first without a change of meaning
 pub record Agrees (old new : Image) : Type 0 where
   pub whole : length new ≡ length old
   pub each : (place : ℕ) → IsHarmless old place (word new place)

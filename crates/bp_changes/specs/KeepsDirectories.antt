@@ -1,4 +1,4 @@
--- What each change of files' bytes keeps: the directories, and so each path.
+-- What every change of files' bytes keeps: the directories, and so every path.
 use Rattle.std.specs.Prelude.{◌≡◌, ℕ, ◌<◌}
 use Rattle.bp_limits.specs.Limits.{entry_words}
 use Rattle.bp_layout.specs.Words.{Image}
@@ -7,8 +7,8 @@ use Rattle.bp_layout.specs.Directory.{EntryNames, inumber_at, entry_word, entry_
 use Rattle.bp_layout.specs.Reached.{IsReached}
 use Rattle.bp_changes.specs.KeepsTrees.{KeepsTrees}
 
--- The same inodes of the same kinds, and each directory with the entries that it had. Of files nothing is said but that
--- their trees are sound.
+-- The inodes have the same kinds, and each directory has the same entries. Of files, this states only that their trees
+-- are sound.
 pub record KeepsDirectories (old new : Image) : Type 0 where
   pub trees : KeepsTrees old new
   pub kind : (t : ℕ) → IsReached old t → kind_of new t ≡ kind_of old t

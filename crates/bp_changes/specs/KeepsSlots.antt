@@ -1,13 +1,13 @@
--- What a change keeps of the slots of names.
+-- The slots of names that a change keeps.
 use Rattle.std.specs.Prelude.{◌≢◌, ℕ}
 use Rattle.bp_layout.specs.Hints.{NameIn, IsSlotOf}
 use Rattle.bp_layout.specs.Words.{Image}
 
--- each name has the slot that it had
+-- each name keeps its slot
 abbrev pub KeepsSlots : Image → Image → Type 0
 KeepsSlots old new = (name : NameIn) (slot : ℕ) → IsSlotOf old name slot → IsSlotOf new name slot
 
--- each but one has, or each but two
+-- each name but one keeps its slot; `KeepsOthers`: each but two
 abbrev pub KeepsOther : Image → Image → NameIn → Type 0
 KeepsOther old new gone = (name : NameIn) (slot : ℕ) → name ≢ gone → IsSlotOf old name slot → IsSlotOf new name slot
 

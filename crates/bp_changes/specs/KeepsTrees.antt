@@ -1,4 +1,4 @@
--- What each change keeps of an image's trees.
+-- What every change keeps of an image's trees.
 use Rattle.std.specs.Prelude.{◌≡◌, ℕ, ◌<◌, ◌≤◌, length}
 use Rattle.bp_limits.specs.Limits.{greatest_height, super_blocks, super_magic}
 use Rattle.bp_layout.specs.Words.{Image, height_of, word}
@@ -7,8 +7,8 @@ use Rattle.bp_layout.specs.Tree.{HasBlock, IsSound, IsFull}
 use Rattle.bp_layout.specs.Inode.{IsDirectory, root_of, size_of}
 use Rattle.bp_layout.specs.Reached.{IsReached}
 
--- The image is as long, with its mark and its count. Each tree is sound and no higher than those of its version, no block
--- is in two, and none is missing in the inode file and in directories.
+-- The image keeps its length, its magic number and its block count. Each tree is sound and no higher than the version
+-- allows, no block is in two trees, and the inode file and directories have all their blocks.
 pub record KeepsTrees (old new : Image) : Type 0 where
   pub whole : length new ≡ length old
   pub marked : word new super_magic ≡ word old super_magic

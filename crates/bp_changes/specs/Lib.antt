@@ -1,18 +1,18 @@
--- What a change of an image keeps. To be read in this order.
+-- What a change of an image keeps. Read the modules in this order.
 
 -- what each change keeps
 pub mod KeepsTrees
--- when an image means the same as another
+-- when two images mean the same
 pub mod SameMeaning
 pub mod SameContent
--- what nobody sees
+-- changes that no reader sees
 pub mod Harmless
--- what each change makes of an image, and what a commit makes of its words
+-- the effect of each change on an image, and of a commit on its words
 pub mod KeepsDirectories
 pub mod Effects
 pub mod Overwrites
 pub mod Commits
 pub mod Thawed
--- what each keeps of the slots of names, and of entries
+-- the slots of names, and the entries, that each change keeps
 pub mod KeepsSlots
 pub mod KeepsEntries

@@ -1,4 +1,4 @@
--- Bytes are laid into files, below their sizes.
+-- Bytes written over those of files, below their sizes.
 use Rattle.std.specs.Prelude.{◌≡◌, ℕ, ◌<◌, List, [], ◌∷◌, ◌==◌, if◌then◌else◌}
 use Rattle.bp_limits.specs.Limits.{entry_words}
 use Rattle.bp_layout.specs.Words.{Image}
@@ -15,16 +15,18 @@ pub record Patch : Type 0 where
   pub off : ℕ
   pub bytes : List ℕ
 
--- byte o of file i with a patch laid over it, where it had this one
+-- byte o of file i with a patch written over it, given the old byte
 abbrev pub patched_by : Patch → ℕ → ℕ → ℕ → ℕ
 patched_by patch i o had = if patch.inode == i then byte_over patch.off patch.bytes o had else had
 
--- and with several, one after the other: where two give the same byte, that of the later one stands
+-- byte o of file i with several patches written over it, one after the other; if two give the same byte, the later one
+-- applies
 abbrev pub patched : List Patch → ℕ → ℕ → ℕ → ℕ
 patched [] i o had = had
 patched (patch ∷ patches) i o had = patched patches i o (patched_by patch i o had)
 
--- Each file has its bytes with the patches laid over them. All else is as it was, sizes too.
+-- The bytes of files are those before with the patches written over them. Nothing else changes, and neither do the
+-- sizes.
 pub record OverwritesFiles (patches : List Patch) (old new : Image) : Type 0 where
   pub trees : KeepsTrees old new
   pub kind : (t : ℕ) → IsReached old t → kind_of new t ≡ kind_of old t

@@ -1,5 +1,5 @@
--- When a second image means the same as the first: told of the trees that the first one reaches, so by inodes and not
--- by paths.
+-- When a second image means the same as the first, in terms of the trees that the first one reaches: by inodes, not by
+-- paths.
 use Rattle.std.specs.Prelude.{◌≡◌, ℕ, suc, ◌%◌, ◌<◌, ◌≤◌}
 use Rattle.bp_limits.specs.Limits.{block_size, entry_words}
 use Rattle.bp_layout.specs.Words.{Image}

@@ -1,5 +1,5 @@
--- An effect that is told of an image with the same meaning, whose trees may stand in other blocks: what a call makes of
--- an image once blocks that are kept were copied.
+-- Effects on an image whose trees may be in other blocks, with the same meaning: the effect of a call after kept blocks
+-- were copied.
 use Rattle.std.specs.Prelude.{◌≡◌, ℕ}
 use Rattle.bp_layout.specs.Words.{Image, height_of}
 use Rattle.bp_layout.specs.Inode.{root_of, size_of}
@@ -7,8 +7,8 @@ use Rattle.bp_layout.specs.Nodes.{TreeNode, is_present}
 use Rattle.bp_layout.specs.Reached.{IsReached}
 use Rattle.bp_changes.specs.SameMeaning.{SameMeaning}
 
--- The trees mean the same, at the same heights and with the same nodes present; so each change needs as much of both
--- images, and has one cover.
+-- The trees have the same meaning, heights and sizes, and the same nodes exist. So each change has the same need and
+-- the same cover in both images.
 pub record SameShape (old new : Image) : Type 0 where
   pub meaning : SameMeaning old new
   pub sizes : (t : ℕ) → IsReached old t → size_of new t ≡ size_of old t

@@ -1,5 +1,5 @@
-//! What a change of an image keeps, and what it makes of the meaning: words that may stand, an entry more or less, a
-//! file's bytes, a name that has moved.
+//! What a change of an image keeps, and its effect on the meaning: harmless words, a new or removed entry, a file's
+//! bytes, a moved name.
 #![tactic(auto)]
 
 pub mod image_laws;

@@ -1,4 +1,4 @@
--- The command line of the program, in the words of `clap`.
+-- The command line of the program, in terms of `clap`.
 use Rattle.std.specs.Prelude.{◌≡◌, ◌∷◌, [], ⊤, false, Option, List, Some, true, codes}
 use Rattle.clap.specs.declared.builder.command.Command.TheViews.{out-Command}
 use Rattle.clap.specs.declared.builder.arg.Arg.{Arg}
@@ -21,7 +21,7 @@ blocks_rule = record (new_rule (codes "blocks")) {
   parser = Some (vp.Unsigned 8 65536);
 }
 
--- the version of a new file system, 1 where the words name none
+-- The version of a new file system, 1 if the arguments give none.
 abbrev pub version_rule : Rule
 version_rule = record (new_rule (codes "version")) {
   long = Some (codes "version");
@@ -76,23 +76,23 @@ pub record IsCommand (a : App) (c : Command) : Type 0 where
   pub app : app_of c ≡ a
   pub local : (out-Command c).has_globals ≡ false
 
--- the command takes the words: by the crate's own definition for simple commands there is no fault
+-- The command accepts the arguments: by `clap`'s own definition of simple commands they have no fault.
 unfoldable pub IsTaken : List Text → Type 0
 IsTaken words = fault_of bpfs_app words ≡ []
 
--- the error is of a kind that this definition finds in the words
+-- The error is of a kind that `clap`'s definition finds in the arguments.
 unfoldable pub IsRefusedBy : List Text → Error → Type 0
 IsRefusedBy words error = IsAmong (kind_of error) (fault_of bpfs_app words)
 
--- words that are said to be no command are none, and the reason is of a kind that is found in them
+-- Arguments reported as no command are none, and the reported error is of a kind that is found in them.
 abbrev pub IsRight : List Text → WordsFault → Type 0
 IsRight words (Usage error) = (¬ IsTaken words) × IsRefusedBy words error
 IsRight words Memory = ⊤
 
--- the subcommand that the words name, with what they give its arguments
+-- The subcommand that the arguments name, with the values that they give to its arguments.
 unfoldable pub subcommand_named : List Text → Option (Text × List Row)
 subcommand_named words = subcommand_of bpfs_app words
 
--- m has what the words give
+-- The matches are those of the arguments.
 unfoldable pub HasMet : List Text → ArgMatches → Type 0
 HasMet words m = HasMatchesOf bpfs_app words m

@@ -8,7 +8,7 @@ use clap::builder::ValueParser;
 use clap::{Arg, Command, value_parser};
 use std::alloc::{AllocError, Global};
 
-/// The file that a program works on. No file has the empty name.
+/// Defines the file that a program works on. Its name is not empty.
 fn file<'a>(alloc: Global) -> Arg<'a>
     ensures { IsArgument file_rule result }
 {
@@ -18,7 +18,7 @@ fn file<'a>(alloc: Global) -> Arg<'a>
         .value_parser(ValueParser::NonEmptyString)
 }
 
-/// The number of blocks of a new file system.
+/// Defines the number of blocks of a new file system.
 fn blocks<'a>(alloc: Global) -> Arg<'a>
     ensures { IsArgument blocks_rule result }
 {
@@ -30,7 +30,7 @@ fn blocks<'a>(alloc: Global) -> Arg<'a>
         .value_parser(value_parser!(u64).range(i64::from(MIN_BLOCKS)..=i64::from(MAX_BLOCKS)))
 }
 
-/// The version of a new file system: the first one where the words name none.
+/// Defines the version of a new file system: 1 if the arguments give none.
 fn version<'a>(alloc: Global) -> Arg<'a>
     ensures { IsArgument version_rule result }
 {
@@ -42,7 +42,7 @@ fn version<'a>(alloc: Global) -> Arg<'a>
         .value_parser(value_parser!(u64).range(1..=2))
 }
 
-/// The number that the turns of a play are made from: any of 64 bits.
+/// Defines the seed from which the operations of a play are made: any 64-bit number.
 fn seed<'a>(alloc: Global) -> Arg<'a>
     ensures { IsArgument seed_rule result }
 {
@@ -54,7 +54,7 @@ fn seed<'a>(alloc: Global) -> Arg<'a>
         .value_parser(value_parser!(u64))
 }
 
-/// The number of turns of a play.
+/// Defines the number of operations of a play.
 fn count<'a>(alloc: Global) -> Arg<'a>
     ensures { IsArgument count_rule result }
 {
@@ -121,7 +121,7 @@ fn bare<'a>(alloc: Global) -> Command<'a>
         .subcommand_required(true)
 }
 
-/// The command: one subcommand for each program.
+/// Makes the command, with one subcommand for each program.
 pub(crate) fn command<'a>(alloc: Global) -> Result<Command<'a>, AllocError>
     ensures { IfOk result (IsCommand bpfs_app) }
 {

@@ -1,4 +1,4 @@
-//! The words of a command line, as `clap` reads them.
+//! The arguments of a command line, as `clap` reads them.
 #![tactic(auto)]
 
 mod building;

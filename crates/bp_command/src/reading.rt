@@ -1,4 +1,4 @@
-//! What the words ask for.
+//! Reading of arguments.
 
 ghost use Rattle.std.specs.Prelude.{◌≡◌, IfErr, IfOk, IsSome, OnOk, codes, map, ℕ};
 ghost use Rattle.bp_command.specs.Commands.{HasMet, IsRight, IsTaken};
@@ -12,54 +12,54 @@ use clap::ArgMatches;
 use clap::error::{Error, ErrorKind};
 use std::alloc::Global;
 
-/// A program that words ask for.
+/// A program that arguments ask for.
 #[derive(Clone, Copy, Debug, PartialEq, Eq)]
 pub enum Program<'a> {
-    /// Makes a file a file system of 8 to 65,536 blocks.
+    /// Formats a file as a file system of 8 to 65,536 blocks.
     Format {
-        /// The file's name.
+        /// The name of the file.
         name: &'a str,
         /// The number of blocks.
         blocks: u32,
-        /// The version, which is the first one where the words name none.
+        /// The version: 1 if the arguments give none.
         version: Version,
     },
     /// Serves a script over a file.
     Run {
-        /// The file's name.
+        /// The name of the file.
         name: &'a str,
     },
-    /// Tells whether a file is a file system, and what it holds.
+    /// Checks whether a file is a file system, and prints its totals.
     Check {
-        /// The file's name.
+        /// The name of the file.
         name: &'a str,
     },
-    /// Makes calls and crashes of a file system in memory, and tells what came of them.
+    /// Makes calls and crashes on a file system in memory, and prints their outcome.
     Play {
-        /// The file's name.
+        /// The name of the file.
         name: &'a str,
-        /// The number that the turns are made from.
+        /// The number from which the operations are made.
         seed: u64,
-        /// The number of turns, at most 1,000,000.
+        /// The number of operations, at most 1,000,000.
         count: u32,
     },
-    /// Writes the script that makes a file's tree.
+    /// Writes the script that makes the tree of a file.
     Export {
-        /// The file's name.
+        /// The name of the file.
         name: &'a str,
     },
 }
 
-/// Why words are not read.
+/// The reason for which arguments cannot be read.
 #[derive(Debug, Drop)]
 pub enum WordsFault {
     /// They ask for no program, for this reason.
     Usage(Error),
-    /// There is no memory to read them.
+    /// Allocation failed.
     Memory,
 }
 
-/// The subcommand that the words name, with its values.
+/// Finds the subcommand that the arguments name, with its values.
 fn matches<'a>(alloc: Global, words: &'a [&'a str]) -> Result<ArgMatches<'a>, WordsFault>
     ensures matches { IfOk result (HasMet (map (λ word. word.now) words.now)) }
     ensures taken { OnOk result (IsTaken (map (λ word. word.now) words.now)) }
@@ -78,7 +78,7 @@ fn matches<'a>(alloc: Global, words: &'a [&'a str]) -> Result<ArgMatches<'a>, Wo
     }
 }
 
-/// The name of the file.
+/// Returns the name of the file.
 fn name_of<'a>(values: &ArgMatches<'a>) -> &'a str
     requires { IsSome (first_of (codes "FILE") (rows_of (found_of values.now))) }
     ensures { first_of (codes "FILE") (rows_of (found_of values.now)) ≡ Some result.now }
@@ -89,7 +89,7 @@ fn name_of<'a>(values: &ArgMatches<'a>) -> &'a str
     }
 }
 
-/// The number that an option is given, which `clap` lets through in its range alone.
+/// Returns the number that an option is given. `clap` accepts it only in its range.
 fn number_of(values: &ArgMatches<'_>, option: &str) -> u64
     requires { (least : ℕ) × (most : ℕ) × HasNumber option.now least most (rows_of (found_of values.now)) }
     ensures { let rows = rows_of (found_of values.now) in
@@ -101,7 +101,7 @@ fn number_of(values: &ArgMatches<'_>, option: &str) -> u64
     }
 }
 
-/// The version that a format is given, or the first one.
+/// Returns the version that a format is given, or version 1.
 fn version_of(values: &ArgMatches<'_>) -> Version
     requires { HasNumber (codes "version") first_version last_version (rows_of (found_of values.now)) }
     ensures { AsksForVersion (rows_of (found_of values.now)) result }
@@ -109,7 +109,7 @@ fn version_of(values: &ArgMatches<'_>) -> Version
     Version::numbered(number_of(values, "version") as u8)
 }
 
-/// What a subcommand with its values asks for.
+/// Returns the program that a subcommand with its values asks for.
 fn program_named<'a>(verb: &str, values: &ArgMatches<'a>) -> Program<'a>
     requires { HasValues verb.now (rows_of (found_of values.now)) }
     ensures names { Names verb.now (rows_of (found_of values.now)) (program_of result) }
@@ -134,11 +134,12 @@ fn program_named<'a>(verb: &str, values: &ArgMatches<'a>) -> Program<'a>
     }
 }
 
-/// The program that the words ask for, the name under which it was called first.
+/// Reads the program that the arguments ask for. The first argument is the name under which the program was called.
 ///
 /// # Errors
 ///
-/// `Usage` exactly where `clap` takes the words for no command of the program, help among them.
+/// * `Usage`: `clap` does not accept the arguments as a command of the program, or they ask for help.
+/// * `Memory`: allocation failed.
 pub fn read_words<'a>(alloc: Global, words: &'a [&'a str]) -> Result<Program<'a>, WordsFault>
     ensures asks { IfOk result (λ program. Requests (map (λ word. word.now) words.now) (program_of program)) }
     ensures range { IfOk result (λ program. HasNumbersInRange (program_of program)) }

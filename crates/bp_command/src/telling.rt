@@ -1,15 +1,16 @@
-//! What is told of words that ask for no program.
+//! The text for arguments that ask for no program.
 
 use clap::Error;
 use std::alloc::{AllocError, Global};
 
-/// What `clap` says of a mistake in the words, as one line: which word is wrong, or what is wanting.
+/// Makes one line of `clap`'s message about a mistake in the arguments: which argument is wrong, or what is missing.
 ///
-/// Its text is a paragraph, which may have lines below its first one, and then tips and usage, which are left out.
+/// The message is a paragraph, which may have more lines after its first, and then tips and usage, which are left
+/// out.
 ///
 /// # Errors
 ///
-/// `AllocError` where there is no memory for the line.
+/// * `AllocError`: allocation of the line fails.
 pub fn mistake_line(alloc: Global, mistake: &Error) -> Result<String, AllocError> {
     let text = format!(in alloc; "{mistake}")?;
     let text = text.as_str();

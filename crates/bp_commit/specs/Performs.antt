@@ -1,4 +1,4 @@
--- What a changing call does before its mark, and what that may cost.
+-- What a changing call does before its end-of-call marker, and its greatest costs.
 use Rattle.std.specs.Prelude.{◌≡◌, ◌≢◌, ℕ, ◌+◌, ◌*◌, ◌/◌, ◌<◌, ◌≤◌, List, length, Bool, true, false, Some}
 use Rattle.pm_epochs.specs.declared.event.Event.{Event}
 use Rattle.pm_epochs.specs.Log.{StoresTo, IsStoredIn, stores, barriers, last_stored}
@@ -19,16 +19,17 @@ use Rattle.bp_layout.specs.Words.{Image}
 abbrev pub InBlock : ℕ → ℕ → Type 0
 InBlock block word = word / block_words ≡ block
 
--- Where a call that takes these blocks may store: into them, into blocks that are live and not kept, and at the two
--- words of the superblock that tell of the inode file.
+-- Where a call that takes these blocks may store: to these blocks, to live blocks that are not kept, and to the two
+-- words of the superblock for the inode file.
 pub data IsOpen (image : Image) (kept : ℕ → Bool) (taken : List ℕ) (word : ℕ) : Type 0 where
   in_taken : Has taken (word / block_words) → IsOpen image kept taken word
   in_live : IsLiveBlock image (word / block_words) → kept (word / block_words) ≡ false → IsOpen image kept taken word
   at_root : word ≡ super_root → IsOpen image kept taken word
   at_size : word ≡ super_size → IsOpen image kept taken word
 
--- The blocks of the list were free, each stands once, and each gets a store. Other free blocks get none, nor do the
--- other words of the superblock: so a call can't prepare for a later one, nor leave in the log what nobody asked for.
+-- The blocks of the list were free, are all different, and each gets a store. No other free block and no other word of
+-- the superblock does. So a call cannot prepare for a later one, nor leave stores in the log that its work does not
+-- need.
 pub record TakesBlocks (image : Image) (kept : ℕ → Bool) (taken : List ℕ) (events : List Event) : Type 0 where
   pub once : AreApart taken
   pub free : Each (IsFreeBlock image kept) taken
@@ -40,29 +41,29 @@ pub record AddsTaking (kept : ℕ → Bool) (taken : List ℕ) (most_barriers mo
   pub part : AddsQuiet Same most_barriers most_stores old new
   pub takes : TakesBlocks (current_words old) kept taken part.added
 
--- how many barriers a call makes at most, and how many stores where it needs so many blocks
+-- the greatest number of barriers of a call; `most_stores`: of stores of a call that needs this many blocks
 abbrev pub most_barriers : ℕ
 most_barriers = 10
 
 abbrev pub most_stores : ℕ → ℕ
 most_stores needed = (block_words + 1) * (needed + 6) + 64
 
--- the same where nothing is thawed, or behind that
+-- the greatest number of stores after a thaw, or of a call without one
 abbrev pub most_stores_thawed : ℕ → ℕ
 most_stores_thawed needed = block_words * (needed + 6) + 64
 
--- and how many events it adds at most: these, its barriers and its mark
+-- the greatest number of events that a call adds: its stores, its barriers and its end-of-call marker
 abbrev pub room_for : ℕ → ℕ
 room_for needed = most_stores needed + most_barriers + 1
 
--- the log has room for the change, and no more is asked of it
+-- the log has room for the change; no more room is required
 abbrev pub HasRoomFor : Memory → (ℕ → Bool) → Change → Type 0
 HasRoomFor memory kept change = room_for (full_need (current_words memory) kept change) ≤ room_in memory
 
--- A changing call before its mark, where some blocks are kept: a quiet preparation, and then one store alone in its
--- epoch, at the word of the cover, with so many barriers and stores at most. It takes just so many blocks. The cover is
--- told of the image before, where the call is asked for, and its word stands in the image after, since a preparation
--- may put a tree one level lower.
+-- A changing call before its end-of-call marker, while some blocks are kept: a quiet preparation, and then one store
+-- alone in its epoch, at the word of the cover. It takes exactly `needed` blocks and makes at most `barriers` barriers
+-- and `most` stores. The cover is that of the image before the call, but its word is located in the image after it,
+-- since a preparation may put a tree one level lower.
 pub record PerformsWithin (kept : ℕ → Bool) (needed barriers most : ℕ) (old new : Memory) (change : Change)
     (Effect : Image → Image → Type 0) : Type 0 where
   pub value : ℕ
@@ -75,28 +76,28 @@ pub record PerformsWithin (kept : ℕ → Bool) (needed barriers most : ℕ) (ol
   pub well_formed : IsWellFormed (current_words new)
   pub effect : Effect (current_words old) (current_words new)
 
--- as many as a call needs and makes at most: the blocks that are thawed first are among them
+-- a call with the need and the greatest costs of its change; the blocks copied by a thaw are part of the need
 abbrev pub Performs : (ℕ → Bool) → Memory → Memory → Change → (Image → Image → Type 0) → Type 0
 Performs kept old new change Effect = PerformsWithin kept (full_need (current_words old) kept change) most_barriers
     (most_stores (full_need (current_words old) kept change)) old new change Effect
 
--- the same of a call for which nothing has to be thawed any more
+-- a performed call that needs no thaw any more, with its need and its greatest costs
 abbrev pub PerformsThawed : (ℕ → Bool) → Memory → Memory → Change → (Image → Image → Type 0) → Type 0
 PerformsThawed kept old new change Effect = PerformsWithin kept (need (current_words old) change) 8
     (most_stores_thawed (need (current_words old) change)) old new change Effect
 
--- whatever it makes of the image
+-- a performed call, whatever its effect on the image
 abbrev pub IsPerformed : (ℕ → Bool) → Memory → Memory → Change → Type 0
 IsPerformed kept old new change = Performs kept old new change (λ image after. Unit {0})
 
--- the list has just the blocks that are free in the image and to which a store of the log goes, each once
+-- the list has exactly the blocks that are free in the image and get a store of the log, each once
 pub record AreTaken (image : Image) (kept : ℕ → Bool) (events : List Event) (taken : List ℕ) : Type 0 where
   pub once : AreApart taken
   pub some : (b : ℕ) → Has taken b → IsFreeBlock image kept b × StoresTo (InBlock b) events
   pub all : (b : ℕ) → IsFreeBlock image kept b → StoresTo (InBlock b) events → Has taken b
 
--- What a changing call costs: its last store is at the word of the cover, the blocks that were free and to which it
--- stores are as many as it needs, and it has few barriers and stores.
+-- The costs of a changing call: its last store is at the word of the cover, it stores to as many free blocks as it
+-- needs, and it makes few barriers and stores.
 pub record IsShort (old new : Image) (kept : ℕ → Bool) (change : Change) (events : List Event) : Type 0 where
   pub last : last_stored events ≡ Some (address new (cover old change))
   pub taken : List ℕ
@@ -104,6 +105,6 @@ pub record IsShort (old new : Image) (kept : ℕ → Bool) (change : Change) (ev
   pub number : length taken ≡ full_need old kept change
   pub few_barriers : barriers events ≤ most_barriers
   pub few_stores : length (stores events) ≤ most_stores (full_need old kept change)
-  -- and it leaves the blocks that are kept, and all words of the superblock but the two that tell of the inode file
+  -- and it stores neither to kept blocks nor to any word of the superblock except the two for the inode file
   pub keeps : (word : ℕ) → block_words ≤ word → kept (word / block_words) ≡ true → IsStoredIn events word → ⊥
   pub idle : (word : ℕ) → word < block_words → word ≢ super_root → word ≢ super_size → IsStoredIn events word → ⊥

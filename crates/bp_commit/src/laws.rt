@@ -1,4 +1,4 @@
-//! Laws of calls that are performed, whatever they do. Each is the contract of a function that does nothing.
+//! Theorems on performed calls, whatever their effect. Each is the contract of a function with an empty body.
 
 ghost use Rattle.std.specs.Prelude.{ℕ, Bool};
 ghost use Rattle.bp_layout.specs.Need.{Change};
@@ -6,8 +6,8 @@ ghost use Rattle.bp_commit.specs.Costs.{IsShortBetween, LeavesFreeBlock, NeedsAt
 ghost use Rattle.bp_commit.specs.Performs.{IsPerformed};
 ghost use Rattle.pm_region.specs.Memory.{Memory};
 
-/// A call that is performed costs no more than it must, and the blocks that it needs were free. With its mark it keeps a
-/// memory safe.
+/// States that a performed call costs no more than its need requires, that enough blocks were free for it, and that
+/// with its end-of-call marker it keeps a safe memory safe.
 pub fn performed_calls_are_short()
     ensures short { (kept : ℕ → Bool) (old new : Memory) (change : Change) → IsPerformed kept old new change →
         IsShortBetween kept old new change }
@@ -17,7 +17,8 @@ pub fn performed_calls_are_short()
         StaysSafe old new marked }
 {}
 
-/// Where a call needs no block it stores to no free one, so that none does what another call would have to do.
+/// States that a performed call that needs no block stores to no free block, so that no call does the work of another
+/// one.
 pub fn performed_calls_leave_free_blocks()
     ensures { (kept : ℕ → Bool) (old new : Memory) (change : Change) (b : ℕ) → IsPerformed kept old new change →
         LeavesFreeBlock kept old new change b }

@@ -1,4 +1,4 @@
--- What a commit asks.
+-- The conditions of a commit.
 use Rattle.std.specs.Prelude.{◌≡◌, ◌≢◌, ℕ, suc, ◌-◌, ◌*◌, ◌/◌, ◌%◌, ◌<◌, ◌≤◌, [], length, Bool}
 use Rattle.bp_free.specs.Set.{Set, has}
 use Rattle.bp_layout.specs.Free.{AreUnheld}
@@ -15,12 +15,13 @@ use Rattle.bp_cow.specs.declared.touched.Run.{Run}
 use Rattle.bp_cow.specs.declared.touched.Touched.{Touched}
 use Rattle.bp_cow.specs.declared.touched.TreeSize.{TreeSize}
 
--- a set tells of each block of the image whether it is kept
+-- the set has exactly the kept blocks of the image (the blocks of the snapshot)
 pub record TellsKept (kept : ℕ → Bool) (image : Image) (set : Set) : Type 0 where
   pub room : block_count image ≤ length set
   pub same : (b : ℕ) → has set b ≡ kept b
 
--- a run lies in the tree of a reached inode, which has that height, below the size that counts, and knows of all that do
+-- The run is in the tree of a reachable inode, which has the height that the run states. The run ends below the tree's
+-- size in `bound`, and the size that the run states is at least that size.
 pub record IsRunIn (old : Image) (bound : ℕ → ℕ) (run : Run) : Type 0 where
   pub inode : ℕ
   pub reached : IsReached old (suc inode)
@@ -29,7 +30,8 @@ pub record IsRunIn (old : Image) (bound : ℕ → ℕ) (run : Run) : Type 0 wher
   pub below : run_end run ≤ bound (suc inode)
   pub counts : bound (suc inode) ≤ run.size
 
--- a tree is that of a reached inode or the inode file, has that height, and knows of all its bytes that count
+-- the tree is that of a reachable inode or the inode file, has this height, and states a size of at least its size in
+-- `bound`
 pub record IsTreeIn (old : Image) (bound : ℕ → ℕ) (tree : TreeSize) : Type 0 where
   pub number : ℕ
   pub reached : IsReached old number
@@ -37,9 +39,10 @@ pub record IsTreeIn (old : Image) (bound : ℕ → ℕ) (tree : TreeSize) : Type
   pub height : tree.height ≡ height_of (root_of old number)
   pub counts : bound number ≤ tree.size
 
--- `bound`: of each tree the greater of its size and the size that it is given. Under these sizes the reached trees
--- are sound, no block is in two, and the free blocks are just those that none of them has and that are not kept. Each
--- proper front of a touched path is a pointer, and no touched path is one.
+-- The condition on the image and the touched words. `bound` is for each tree the greater of its old size and its new
+-- size. With these sizes the reachable trees are sound, no block is in two of them, and the free blocks are exactly
+-- those that none of them has and that are not kept. Each proper prefix of a touched path is the path of a pointer, and
+-- no touched path is.
 pub record CanCommit (old : Image) (bound : ℕ → ℕ) (kept : ℕ → Bool) (touched : Touched) (free : ℕ → Bool)
     : Type 0 where
   pub shape : IsTouched touched
@@ -51,33 +54,34 @@ pub record CanCommit (old : Image) (bound : ℕ → ℕ) (kept : ℕ → Bool) (
   pub contents : (i : ℕ) → i < length touched.words.now → ¬ IsTreePointer old bound (touched_trail touched i)
   pub runs : (run : Run) → Has touched.runs.now run → IsRunIn old bound run
   pub trees : (tree : TreeSize) → Has touched.trees.now tree → IsTreeIn old bound tree
-  -- the paths are different, and none is that of a word of a run
+  -- the paths are different, and none is the path of a word of a run
   pub apart : (i k : ℕ) → i < length touched.words.now → k < length touched.words.now
       → touched_trail touched i ≡ touched_trail touched k → i ≡ k
   pub beside : (run : Run) (i k : ℕ) → Has touched.runs.now run → i < length touched.words.now → run.off / 8 ≤ k
       → k ≤ (run_end run - 1) / 8 →
       touched_trail touched i ≢ end_trail (run_path run k)
 
--- whichever sizes count, and whichever blocks are kept and free: where the words can be committed, this holds
+-- the statement `Holds` is true for all sizes, kept blocks and free blocks with which the words can be committed
 abbrev pub WhereCanCommit : Image → Touched → Type 0 → Type 0
 WhereCanCommit image touched Holds =
     (bound : ℕ → ℕ) (kept free : ℕ → Bool) → CanCommit image bound kept touched free → Holds
 
--- ---- under the sizes that the image has
+-- ---- with the sizes of the image itself
 
--- the trees that are given are the image's
+-- the given trees are trees of the image, with its sizes
 abbrev pub HasTrees : Image → Touched → Type 0
 HasTrees image touched = (tree : TreeSize) → Has touched.trees.now tree → IsTreeIn image (size_of image) tree
 
--- the runs lie in the image's trees
+-- the runs lie within trees of the image, below their sizes
 abbrev pub HasRunsIn : Image → Touched → Type 0
 HasRunsIn image touched = (run : Run) → Has touched.runs.now run → IsRunIn image (size_of image) run
 
--- the touched words can be committed, over these free blocks
+-- the touched words can be committed with the sizes of the image and these free blocks
 abbrev pub CanCommitAsIs : Image → (ℕ → Bool) → Touched → (ℕ → Bool) → Type 0
 CanCommitAsIs image kept touched free = CanCommit image (size_of image) kept touched free
 
--- one word can, alone, where it is this one of a reached tree, below its size, and no root word in the inode file
+-- a single touched word can be committed if it is content word k of reachable tree t, below its size, and no root word
+-- in the inode file
 abbrev pub CanCommitWord : Image → (ℕ → Bool) → Touched → (ℕ → Bool) → ℕ → ℕ → Type 0
 CanCommitWord image kept touched free t k =
     HasTrees image touched → touched.runs.now ≡ [] → length touched.words.now ≡ 1 →
@@ -85,24 +89,25 @@ CanCommitWord image kept touched free t k =
     touched_trail touched 0 ≡ tree_trail (height_of (word image super_root)) t (suc (height_of (root_of image t))) k →
     CanCommitAsIs image kept touched free
 
--- and so can runs alone
+-- runs without touched words can be committed
 abbrev pub CanCommitRuns : Image → (ℕ → Bool) → Touched → (ℕ → Bool) → Type 0
 CanCommitRuns image kept touched free =
     HasTrees image touched → length touched.words.now ≡ 0 → HasRunsIn image touched → CanCommitAsIs image kept touched free
 
--- a tree is the image's that has an inode's root path, height and size
+-- a tree with the root path, height and size of an inode of the image is a tree of the image
 abbrev pub IsInodeTree : Image → ℕ → TreeSize → Type 0
 IsInodeTree image n tree =
     tree.root.items ≡ inode_path (height_of (root_of image 0)) n root_field → tree.height ≡ height_of (root_of image n) →
     tree.size ≡ size_of image n → IsTreeIn image (size_of image) tree
 
--- .. and so is one that has those of the inode file
+-- a tree with the root path, height and size of the inode file is a tree of the image
 abbrev pub IsInodeFileTree : Image → TreeSize → Type 0
 IsInodeFileTree image tree =
     tree.root.items ≡ [] → tree.height ≡ height_of (root_of image 0) → tree.size ≡ size_of image 0 →
     IsTreeIn image (size_of image) tree
 
--- a tree is still right of another image, where that has it as high, and no more of it counts
+-- the tree is also a tree of another image that has it at the same height, if its size in `bound` is no greater than
+-- before
 abbrev pub StaysTree : Image → Image → (ℕ → ℕ) → ℕ → TreeSize → Type 0
 StaysTree old new bound n tree =
     IsReached new n → height_of (word new super_root) ≡ height_of (word old super_root) →

@@ -1,4 +1,4 @@
--- What a commit does.
+-- A commit: its conditions and its effect.
 use Rattle.std.specs.Prelude.{◌≡◌, ℕ, ◌+◌, ◌*◌, ◌/◌, ◌≤◌, List, length, Bool, true, false}
 use Rattle.pm_region.specs.Memory.{Memory, current_words, room_in}
 use Rattle.pm_region.specs.Safe.{AddsCommit}
@@ -23,29 +23,30 @@ use Rattle.bp_cow.specs.Job.{IsTurned}
 use Rattle.bp_cow.specs.Touched.{job_of}
 use Rattle.bp_cow.specs.declared.touched.Touched.{Touched}
 
--- the stores that a commit makes at most: those of the words of each copy and of the pointer to it, of the touched
--- words, and the last one
+-- the greatest number of stores of a commit: the words of each copy and the pointer to it, the touched words, and the
+-- last store
 abbrev pub commit_stores : Image → Touched → ℕ
 commit_stores image touched = (block_words + 1) * copied_count image touched + length touched.words.now + 1
 
--- as many blocks are free as it copies, and the log has room for its stores and for the barriers around the last one
+-- at least as many blocks are free as the commit copies; `HasRoom`: the log has room for its stores and for the two
+-- barriers around the last one
 abbrev pub HasBlocks : Memory → Touched → Set → Type 0
 HasBlocks memory touched blocks = copied_count (current_words memory) touched ≤ length (members blocks)
 
 abbrev pub HasRoom : Memory → Touched → Type 0
 HasRoom memory touched = commit_stores (current_words memory) touched + 2 ≤ room_in memory
 
--- the word of the cover
+-- the place of the cover's word
 abbrev pub cover_word : Image → Touched → ℕ
 cover_word image touched = address image (commit_cover image touched)
 
--- the block that holds the word of the cover is not kept, where that is not the superblock
+-- the block of the cover's word is not kept, unless it is the superblock
 abbrev pub HasLooseCover : Image → (ℕ → Bool) → Touched → Type 0
 HasLooseCover image kept touched =
     block_words ≤ cover_word image touched → kept (cover_word image touched / block_words) ≡ false
 
--- All that a commit asks for, of the memory and of the set of free blocks. The blocks that are kept are not among
--- these, and the one store in place goes to none of them.
+-- The full condition of a commit, on the memory and on the set of free blocks. Kept blocks are not free, and the one
+-- store in place goes to none of them.
 pub record CanCommitIn (bound : ℕ → ℕ) (kept : ℕ → Bool) (memory : Memory) (touched : Touched) (blocks : Set)
     : Type 0 where
   pub well_formed : IsWellFormed (current_words memory)
@@ -55,20 +56,20 @@ pub record CanCommitIn (bound : ℕ → ℕ) (kept : ℕ → Bool) (memory : Mem
   pub some : HasBlocks memory touched blocks
   pub room : HasRoom memory touched
 
--- what a commit makes of the words whose cover has so many slots
+-- the effect of a commit on the words, if its cover has this many slots
 abbrev pub IsCommittedBy : (ℕ → ℕ) → Touched → ℕ → Image → Image → Type 0
 IsCommittedBy bound touched cover old new =
     IsCommitted old new (IsTreePointer old bound) (IsTreeWord old bound) (IsTurned (job_of touched) cover)
     (after_commit old (job_of touched))
 
--- where it made them of a forest, this holds
+-- the statement `Holds` follows if the trees of the old image are sound and the commit made the new image
 abbrev pub OnCommit : (ℕ → ℕ) → Touched → ℕ → Image → Image → Type 0 → Type 0
 OnCommit bound touched cover old new Holds = IsForest old bound → IsCommittedBy bound touched cover old new → Holds
 
--- By one store at the word of the cover, alone in its epoch after a quiet preparation, each touched word has its
--- value. Before it there are stores to the blocks that are taken for the copies, to each of them, and nowhere else.
--- No store goes to a block that is kept. In the end just the blocks that no reached tree has and that are not kept are
--- free, so those that were copied are, but for the kept ones.
+-- The effect of a commit. One store at the word of the cover, alone in its epoch after a quiet preparation, gives each
+-- touched word its value. The stores before it go to the blocks taken for copies, at least one to each, and nowhere
+-- else. No store goes to a kept block. Afterwards the free blocks are exactly those that are not kept and that no tree
+-- of the old image has, so the copied blocks are free unless they are kept.
 pub record CommitsTouched (bound : ℕ → ℕ) (kept : ℕ → Bool) (touched : Touched) (old new : Memory)
     (blocks blocks_after : Set) : Type 0 where
   pub value : ℕ
@@ -77,9 +78,9 @@ pub record CommitsTouched (bound : ℕ → ℕ) (kept : ℕ → Bool) (touched :
   pub taken : List ℕ
   pub takes : TakesBlocks (current_words old) kept taken commit.prepared
   pub number : length taken ≡ copied_count (current_words old) touched
-  -- the blocks were in the set of free ones
+  -- the taken blocks were in the set of free blocks
   pub from : Each (λ b. has blocks b ≡ true) taken
-  -- the pointers above the cover's word stay
+  -- the pointers above the cover's word do not change
   pub stays : address (current_words new) (commit_cover (current_words old) touched)
       ≡ cover_word (current_words old) touched
   pub loose : HasLooseCover (current_words old) kept touched
@@ -87,7 +88,7 @@ pub record CommitsTouched (bound : ℕ → ℕ) (kept : ℕ → Bool) (touched :
       (current_words new)
   pub exact : AreUnheld (current_words new) (IsReached (current_words old)) bound kept (has blocks_after)
 
--- the same of the parts of a file system, whose memory this function tells
+-- the effect of a commit on the parts of a file system; the function gives the memory of a region
 abbrev pub CommitsParts : {R : Type 0} → (R → Memory) → (ℕ → ℕ) → Touched → Parts R → Parts R → Type 0
 CommitsParts memory bound touched old new =
     CommitsTouched bound (kept_of old) touched (memory old.region) (memory new.region) old.blocks new.blocks

@@ -1,4 +1,4 @@
--- The words after a commit.
+-- The words of an image after a commit.
 use Rattle.std.specs.Prelude.{◌≡◌, ◌≢◌, ◌⊎◌, ℕ, suc, ◌%◌, ◌<◌, ◌∷◌, length, Option, Some, unwrap_or}
 use Rattle.bp_limits.specs.Limits.{block_size, block_words, super_root}
 use Rattle.bp_layout.specs.Words.{Image, word, height_of}
@@ -7,18 +7,19 @@ use Rattle.bp_shapes.specs.Trail.{Trail, word_on, block_on, IsSkeleton, LeadsTo}
 use Rattle.bp_shapes.specs.Forest.{tree_trail}
 use Rattle.bp_cow.specs.Job.{Job, value_upto, laid_on}
 
--- the value that a word is given, or else the one that it had, with the bytes of the runs laid over
+-- the new value of a touched word; for any other word its old value, with the bytes of the runs written over it
 abbrev pub after_commit : Image → Job → Trail → ℕ
 after_commit old job q = unwrap_or (value_upto job job.words q) (laid_on old job q)
 
--- the same of content words, by tree and number
+-- the value of each content word after a commit, given by tree and word number
 abbrev pub changes_of : Image → Job → ℕ → ℕ → Option ℕ
 changes_of old job t k =
     Some (after_commit old job (tree_trail (height_of (word old super_root)) t (suc (height_of (root_of old t))) k))
 
--- What a commit makes of the words. `Pointer`: the pointers of the image; `Counts`: the content words that count;
--- `turned`: the pointers that lead to copies, in blocks to which none led before; `after`: the value of a word that
--- counts and is not such a pointer. A word that is newly made under a null had the value 0.
+-- The effect of a commit on the words of an image. `Pointer`: the pointers of the image; `Counts`: the content words
+-- that count; `turned`: the pointers that lead to copies, in blocks to which no pointer led before; `after`: the value
+-- of each word that counts and is not such a pointer. A word of a block that is new, below an old null pointer, counts
+-- as 0 before.
 pub record IsCommitted (old new : Image) (Pointer Counts turned : Trail → Type 0) (after : Trail → ℕ) : Type 0 where
   pub whole : length new ≡ length old
   pub superblock : (place : ℕ) → place < block_words → place ≢ super_root → word new place ≡ word old place

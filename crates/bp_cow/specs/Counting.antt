@@ -1,4 +1,4 @@
--- The words of trees that count.
+-- The words of trees that count: those below the tree's size in `bound`.
 use Rattle.std.specs.Prelude.{◌≡◌, ℕ, suc, ◌*◌, ◌<◌}
 use Rattle.bp_limits.specs.Limits.{super_root}
 use Rattle.bp_layout.specs.Inode.{root_of}
@@ -7,7 +7,7 @@ use Rattle.bp_layout.specs.Words.{Image, word, height_of}
 use Rattle.bp_shapes.specs.Forest.{tree_trail}
 use Rattle.bp_shapes.specs.Trail.{Trail}
 
--- a content word of a reached tree that begins below the size that counts
+-- a content word of a reachable tree that begins below the tree's size in `bound`
 pub record IsTreeWord (image : Image) (bound : ℕ → ℕ) (q : Trail) : Type 0 where
   pub tree : ℕ
   pub number : ℕ

@@ -8,8 +8,8 @@ use Rattle.bp_cow.specs.Touched.{run_path, run_end, path_of, word_paths, all_pat
 use Rattle.bp_cow.specs.declared.touched.Run.{Run}
 use Rattle.bp_cow.specs.declared.touched.Touched.{Touched}
 
--- The paths that tell with what all touched paths begin: of each run those of its first and of its last word, between
--- which its other words lie, and those of the words.
+-- The end paths, which determine the common prefix of all touched paths: for each run the paths of its first and last
+-- word, between which its other words lie, and the paths of the words.
 abbrev pub end_path_of : List Run → List WordPath → ℕ → WordPath
 end_path_of [] paths i = path_of paths i
 end_path_of (run ∷ runs) paths zero = run_path run (run.off / 8)
@@ -26,18 +26,18 @@ end_path touched i = end_path_of touched.runs.now (word_paths touched) i
 abbrev pub ends : Touched → ℕ
 ends touched = ends_of touched.runs.now (length touched.words.now)
 
--- two paths begin with the same slots, so many
+-- the first `count` slots of the two paths are equal
 pub record BothBegin (path other : WordPath) (count : ℕ) : Type 0 where
   pub here : count ≤ length path
   pub there : count ≤ length other
   pub same : trail_of path count ≡ trail_of other count
 
--- all of them begin with the same slots, so many
+-- all end paths begin with the same `count` slots
 pub record BeginAlike (touched : Touched) (count : ℕ) : Type 0 where
   pub long : (i : ℕ) → i < ends touched → count ≤ length (end_path touched i)
   pub same : (i : ℕ) → i < ends touched → trail_of (end_path touched i) count ≡ trail_of (end_path touched 0) count
 
--- so many slots of a path are those with which they begin
+-- the first `count` slots of the path are those with which all end paths begin
 abbrev pub BeginsAsEnds : Touched → ℕ → WordPath → Type 0
 BeginsAsEnds touched count path = trail_of path count ≡ trail_of (end_path touched 0) count
 
@@ -46,19 +46,20 @@ abbrev pub LeadsInside : Image → Touched → Type 0
 LeadsInside image touched =
     (d : ℕ) → BeginAlike touched (d + 1) → block_on image (trail_of (end_path touched 0) d) < block_count image
 
--- So many slots are the longest front with which all touched paths begin and which exists: no pointer that a proper
--- front of it names is null.
+-- `count` is the length of the longest common prefix of all touched paths that exists: no pointer named by a proper
+-- prefix of it is null.
 pub record CoverHas (image : Image) (touched : Touched) (count : ℕ) : Type 0 where
   pub alike : BeginAlike touched count
   pub exists : (d : ℕ) → d < count → block_on image (trail_of (end_path touched 0) d) ≢ 0
   pub longest : BeginAlike touched (count + 1) → block_on image (trail_of (end_path touched 0) count) ≡ 0
 
--- the longest path that exists and with which all touched paths begin
+-- the longest path that exists and is a prefix of each touched path
 pub record IsCover (image : Image) (touched : Touched) (path : WordPath) : Type 0 where
   pub front : path ≡ take (length path) (end_path touched 0)
   pub has : CoverHas image touched (length path)
 
--- The same by its definition: the cover of a commit, the pointers whose blocks it copies, and how many these are.
+-- The cover of a commit by its definition; `copied_paths`: the pointers whose blocks it copies; `copied_count`: the
+-- number of copies.
 abbrev pub commit_cover : Image → Touched → WordPath
 commit_cover image touched = cover_of (is_pointed image) (all_paths touched)
 

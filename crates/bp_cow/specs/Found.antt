@@ -1,4 +1,4 @@
--- A front with which all touched paths begin, and the place of its word; and what was found of all ways.
+-- A common prefix of all touched paths and the place of its word; and the results of a search of all ways.
 use Rattle.std.specs.Prelude.{◌≡◌, ◌≢◌, ℕ, ◌<◌, length}
 use Rattle.bp_layout.specs.Words.{Image}
 use Rattle.bp_shapes.specs.Trail.{block_on, place_on, trail_of, IsPlaced}
@@ -15,12 +15,12 @@ pub record IsAt (image : Image) (touched : Touched) (found : FoundCover) : Type 
   pub place : place_on image (trail_of (end_path touched 0) found.len) ≡ found.place
   pub low : found.place < length image
 
--- such a front that can't be longer: the cover, and the place of its word
+-- the longest common prefix of all touched paths that exists (the cover), and the place of its word
 pub record IsCoverIn (image : Image) (touched : Touched) (cover : FoundCover) : Type 0 where
   pub at : IsAt image touched cover
   pub has : CoverHas image touched cover.len
 
--- the cover, and what was found of the ways
+-- the cover, and the correct counts of the slots that ways share
 pub record AreWaysIn (image : Image) (touched : Touched) (found : FoundWays) : Type 0 where
   pub cover : IsCoverIn image touched found.cover
   pub shared : AreShared touched found.shared

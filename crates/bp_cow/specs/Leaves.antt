@@ -7,8 +7,8 @@ use Rattle.bp_cow.specs.Touched.{laid_word, leaves_of, live_of, patch_of, run_le
 use Rattle.bp_cow.specs.declared.touched.Run.{Run}
 use Rattle.bp_cow.specs.declared.touched.TreeSize.{TreeSize}
 
--- A way among those of some runs leads to a leaf of one of them, by the leaf's number in that run. What all runs that
--- there are lay over it goes by the run's tree.
+-- Way `i` leads to leaf number `leaf` of this run. The change of the leaf is that of all runs (`all`) in the run's
+-- tree.
 pub record IsLeaf (all runs : List Run) (paths : List WordPath) (i : ℕ) (run : Run) (leaf : ℕ) : Type 0 where
   pub has : Has runs run
   pub low : leaf < run_leaves run

@@ -1,4 +1,4 @@
--- The blocks that a commit left are given back.
+-- Freeing of the blocks that a commit replaced.
 use Rattle.std.specs.Prelude.{◌≡◌, ◌≢◌, ◌⊎◌, ℕ, ◌<◌, ◌≤◌, length, Bool, true, false}
 use Rattle.bp_free.specs.Set.{Set, has}
 use Rattle.bp_limits.specs.Limits.{block_words}
@@ -8,19 +8,19 @@ use Rattle.bp_shapes.specs.Forest.{IsTreePointer}
 use Rattle.bp_cow.specs.Job.{IsAnew}
 use Rattle.bp_cow.specs.Plan.{Plan, CanMake, IsOnWay}
 
--- some pointer that was turned led to the block, which is not kept
+-- a block that was replaced by a copy and is not kept: a pointer that was set to a copy led to it before
 abbrev pub IsGiven : Image → (Trail → Type 0) → (Trail → Type 0) → (ℕ → Bool) → ℕ → Type 0
 IsGiven old Pointer anew kept b =
     (p : Trail) × Pointer p × anew p × (block_on old p ≡ b) × (b ≢ 0) × (kept b ≡ false)
 
--- the free set has grown by the blocks to which some pointers led before, but for those that are kept
+-- the free set has grown by the replaced blocks that are not kept
 pub record IsReturned (old : Image) (Pointer anew : Trail → Type 0) (kept before after : ℕ → Bool) : Type 0 where
   pub given : (p : Trail) → Pointer p → anew p → block_on old p ≢ 0 → kept (block_on old p) ≡ false
       → after (block_on old p) ≡ true
   pub still : (b : ℕ) → before b ≡ true → after b ≡ true
   pub from : (b : ℕ) → after b ≡ true → (before b ≡ true) ⊎ IsGiven old Pointer anew kept b
 
--- the words as a commit leaves them: the old blocks from the cover down are as they were, and none of them is free
+-- the words after the commit: the old blocks from the cover down still have their words, and none of them is free
 pub record IsLeft (plan : Plan) (from : ℕ) (before : ℕ → Bool) (now : Image) : Type 0 where
   pub can : CanMake plan from
   pub whole : length now ≡ length plan.old
@@ -32,7 +32,7 @@ abbrev pub IsBack : Plan → ℕ → ℕ → ℕ → (ℕ → Bool) → (ℕ →
 IsBack plan from i depth before after =
     IsReturned plan.old (IsTreePointer plan.old plan.bound) (IsAnew plan.job from i depth) plan.kept before after
 
--- the old blocks on a way can be given back from a depth on, behind those that have been
+-- the old blocks on a way can be freed from a depth on, after those that are free already
 pub record CanGive (plan : Plan) (from i depth : ℕ) (blocks : Set) (now : Image) : Type 0 where
   pub left : IsLeft plan from plan.free_after now
   pub way : IsOnWay plan from i depth

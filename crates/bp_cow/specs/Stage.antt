@@ -1,19 +1,20 @@
--- What a copy on write has made so far: the image as it would be if its last store were done now.
+-- The state while a commit makes its copies: the image as it would be if the last store were done now.
 use Rattle.std.specs.Prelude.{◌≡◌, ◌≢◌, ◌⊎◌, ℕ, ◌%◌, ◌<◌, ◌≤◌, ◌∷◌, length, Bool, true, false, Option, None, unwrap_or, slice_set}
 use Rattle.bp_limits.specs.Limits.{block_size, block_words, super_root}
 use Rattle.bp_layout.specs.Words.{Image, word, block_count}
 use Rattle.bp_shapes.specs.Trail.{Trail, word_on, block_on, place_on, IsSkeleton, IsPlaced, LeadsTo}
 
 -- `Counts`: the content words that count; `anew`: the pointers that lead to a block taken by this commit; `value`: the
--- words that were given anew; `laid`: a word of a copied block before that; `kept`: the blocks that are never free
+-- values of the touched words; `laid`: the other words of the copied blocks, with the bytes of the runs; `kept`: the
+-- blocks that are never free
 pub record IsStage (old now : Image) (Pointer Counts anew : Trail → Type 0) (value : Trail → Option ℕ)
     (laid : Trail → ℕ) (kept free : ℕ → Bool) : Type 0 where
   pub whole : length now ≡ length old
   pub skeleton : IsSkeleton now Pointer
   pub superblock : (place : ℕ) → place < block_words → place ≢ super_root → word now place ≡ word old place
-  -- a pointer that was not turned
+  -- a pointer that was not set to a copy
   pub same : (p : Trail) → Pointer p → (anew p → ⊥) → word_on now p ≡ word_on old p
-  -- the other words of a copied block that count, and all of one that was not copied
+  -- the other counted words of a copied block, and all words of a block that was not copied
   pub words : (p : Trail) (slot : ℕ) → Pointer p → anew p → slot < block_words → (anew (slot ∷ p) → ⊥)
       → Counts (slot ∷ p) → word_on now (slot ∷ p) ≡ unwrap_or (value (slot ∷ p)) (laid (slot ∷ p))
   pub still : (p : Trail) (slot : ℕ) → Pointer p → (anew p → ⊥) → slot < block_words → (anew (slot ∷ p) → ⊥)
@@ -29,7 +30,7 @@ pub record IsStage (old now : Image) (Pointer Counts anew : Trail → Type 0) (v
   pub in_range : (b : ℕ) → free b ≡ true → (1 ≤ b) × (b < block_count old)
   pub loose : (b : ℕ) → free b ≡ true → kept b ≡ false
 
--- The words while copies are made. The last store, of a pointer at the cover's place, is still to come.
+-- The words while copies are made. The last store, of a pointer at the cover's place, is not done yet.
 pub record IsBuilding (old words : Image) (place pointer : ℕ) (cover : Trail) (Pointer Counts anew : Trail → Type 0)
     (value : Trail → Option ℕ) (laid : Trail → ℕ) (kept free : ℕ → Bool) : Type 0 where
   pub some : 0 < block_count old

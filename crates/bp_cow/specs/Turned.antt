@@ -1,4 +1,4 @@
--- What a commit is asked that copies blocks, and how it stands after its last store.
+-- The condition of a commit that copies blocks, and the state after its last store.
 use Rattle.std.specs.Prelude.{◌≡◌, ℕ, ◌+◌, ◌*◌, ◌≤◌, length}
 use Rattle.pm_region.specs.Memory.{Memory, current_words, room_in}
 use Rattle.bp_free.specs.Set.{Set, has, members}
@@ -14,8 +14,8 @@ use Rattle.bp_cow.specs.Stage.{IsStage}
 use Rattle.bp_cow.specs.Touched.{job_of}
 use Rattle.bp_cow.specs.declared.touched.Touched.{Touched}
 
--- the copies of the plan can be made and committed: `place` is that of the cover's word, and there are blocks and
--- room in the log
+-- The copies of the plan can be made and committed: `place` is the place of the cover's word, enough blocks are free,
+-- and the log has enough room.
 pub record CanTurn (plan : Plan) (touched : Touched) (from place : ℕ) (blocks : Set) (memory : Memory) : Type 0 where
   pub can : CanMake (planned plan touched) from
   pub old : plan.old ≡ current_words memory
@@ -26,7 +26,8 @@ pub record CanTurn (plan : Plan) (touched : Touched) (from place : ℕ) (blocks 
   pub some : copies (job_of touched) from ≤ length (members blocks)
   pub room : 513 * copies (job_of touched) from + (job_of touched).words + 3 ≤ room_in memory
 
--- all is as the plan says, and `left` are the blocks that are free then, those that were copied not among them
+-- All copies are made as planned, and the last store is done. `left` are the free blocks then, without the old blocks
+-- that were copied.
 pub record HasTurned (plan : Plan) (touched : Touched) (from place : ℕ) (blocks left : Set)
     (old new : Memory) : Type 0 where
   pub count : length (members blocks) ≡ length (members left) + copies (job_of touched) from

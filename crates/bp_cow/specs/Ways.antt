@@ -1,4 +1,4 @@
--- A way as code holds it, and how much of it earlier ways share.
+-- A way as code represents it, and how many of its slots it shares with earlier ways.
 use Rattle.std.specs.Prelude.{◌≡◌, ℕ, ◌+◌, ◌-◌, ◌<◌, ◌≤◌, ◌↔◌, List, IfSome, None, length, slice_index, take}
 use Rattle.bp_layout.specs.WordPaths.{WordPath}
 use Rattle.bp_shapes.specs.Trail.{trail_of}
@@ -11,7 +11,7 @@ use Rattle.bp_cow.specs.declared.ways.Ends.{Ends}
 use Rattle.bp_cow.specs.declared.ways.Shared.{Shared}
 use Rattle.bp_cow.specs.declared.ways.Way.{Way}
 
--- one of the first ways, so many, begins with the first slots of a path
+-- one of the first `count` ways begins with the first `depth` slots of a path
 pub record IsShared (way : ℕ → WordPath) (count : ℕ) (path : WordPath) (depth : ℕ) : Type 0 where
   pub which : ℕ
   pub early : which < count
@@ -19,31 +19,31 @@ pub record IsShared (way : ℕ → WordPath) (count : ℕ) (path : WordPath) (de
   pub there : depth ≤ length (way which)
   pub same : trail_of path depth ≡ trail_of (way which) depth
 
--- each front of a way begins an earlier one
+-- each prefix of the way is a prefix of an earlier way
 abbrev pub AddsNoBlock : Touched → ℕ → Type 0
 AddsNoBlock touched i =
     (d : ℕ) → d ≤ length ((job_of touched).way i) → IsShared (job_of touched).way i ((job_of touched).way i) d
 
--- how many fronts of each of the first ways begin no earlier one: those that do come before them
+-- for each of the first ways, how many of its prefixes are prefixes of no earlier way; these are the longest ones
 pub record AreFresh (touched : Touched) (fresh : List ℕ) : Type 0 where
   pub few : (i : ℕ) → i < length fresh → slice_index fresh i ≤ length ((job_of touched).way i) + 1
   pub right : (i d : ℕ) → i < length fresh → (d < length ((job_of touched).way i) + 1 - slice_index fresh i)
       ↔ IsShared (job_of touched).way i ((job_of touched).way i) d
 
--- how many ways there are to leaves, and of each run, but for the last one maybe, how many to its leaves and to those of the
--- runs before it
+-- The number of ways to leaves; and for each run, perhaps without the last one, the number of ways to its leaves and to
+-- those of the runs before it.
 pub record AreEnds (runs : List Run) (ends : Ends) : Type 0 where
   pub leaves : ends.leaves ≡ leaves_of runs
   pub each : length runs ≤ length ends.inner.items + 1
   pub right : (k : ℕ) → k < length ends.inner.items → slice_index ends.inner.items k ≡ leaves_of (take (k + 1) runs)
 
--- what was found of the ways is right
+-- the stored counts of the ways are correct
 pub record AreShared (touched : Touched) (shared : Shared) : Type 0 where
   pub fresh : AreFresh touched shared.fresh.items
   pub ends : AreEnds touched.runs.now shared.ends
 
--- A way of touched words, with its length, the leaf or the word to which it leads, and how many of its fronts begin an
--- earlier way.
+-- A way of touched words, with its length, the leaf or the word to which it leads, and the number of its prefixes that
+-- are prefixes of an earlier way.
 pub record IsWay (touched : Touched) (way : Way) : Type 0 where
   pub here : way.index < ways (job_of touched)
   pub len : way.len ≡ length ((job_of touched).way way.index)

@@ -26,8 +26,8 @@ use bp_inplace::commit_word;
 use bp_limits::BLOCK_SIZE;
 use pm_region::Region;
 
-/// Copies the blocks from the cover down with the touched words in place, and turns the cover's pointer to the copies.
-/// The blocks that were left are not yet given back.
+/// Copies the blocks from the cover down with the touched words in place, and sets the cover's pointer to the copies.
+/// The old blocks are not free yet.
 fn turn_over<R: Region>(
     region: &mut R,
     blocks: &mut Blocks,
@@ -52,7 +52,8 @@ fn turn_over<R: Region>(
     commit_word(region, place, turned);
 }
 
-/// The same, and the blocks that were left are given back, but for those that are kept.
+/// Copies the blocks from the cover down with the touched words in place, sets the cover's pointer to the copies, and
+/// frees the old blocks that are not kept.
 fn commit_copies<R: Region>(
     parts: &mut Parts<R>,
     touched: &Touched<'_>,
@@ -97,7 +98,7 @@ fn commit_copies<R: Region>(
     );
 }
 
-/// Gives the only touched word, which stands at `place`, its value there.
+/// Stores the value of the only touched word in place, at `place`.
 fn commit_one<R: Region>(region: &mut R, touched: &Touched<'_>, place: u32)
     requires touched { IsTouched touched.now }
     requires place { place < length (current_words (R.memory region.old)) }
@@ -109,10 +110,10 @@ fn commit_one<R: Region>(region: &mut R, touched: &Touched<'_>, place: u32)
     commit_word(region, place, touched.only_value(old));
 }
 
-/// Gives the touched words their values by one store at the word of the cover, alone in its epoch: of the value,
-/// where the cover is the only touched word, and else of a pointer to copies of the blocks from there to the touched
-/// words. As many blocks are taken as `copies_below` tells. Those that were copied are given back in the end, but for the
-/// blocks that are kept, to which no store goes. The caller has found the ways to the touched words (`find_ways`).
+/// Gives the touched words their values by one store at the word of the cover, alone in its epoch. If the cover is the
+/// only touched word, the store is its value; otherwise it is a pointer to copies of the blocks from the cover to the
+/// touched words. Takes as many blocks as `copies_below` returns. At the end frees the blocks that were copied, except
+/// kept ones, to which no store goes. The caller passes the result of `find_ways`.
 pub fn commit_at<R: Region>(parts: &mut Parts<R>, touched: &Touched<'_>, found: &FoundWays)
     ghost bound: { ℕ → ℕ }
     requires can { CanCommitIn bound (kept_of parts.old) (R.memory parts.old.region) touched.now parts.old.blocks }

@@ -1,4 +1,4 @@
-//! The cover: the longest path that exists and with which all touched paths begin.
+//! The cover: the longest path that exists and is a prefix of all touched paths.
 
 ghost use Rattle.std.specs.Prelude.{◌≡◌, ◌↔◌, ℕ, ◌+◌, ◌-◌, ◌/◌, ◌^◌, ◌<◌, ◌≤◌, length, slice_index, IfSome};
 ghost use Rattle.bp_limits.specs.Limits.{block_words};
@@ -14,7 +14,7 @@ use bp_tree::Slots;
 use pm_region::Region;
 
 impl Run<'_> {
-    /// How many slots the paths of two words of its tree have alike at their beginning.
+    /// Returns how many slots the paths of two words of the tree have in common at their start.
     fn alike_words(&self, first: u64, last: u64) -> usize
         requires run { IsRun self.now }
         requires first { first < block_words ^ (self.now.height + 1) }
@@ -29,7 +29,7 @@ impl Run<'_> {
         self.root.len()
     }
 
-    /// How many slots the paths of its first and of its last word have alike at their beginning.
+    /// Returns how many slots the paths of the run's first and last word have in common at their start.
     fn alike(&self) -> usize
         requires { IsRun self.now }
         ensures { (n : ℕ) → (n ≤ result) ↔ BothBegin (run_path self.now (self.now.off / 8))
@@ -39,8 +39,8 @@ impl Run<'_> {
         self.alike_words(first, last)
     }
 
-    /// How many slots the paths of its first word and of that of another run have alike at their beginning, where both lie in
-    /// one tree.
+    /// Returns how many slots the paths of the first words of two runs have in common at their start, or `None` if the
+    /// runs are in different trees.
     fn alike_with(&self, other: &Run<'_>) -> Option<usize>
         requires run { IsRun self.now }
         requires other { IsRun other.now }
@@ -56,8 +56,8 @@ impl Run<'_> {
 }
 
 impl Touched<'_> {
-    /// How many paths tell with what all touched paths begin: of each run those of its first and of its last word, and
-    /// those of the words.
+    /// Returns the number of end paths, which determine the common prefix of all touched paths: two for each run (its
+    /// first and its last word), and one for each word.
     fn ends(&self) -> usize
         requires { IsTouched self.now }
         ensures { result ≡ ends self.now }
@@ -65,7 +65,7 @@ impl Touched<'_> {
         2 * self.runs.len() + self.words.len()
     }
 
-    /// How many slots such a path has.
+    /// Returns the number of slots of end path `i`.
     fn end_len(&self, i: usize) -> usize
         requires touched { IsTouched self.now }
         requires i { i < ends self.now }
@@ -79,7 +79,7 @@ impl Touched<'_> {
         self.path_len(i - of_runs)
     }
 
-    /// A slot of such a path.
+    /// Returns a slot of end path `i`.
     pub(crate) fn end_slot(&self, i: usize, depth: usize) -> u32
         requires touched { IsTouched self.now }
         requires i { i < ends self.now }
@@ -94,8 +94,8 @@ impl Touched<'_> {
         self.path_slot(i - of_runs, depth)
     }
 
-    /// How many slots, of so many at most, such a path has alike with the first one at their beginning. The path before it has
-    /// all of them alike with that.
+    /// Returns how many of the first `most` slots end path `i` has in common with the first end path. The end path
+    /// before it must have all of them in common.
     fn alike_at(&self, i: usize, most: usize) -> usize
         requires touched { IsTouched self.now }
         requires later { 0 < i }
@@ -122,7 +122,7 @@ impl Touched<'_> {
         end
     }
 
-    /// How many slots all touched paths have alike at their beginning.
+    /// Returns how many slots all touched paths have in common at their start.
     fn alike(&self) -> usize
         requires touched { IsTouched self.now }
         ensures { (n : ℕ) → (n ≤ result) ↔ BeginAlike self.now n }
@@ -135,26 +135,25 @@ impl Touched<'_> {
     }
 }
 
-/// The cover of touched words, as it was found.
+/// Cover of touched words, as found by a search.
 #[derive(Clone, Copy)]
 pub struct FoundCover {
-    /// How many slots it has.
+    /// Number of its slots.
     pub len: usize,
-    /// The place of its word.
+    /// Place of its word.
     pub place: u32,
 }
 
-/// What was found of the ways to touched words.
+/// Result of a search of the ways to touched words.
 #[derive(Drop)]
 pub struct FoundWays {
-    /// Their cover.
+    /// Cover of the touched words.
     pub cover: FoundCover,
-    /// What was found of the ways themselves.
+    /// Counts of the slots that the ways share.
     pub shared: Shared,
 }
 
-/// Follows the path with which all touched paths begin as far as it exists: there the cover is. No block has to be free
-/// for it.
+/// Follows the common prefix of all touched paths as far as it exists, which gives the cover. Needs no free block.
 fn find_cover<R: Region>(region: &R, touched: &Touched<'_>) -> FoundCover
     requires touched { IsTouched touched.now }
     requires some { block_words ≤ length (current_words (R.memory region.now)) }
@@ -181,7 +180,7 @@ fn find_cover<R: Region>(region: &R, touched: &Touched<'_>) -> FoundCover
     found
 }
 
-/// Finds the cover of the touched words, and how much their ways share. No block has to be free for it.
+/// Finds the cover of the touched words, and counts the slots that their ways share. Needs no free block.
 pub fn find_ways<R: Region>(region: &R, touched: &Touched<'_>) -> FoundWays
     requires touched { IsTouched touched.now }
     requires some { block_words ≤ length (current_words (R.memory region.now)) }
@@ -201,8 +200,8 @@ pub fn find_ways<R: Region>(region: &R, touched: &Touched<'_>) -> FoundWays
     }
 }
 
-/// The cover of the touched words: the longest path that exists and begins each of their paths. No block has to be
-/// free for it.
+/// Returns the cover of the touched words: the longest path that exists and is a prefix of each of their paths. Needs
+/// no free block.
 pub fn cover<R: Region>(region: &R, touched: &Touched<'_>) -> Slots
     requires touched { IsTouched touched.now }
     requires some { block_words ≤ length (current_words (R.memory region.now)) }

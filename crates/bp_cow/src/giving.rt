@@ -1,4 +1,4 @@
-//! The blocks that a commit left are given back, but for those that are kept.
+//! Frees the blocks that a commit replaced, except kept ones.
 
 ghost use Rattle.std.specs.Prelude.{◌≡◌, ◌+◌, ◌<◌, ◌≤◌, length, true, false};
 ghost use Rattle.bp_free.specs.Set.{TakesNumber, has};
@@ -19,7 +19,7 @@ use bp_free::Blocks;
 use bp_tree::load_slot;
 use pm_region::Region;
 
-/// Gives a block back, but where it is kept.
+/// Frees a block, unless it is kept.
 fn give_loose(blocks: &mut Blocks, frozen: &Blocks, block: u32)
     requires in_range { block < length blocks.old }
     requires known { block < length frozen.now }
@@ -33,17 +33,17 @@ fn give_loose(blocks: &mut Blocks, frozen: &Blocks, block: u32)
     }
 }
 
-/// A block on an old way.
+/// A block on a way of the old image.
 #[derive(Clone, Copy)]
 struct OldBlock {
-    /// How many slots of the way lead to it.
+    /// Number of slots of the way that lead to it.
     depth: usize,
-    /// Its number.
+    /// Number of the block.
     block: u32,
 }
 
-/// One block further on the old way: the block there is given back, where it is not kept and no earlier way has had it
-/// given back.
+/// Goes one block further down a way of the old image. Frees the block there if it is not kept and no earlier way freed
+/// it.
 fn give_step<R: Region>(
     region: &R,
     blocks: &mut Blocks,
@@ -74,7 +74,7 @@ fn give_step<R: Region>(
     next
 }
 
-/// Gives back the old blocks on a way that are not kept and that no earlier way has had given back.
+/// Frees the old blocks on a way that are not kept and that no earlier way freed.
 fn give_way<R: Region>(
     region: &R,
     blocks: &mut Blocks,
@@ -101,7 +101,7 @@ fn give_way<R: Region>(
     }
 }
 
-/// Gives back the old blocks on the ways that are not kept. `top` is the block to which the cover's pointer led.
+/// Frees the old blocks on all ways that are not kept. `top` is the block to which the cover's pointer led before.
 pub(crate) fn give_back<R: Region>(
     region: &R,
     blocks: &mut Blocks,

@@ -1,4 +1,4 @@
-//! Laws of commits. Each is the contract of a function that does nothing.
+//! Theorems on commits. Each is the contract of a function with an empty body.
 
 ghost use Rattle.std.specs.Prelude.{◌≡◌, ℕ, suc, ◌+◌, ◌*◌, ◌<◌, ◌≤◌, length, slice_index, Bool};
 ghost use Rattle.bp_layout.specs.Free.{AreFreeBlocks};
@@ -18,7 +18,7 @@ ghost use Rattle.bp_cow.specs.declared.touched.Run.{Run};
 
 use crate::touched::{Run, Touched, TreeSize};
 
-/// Where the paths that tell the cover begin alike, all touched paths do.
+/// States that all touched paths have a common prefix if the end paths have it.
 pub fn all_touched_paths_begin_alike(touched: &Touched<'_>)
     requires { IsTouched touched.now }
     ensures long { (count : ℕ) (path : WordPath) → BeginAlike touched.now count → Has (all_paths touched.now) path →
@@ -27,23 +27,23 @@ pub fn all_touched_paths_begin_alike(touched: &Touched<'_>)
         BeginsAsEnds touched.now count path }
 {}
 
-/// The cover of touched words is a path with which all of them begin, which exists, and which can't be longer; and no
-/// other path is.
+/// States that the cover of touched words is a common prefix of their paths that exists and cannot be longer, and that
+/// no other path is.
 pub fn a_cover_is_determined(image: &[u64], touched: &Touched<'_>)
     requires { IsTouched touched.now }
     ensures is { IsCover image.now touched.now (commit_cover image.now touched.now) }
     ensures only { (path : WordPath) → IsCover image.now touched.now path → path ≡ commit_cover image.now touched.now }
 {}
 
-/// Of touched words that can be committed, the cover and its need can be asked for.
+/// States that touched words that can be committed meet the conditions of `find_ways`, `cover` and `need_cover`.
 pub fn what_can_be_committed_has_a_cover(image: &[u64], touched: &Touched<'_>)
     requires { IsWellFormed image.now }
     ensures inside { WhereCanCommit image.now touched.now (LeadsInside image.now touched.now) }
     ensures apart { WhereCanCommit image.now touched.now (NoneBegins (all_paths touched.now)) }
 {}
 
-/// After a commit each touched word has the value that it is given, a word of a run the new bytes beside those that it
-/// had, and each other word the value that it had.
+/// States that after a commit each touched word has its new value, each word of a run has the new bytes beside its old
+/// ones, and each other word has its old value.
 pub fn touched_words_have_their_values(image: &[u64], touched: &Touched<'_>)
     requires { IsWellFormed image.now }
     ensures words { (i : ℕ) → WhereCanCommit image.now touched.now (HasValue image.now touched.now i) }
@@ -52,16 +52,16 @@ pub fn touched_words_have_their_values(image: &[u64], touched: &Touched<'_>)
         WhereCanCommit image.now touched.now (KeepsWord image.now touched.now slot p) }
 {}
 
-/// Each byte of a word with a run laid over is the new one, or else the one that it had.
+/// States that each byte of a word with a run written over it is the new byte or else the old one.
 pub fn words_of_a_run_have_its_bytes(run: &Run<'_>)
     requires { (i : ℕ) → slice_index run.now.bytes.now i < 256 }
     ensures { (k old c : ℕ) → c < 8 →
         byte_of (run_word run.now k old) c ≡ run_byte run.now (8 * k + c) (byte_of old c) }
 {}
 
-/// A commit is told on the words of the trees: where the new sizes are within those that count, and no pointer of the
-/// inode file or of a directory is null under these, each content word has its value. The size of an inode is the
-/// value of its word. The blocks to which pointers lead are those of the trees under the sizes that count.
+/// States the effect of a commit on the words of the trees. If the new sizes are within `bound` and with them no
+/// pointer of the inode file or of a directory is null, each content word has its value. The size of an inode is the
+/// value of its size word. The blocks to which pointers lead are those of the trees up to `bound`.
 pub fn commits_are_told_on_trees(old: &[u64], new: &[u64], touched: &Touched<'_>)
     ensures told { (bound : ℕ → ℕ) (cover : ℕ) →
         OnCommit bound touched.now cover old.now new.now (CommitsTrees old.now new.now bound touched.now) }
@@ -73,8 +73,9 @@ pub fn commits_are_told_on_trees(old: &[u64], new: &[u64], touched: &Touched<'_>
         OnCommit bound touched.now cover old.now new.now (HasPointer old.now new.now bound t b) }
 {}
 
-/// One word of a tree that a well-formed image has below its size, but for a root word in the inode file, can be
-/// committed; and so can runs of files and directories, below their sizes. Trees that are given have the image's sizes.
+/// States that one word of a tree of a well-formed image, below its size and no root word in the inode file, can be
+/// committed; and so can runs within files and directories, below their sizes. The given trees must have the image's
+/// sizes.
 pub fn a_word_or_runs_can_be_committed(image: &[u64], touched: &Touched<'_>)
     requires well_formed { IsWellFormed image.now }
     requires touched { IsTouched touched.now }
@@ -84,8 +85,8 @@ pub fn a_word_or_runs_can_be_committed(image: &[u64], touched: &Touched<'_>)
         CanCommitRuns image.now kept touched.now free }
 {}
 
-/// The tree of a reached inode, and the inode file, can be given with the size that the image has. It still can where
-/// another image has the tree as high, and no more of it counts.
+/// States that the tree of a reachable inode, and the inode file, can be given with its size in the image. The same
+/// tree can be given for another image that has it at the same height, if its size in `bound` is not greater.
 pub fn trees_can_be_given_with_their_sizes(old: &[u64], new: &[u64], tree: &TreeSize)
     ensures inode { (n : ℕ) → IsReached old.now (suc n) → IsInodeTree old.now (suc n) tree.now }
     ensures inode_file { IsInodeFileTree old.now tree.now }

@@ -1,4 +1,4 @@
-//! How many blocks a commit copies.
+//! The number of blocks that a commit copies.
 
 ghost use Rattle.std.specs.Prelude.{◌≡◌, ◌+◌, ◌<◌, ◌≤◌, length};
 ghost use Rattle.bp_limits.specs.Limits.{block_words};
@@ -13,7 +13,7 @@ use crate::touched::Touched;
 use crate::ways::{Shared, Way, is_new};
 use pm_region::Region;
 
-/// How many blocks on a way are copied for it and for no earlier one, below a number of slots.
+/// Returns how many blocks on a way, below the first `from` slots, are copied for it and for no earlier way.
 fn turned_for(touched: &Touched<'_>, way: &Way<'_>, from: usize) -> u32
     requires touched { IsTouched touched.now }
     requires way { IsWay touched.now way.now }
@@ -34,7 +34,7 @@ fn turned_for(touched: &Touched<'_>, way: &Way<'_>, from: usize) -> u32
     count
 }
 
-/// How many blocks on a way are copied for it and for no earlier one, given what was found of the ways.
+/// Returns how many blocks on a way are copied for it and for no earlier way, from the counts of a search.
 fn turned_at(touched: &Touched<'_>, shared: &Shared, i: usize, from: usize) -> u32
     requires touched { IsTouched touched.now }
     requires shared { AreShared touched.now shared.now }
@@ -48,7 +48,8 @@ fn turned_at(touched: &Touched<'_>, shared: &Shared, i: usize, from: usize) -> u
     turned_for(touched, &touched.way(i, shared), from)
 }
 
-/// How many blocks a commit of the touched words copies, and takes, given what was found of their ways.
+/// Returns the number of blocks that a commit of the touched words copies and takes, from the result of a search of
+/// their ways.
 pub fn copies_below(touched: &Touched<'_>, found: &FoundWays) -> u32
     requires touched { IsTouched touched.now }
     requires shared { AreShared touched.now found.now.shared }
@@ -66,8 +67,8 @@ pub fn copies_below(touched: &Touched<'_>, found: &FoundWays) -> u32
     count
 }
 
-/// How many blocks a commit of the touched words copies, and takes: as many as pointers stand on their paths from the
-/// cover down. No block has to be free for it.
+/// Returns the number of blocks that a commit of the touched words copies and takes: the number of pointers on their
+/// paths from the cover down. Needs no free block.
 pub fn need_cover<R: Region>(region: &R, touched: &Touched<'_>) -> u32
     requires touched { IsTouched touched.now }
     requires some { block_words ≤ length (current_words (R.memory region.now)) }

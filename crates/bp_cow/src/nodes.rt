@@ -1,4 +1,4 @@
-//! How many words of a block of a tree count.
+//! The number of words that count in a block of a tree.
 
 ghost use Rattle.std.specs.Prelude.{◌≡◌, ℕ, ◌+◌, ◌-◌, ◌*◌, ◌^◌, ◌<◌, ◌≤◌, length, slice_index};
 ghost use Rattle.bp_limits.specs.Limits.{block_words, max_height};
@@ -7,8 +7,8 @@ ghost use Rattle.bp_cow.specs.Touched.{has_block, level_live, slots_number, tree
 use crate::shared::common;
 use crate::touched::TreeSize;
 
-/// How many pieces hold the words that count of a block of a tree, by the tree's size, how many levels the block stands
-/// above the leaves, and its number among the blocks of that level.
+/// Returns the number of pieces that hold the counted words of a block, from the tree's size, the block's level above
+/// the leaves, and its number among the blocks of that level.
 pub(crate) fn block_pieces(size: u64, level: u32, block: u64) -> u32
     requires level { level ≤ max_height }
     requires block { block < 2 ^ 54 }
@@ -21,7 +21,7 @@ pub(crate) fn block_pieces(size: u64, level: u32, block: u64) -> u32
     slot / 8 + 1
 }
 
-/// The number that some slots of a path make.
+/// Returns the number whose base-512 digits are the slots `from` to `to` of a path.
 fn slots_number(path: &[u16], from: usize, to: usize) -> u64
     requires order { from ≤ to }
     requires to { to ≤ length path.now }
@@ -38,7 +38,7 @@ fn slots_number(path: &[u16], from: usize, to: usize) -> u64
 }
 
 impl TreeSize {
-    /// Whether the block at a depth of a way is one of the tree.
+    /// Returns whether the block at a depth of a way is a block of the tree.
     pub(crate) fn has_block(&self, path: &[u16], depth: usize) -> bool
         requires { depth ≤ length path.now }
         ensures { result ≡ has_block self.now path.now depth }
@@ -53,7 +53,7 @@ impl TreeSize {
         common(path, self.root.as_slice()) == above
     }
 
-    /// How many pieces hold the words that count of the block at a depth of a way.
+    /// Returns the number of pieces that hold the counted words of the block at a depth of a way.
     pub(crate) fn pieces(&self, path: &[u16], depth: usize) -> u32
         requires height { self.now.height ≤ max_height }
         requires depth { depth ≤ length path.now }

@@ -1,4 +1,4 @@
-//! How far a path goes along the ways to some leaves of a run.
+//! The number of slots that a path shares with the ways to some leaves of a run.
 
 ghost use Rattle.std.specs.Prelude.{◌≡◌, ◌≢◌, ◌↔◌, ℕ, ◌+◌, ◌-◌, ◌*◌, ◌/◌, ◌^◌, ◌<◌, ◌≤◌, length, slice_index, IsTrue};
 ghost use Rattle.bp_shapes.specs.Trail.{trail_of};
@@ -7,7 +7,7 @@ ghost use Rattle.bp_cow.specs.Ways.{IsShared};
 
 use crate::touched::Run;
 
-/// How many slots two paths have alike before the first that differs.
+/// Returns how many slots two paths have in common before the first difference.
 pub(crate) fn common(these: &[u16], those: &[u16]) -> usize
     ensures these { result ≤ length these.now }
     ensures those { result ≤ length those.now }
@@ -24,7 +24,8 @@ pub(crate) fn common(these: &[u16], those: &[u16]) -> usize
     end
 }
 
-/// Whether one of some leaves, by their numbers, lies below a node with this number, so many levels above them.
+/// Returns whether one of the leaves `first` to `last` is below the node with this number, `level` levels above the
+/// leaves.
 fn lies_below(first: u64, last: u64, number: u64, level: u32) -> bool
     requires { level ≤ 6 }
     ensures { IsTrue result ↔ (first / 512 ^ level ≤ number) × (number ≤ last / 512 ^ level) }
@@ -32,7 +33,8 @@ fn lies_below(first: u64, last: u64, number: u64, level: u32) -> bool
     first >> (9 * level) <= number && number <= last >> (9 * level)
 }
 
-/// How many fronts of a path that begins with the run's root begin the way to one of the first leaves of a run.
+/// Returns how many prefixes of a path that begins with the run's root are prefixes of the way to one of the first
+/// leaves of a run.
 fn fronts_below(run: &Run<'_>, slots: &[u16], leaves: usize) -> usize
     requires run { IsRun run.now }
     requires some { 0 < leaves }
@@ -57,7 +59,7 @@ fn fronts_below(run: &Run<'_>, slots: &[u16], leaves: usize) -> usize
     above + end + 1
 }
 
-/// How many fronts of a path begin the way to one of the first leaves of a run.
+/// Returns how many prefixes of a path are prefixes of the way to one of the first leaves of a run.
 pub(crate) fn fronts_of_run(run: &Run<'_>, slots: &[u16], leaves: usize) -> usize
     requires run { IsRun run.now }
     requires leaves { leaves ≤ run_leaves run.now }

@@ -1,4 +1,4 @@
--- What a scan for a name tells.
+-- The results of a scan for a name.
 use Rattle.std.specs.Prelude.{◌≡◌, ℕ, ⊤, Option, Some, None}
 use Rattle.bp_dirs.specs.declared.spot.Found.{Found}
 use Rattle.bp_dirs.specs.declared.spot.Spot.{Spot}
@@ -9,7 +9,7 @@ abbrev pub named_slot : Spot → Option ℕ
 named_slot (Named slot) = Some slot
 named_slot (Free empty) = None
 
--- where no slot has the name, this is the empty one
+-- the result states this empty slot, unless some slot has the name
 abbrev pub FreeIs : Spot → Option ℕ → Type 0
 FreeIs (Named slot) expected = ⊤
 FreeIs (Free empty) expected = empty ≡ expected

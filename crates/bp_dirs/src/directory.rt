@@ -1,4 +1,4 @@
-//! What stands in a directory.
+//! The entries of a directory.
 
 ghost use Rattle.std.specs.Prelude.{◌≡◌, ◌≢◌, ◌+◌, ◌*◌, ◌/◌, ◌<◌, ◌≤◌, ◌↔◌, ℕ, length, IsTrue, IfNone, IfSome};
 ghost use Rattle.bp_layout.specs.Words.{height_of};
@@ -19,7 +19,7 @@ use bp_limits::{BLOCK_ENTRIES, ENTRY_WORDS};
 use bp_tree::{Tree, content_place, content_word};
 use pm_region::Region;
 
-/// The number of the inode that the entry in a slot names, 0 where the entry is empty.
+/// Returns the number of the inode that the entry in a slot names, 0 if the entry is empty.
 pub fn inumber<R: Region>(region: &R, tree: Tree, slot: u64) -> u64
     requires sound { IsSound (current_words (R.memory region.now)) tree.root tree.size }
     requires live { slot < tree.size / entry_size }
@@ -28,7 +28,7 @@ pub fn inumber<R: Region>(region: &R, tree: Tree, slot: u64) -> u64
     content_word(region, tree, ENTRY_WORDS as u64 * slot)
 }
 
-/// The entry in a slot, None where it is empty since no block is there.
+/// Returns the entry in a slot, or `None` if it is empty because its block is null.
 pub fn entry<R: Region>(region: &R, tree: Tree, slot: u64) -> Option<EntryView<'_>>
     requires sound { IsSound (current_words (R.memory region.now)) tree.root tree.size }
     requires live { slot < tree.size / entry_size }
@@ -41,7 +41,7 @@ pub fn entry<R: Region>(region: &R, tree: Tree, slot: u64) -> Option<EntryView<'
     leaf_from(region, tree, slot - index).entry(region, index)
 }
 
-/// The least slot whose entry names an inode by this name, None where no entry does.
+/// Returns the first slot whose entry names an inode by this name, or `None` if there is none.
 pub fn find<R: Region>(region: &R, tree: Tree, name: &[u8]) -> Option<u64>
     requires sound { IsSound (current_words (R.memory region.now)) tree.root tree.size }
     requires short { length name.now ≤ max_name }
@@ -53,7 +53,7 @@ pub fn find<R: Region>(region: &R, tree: Tree, name: &[u8]) -> Option<u64>
     }
 }
 
-/// What [`find`] tells, and the number of the inode that the entry names.
+/// Returns the entry that [`find`] finds: its slot and the number of the inode that it names.
 pub fn find_entry<R: Region>(region: &R, tree: Tree, name: &[u8]) -> Option<Found>
     requires sound { IsSound (current_words (R.memory region.now)) tree.root tree.size }
     requires short { length name.now ≤ max_name }
@@ -72,7 +72,7 @@ pub fn find_entry<R: Region>(region: &R, tree: Tree, name: &[u8]) -> Option<Foun
     None
 }
 
-/// The least slot whose entry is empty, None where no entry is.
+/// Returns the first slot whose entry is empty, or `None` if there is none.
 pub fn free_slot<R: Region>(region: &R, tree: Tree) -> Option<u64>
     requires { IsSound (current_words (R.memory region.now)) tree.root tree.size }
     ensures { result ≡ empty_slot_in (current_words (R.memory region.now)) tree.root tree.size }
@@ -86,7 +86,8 @@ pub fn free_slot<R: Region>(region: &R, tree: Tree) -> Option<u64>
     None
 }
 
-/// What [`find`] and [`free_slot`] tell, by one scan: the slot that has a name, or else the least empty slot.
+/// Returns the results of [`find`] and [`free_slot`] by one scan: the slot that has a name, or else the first empty
+/// slot.
 pub fn find_or_free<R: Region>(region: &R, tree: Tree, name: &[u8]) -> Spot
     requires sound { IsSound (current_words (R.memory region.now)) tree.root tree.size }
     requires short { length name.now ≤ max_name }
@@ -106,7 +107,7 @@ pub fn find_or_free<R: Region>(region: &R, tree: Tree, name: &[u8]) -> Spot
     Spot::Free(empty)
 }
 
-/// Where a name is or may be put, by the entry that was found for it and the least empty slot.
+/// Returns where a name is or may be put, from the entry that was found for it and the first empty slot.
 fn spot_of(found: Option<Found>, empty: Option<u64>) -> Spot
     ensures named { named_slot result ≡ found_slot found }
     ensures free { FreeIs result empty }
@@ -117,7 +118,7 @@ fn spot_of(found: Option<Found>, empty: Option<u64>) -> Spot
     }
 }
 
-/// What [`find_entry`] tells of one name, and [`find_or_free`] of another one, by one scan.
+/// Returns the results of [`find_entry`] for one name and of [`find_or_free`] for another one, by one scan.
 pub fn find_both<R: Region>(region: &R, tree: Tree, one: &[u8], other: &[u8]) -> Both
     requires sound { IsSound (current_words (R.memory region.now)) tree.root tree.size }
     requires one { length one.now ≤ max_name }
@@ -150,7 +151,7 @@ pub fn find_both<R: Region>(region: &R, tree: Tree, one: &[u8], other: &[u8]) ->
     }
 }
 
-/// How many entries name an inode.
+/// Returns how many entries name an inode.
 pub fn count<R: Region>(region: &R, tree: Tree) -> u64
     requires { IsSound (current_words (R.memory region.now)) tree.root tree.size }
     ensures { result ≡ name_count (current_words (R.memory region.now)) tree.root tree.size }
@@ -162,7 +163,7 @@ pub fn count<R: Region>(region: &R, tree: Tree) -> u64
     names
 }
 
-/// Whether no entry names an inode.
+/// Returns whether no entry names an inode.
 pub fn is_empty<R: Region>(region: &R, tree: Tree) -> bool
     requires { IsSound (current_words (R.memory region.now)) tree.root tree.size }
     ensures { IsTrue result ↔ (name_count (current_words (R.memory region.now)) tree.root tree.size ≡ 0) }
@@ -175,7 +176,7 @@ pub fn is_empty<R: Region>(region: &R, tree: Tree) -> bool
     true
 }
 
-/// The word of the region at which a word of the entry in a slot stands.
+/// Returns the place in the region of a word of the entry in a slot.
 pub fn entry_place<R: Region>(region: &R, tree: Tree, slot: u64, field: u32) -> u32
     requires sound { IsSound (current_words (R.memory region.now)) tree.root tree.size }
     requires full { IsFull (current_words (R.memory region.now)) tree.root tree.size }

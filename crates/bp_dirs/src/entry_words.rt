@@ -1,4 +1,4 @@
-//! An entry as the words of the region in which it stands.
+//! An entry as the words of the region that store it.
 
 ghost use Rattle.std.specs.Prelude.{◌≡◌, ℕ, ◌≤◌, length};
 ghost use Rattle.bp_layout.specs.Words.{Image};
@@ -10,8 +10,8 @@ ghost use Rattle.bp_limits.specs.CallLimits.{max_name};
 use crate::name_words::{last_part, whole_word};
 use pm_words::low_bytes;
 
-/// Whether the entry with these words names an inode by this name, whose last word is `last`. Where names are many they begin
-/// alike, so the last words tell most of them apart.
+/// Returns whether the entry with these words names an inode by this name, whose last word is `last`. Where there are
+/// many names they often begin alike, so comparing the last words distinguishes most of them.
 pub(crate) fn is_named(words: &[u64], name: &[u8], last: u64) -> bool
     requires long { length words.now ≡ entry_words }
     requires short { length name.now ≤ max_name }

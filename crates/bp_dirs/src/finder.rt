@@ -1,4 +1,4 @@
-//! What finds names in the directories of an image.
+//! Lookup of names in the directories of an image.
 
 ghost use Rattle.std.specs.Prelude.{◌≡◌, ◌≤◌, length, IfSome, refl, ⊤};
 ghost use Rattle.std.proofs.Common.{◌∙◌};
@@ -18,15 +18,15 @@ use bp_layout::Hints;
 use bp_tree::Tree;
 use pm_region::Region;
 
-/// What finds names in the directories of an image.
+/// A way to look up names in the directories of an image.
 pub trait Finder {
-    /// Whether what it knows is right of an image.
+    /// Whether the remembered names are correct for an image.
     ghost right: { Self → Image → Type 0 };
 
-    /// Whether two of them hold the same references, so that who lent one of these sees what it has become.
+    /// Whether two finders hold the same references, so that the lender of one sees its new state.
     ghost same_references: { Self → Self → Type 0 };
 
-    /// What [`find_entry`] tells of a directory, which is told by its inode and has this tree.
+    /// Returns the result of [`find_entry`] for the directory with inode `dir` and this tree.
     fn find<R: Region>(&mut self, region: &R, dir: u32, tree: Tree, name: &[u8]) -> Option<Found>
         requires well { IsWellFormed (current_words (R.memory region.now)) }
         requires reached { IsReached (current_words (R.memory region.now)) dir }
@@ -47,7 +47,7 @@ pub trait Finder {
         → same_references x z };
 }
 
-/// Knows nothing, and scans the directory.
+/// Finder that remembers nothing, and scans the directory.
 #[derive(Clone, Copy, Debug)]
 pub struct Scan;
 
@@ -65,10 +65,11 @@ impl Finder for Scan {
     ghost same_references_transitive = { λ _ _ _ _ _. tt };
 }
 
-/// Asks for the slot of a name, and where nobody knows it, scans the directory and has the slot learned.
+/// Finder that first asks hints for the slot of a name. If they have none, it scans the directory, and has the hints
+/// learn the slot.
 #[derive(Drop)]
 pub struct Hinted<'a, H> {
-    /// What is asked, and learns.
+    /// The hints.
     pub hints: &'a mut H,
 }
 

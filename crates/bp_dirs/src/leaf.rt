@@ -17,23 +17,23 @@ use bp_limits::{BLOCK_ENTRIES, BLOCK_WORDS, ENTRY_SIZE, ENTRY_WORDS};
 use bp_tree::{Tree, leaf_block};
 use pm_region::Region;
 
-/// The words of an entry, as a length.
+/// Words of an entry, as a length.
 const ENTRY: usize = ENTRY_WORDS as usize;
 
-/// Slots in a row whose entries share a block.
+/// Consecutive slots whose entries share a block.
 #[derive(Clone, Copy)]
 pub(crate) struct Leaf {
-    /// The directory.
+    /// Tree of the directory.
     pub tree: Tree,
-    /// The first slot.
+    /// First slot.
     pub first: u64,
-    /// How many there are: sixteen, and fewer where the directory ends.
+    /// Number of slots: sixteen, or fewer at the end of the directory.
     pub count: u64,
-    /// The block with their entries, 0 where they are all empty.
+    /// Block with the entries, 0 if all of them are empty.
     pub block: u64,
 }
 
-/// How many leaves have the slots of a directory.
+/// Returns the number of leaves that have the slots of a directory.
 pub(crate) fn leaf_count(tree: Tree) -> u64
     ensures most { (leaf : ℕ) → leaf < result → block_entries * leaf < tree.size / entry_size }
     ensures all { tree.size / entry_size ≤ block_entries * result }
@@ -41,7 +41,7 @@ pub(crate) fn leaf_count(tree: Tree) -> u64
     (tree.size / ENTRY_SIZE).div_ceil(BLOCK_ENTRIES)
 }
 
-/// The leaf that begins with a slot.
+/// Returns the leaf that starts with a slot.
 pub(crate) fn leaf_from<R: Region>(region: &R, tree: Tree, first: u64) -> Leaf
     requires sound { IsSound (current_words (R.memory region.now)) tree.root tree.size }
     requires starts { first % block_entries ≡ 0 }
@@ -60,14 +60,14 @@ pub(crate) fn leaf_from<R: Region>(region: &R, tree: Tree, first: u64) -> Leaf
 }
 
 impl Leaf {
-    /// The words of the entries, which stand in a block.
+    /// Returns the words of the entries, which must be in a block.
     fn words<'a, R: Region>(&self, region: &'a R) -> &'a [u64]
         requires leaf { IsLeaf (current_words (R.memory region.now)) self.now }
         requires present { self.now.block ≢ 0 }
         ensures { IsRow (current_words (R.memory region.now))
             self.now.tree.root self.now.first self.now.count result.now }
     {
-        // Words are counted in 32 bits, so that the place of one fits.
+        // Word numbers have 32 bits, so the place of a word fits.
         let _words = region.words();
         region.load_words(
             BLOCK_WORDS * self.block as u32,
@@ -75,7 +75,7 @@ impl Leaf {
         )
     }
 
-    /// One of the entries, None where they are all empty since no block is there.
+    /// Returns one of the entries, or `None` if all of them are empty because the block is null.
     pub fn entry<'a, R: Region>(&self, region: &'a R, index: u64) -> Option<EntryView<'a>>
         requires leaf { IsLeaf (current_words (R.memory region.now)) self.now }
         requires live { index < self.now.count }
@@ -91,7 +91,7 @@ impl Leaf {
         Some(EntryView::new(&self.words(region)[at..at + ENTRY]))
     }
 
-    /// The first of the entries that names an inode by this name, whose last word is `last`.
+    /// Returns the first entry that names an inode by this name, whose last word is `last`.
     pub fn find<R: Region>(&self, region: &R, name: &[u8], last: u64) -> Option<Found>
         requires leaf { IsLeaf (current_words (R.memory region.now)) self.now }
         requires short { length name.now ≤ max_name }
@@ -116,7 +116,8 @@ impl Leaf {
         None
     }
 
-    /// What was found so far, else the first of these entries that names an inode by this name, whose last word is `last`.
+    /// Returns the earlier result if there is one, else the first entry that names an inode by this name, whose last
+    /// word is `last`.
     pub fn find_after<R: Region>(
         &self,
         region: &R,
@@ -139,7 +140,7 @@ impl Leaf {
         }
     }
 
-    /// The first of the slots whose entry is empty.
+    /// Returns the first slot whose entry is empty.
     pub fn first_empty<R: Region>(&self, region: &R) -> Option<u64>
         requires { IsLeaf (current_words (R.memory region.now)) self.now }
         ensures { result ≡ empty_in_leaf (current_words (R.memory region.now)) self.now }
@@ -156,7 +157,7 @@ impl Leaf {
         None
     }
 
-    /// The first empty slot known so far, else the first of these that is empty.
+    /// Returns the earlier result if there is one, else the first empty slot of the leaf.
     pub fn first_empty_after<R: Region>(&self, region: &R, before: Option<u64>) -> Option<u64>
         requires { IsLeaf (current_words (R.memory region.now)) self.now }
         ensures some { IfSome before (λ slot. result ≡ before) }
@@ -168,7 +169,7 @@ impl Leaf {
         }
     }
 
-    /// How many of the entries name an inode.
+    /// Returns how many of the entries name an inode.
     pub fn count_names<R: Region>(&self, region: &R) -> u64
         requires { IsLeaf (current_words (R.memory region.now)) self.now }
         ensures count { result ≡ names_in_leaf (current_words (R.memory region.now)) self.now }

@@ -1,7 +1,7 @@
-//! Directories: rows of entries in the content of a tree, 32 words each.
+//! Directories: sequences of entries in the content of a tree, 32 words each.
 //!
-//! Word 0 of an entry is the number of the inode that it names, 0 where the entry is empty. Word 1 is the length of the
-//! name in bytes, and from word 2 on stand the bytes.
+//! Word 0 of an entry is the number of the inode that it names, 0 if the entry is empty. Word 1 is the length of the
+//! name in bytes, and the bytes start at word 2.
 #![tactic(auto)]
 
 mod directory;

@@ -1,5 +1,5 @@
-//! Names as words, eight bytes a word, the first byte lowest. The last word of a name has its last bytes, one to eight, with
-//! zeros above them.
+//! Names as words, eight bytes a word, the first byte lowest. The last word of a name has its last one to eight bytes,
+//! with zeros above them.
 
 ghost use Rattle.std.specs.Prelude.{◌≡◌, ◌+◌, ◌-◌, ◌*◌, ◌/◌, ◌^◌, ◌<◌, ◌≤◌, length};
 ghost use Rattle.bp_dirs.specs.EntryWords.{part_word, last_part};
@@ -7,7 +7,7 @@ ghost use Rattle.pm_words.specs.Bytes.{word_of};
 
 use pm_words::read_word;
 
-/// The word with these bytes, two at most, and zeros above them.
+/// Returns the word with these bytes, at most two, and zeros above them.
 fn pack_two(bytes: &[u8]) -> u64
     requires { length bytes.now ≤ 2 }
     ensures word { result ≡ word_of bytes.now }
@@ -24,7 +24,7 @@ fn pack_two(bytes: &[u8]) -> u64
     }
 }
 
-/// The word with these bytes, four at most, and zeros above them.
+/// Returns the word with these bytes, at most four, and zeros above them.
 fn pack_four(bytes: &[u8]) -> u64
     requires { length bytes.now ≤ 4 }
     ensures word { result ≡ word_of bytes.now }
@@ -37,9 +37,9 @@ fn pack_four(bytes: &[u8]) -> u64
     pack_two(low) + 0x1_0000 * pack_two(high)
 }
 
-/// The word with these bytes, and zeros above them.
-// It is put together from two halves, and each of them likewise: to read a word in memory just behind stores of its bytes
-// makes the processor wait for these, and for all stores before them.
+/// Returns the word with these bytes, and zeros above them.
+// The word is put together from two halves, and each half likewise. Reading a word from memory right after storing its
+// bytes would make the processor wait for these stores, and for all earlier ones.
 fn pack(bytes: &[u8]) -> u64
     requires { length bytes.now ≤ 8 }
     ensures { result ≡ word_of bytes.now }
@@ -51,21 +51,21 @@ fn pack(bytes: &[u8]) -> u64
     pack_four(low) + 0x1_0000_0000 * pack_four(high)
 }
 
-/// The number of a name's last word, which is how many whole words stand before it.
+/// Returns the number of a name's last word, which is the number of whole words before it.
 pub(crate) fn last_part(name: &[u8]) -> usize
     ensures { result ≡ last_part name.now }
 {
     name.len().saturating_sub(1) / 8
 }
 
-/// The last word of a name.
+/// Returns the last word of a name.
 pub(crate) fn last_word(name: &[u8]) -> u64
     ensures { result ≡ part_word name.now (last_part name.now) }
 {
     pack(&name[8 * last_part(name)..])
 }
 
-/// A word of a name with eight bytes of it.
+/// Returns a word of a name that has eight bytes of it.
 pub(crate) fn whole_word(name: &[u8], part: usize) -> u64
     requires { 8 * part + 8 ≤ length name.now }
     ensures { result ≡ part_word name.now part }

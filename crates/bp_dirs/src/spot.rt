@@ -1,28 +1,28 @@
 //! Where a name is, or may be put.
 
-/// What a scan of a directory for a name tells.
+/// Result of a scan of a directory for a name.
 #[derive(Clone, Copy, Debug, PartialEq, Eq)]
 pub enum Spot {
-    /// The least slot whose entry names an inode by it.
+    /// First slot whose entry names an inode by this name.
     Named(u64),
-    /// No entry does. The least slot whose entry is empty, None where none is.
+    /// No entry has the name. First slot whose entry is empty, `None` if there is none.
     Free(Option<u64>),
 }
 
 /// An entry that has a name.
 #[derive(Clone, Copy, Debug, PartialEq, Eq)]
 pub struct Found {
-    /// Its slot.
+    /// Slot of the entry.
     pub slot: u64,
-    /// The number of the inode that it names.
+    /// Number of the inode that it names.
     pub inumber: u64,
 }
 
-/// What a scan of a directory for two names tells.
+/// Result of a scan of a directory for two names.
 #[derive(Clone, Copy, Debug, PartialEq, Eq)]
 pub struct Both {
-    /// The entry that has the one name.
+    /// Entry that has the first name.
     pub found: Option<Found>,
-    /// Where the other one is, or may be put.
+    /// Where the other name is, or may be put.
     pub spot: Spot,
 }

@@ -12,7 +12,7 @@ ghost use Rattle.pm_region.specs.Safe.{AddsMay};
 use bp_layout::name_word;
 use pm_region::Region;
 
-/// Writes a name into the entry at a word of the region: its length in bytes, and its bytes.
+/// Writes a name to the entry at a place of the region: its length in bytes, and its bytes.
 pub fn put_name<R: Region>(region: &mut R, place: u32, name: &[u8])
     requires in_range { place + entry_words ≤ length (R.memory region.old).base }
     requires short { length name.now ≤ max_name }

@@ -1,5 +1,5 @@
-//! What a caller in Rust sees of a volume and of `run`: what no row of `bp_rows` shows. The samples of the layers
-//! below stand in `bp_samples`, whose images these tests use.
+//! Tests of a volume and of `run`, as a caller in Rattle sees them, for whatever no row of `bp_rows` shows. The
+//! samples of the layers below are in `bp_samples`, whose images these tests use.
 #![tactic(auto)]
 
 #[cfg(test)]

@@ -1,4 +1,4 @@
-//! Rows over the devices in memory show the rest (docs/rows.md): here are real files.
+//! Tests of real files. Rows over the devices in memory show the rest (docs/rows.md).
 
 use bp_io::{DiskFiles, FairSource, MemSink, StdSink, StdSource};
 use bp_shell::{Status, run};

@@ -1,4 +1,4 @@
-//! Rows over the devices in memory show the rest (docs/rows.md): here is what takes memory, called from Rust.
+//! Tests of calls that need memory, called from Rattle. Rows over the devices in memory show the rest (docs/rows.md).
 
 ghost use Rattle.std.specs.Prelude.{[], ◌*◌, ◌≡◌, IfOk, length, vec_len};
 ghost use Rattle.bp_limits.specs.Limits.{block_words, call_room, min_blocks};
@@ -12,7 +12,7 @@ use pm_region::{ListRegion, Region};
 use std::alloc::{AllocError, Global};
 use std::process::Abort;
 
-/// A region of these words, with room for a call.
+/// Makes a region of these words, with room for a call.
 fn region_of(alloc: Global, words: Vec<u64>) -> Result<ListRegion, AllocError>
     requires { vec_len words ≡ min_blocks * block_words }
     ensures words { IfOk result (λ region. length region.base ≡ min_blocks * block_words) }
@@ -22,7 +22,7 @@ fn region_of(alloc: Global, words: Vec<u64>) -> Result<ListRegion, AllocError>
     ListRegion::new(alloc, words, CALL_ROOM)
 }
 
-/// A region with an image of the least size, which has these words.
+/// Makes a region with an image of the least size, which has these words.
 fn region_with(rt: &impl Abort, alloc: Global, image: &[(usize, u64)]) -> ListRegion
     ensures words { length result.base ≡ min_blocks * block_words }
     ensures events { result.events ≡ [] }
@@ -32,7 +32,7 @@ fn region_with(rt: &impl Abort, alloc: Global, image: &[(usize, u64)]) -> ListRe
     region_of(alloc, words).expect(rt, "there is memory")
 }
 
-/// An empty volume of the least size.
+/// Makes an empty volume of the least size.
 fn fresh(rt: &impl Abort, alloc: Global) -> Volume<ListRegion> {
     let region = region_with(rt, alloc, &[]);
     Volume::format(alloc, region)
@@ -88,7 +88,7 @@ fn a_format_has_the_greatest_size_of_its_version(rt: HostRuntime) {
     assert_eq!(rt; volume.truncate(b"/a", size), Ok(()));
 }
 
-/// A volume of version 2 with a snapshot of the file `/a`, which has two bytes.
+/// Makes a volume of version 2 with a snapshot of the file `/a`, which has two bytes.
 fn kept(rt: &impl Abort, alloc: Global) -> Volume<ListRegion> {
     let mut volume = fresh(rt, alloc);
     volume.upgrade();

@@ -1,4 +1,4 @@
--- Which directories have a path below them that is too long.
+-- Directories with a path below them that is too long.
 use Rattle.std.specs.Prelude.{◌≡◌, ◌≢◌, ◌↔◌, ℕ, ◌+◌, ◌<◌, ◌≤◌, List, ◌∷◌, length, Bool, IsTrue, Some}
 use Rattle.bp_dirs.specs.EntryWords.{HasWords, IsRow}
 use Rattle.bp_layout.specs.Directory.{inumber_at, name_at}
@@ -8,14 +8,14 @@ use Rattle.bp_layout.specs.Paths.{Path}
 use Rattle.bp_layout.specs.Words.{Image}
 use Rattle.bp_plain.specs.Export.{path_text}
 
--- a path that is there, from inode i on, has more bytes than are left for it
+-- A path that exists, from inode i on, has more bytes than are left for it.
 pub record HasLongPath (image : Image) (i left : ℕ) : Type 0 where
   pub path : Path
   pub found : ℕ
   pub finds : lookup_from image i path ≡ Some found
   pub long : left < length (path_text path)
 
--- such a path begins with the entry in a slot of directory i
+-- A path that is too long begins with the entry in a slot of directory i.
 pub record IsLongEntry (image : Image) (i slot left : ℕ) : Type 0 where
   pub some : inumber_at image i slot ≢ 0
   pub path : Path
@@ -23,21 +23,23 @@ pub record IsLongEntry (image : Image) (i slot left : ℕ) : Type 0 where
   pub finds : lookup_from image (inumber_at image i slot) path ≡ Some found
   pub long : left < length (path_text (name_at image i slot ∷ path))
 
--- or with one of so many entries, from a slot on
+-- A path that is too long begins with one of `count` entries of directory i, from slot `first` on.
 pub record HasLongEntry (image : Image) (i first count left : ℕ) : Type 0 where
   pub slot : ℕ
   pub low : first ≤ slot
   pub high : slot < first + count
   pub is : IsLongEntry image i slot left
 
--- ---- entries as the words in which they stand
+-- ---- entries as their words
 
--- In whichever directory these words are an entry: such a path begins with it, or none does.
+-- Whether a path that is too long begins with the entry that these words are, in whichever directory they are an
+-- entry.
 abbrev pub TellsLongEntry : Image → List ℕ → ℕ → Bool → Type 0
 TellsLongEntry image words left long =
     (i slot : ℕ) → HasWords image (root_of image i) slot words → (IsTrue long ↔ IsLongEntry image i slot left)
 
--- .. a row of entries: with one of them
+-- Whether a path that is too long begins with one of the consecutive entries that these words are, in whichever
+-- directory.
 abbrev pub TellsLongRow : Image → List ℕ → ℕ → Bool → Type 0
 TellsLongRow image words left long =
     (i first count : ℕ) → IsRow image (root_of image i) first count words

@@ -1,4 +1,4 @@
--- How the telling of lines of an export ends, and the export of a tree.
+-- How the output of the lines of an export ends, and the export of a tree.
 use Rattle.std.specs.Prelude.{◌≡◌, ◌↔◌, ℕ, List, ◌++◌, Option, Result, Ok, Err, IsErrOf, OnOk}
 use Rattle.std.specs.Io.KnownBytes.{Appends}
 use Rattle.bp_io.specs.Causes.{Rose}
@@ -14,15 +14,15 @@ use Rattle.bp_export.specs.declared.fault.Fault.TheVariants.{Deep, Memory, Sink}
 
 -- ---- some calls of an export
 
--- a front of a text, which may be all of it, was added to what waited
+-- A prefix of a text, which may be all of it, was added to the waiting lines.
 pub record PassesFront (text before after : List ℕ) (taken now : Option (List ℕ)) : Type 0 where
   pub front : List ℕ
   pub rest : List ℕ
   pub whole : text ≡ front ++ rest
   pub passes : PassesOn front before after taken now
 
--- The lines of all these calls were added to what waited; or a front of them, where memory was out; or the sink failed, and
--- took a proper front of what waited and of them. The sink failed in that case alone.
+-- The lines of all these calls were added to the waiting ones; or a prefix of them, if memory lacked; or the sink
+-- failed, and took a proper prefix of both. Only in the last case the sink failed.
 abbrev pub Goes : {T : Type 0} → List Call → Result T Fault → List ℕ → List ℕ → SinkView → SinkView → Type 0
 Goes calls (Ok done) before after old new =
     PassesOn (call_lines calls) before after old.taken new.taken × (new.faults ≡ old.faults)
@@ -34,15 +34,15 @@ Goes calls (Err Deep) before after old new = ⊥
 
 -- ---- a whole export
 
--- a sink took a front of a text, which may be all of it
+-- A sink took a prefix of a text, which may be all of it.
 pub record TakesFront (text : List ℕ) (taken now : Option (List ℕ)) : Type 0 where
   pub front : List ℕ
   pub rest : List ℕ
   pub whole : text ≡ front ++ rest
   pub took : Appends taken now front
 
--- What a sink took of the script of a tree, and whether it failed: all of it; nothing, where some path can't be spelled; a front,
--- where memory was out; a proper front, where the sink failed.
+-- The part of a tree's script that a sink took, and whether the sink failed: the whole script; nothing, if some path
+-- cannot be spelled; a prefix, if memory lacked; a proper prefix, if the sink failed.
 pub record EndsExport {T : Type 0} (tree : FileTree) (result : Result T Fault) (old new : SinkView) : Type 0 where
   pub all : OnOk result (Appends old.taken new.taken (export_text tree))
   pub deep : IsErrOf result Deep ↔ ¬ HasShortPaths tree

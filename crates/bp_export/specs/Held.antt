@@ -1,4 +1,4 @@
--- What a walk tells, in words of what it works with: the path at hand, the lines that wait and the first paths.
+-- The output of a walk, in terms of its working memory: the current path, the waiting lines and the first paths.
 use Rattle.std.specs.Prelude.{ℕ, List, Result}
 use Rattle.bp_io.specs.Views.{SinkView}
 use Rattle.bp_layout.specs.Paths.{Node, Path}
@@ -13,26 +13,26 @@ use Rattle.bp_export.specs.declared.fault.Fault.{Fault}
 use Rattle.bp_export.specs.declared.work.Work.{Work}
 use Rattle.pm_region.specs.Memory.{Memory}
 
--- the lines that no sink has taken yet
+-- The lines that no sink has taken yet.
 abbrev pub held_lines : Work → List ℕ
 held_lines work = waiting work.replies
 
--- the calls that make the file with this tree at the path at hand
+-- The calls that make the file with this tree at the current path.
 abbrev pub file_calls : Memory → Tree → Work → List Call
 file_calls memory tree work = calls_to_make work.path.items memory tree
 
--- The walk stands at the place: its path finds inode i, and what is next there is told behind what was told.
+-- The walk is at the place: its path finds inode i, and the next entries follow those written before.
 abbrev pub StandsHeld : Image → List ℕ → (PathMap → Path → List (Path × Node)) → ℕ → Work → Place → Type 0
 StandsHeld image counts next i work place = WalkStandsAt image counts next i work.path.items work.firsts place
 
--- at whichever place it stands, what is next there was told
+-- The next entries were written, at whichever place the walk is.
 abbrev pub ToursHeld : {T : Type 0} → Image → List ℕ → (PathMap → Path → List (Path × Node)) → ℕ → Result T Fault
     → Work → SinkView → Work → SinkView → Type 0
 ToursHeld image counts next i result work sink work_now sink_now =
     (place : Place) → StandsHeld image counts next i work place
     → Tours image counts next place result work_now.firsts (held_lines work) (held_lines work_now) sink sink_now
 
--- .. where that is what stands at its path itself
+-- The entry at the path of the walk itself was written.
 abbrev pub ToursItself : {T : Type 0} → Image → List ℕ → ℕ → Result T Fault → Work → SinkView → Work → SinkView → Type 0
 ToursItself image counts i result work sink work_now sink_now =
     ToursHeld image counts (itself image i) i result work sink work_now sink_now

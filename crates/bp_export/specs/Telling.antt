@@ -1,4 +1,4 @@
--- Lines of calls that are told, one list behind the other.
+-- The output of the lines of calls, one list after the other.
 use Rattle.std.specs.Prelude.{ℕ, ◌+◌, ◌*◌, min, List, [], ◌∷◌, ◌++◌, ◌==◌, Option, None, Some, Result, OnErr, OnOk, if◌then◌else◌}
 use Rattle.bp_io.specs.Causes.{HasCause}
 use Rattle.bp_io.specs.Views.{SinkView}
@@ -16,32 +16,32 @@ use Rattle.bp_script.specs.Export.{call_lines}
 use Rattle.bp_tree.specs.declared.tree.Tree.{Tree}
 use Rattle.pm_region.specs.Memory.{Memory, current_words}
 
--- The lines of these calls were added to what waits for a sink. Or the sink failed, which took a proper front of what waited and
--- of them.
+-- The lines of these calls were added to those that wait for a sink; or the sink failed, and took a proper prefix of
+-- both.
 pub record Tells {T : Type 0} (calls : List Call) (result : Result T Failed) (before after : List ℕ) (old new : SinkView) : Type 0 where
   pub all : OnOk result (PassesOn (call_lines calls) before after old.taken new.taken)
   pub some : OnErr result (TakesPart (before ++ call_lines calls) old.taken new.taken)
   pub cause : HasCause old.faults new.faults result
 
--- .. to those that wait among these replies
+-- The lines of these calls were added to the waiting replies, or the sink failed.
 abbrev pub TellsAmong : {T : Type 0} → List Call → Result T Failed → Replies → SinkView → Replies → SinkView → Type 0
 TellsAmong calls result replies sink replies_now sink_now =
     Tells calls result (waiting replies) (waiting replies_now) sink sink_now
 
 -- ---- a file
 
--- the bytes of the file with this tree, as the words of a region are now
+-- The bytes of the file with this tree, in the current words of a region.
 abbrev pub content_in : Memory → Tree → List ℕ
 content_in memory tree = content (current_words memory) tree.root tree.size
 
--- the calls that make it at the path with this text
+-- The calls that make this file at the path with this text.
 abbrev pub calls_to_make : List ℕ → Memory → Tree → List Call
 calls_to_make text memory tree = calls_for text (file (content_in memory tree))
 
--- where the write of a stretch ends in a file of this size; none, where its bytes are zeros
+-- The end of the write of a stretch, in a file of this size; none if the bytes of the stretch are zeros.
 abbrev pub write_end : List ℕ → ℕ → ℕ → Option ℕ
 write_end bytes leaf size = if is_zeros (stretch bytes leaf) then None else Some (min (block_size * leaf + block_size) size)
 
--- the size of a file is told, unless the last stretch that was told ends there
+-- The call that sets the size of a file, unless the last written stretch ends there.
 abbrev pub size_behind : List ℕ → ℕ → ℕ → List Call
 size_behind text told size = if told == size then [] else truncate text size ∷ []

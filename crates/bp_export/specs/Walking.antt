@@ -1,4 +1,4 @@
--- A walk over the tree of an image: where it stands, and what it remembers.
+-- A walk over the tree of an image: its place, and the paths that it remembers.
 use Rattle.std.specs.Prelude.{◌≡◌, ◌<◌, ◌≤◌, ℕ, List, [], ◌∷◌, ◌++◌, length, map, take, find, flat_map, slice_index, All, Bool, OnOk, Option, Result, Some, option_map}
 use Rattle.std.specs.FinMap.{get, entries}
 use Rattle.bp_io.specs.Views.{SinkView}
@@ -18,57 +18,57 @@ use Rattle.bp_export.specs.declared.firsts.Firsts.{Firsts}
 
 -- ---- parts of a tree
 
--- the names in a directory
+-- The names in a directory.
 abbrev pub names_in : PathMap → Path → List Name
 names_in tree path = map (λ entry. entry.1) (listing tree.nodes path)
 
--- the entries at and below some names of a directory, name by name
+-- The entries at and below some names of a directory, name by name.
 abbrev pub entries_at : PathMap → Path → List Name → List (Path × Node)
 entries_at tree path names = flat_map (λ name. entries_below tree (path ++ name ∷ [])) names
 
--- what is below the directory at a path
+-- The entries below the directory at a path.
 abbrev pub inside : PathMap → Path → List (Path × Node)
 inside tree path = entries_at tree path (names_in tree path)
 
--- what is below it at its first names
+-- The entries at and below the first names of the directory at a path.
 abbrev pub up_to : ℕ → PathMap → Path → List (Path × Node)
 up_to count tree path = entries_at tree path (take count (names_in tree path))
 
--- what stands at a path itself, where it finds inode i
+-- The entry of a path itself, which finds inode i.
 abbrev pub itself : Image → ℕ → PathMap → Path → List (Path × Node)
 itself image i tree path = (path, node_of image i) ∷ []
 
 -- ---- first paths
 
--- whether a path finds file i
+-- Whether a path finds file i.
 abbrev pub finds_file : Image → ℕ → Path → Bool
 finds_file image i path = are_one (Some i) (file_at image path)
 
--- the text of the first path of some entries that finds file i
+-- The text of the first path among some entries that finds file i.
 abbrev pub text_of_first : Image → ℕ → List (Path × Node) → Option (List ℕ)
 text_of_first image i told = option_map path_text (find (finds_file image i) (map (λ entry. entry.0) told))
 
--- Of each file with several names the first path among the entries told is remembered, where there is one.
+-- For each file with several links, the first path among the entries written so far is remembered, if there is one.
 pub record RemembersFirsts (image : Image) (counts : List ℕ) (firsts : Firsts) (told : List (Path × Node)) : Type 0 where
   pub each : (i : ℕ) → 1 < slice_index counts i → first_text firsts i ≡ text_of_first image i told
 
 -- ---- a walk
 
--- The tree is that of the image, and each call of its script can be told.
+-- The tree is that of the image, and each call of its script can be written.
 pub record CanTell (image : Image) (tree : PathMap) : Type 0 where
   pub shows : Shows image tree
   pub short : (path : Path) (node : Node) → get tree.nodes path ≡ Some node → length (path_text path) ≤ max_path
   pub fits : All FitsText (flat_map (calls_at tree) (entries tree.nodes))
 
--- A place in a walk over a tree: a path, the entries told before, and those that come behind what is next.
+-- A place in a walk over a tree: a path, the entries written before, and those that come after the next ones.
 pub record Place : Type 0 where
   pub tree : PathMap
   pub path : Path
   pub told : List (Path × Node)
   pub later : List (Path × Node)
 
--- A walk over the tree of the image stands there: the path finds inode i and has this text, and what is next of it is told
--- behind what was told.
+-- A walk over the tree of the image is at the place: the path finds inode i and has this text, and its next entries
+-- follow those written before.
 pub record WalkStandsAt (image : Image) (counts : List ℕ) (next : PathMap → Path → List (Path × Node)) (i : ℕ)
     (text : List ℕ) (firsts : Firsts) (place : Place) : Type 0 where
   pub can : CanTell image place.tree
@@ -77,7 +77,8 @@ pub record WalkStandsAt (image : Image) (counts : List ℕ) (next : PathMap → 
   pub order : entries place.tree.nodes ≡ place.told ++ (next place.tree place.path ++ place.later)
   pub remembers : RemembersFirsts image counts firsts place.told
 
--- What is next there was told, so far as it goes, and where it all was, the first paths among it are remembered too.
+-- The next entries were written, as far as the result states. If all were, the first paths among them are remembered
+-- too.
 pub record Tours {T : Type 0} (image : Image) (counts : List ℕ) (next : PathMap → Path → List (Path × Node))
     (place : Place) (result : Result T Fault) (firsts : Firsts) (before after : List ℕ) (old new : SinkView) : Type 0 where
   pub goes : Goes (flat_map (calls_at place.tree) (next place.tree place.path)) result before after old new

@@ -1,4 +1,4 @@
-//! Whether a tree has a path that no call can spell.
+//! The test whether a tree has a path that no call can spell.
 
 ghost use Rattle.std.specs.Prelude.{◌↔◌, IsTrue};
 ghost use Rattle.bp_export.specs.Depth.{HasLongPath, TellsLongEntry, TellsLongRow};
@@ -14,7 +14,7 @@ use bp_inodes::{get, tree_of};
 use bp_layout::Kind;
 use pm_region::Region;
 
-/// Whether some path below directory `i` has more bytes than are left for it. It takes no memory, and goes down no further
+/// Whether some path below directory `i` has more than `left` bytes. It allocates no memory, and descends no further
 /// than there are bytes left.
 #[cycle(depth)]
 pub(crate) fn has_long_path<R: Region>(region: &R, i: u32, left: usize) -> bool
@@ -34,7 +34,7 @@ pub(crate) fn has_long_path<R: Region>(region: &R, i: u32, left: usize) -> bool
     false
 }
 
-/// Whether such a path begins with an entry of a row.
+/// Whether a path of more than `left` bytes begins with one of consecutive entries.
 #[cycle(depth)]
 fn has_long_entry<R: Region>(region: &R, words: &[u64], left: usize) -> bool
     requires well_formed { IsWellFormed (current_words (R.memory region.now)) }
@@ -50,7 +50,7 @@ fn has_long_entry<R: Region>(region: &R, words: &[u64], left: usize) -> bool
     false
 }
 
-/// Whether such a path begins with an entry.
+/// Whether a path of more than `left` bytes begins with an entry.
 #[cycle(depth)]
 fn is_long<R: Region>(region: &R, view: EntryView<'_>, left: usize) -> bool
     requires well_formed { IsWellFormed (current_words (R.memory region.now)) }
@@ -61,7 +61,7 @@ fn is_long<R: Region>(region: &R, view: EntryView<'_>, left: usize) -> bool
     if inumber == 0 {
         return false;
     }
-    // A `/` stands before each name.
+    // A `/` precedes each name.
     let taken = view.name_len() as usize + 1;
     if left < taken {
         return true;

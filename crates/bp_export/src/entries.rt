@@ -19,7 +19,7 @@ use pm_region::Region;
 use std::alloc::{AllocError, Global};
 use std::marker::Model;
 
-/// An entry: the inode that it names, and where the bytes of its name stand among those of all names.
+/// An entry: the inode that it refers to, and the range of its name among the bytes of all names.
 #[derive(Clone, Copy)]
 struct Row {
     inode: u32,
@@ -43,11 +43,11 @@ impl Model for Entries {
 
     ghost view = { λ entries. named_rows entries.bytes.items entries.rows.items };
 
-    // So a name that is added moves none of the others.
+    // Stored by offsets, so that adding a name moves none of the others.
     ghost invariant = { λ entries. AreRowsWithin entries.bytes.items entries.rows.items };
 }
 
-/// The bytes of a name, those of them that stand in `bytes`.
+/// Returns the bytes of a name that are in `bytes`.
 fn name_in(bytes: &[u8], row: Row) -> &[u8]
     ensures bytes { result.now ≡ take row.len (drop row.first bytes.now) }
     ensures few { length result.now ≤ row.len }
@@ -56,7 +56,7 @@ fn name_in(bytes: &[u8], row: Row) -> &[u8]
     &rest[..row.len.min(rest.len())]
 }
 
-/// The entries of directory `i` that name an inode, in the order of their slots.
+/// Collects the entries of directory `i` that are not empty, in the order of their slots.
 fn entries_of<R: Region>(alloc: Global, region: &R, i: u32) -> Result<Entries, AllocError>
     requires well_formed { IsWellFormed (current_words (R.memory region.now)) }
     requires reached { IsReached (current_words (R.memory region.now)) i }
@@ -75,11 +75,11 @@ fn entries_of<R: Region>(alloc: Global, region: &R, i: u32) -> Result<Entries, A
 }
 
 impl Entries {
-    /// The entries of directory `i` that name an inode, in the order of the bytes of their names.
+    /// Collects the entries of directory `i` that are not empty, in the byte order of their names.
     ///
     /// # Errors
     ///
-    /// Where there is no memory for them.
+    /// * `AllocError`: allocation fails.
     pub(crate) fn of<R: Region>(alloc: Global, region: &R, i: u32) -> Result<Entries, AllocError>
         requires well_formed { IsWellFormed (current_words (R.memory region.now)) }
         requires reached { IsReached (current_words (R.memory region.now)) i }
@@ -91,7 +91,7 @@ impl Entries {
         Ok(entries)
     }
 
-    /// No entries, with memory for so many, but for the bytes of their names.
+    /// Makes a list without entries, with memory for this number of them, except for the bytes of their names.
     fn with_capacity(alloc: Global, count: usize) -> Result<Entries, AllocError>
         ensures { IfOk result (λ entries. entries ≡ []) }
     {
@@ -101,7 +101,7 @@ impl Entries {
         })
     }
 
-    /// Adds those entries of a row that name an inode.
+    /// Appends those of consecutive entries that are not empty.
     fn add_row(&mut self, words: &[u64]) -> Result<(), AllocError>
         requires { EachEntry HasEntryForm words.now }
         ensures { PutsRow words.now result self.old self.new }
@@ -112,7 +112,7 @@ impl Entries {
         Ok(())
     }
 
-    /// Adds an entry, where it names an inode.
+    /// Appends an entry, unless it is empty.
     fn add(&mut self, view: EntryView<'_>) -> Result<(), AllocError>
         requires { HasEntryForm view.words.now }
         ensures { PutsEntry view.entry.words.now result self.old self.new }
@@ -125,7 +125,7 @@ impl Entries {
         self.push(inumber as u32, view.read_name(&mut name))
     }
 
-    /// Adds a name of 240 bytes at most at the end.
+    /// Appends a name of at most 240 bytes.
     fn push(&mut self, inode: u32, name: &[u8]) -> Result<(), AllocError>
         requires { length name.now ≤ max_name }
         ensures { OnOk result (self.new ≡ self.old ++ (inode, name.now) ∷ []) }
@@ -140,7 +140,7 @@ impl Entries {
         Ok(())
     }
 
-    /// Puts the names in the order of their bytes.
+    /// Sorts the names by their bytes.
     fn sort(&mut self)
         ensures all { IsPermutation self.old self.new }
         ensures sorted { IsSortedBy entry_comes_before self.new }
@@ -149,14 +149,14 @@ impl Entries {
         self.rows.sort_unstable_by(|one, other| name_in(bytes, *one).cmp(name_in(bytes, *other)));
     }
 
-    /// How many there are.
+    /// Returns the number of entries.
     pub(crate) fn len(&self) -> usize
         ensures { result ≡ length self.now }
     {
         self.rows.len()
     }
 
-    /// The inode and the name at an index, from 0 on.
+    /// Returns the inode and the name at an index, from 0 on.
     pub(crate) fn at(&self, index: usize) -> (u32, &[u8])
         requires { index < length self.now }
         ensures entry { slice_get self.now index ≡ Some (result.0, result.1.now) }

@@ -1,4 +1,4 @@
-//! Why an export ends before its end.
+//! Why an export ends early.
 
 ghost use Rattle.std.specs.Prelude.{◌≡◌};
 ghost use Rattle.bp_export.specs.declared.fault.Fault.TheVariants.{Memory, Sink};
@@ -6,12 +6,12 @@ ghost use Rattle.bp_export.specs.declared.fault.Fault.TheVariants.{Memory, Sink}
 use bp_io::Failed;
 use std::alloc::AllocError;
 
-/// Why an export ends before its end.
+/// The reason for which an export ends early.
 #[derive(Clone, Copy, Debug, PartialEq, Eq)]
 pub enum Fault {
     /// Some path of the tree has more bytes than a call can spell.
     Deep,
-    /// There was no memory.
+    /// Allocation failed.
     Memory,
     /// The sink failed.
     Sink,

@@ -23,7 +23,8 @@ fn are_zeros(bytes: &[u8]) -> bool
     bytes.iter().all(|byte| *byte == 0)
 }
 
-/// Tells the stretch of a file that stands in a live leaf, where it isn't zeros alone, and where it ends.
+/// Writes the line for the stretch of a file in a leaf below its size, unless it is all zeros, and returns where the
+/// stretch ends.
 fn export_stretch<R: Region, K: Sink>(
     region: &R,
     tree: Tree,
@@ -53,8 +54,8 @@ fn export_stretch<R: Region, K: Sink>(
     Ok(Some(off + count as u64))
 }
 
-/// Tells the stretches of a file that aren't zeros alone, and where the last of them ends. A leaf that isn't there is passed with
-/// all that are missing round it.
+/// Writes the lines for the stretches of a file that are not all zeros, and returns where the last of them ends. A
+/// missing leaf is skipped together with all missing leaves next to it.
 fn export_leaves<R: Region, K: Sink>(
     region: &R,
     tree: Tree,
@@ -82,7 +83,7 @@ fn export_leaves<R: Region, K: Sink>(
     Ok(told)
 }
 
-/// Tells the size of a file, unless the last stretch that was told ends there.
+/// Writes the line for the size of a file, unless the last written stretch ends there.
 fn export_size<K: Sink>(
     path: &[u8],
     told: u64,
@@ -99,12 +100,12 @@ fn export_size<K: Sink>(
     tell(Call::Truncate { path, size }, replies, out)
 }
 
-/// Tells the lines that make the file with this tree at a path: that it is there, its bytes, and its size where no bytes say it.
-/// `block` is memory for as many bytes as a block has, so that a walk over a tree keeps none on its stack.
+/// Writes the lines that make the file with this tree at a path: that it exists, its bytes, and its size if no bytes
+/// determine it. `block` is memory for the bytes of a block, so that a walk over a tree keeps none on its stack.
 ///
 /// # Errors
 ///
-/// Where the sink failed.
+/// * `Failed`: the sink failed.
 pub(crate) fn export_file<R: Region, K: Sink>(
     region: &R,
     tree: Tree,

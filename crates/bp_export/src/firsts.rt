@@ -1,4 +1,4 @@
-//! The first path of each file with several names.
+//! The first path of each file with several links.
 
 ghost use Rattle.std.specs.Prelude.{◌≡◌, ◌==◌, ℕ, MatchOption, None, OnOk, Some, if◌then◌else◌};
 ghost use Rattle.bp_export.specs.Firsts.{first_text};
@@ -6,14 +6,14 @@ ghost use Rattle.bp_export.specs.Firsts.{first_text};
 use std::alloc::{AllocError, Global};
 use std::collections::BTreeMap;
 
-/// The texts of paths, each under the number of the inode that stands there.
+/// The texts of paths, each under the number of the inode that the path finds.
 #[derive(Drop)]
 pub(crate) struct Firsts {
     texts: BTreeMap<u32, Vec<u8>>,
 }
 
 impl Firsts {
-    /// None yet.
+    /// Makes an empty map.
     pub(crate) fn new(alloc: Global) -> Firsts
         ensures { (i : ℕ) → first_text result i ≡ None }
     {
@@ -22,7 +22,7 @@ impl Firsts {
         }
     }
 
-    /// The text under the number of an inode.
+    /// Returns the text for the number of an inode.
     pub(crate) fn get(&self, i: u32) -> Option<&[u8]>
         ensures { MatchOption result (first_text self.now i ≡ None) (λ text. first_text self.now i ≡ Some text.now) }
     {
@@ -32,11 +32,11 @@ impl Firsts {
         }
     }
 
-    /// Puts a text under the number of an inode.
+    /// Stores a text for the number of an inode.
     ///
     /// # Errors
     ///
-    /// Where there is no memory for it.
+    /// * `AllocError`: allocation fails.
     pub(crate) fn add(&mut self, alloc: Global, i: u32, text: &[u8]) -> Result<(), AllocError>
         ensures { OnOk result ((j : ℕ) → first_text self.new j ≡ (if j == i then Some text.now else first_text self.old j)) }
     {

@@ -1,6 +1,7 @@
-//! The script that makes the tree of an image, line by line, to a sink.
+//! The script that makes the tree of an image, written line by line to a sink.
 //!
-//! A tree may have paths that no call can spell. No line of such a tree is told, so that a walk is never deeper than a path is long.
+//! A tree may have paths that no call can spell. No line of such a tree is written, so that a walk is never deeper
+//! than a path is long.
 #![tactic(auto)]
 
 mod depth;

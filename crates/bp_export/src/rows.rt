@@ -10,10 +10,10 @@ use bp_limits::{BLOCK_ENTRIES, ENTRY_SIZE, ENTRY_WORDS};
 use bp_tree::{Tree, leaf_words};
 use pm_region::Region;
 
-/// The words of an entry, as a length.
+/// The number of words of an entry, as a length.
 pub(crate) const ENTRY: usize = ENTRY_WORDS as usize;
 
-/// How many leaves have the entries of a directory.
+/// Returns the number of leaves that have the entries of a directory.
 pub(crate) fn leaf_count(tree: Tree) -> u64
     ensures most { (leaf : ℕ) → leaf < result → block_entries * leaf < tree.size / entry_size }
     ensures all { tree.size / entry_size ≤ block_entries * result }
@@ -21,8 +21,8 @@ pub(crate) fn leaf_count(tree: Tree) -> u64
     (tree.size / ENTRY_SIZE).div_ceil(BLOCK_ENTRIES)
 }
 
-/// The words of those entries of a leaf that lie below the size, where they stand. None where the leaf is null, so that each
-/// of them is empty.
+/// Returns the words of those entries of a leaf that are below the size. None if the leaf is null, so that each of
+/// them is empty.
 pub(crate) fn entry_row<R: Region>(region: &R, tree: Tree, leaf: u64) -> Option<&[u64]>
     requires sound { IsSound (current_words (R.memory region.now)) tree.root tree.size }
     requires live { block_entries * leaf < tree.size / entry_size }

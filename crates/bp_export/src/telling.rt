@@ -10,11 +10,11 @@ use bp_plain::Call;
 use bp_replies::Replies;
 use bp_script::Said;
 
-/// Tells the line of a call.
+/// Adds the line of a call to the waiting replies.
 ///
 /// # Errors
 ///
-/// Where the sink failed.
+/// * `Failed`: the sink failed.
 pub(crate) fn tell<K: Sink>(
     call: Call<'_>,
     replies: &mut Replies,

@@ -33,7 +33,7 @@ use bp_tree::Tree;
 use pm_region::Region;
 use std::alloc::{AllocError, Global};
 
-/// Puts a `/` and a name behind the text of a path.
+/// Appends a `/` and a name to the text of a path.
 fn go_down(path: &mut Vec<u8>, name: &[u8]) -> Result<(), AllocError>
     ensures { OnOk result (path.new.items ≡ path.old.items ++ 47 ∷ name.now) }
 {
@@ -41,11 +41,11 @@ fn go_down(path: &mut Vec<u8>, name: &[u8]) -> Result<(), AllocError>
     path.extend_from_slice(name)
 }
 
-/// Tells the lines that make the file with this tree at the path at hand.
+/// Writes the lines that make the file with this tree at the current path.
 ///
 /// # Errors
 ///
-/// Where the sink failed.
+/// * `Sink`: the sink failed.
 fn export_new<R: Region, K: Sink>(
     region: &R,
     tree: Tree,
@@ -70,12 +70,13 @@ fn export_new<R: Region, K: Sink>(
     Ok(())
 }
 
-/// Tells the lines of file `i`, whose tree is this, at the path at hand: those that make it, where that is its first path, and
-/// else that it is linked to that one.
+/// Writes the lines of file `i`, with this tree, at the current path: those that make it, if that is its first path,
+/// and else the line that links it to its first path.
 ///
 /// # Errors
 ///
-/// `Memory` where there is none in which its first path is remembered; `Sink` where the sink failed.
+/// * `Memory`: allocation of memory for its first path failed.
+/// * `Sink`: the sink failed.
 fn export_name<R: Region, K: Sink>(
     alloc: Global,
     region: &R,
@@ -113,7 +114,7 @@ fn export_name<R: Region, K: Sink>(
     export_new(region, tree, work, out)
 }
 
-/// Tells the lines of what stands at the path at hand, which finds inode `i`, and answers what it is.
+/// Writes the lines of the file or directory at the current path, which finds inode `i`, and returns its kind.
 ///
 /// # Errors
 ///
@@ -145,12 +146,12 @@ fn export_entry<R: Region, K: Sink>(
     Ok(inode.kind)
 }
 
-/// Tells the lines of all that is below directory `i`, whose path is at hand.
+/// Writes the lines of all files and directories below directory `i`, whose path is the current one.
 ///
 /// # Errors
 ///
-/// `Memory` where there is none for the entries of the directories on a path, or as of `export_name`; `Sink` where the sink
-/// failed.
+/// * `Memory`: allocation failed, for the entries of the directories on a path, or as of `export_name`.
+/// * `Sink`: the sink failed.
 fn export_below<R: Region, K: Sink>(
     alloc: Global,
     region: &R,
@@ -183,13 +184,15 @@ fn export_below<R: Region, K: Sink>(
     Ok(())
 }
 
-/// Writes the script that makes the tree of an image, but for its snapshot. `counts` says how many names each inode has.
+/// Writes the script that makes the tree of an image, without its snapshot. `counts` has the number of links of each
+/// inode.
 ///
 /// # Errors
 ///
-/// `Deep` where some path has more bytes than a call can spell: this is found before anything is told. `Memory` where there is
-/// no memory for the names of the directories on a path, or for the first paths of files with several names; `Sink` where the
-/// sink failed. The sink has then taken a front of the script.
+/// * `Deep`: some path has more bytes than a call can spell. This is found before anything is written.
+/// * `Memory`: allocation failed, for the names of the directories on a path, or for the first paths of files with
+///   several links. The sink has taken a prefix of the script.
+/// * `Sink`: the sink failed. It has taken a proper prefix of the script.
 pub fn export<R: Region, K: Sink>(
     alloc: Global,
     region: &R,

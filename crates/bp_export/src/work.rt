@@ -1,4 +1,4 @@
-//! What a walk works with.
+//! The working memory of a walk.
 
 ghost use Rattle.std.specs.Prelude.{◌≡◌, ℕ, [], IfOk, None, vec_len};
 ghost use Rattle.bp_export.specs.Firsts.{first_text};
@@ -10,26 +10,26 @@ use bp_limits::{BLOCK_SIZE, MAX_PATH};
 use bp_replies::Replies;
 use std::alloc::{AllocError, Global};
 
-/// What a walk works with. None of it lies on the stack, which grows by a step for each name of a path.
+/// The working memory of a walk. None of it is on the stack, which grows with each name of a path.
 #[derive(Drop)]
 pub(crate) struct Work {
-    /// The text of the path at hand.
+    /// The text of the current path.
     pub(crate) path: Vec<u8>,
     /// Memory for a stretch of a file: as many bytes as a block has.
     pub(crate) stretch: Vec<u8>,
     /// The lines that no sink has taken yet.
     pub(crate) replies: Replies,
-    /// The first paths of files with several names.
+    /// The first paths of files with several links.
     pub(crate) firsts: Firsts,
     ghost room: { vec_len stretch ≡ block_size },
 }
 
 impl Work {
-    /// At the root, with no line told.
+    /// Makes the working memory of a walk at the root, with no line written.
     ///
     /// # Errors
     ///
-    /// Where there is no memory for it.
+    /// * `AllocError`: allocation fails.
     pub(crate) fn new(alloc: Global) -> Result<Work, AllocError>
         ensures path { IfOk result (λ work. work.path.items ≡ []) }
         ensures waits { IfOk result (λ work. waiting work.replies ≡ []) }

@@ -9,10 +9,10 @@ use crate::steps::Looks;
 use std::alloc::{AllocError, Global};
 use std::marker::Model;
 
-/// How many numbers a word tells.
+/// The number of numbers that a word represents.
 pub(crate) const WORD: usize = 64;
 
-/// A set of numbers below a room, a bit for each.
+/// A set of numbers below a bound, one bit for each.
 #[derive(Drop)]
 pub(crate) struct Bits {
     words: Vec<u64>,
@@ -30,16 +30,16 @@ impl Model for Bits {
     ghost invariant = { λ b. HoldRoom b.words.items b.room };
 }
 
-/// A number, as one that may leave its word.
+/// A member, for its removal from its word.
 #[derive(Clone, Copy)]
 pub(crate) struct Member {
     /// The number.
     pub number: usize,
-    /// Whether no other number of its word is in.
+    /// Whether no other number of its word is a member.
     pub alone: bool,
 }
 
-/// The place of the lowest bit that is set, `None` where none is.
+/// Returns the position of the lowest bit that is set, or `None` if none is.
 fn lowest_bit(word: u64) -> Option<usize>
     ensures { MatchOption result (word ≡ 0) (IsLowestBit word) }
 {
@@ -49,7 +49,7 @@ fn lowest_bit(word: u64) -> Option<usize>
     Some(word.trailing_zeros() as usize)
 }
 
-/// A word in which as many of the lowest bits are set.
+/// Returns a word in which the lowest `count` bits are set.
 fn low_ones(count: usize) -> u64
     requires { count ≤ 64 }
     ensures { result ≡ 2 ^ count - 1 }
@@ -61,7 +61,7 @@ fn low_ones(count: usize) -> u64
     }
 }
 
-/// A word in which the bits from one on are set, so many.
+/// Returns a word in which `count` bits are set, from one on.
 fn ones(first: usize, count: usize) -> u64
     requires { first + count ≤ 64 }
     ensures { result ≡ 2 ^ (first + count) - 2 ^ first }
@@ -69,7 +69,7 @@ fn ones(first: usize, count: usize) -> u64
     low_ones(first + count) - low_ones(first)
 }
 
-/// A word whose lowest bits, so many, are turned over, and which has no others.
+/// Returns a word whose lowest `count` bits are inverted, and which has no others.
 fn turned_over(word: u64, count: usize) -> u64
     requires { count ≤ 64 }
     ensures { IsTurnedOver word count result }
@@ -78,7 +78,11 @@ fn turned_over(word: u64, count: usize) -> u64
 }
 
 impl Bits {
-    /// The empty set of a room. Fails where memory is out.
+    /// Makes the empty set with a bound.
+    ///
+    /// # Errors
+    ///
+    /// `AllocError`: out of memory.
     pub fn new(alloc: Global, room: usize) -> Result<Bits, AllocError>
         ensures { IfOk result (λ set. set ≡ empty room) }
     {
@@ -86,14 +90,14 @@ impl Bits {
         Ok(Bits { words, room })
     }
 
-    /// Past the greatest number that may be in.
+    /// Returns the bound of the set: one more than the greatest possible member.
     pub fn room(&self) -> usize
         ensures { result ≡ length self.now }
     {
         self.room
     }
 
-    /// Whether a number is in.
+    /// Returns whether a number is a member.
     pub fn has<C: Looks>(&self, i: usize, counter: &mut C) -> bool
         requires { i < length self.now }
         ensures has { result ≡ has self.now i }
@@ -103,7 +107,7 @@ impl Bits {
         (self.words[i / WORD] >> (i % WORD)) & 1 == 1
     }
 
-    /// Puts a number in.
+    /// Adds a number.
     pub fn insert(&mut self, i: usize)
         requires { i < length self.old }
         ensures { self.new ≡ with self.old i }
@@ -111,7 +115,7 @@ impl Bits {
         self.words[i / WORD] |= 1 << (i % WORD);
     }
 
-    /// Whether none of the numbers from one on is in, so many, which share a word.
+    /// Returns whether none of `count` numbers from one on is a member. All of them share a word.
     pub fn has_none<C: Looks>(&self, first: usize, count: usize, counter: &mut C) -> bool
         requires one_word { first % 64 + count ≤ 64 }
         requires some { 0 < count }
@@ -123,7 +127,7 @@ impl Bits {
         self.words[first / WORD] & ones(first % WORD, count) == 0
     }
 
-    /// Puts the numbers from one on in, so many, which share a word.
+    /// Adds `count` numbers from one on, which share a word.
     pub fn insert_run(&mut self, first: usize, count: usize)
         requires one_word { first % 64 + count ≤ 64 }
         requires some { 0 < count }
@@ -133,7 +137,7 @@ impl Bits {
         self.words[first / WORD] |= ones(first % WORD, count);
     }
 
-    /// Takes a number out.
+    /// Removes a number.
     pub fn remove(&mut self, i: usize)
         requires { i < length self.old }
         ensures { self.new ≡ without self.old i }
@@ -141,7 +145,7 @@ impl Bits {
         self.words[i / WORD] &= !(1 << (i % WORD));
     }
 
-    /// A number, and whether no other number of its word is in.
+    /// Returns a number, with whether no other number of its word is a member.
     pub fn member<C: Looks>(&self, i: usize, counter: &mut C) -> Member
         requires { i < length self.now }
         ensures number { result.number ≡ i }
@@ -155,8 +159,8 @@ impl Bits {
         }
     }
 
-    /// The least number of a word that is in, `None` where the word is empty. It tells too whether that is the only
-    /// one, so that no call that takes it out looks at the word again.
+    /// Returns the least member of a word, or `None` if the word is empty. The result also says whether it is the only
+    /// one, so that no call that removes it looks at the word again.
     pub fn first_in_word<C: Looks>(&self, word: usize, counter: &mut C) -> Option<Member>
         requires { WORD * word < length self.now }
         ensures least { MatchOption result (IsEmptyWord self.now word)
@@ -173,7 +177,7 @@ impl Bits {
         })
     }
 
-    /// The least number that is in, `None` where the set is empty.
+    /// Returns the least member, or `None` if the set is empty.
     pub fn first<C: Looks>(&self, counter: &mut C) -> Option<usize>
         ensures least { MatchOption result ((i : ℕ) → has self.now i ≡ false) (IsLeast self.now) }
         ensures looks { C.taken counter.new ≡ C.taken counter.old + C.each * bit_looks (length self.now) result }
@@ -186,14 +190,14 @@ impl Bits {
         None
     }
 
-    /// Takes all numbers out.
+    /// Removes all numbers.
     pub fn clear(&mut self)
         ensures { self.new ≡ empty (length self.old) }
     {
         self.words.fill(0);
     }
 
-    /// Gives a word the numbers that another set lacks in it, and no others. Tells whether that leaves the word empty.
+    /// Sets a word to the numbers that another set lacks in it, and no others. Returns whether the word is then empty.
     fn complement_word(&mut self, other: &Bits, word: usize) -> bool
         requires room { length other.now ≡ length self.old }
         requires in_range { WORD * word < length self.old }
@@ -206,7 +210,7 @@ impl Bits {
         bits == 0
     }
 
-    /// Puts in the numbers that another set lacks, and takes the others out. `words_in_use` then tells which words are not
+    /// Adds the numbers that another set lacks, and removes the others. `words_in_use` then has the words that are not
     /// empty.
     pub fn complement(&mut self, other: &Bits, words_in_use: &mut Bits)
         requires room { length other.now ≡ length self.old }

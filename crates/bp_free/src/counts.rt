@@ -1,4 +1,4 @@
-//! How many names each inode has.
+//! The number of names of each inode.
 
 ghost use Rattle.std.specs.Prelude.{◌≡◌, ◌<◌, ◌≤◌, IfOk, length, replicate, slice_index, slice_set, vec_capacity};
 ghost use Rattle.bp_free.specs.Counts.{AddsNone};
@@ -6,8 +6,8 @@ ghost use Rattle.bp_free.specs.Counts.{AddsNone};
 use std::alloc::{AllocError, Global};
 use std::marker::Model;
 
-/// A number of names for each inode. The numbers stand at the front of a vector that takes its memory once, up to those of
-/// the last inode that ever had a name: where few inodes are in use, little of that memory is touched.
+/// A number of names for each inode. The numbers are in a vector that is allocated once, up to that of the last inode
+/// that ever had a name. So if few inodes are in use, little of that memory is touched.
 #[derive(Drop)]
 pub struct Counts {
     names: Vec<u32>,
@@ -25,8 +25,8 @@ impl Model for Counts {
     ghost invariant = { HasRoomForAll };
 }
 
-/// Puts inodes without a name behind those that are there, up to the wanted number of inodes, and up to twice as many as
-/// there are, so that it is seldom done.
+/// Appends inodes without a name, up to the wanted number of inodes, and up to twice as many as there are, so that it
+/// is seldom done.
 #[cold]
 #[inline(never)]
 fn grow(names: &mut Vec<u32>, wanted: usize, room: usize)
@@ -40,7 +40,11 @@ fn grow(names: &mut Vec<u32>, wanted: usize, room: usize)
 }
 
 impl Counts {
-    /// No names for each of so many inodes. Fails where memory is out.
+    /// Makes counts of 0 for `n` inodes.
+    ///
+    /// # Errors
+    ///
+    /// `AllocError`: out of memory.
     pub fn new(alloc: Global, n: u32) -> Result<Counts, AllocError>
         ensures { IfOk result (λ counts. counts ≡ replicate n 0) }
     {
@@ -49,7 +53,7 @@ impl Counts {
         Ok(Counts { names, room })
     }
 
-    /// How many names an inode has.
+    /// Returns the number of names of an inode.
     pub fn names(&self, i: u32) -> u32
         requires { i < length self.now }
         ensures { result ≡ slice_index self.now i }
@@ -60,7 +64,7 @@ impl Counts {
         }
     }
 
-    /// Gives an inode another number of names.
+    /// Sets the number of names of an inode.
     pub fn set(&mut self, i: u32, names: u32)
         requires { i < length self.old }
         ensures { self.new ≡ slice_set self.old i names }
@@ -72,7 +76,7 @@ impl Counts {
         self.names[i] = names;
     }
 
-    /// Takes each inode's names away.
+    /// Sets the number of names of each inode to 0.
     pub fn clear(&mut self)
         ensures { self.new ≡ replicate (length self.old) 0 }
     {

@@ -1,21 +1,22 @@
-//! Where the copy of a block best goes.
+//! Hints for placing the copy of a block.
 
 use std::alloc::{AllocError, Global};
 
-/// For blocks that were taken in place of others, which ones. All that it tells is a hint, which may be wrong.
+/// For blocks that were allocated in place of others, the blocks that they replaced. All of this is a hint, which may
+/// be wrong.
 ///
-/// It holds its memory from the start.
+/// It allocates only when it is made.
 #[derive(Drop)]
 pub(crate) struct Hints {
-    /// For each block of which something may be noted, the one that it was taken in place of, 0 where none is known. An older
-    /// version of the block stands there, if nothing has taken that one since.
+    /// For each block with a possible hint, the block that it was allocated in place of, 0 if none is known. That
+    /// block has an older version of this one, if nothing has allocated it since.
     before: Vec<u32>,
-    /// Behind the last block that was taken with no hint.
+    /// One past the last block that was allocated without a hint.
     pub next: u32,
 }
 
 impl Hints {
-    /// Hints that note nothing, and take no memory.
+    /// Makes hints that record nothing and allocate nothing.
     pub fn none(alloc: Global) -> Hints {
         Hints {
             before: Vec::new(alloc),
@@ -23,14 +24,18 @@ impl Hints {
         }
     }
 
-    /// Hints for so many blocks, of which nothing is noted yet. Fails where memory is out.
+    /// Makes hints for `blocks` blocks, with nothing recorded yet.
+    ///
+    /// # Errors
+    ///
+    /// `AllocError`: out of memory.
     pub fn new(alloc: Global, blocks: usize) -> Result<Hints, AllocError> {
         let mut before = Vec::new(alloc);
         before.resize(blocks, 0)?;
         Ok(Hints { before, next: 0 })
     }
 
-    /// The block where an older version of this one may stand, 0 where none is known.
+    /// Returns the block that may have an older version of this one, 0 if none is known.
     pub fn older(&self, block: u64) -> u32 {
         match self.before.get(block as usize) {
             Some(older) => *older,
@@ -38,7 +43,7 @@ impl Hints {
         }
     }
 
-    /// Notes that a block was taken in place of another one, if there are hints for it.
+    /// Records that a block was allocated in place of another one, if there are hints for it.
     pub fn note(&mut self, taken: u32, block: u64) {
         if let Ok(block) = u32::try_from(block)
             && let Some(before) = self.before.get_mut(taken as usize)

@@ -1,4 +1,4 @@
-//! Laws of sets of free numbers: what the calls do to the rising list of the numbers that are free.
+//! Laws of sets of free numbers: what the calls do to the increasing list of the free numbers.
 
 ghost use Rattle.std.specs.Prelude.{◌≡◌, ◌<◌, ◌++◌, ◌∷◌, ◌↔◌, [], false, true, length, MatchOption};
 ghost use Rattle.std.specs.List.{Contains};
@@ -7,7 +7,7 @@ ghost use Rattle.bp_free.specs.Set.{has, members, below, members_above};
 
 use crate::Numbers;
 
-/// A number that is taken was the first of the list, and the rest of the list is left.
+/// States that `take` returns the first number of the list and leaves the rest of the list.
 #[tactic(auto, using(crate::proofs::Members::members_least))]
 pub fn takes_the_first<Kind>(free: &mut Numbers<Kind>) -> Option<u32>
     ensures { MatchOption result ((members free.old ≡ []) × (members free.new ≡ []))
@@ -16,7 +16,7 @@ pub fn takes_the_first<Kind>(free: &mut Numbers<Kind>) -> Option<u32>
     free.take()
 }
 
-/// A number that is given comes between the lower numbers and the higher ones.
+/// States that `give` inserts its number between the lower and the higher ones.
 #[tactic(auto, using(crate::proofs::Members::members_out, crate::proofs::Members::members_with))]
 pub fn gives_one<Kind>(free: &mut Numbers<Kind>, i: u32)
     requires in_range { i < length free.old }
@@ -27,7 +27,7 @@ pub fn gives_one<Kind>(free: &mut Numbers<Kind>, i: u32)
     free.give(i);
 }
 
-/// A number that is claimed stood between the lower numbers and the higher ones.
+/// States that `claim` removes its number from between the lower and the higher ones.
 #[tactic(auto, using(crate::proofs::Members::members_in, crate::proofs::Members::members_without))]
 pub fn claims_one<Kind>(free: &mut Numbers<Kind>, i: u32)
     requires in_range { i < length free.old }
@@ -38,7 +38,7 @@ pub fn claims_one<Kind>(free: &mut Numbers<Kind>, i: u32)
     free.claim(i);
 }
 
-/// The list rises and has just the numbers that are free.
+/// States that the list is increasing and has exactly the free numbers.
 #[tactic(auto, using(crate::proofs::Members::members_rise, crate::proofs::Members::members_tell))]
 pub fn lists_the_free<Kind>(free: &Numbers<Kind>, i: u32)
     requires { i < length free.now }

@@ -1,7 +1,7 @@
 //! Sets of free numbers: the blocks and the inodes that nothing uses.
 //!
-//! A set has the numbers below its room that are free. It is kept as one bit for each number, and one bit more for each
-//! word of 64 numbers that is not empty, so that the least number is found without a pass over all words.
+//! A set has the free numbers below its bound. It is stored as one bit for each number, and one more bit for each word
+//! of 64 numbers that is not empty, so that the least number is found without a pass over all words.
 #![tactic(auto)]
 
 mod bits;

@@ -1,4 +1,4 @@
-//! Free numbers, and how many there are.
+//! Free numbers, and their count.
 
 ghost use Rattle.std.specs.Prelude.{◌≡◌, ℕ, ◌+◌, ◌*◌, ◌%◌, ◌<◌, ◌≤◌, ◌^◌, [], false, true, length, IfOk, IfSome, MatchOption};
 ghost use Rattle.std.specs.Int.{div_ceil};
@@ -13,14 +13,14 @@ use std::alloc::{AllocError, Global};
 use std::marker::{Model, PhantomData};
 use std::sync::ledger::Ledger;
 
-/// How many numbers are looked at, one by one, for a block that has no hint.
+/// Number of blocks that are tried, one by one, for a copy without a hint.
 const NEAR: u32 = 64;
 
-/// What free blocks are numbers of.
+/// The kind of numbers of free blocks.
 #[derive(Clone, Copy)]
 pub struct BlockNumbers;
 
-/// What free inodes are numbers of.
+/// The kind of numbers of free inodes.
 #[derive(Clone, Copy)]
 pub struct InodeNumbers;
 
@@ -30,10 +30,10 @@ pub type Blocks = Numbers<BlockNumbers>;
 /// Free inode numbers.
 pub type Inodes = Numbers<InodeNumbers>;
 
-/// A set of free numbers below a room: numbers of blocks or of inodes, as `Kind` says.
+/// A set of free numbers below a bound: numbers of blocks or of inodes, by `Kind`.
 ///
-/// It holds its memory from the start: no call but [`Numbers::new`] and [`Numbers::with_hints`] allocates. The least number
-/// is found in a pass over one bit for each 64 numbers.
+/// It allocates only in [`Numbers::new`] and [`Numbers::with_hints`]. The least number is found in a pass over one bit
+/// for each 64 numbers.
 #[derive(Drop)]
 pub struct Numbers<Kind> {
     free: Bits,
@@ -55,7 +55,11 @@ impl<Kind> Model for Numbers<Kind> {
 }
 
 impl<Kind> Numbers<Kind> {
-    /// The empty set of a room. Fails where memory is out.
+    /// Makes the empty set with a bound.
+    ///
+    /// # Errors
+    ///
+    /// `AllocError`: out of memory.
     pub fn new(alloc: Global, room: u32) -> Result<Numbers<Kind>, AllocError>
         ensures { IfOk result (λ set. set ≡ empty room) }
     {
@@ -71,21 +75,21 @@ impl<Kind> Numbers<Kind> {
         })
     }
 
-    /// Past the greatest number that may be free.
+    /// Returns the bound of the set: one more than the greatest number that may be free.
     pub fn room(&self) -> u32
         ensures { result ≡ length self.now }
     {
         self.free.room() as u32
     }
 
-    /// How many numbers are free.
+    /// Returns the number of free numbers.
     pub fn count(&self) -> u32
         ensures { result ≡ length (members self.now) }
     {
         self.count
     }
 
-    /// Whether a number is free.
+    /// Returns whether a number is free.
     pub fn is_free(&self, i: u32) -> bool
         requires { i < length self.now }
         ensures { result ≡ has self.now i }
@@ -93,7 +97,7 @@ impl<Kind> Numbers<Kind> {
         self.free.has(i as usize, &mut Uncounted)
     }
 
-    /// Puts a number in that was not free.
+    /// Adds a number that was not free.
     pub fn give(&mut self, i: u32)
         requires in_range { i < length self.old }
         requires taken { has self.old i ≡ false }
@@ -105,7 +109,7 @@ impl<Kind> Numbers<Kind> {
         self.count += 1;
     }
 
-    /// Takes a number out that was free.
+    /// Removes a number that was free.
     pub fn claim(&mut self, i: u32)
         requires in_range { i < length self.old }
         requires free { has self.old i ≡ true }
@@ -115,7 +119,7 @@ impl<Kind> Numbers<Kind> {
         self.remove(member);
     }
 
-    /// Takes a number out that was free, and its word out of those in use where it is the last of it.
+    /// Removes a number that was free, and its word from those in use if it was the last of it.
     fn remove(&mut self, member: Member)
         requires in_range { member.number < length self.old }
         requires free { has self.old member.number ≡ true }
@@ -129,7 +133,7 @@ impl<Kind> Numbers<Kind> {
         }
     }
 
-    /// Takes the least number out, `None` where none is free.
+    /// Removes the least number and returns it, or returns `None` if none is free.
     pub fn take(&mut self) -> Option<u32>
         ensures { MatchOption result ((members self.old ≡ []) × (self.new ≡ self.old))
             (λ i. IsLeast self.old i × (self.new ≡ without self.old i)) }
@@ -137,20 +141,20 @@ impl<Kind> Numbers<Kind> {
         self.take_by(&mut Uncounted)
     }
 
-    /// Takes the least number out of a set that has one.
+    /// Removes the least number of a set that is not empty, and returns it.
     pub fn take_least(&mut self) -> u32
         requires { 0 < length (members self.old) }
         ensures { TakesLeast self.old self.new result }
     {
         match self.take() {
             Some(least) => least,
-            // The set has a number.
+            // The set is not empty.
             None => unreachable!(),
         }
     }
 
-    /// What [`Numbers::take`] does, and how many steps the search takes: a step is a look at a word of 64 numbers, or
-    /// at a word of the bits that tell which of those words are not empty.
+    /// Removes the least number as [`Numbers::take`] does, and counts the steps of the search. A step is a look at a
+    /// word of 64 numbers, or at a word of the bits that say which of those words are not empty.
     pub fn take_counted<L: Ledger>(&mut self, steps: &mut Steps<L>) -> Option<u32>
         ensures least { MatchOption result ((members self.old ≡ []) × (self.new ≡ self.old))
             (λ i. IsLeast self.old i × (self.new ≡ without self.old i)) }
@@ -160,7 +164,7 @@ impl<Kind> Numbers<Kind> {
         self.take_by(steps)
     }
 
-    /// What [`Numbers::take`] does. Each look at a word is told to `counter`.
+    /// Removes the least number as [`Numbers::take`] does, and reports each look at a word to `counter`.
     fn take_by<C: Looks>(&mut self, counter: &mut C) -> Option<u32>
         ensures least { MatchOption result ((members self.old ≡ []) × (self.new ≡ self.old))
             (λ i. IsLeast self.old i × (self.new ≡ without self.old i)) }
@@ -173,7 +177,7 @@ impl<Kind> Numbers<Kind> {
         Some(least.number as u32)
     }
 
-    /// Takes all numbers out.
+    /// Removes all numbers.
     pub fn clear(&mut self)
         ensures { self.new ≡ empty (length self.old) }
     {
@@ -182,7 +186,7 @@ impl<Kind> Numbers<Kind> {
         self.count = 0;
     }
 
-    /// Puts all numbers from one up to another in, the latter not included, one by one.
+    /// Adds all numbers from one up to another, the latter not included, one by one.
     fn fill_singly(&mut self, from: u32, to: u32)
         requires order { from ≤ to }
         requires in_range { to ≤ length self.old }
@@ -195,7 +199,7 @@ impl<Kind> Numbers<Kind> {
         }
     }
 
-    /// Puts the numbers from one on in, so many, which share a word.
+    /// Adds `count` numbers from one on, which share a word.
     fn fill_run(&mut self, from: u32, count: u32)
         requires one_word { from % 64 + count ≤ 64 }
         requires some { 0 < count }
@@ -212,7 +216,7 @@ impl<Kind> Numbers<Kind> {
         self.count += count;
     }
 
-    /// Puts all numbers from one up to another in, the latter not included.
+    /// Adds all numbers from one up to another, the latter not included.
     pub fn fill(&mut self, from: u32, to: u32)
         requires order { from ≤ to }
         requires in_range { to ≤ length self.old }
@@ -226,7 +230,7 @@ impl<Kind> Numbers<Kind> {
         }
     }
 
-    /// Puts in the numbers that another set lacks, and takes the others out, 64 at once.
+    /// Adds the numbers that another set lacks, and removes the others, 64 at once.
     pub fn complement(&mut self, other: &Numbers<Kind>)
         requires { length other.now ≡ length self.old }
         ensures { IsComplement other.now self.new }
@@ -237,8 +241,12 @@ impl<Kind> Numbers<Kind> {
 }
 
 impl Numbers<BlockNumbers> {
-    /// The empty set of a room, with memory for the hints of [`Numbers::take_in_place_of`], four bytes for each block. Fails
-    /// where memory is out.
+    /// Makes the empty set with a bound, with memory for the hints of [`Numbers::take_in_place_of`], four bytes for
+    /// each block.
+    ///
+    /// # Errors
+    ///
+    /// `AllocError`: out of memory.
     pub fn with_hints(alloc: Global, room: u32) -> Result<Blocks, AllocError>
         ensures { IfOk result (λ set. set ≡ empty room) }
     {
@@ -247,12 +255,13 @@ impl Numbers<BlockNumbers> {
         Ok(blocks)
     }
 
-    /// Takes a block out of a set that has one, for a copy of another block. Where that one was itself taken in place of
-    /// a block that is free, it takes that: an older version stands there, from which the copy likely differs in few words.
+    /// Removes a block from a set that is not empty, for a copy of another block, and returns it. If that other block
+    /// was itself allocated in place of a block that is free, the result is the latter: it has an older version, from
+    /// which the copy likely differs in few words.
     ///
-    /// Else it takes one near the last that was taken so, and not the least, since just the blocks that were given back
-    /// last are older versions of others. It looks at [`NEAR`] numbers at most, and then does what [`Numbers::take_least`]
-    /// does. A set that was made by [`Numbers::new`] has no hints.
+    /// Otherwise the result is a block near the last one that was chosen so. It is not the least one, since exactly
+    /// the blocks that were freed last are older versions of others. The search looks at [`NEAR`] numbers at most, and
+    /// then continues as [`Numbers::take_least`]. A set that was made by [`Numbers::new`] has no hints.
     pub fn take_in_place_of(&mut self, block: u64) -> u32
         requires { 0 < length (members self.old) }
         ensures { TakesOne self.old self.new result }
@@ -262,7 +271,7 @@ impl Numbers<BlockNumbers> {
         taken
     }
 
-    /// Takes the block out where an older version of this one may stand, or else one for which there is no hint.
+    /// Removes the block that may have an older version of this one, or otherwise a block without a hint.
     #[tactic(auto, using(crate::proofs::Members::taken_one))]
     fn take_hinted(&mut self, block: u64) -> u32
         requires { 0 < length (members self.old) }
@@ -276,7 +285,7 @@ impl Numbers<BlockNumbers> {
         self.take_next()
     }
 
-    /// Takes one out behind the last one that was taken so, and notes it as the last one.
+    /// Removes a block after the last one that was chosen so, and records it as the last one.
     fn take_next(&mut self) -> u32
         requires { 0 < length (members self.old) }
         ensures { TakesOne self.old self.new result }
@@ -286,9 +295,9 @@ impl Numbers<BlockNumbers> {
         taken
     }
 
-    /// Where the search for a block without a hint begins: behind the last one that was found, and at 0 again once that is
-    /// past twice the blocks in use. So older versions take at most as much room as what is in use, and an image stays
-    /// compact.
+    /// Returns where the search for a block without a hint begins: after the last one that was found, and at 0 again
+    /// once that is past twice the number of blocks in use. So older versions take at most as much room as the blocks
+    /// in use, and an image stays compact.
     fn start(&self) -> u32 {
         let in_use = self.room().saturating_sub(self.count);
         if self.hints.next <= in_use.saturating_mul(2).saturating_add(NEAR) {
@@ -298,7 +307,7 @@ impl Numbers<BlockNumbers> {
         }
     }
 
-    /// Takes the first one out of the next few from `first` on, or the least where none of these is free.
+    /// Removes the first free block of the next few from `first` on, or the least one if none of these is free.
     fn take_near(&mut self, first: u32) -> u32
         requires { 0 < length (members self.old) }
         ensures { TakesOne self.old self.new result }
@@ -312,7 +321,7 @@ impl Numbers<BlockNumbers> {
         }
     }
 
-    /// The first free one of the next few from `first` on.
+    /// Returns the first free block of the next few from `first` on.
     fn first_near(&self, first: u32) -> Option<u32>
         ensures { IfSome result (λ i. (i < length self.now) × (has self.now i ≡ true)) }
     {

@@ -3,27 +3,27 @@
 use crate::counts::Counts;
 use crate::numbers::{Blocks, Inodes};
 
-/// What the calls of a file system work on: a region, the blocks and inodes of it that are free, how many names its
-/// inodes have, and the blocks that are kept for a snapshot.
+/// The data that the calls of a file system work on: a region, its free blocks and inodes, the number of names of its
+/// inodes, and the blocks of the snapshot.
 #[derive(Drop)]
 pub struct Parts<R> {
     /// The words.
     pub region: R,
-    /// The blocks that no tree has and that are not kept.
+    /// The blocks that belong to no tree and not to the snapshot.
     pub blocks: Blocks,
     /// The inodes that no path reaches.
     pub inodes: Inodes,
-    /// How many names each inode has.
+    /// The number of names of each inode.
     pub counts: Counts,
-    /// The blocks that are kept: no call stores to them, and none gives them back.
+    /// The blocks of the snapshot: no call stores to them or frees them.
     pub frozen: Blocks,
 }
 
-/// Fewer blocks are free than a call needs.
+/// Error: fewer blocks are free than a call needs.
 #[derive(Clone, Copy, Debug, PartialEq, Eq)]
 pub struct NoSpace {
-    /// The blocks that the call needs.
+    /// The number of blocks that the call needs.
     pub need: u32,
-    /// The blocks that are free.
+    /// The number of free blocks.
     pub free: u32,
 }

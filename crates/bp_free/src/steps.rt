@@ -1,11 +1,11 @@
-//! How many steps a call takes, counted at no cost.
+//! A count of the steps of a call, at no cost.
 
 ghost use Rattle.std.specs.Prelude.{◌≡◌, ℕ, ◌+◌, ◌<◌};
 
 use std::marker::Model;
 use std::sync::ledger::{Blank, Book, Ledger, Share};
 
-/// How many steps were taken. It takes no bytes, and only [`Steps::tick`] changes it.
+/// The number of steps taken. It takes no bytes, and only [`Steps::tick`] changes it.
 #[derive(Drop)]
 pub struct Steps<L: Ledger> {
     book: Book<L>,
@@ -23,7 +23,7 @@ impl<L: Ledger> Model for Steps<L> {
 }
 
 impl<L: Ledger> Steps<L> {
-    /// No steps yet, in a ledger that is new.
+    /// Makes a count of no steps, in a new ledger.
     pub fn new(blank: Blank) -> Steps<L>
         requires name { blank.name ≡ L.name }
         requires parts { blank.parts ≡ L.parts }
@@ -34,7 +34,7 @@ impl<L: Ledger> Steps<L> {
         Steps { book, share }
     }
 
-    /// One step more.
+    /// Counts one step.
     pub fn tick(&mut self)
         ensures { self.new ≡ self.old + 1 }
     {
@@ -42,14 +42,14 @@ impl<L: Ledger> Steps<L> {
     }
 }
 
-/// Who is told of each look at a word.
+/// A counter of looks at words.
 pub(crate) trait Looks {
-    /// How many looks it was told of, where it counts them.
+    /// The number of looks so far, if they are counted.
     ghost taken: { Self → ℕ };
-    /// What a look adds to them.
+    /// What one look adds to this number.
     ghost each: { ℕ };
 
-    /// A word is looked at.
+    /// Counts a look at a word.
     fn look(&mut self)
         ensures { taken self.new ≡ taken self.old + each };
 }
@@ -64,7 +64,7 @@ impl<L: Ledger> Looks for Steps<L> {
     }
 }
 
-/// The looks of a call that counts none.
+/// The counter of a call that counts no looks.
 #[derive(Drop)]
 pub(crate) struct Uncounted;
 

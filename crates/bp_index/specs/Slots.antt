@@ -1,8 +1,8 @@
--- A set of slots in which one slot is put in or taken out.
+-- A set of slots into which one slot is put, or from which one is taken out.
 use Rattle.std.specs.Prelude.{◌≡◌, ◌≢◌, ℕ, Bool, length}
 use Rattle.bp_free.specs.Set.{Set, has}
 
--- the slot is in or not, as told, and the others are as they were
+-- The slot is in the set exactly if `is_in`, and the others are as before.
 pub record SetsSlot (old new : Set) (slot : ℕ) (is_in : Bool) : Type 0 where
   pub room : length new ≡ length old
   pub here : has new slot ≡ is_in

@@ -15,7 +15,7 @@ use bp_limits::{ENTRY_SIZE, MAX_NAME};
 use bp_tree::Tree;
 use pm_region::Region;
 
-/// The entry in a slot, None where it is empty.
+/// Returns the entry in a slot; `None` if it is empty.
 pub(crate) fn live_entry<R: Region>(region: &R, tree: Tree, slot: u64) -> Option<EntryView<'_>>
     requires sound { IsSound (current_words (R.memory region.now)) tree.root tree.size }
     requires live { slot < tree.size / entry_size }
@@ -31,7 +31,7 @@ pub(crate) fn live_entry<R: Region>(region: &R, tree: Tree, slot: u64) -> Option
     Some(entry)
 }
 
-/// Whether an entry that names an inode has this name.
+/// Returns whether an entry that refers to an inode has this name.
 fn has_name(entry: &EntryView<'_>, name: &[u8]) -> bool
     requires some { slice_index entry.now.words.now 0 ≢ 0 }
     requires short { length name.now ≤ max_name }
@@ -45,7 +45,7 @@ fn has_name(entry: &EntryView<'_>, name: &[u8]) -> bool
     entry.read_name(&mut buffer) == name
 }
 
-/// The entry in a slot, None where it is not one below the size that names an inode by this name.
+/// Returns the entry in a slot; `None` if it is not below the size, or does not refer to an inode by this name.
 pub(crate) fn find_at<R: Region>(region: &R, tree: Tree, slot: u64, name: &[u8]) -> Option<Found>
     requires sound { IsSound (current_words (R.memory region.now)) tree.root tree.size }
     requires short { length name.now ≤ max_name }

@@ -5,7 +5,8 @@ ghost use Rattle.bp_index.specs.Hashes.{hash_of};
 
 use std::hash::{FoldHasher, Hasher};
 
-/// The hash of a name. Its seed is fixed: who picks the names can make two of them meet.
+/// Returns the hash of a name. The seed of the hash is fixed, so a user who chooses the names can make two hashes
+/// equal.
 #[tactic(auto, unfolding(crate::specs::Hashes::hash_of))]
 pub(crate) fn hash_of(name: &[u8]) -> u64
     ensures { result ≡ hash_of name.now }

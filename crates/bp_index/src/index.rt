@@ -23,25 +23,25 @@ use pm_region::Region;
 use std::alloc::{AllocError, Global};
 use std::collections::HashMap;
 
-/// How many slots more than twice those of the directory there is room for.
+/// The number of slots for which there is room beyond twice those of the directory.
 const SPARE_SLOTS: u32 = 1024;
 
-/// Where the names of a directory stand, and which of its slots may be empty.
+/// The slots of the names of a directory, and the slots that may be empty.
 ///
-/// It knows no directory: its calls are given the tree each time, and ask that the index is right of it (`IsIndexOf`). A
-/// change of the directory is told to it by [`Index::enter`] and [`Index::leave`]; the laws of `proofs/ChangeLaws` say when
-/// it is right of the tree after that. Whatever more it has than the directory does no harm: a slot that it tells is
-/// looked at before it is answered.
+/// An index does not refer to a directory: its calls get the tree each time, and require that the index is correct for
+/// it (`IsIndexOf`). The caller reports each change of the directory by [`Index::enter`] or [`Index::leave`]; the laws
+/// of `proofs/ChangeLaws` state when the index is correct for the tree after that. Surplus contents do no harm: a slot
+/// is looked at before it is returned.
 #[derive(Drop)]
 pub struct Index {
     // from the hash of a name to its slot
     slots: HashMap<u64, u32>,
-    // the slots that may be empty, below a room
+    // the slots that may be empty, below a bound
     empties: Numbers<SlotNumbers>,
 }
 
 impl Index {
-    /// The index of no entries, with room for more slots than so many.
+    /// Makes an index without entries, with room for more than `slots` slots.
     fn with_room(alloc: Global, slots: u32) -> Result<Index, AllocError>
         ensures { IfOk result (IsEmptyIndex slots) }
     {
@@ -52,8 +52,8 @@ impl Index {
         })
     }
 
-    /// Takes in an entry that names an inode. False where it has no name that could be told: one that is too long, or
-    /// whose hash another name has; or where there is no memory.
+    /// Adds an entry that refers to an inode. Returns false if its name cannot be added: if it is too long, if another
+    /// name has its hash, or if allocation fails.
     fn take_in(&mut self, entry: &EntryView<'_>, slot: u32) -> bool
         requires { slot < length self.old.empties }
         ensures { (image : Image) (root : ℕ) → HasWords image root slot entry.now.words.now → result ≡ true →
@@ -67,7 +67,7 @@ impl Index {
         self.enter(name, slot as u64)
     }
 
-    /// Takes in the entry in a slot, whichever it is.
+    /// Adds the entry in a slot, empty or not.
     fn scan<R: Region>(&mut self, region: &R, tree: Tree, slot: u32) -> bool
         requires sound { IsSound (current_words (R.memory region.now)) tree.root tree.size }
         requires live { slot < tree.size / entry_size }
@@ -86,8 +86,8 @@ impl Index {
         }
     }
 
-    /// The index of a directory, by one pass over its entries. None where there is no memory for it, where two names
-    /// have one hash, where a name is longer than one may be, and where slots are more than 32 bits count.
+    /// Makes the index of a directory, by one pass over its entries. Returns `None` if allocation fails, if two names
+    /// have one hash, if a name is longer than allowed, or if the number of slots exceeds 32 bits.
     pub fn of<R: Region>(alloc: Global, region: &R, tree: Tree) -> Option<Index>
         requires { IsSound (current_words (R.memory region.now)) tree.root tree.size }
         ensures { IfSome result (IsIndexOf (current_words (R.memory region.now)) tree.root tree.size) }
@@ -108,7 +108,7 @@ impl Index {
         Some(index)
     }
 
-    /// What [`bp_dirs::find_entry`] tells, by a look at one entry at most.
+    /// Returns what [`bp_dirs::find_entry`] returns, after a look at one entry at most.
     pub fn find_entry<R: Region>(&self, region: &R, tree: Tree, name: &[u8]) -> Option<Found>
         requires sound { IsSound (current_words (R.memory region.now)) tree.root tree.size }
         requires short { length name.now ≤ max_name }
@@ -124,7 +124,8 @@ impl Index {
         }
     }
 
-    /// What [`bp_dirs::free_slot`] tells. Slots below it that are not empty after all are never looked at again.
+    /// Returns what [`bp_dirs::free_slot`] returns. Slots below it that turn out not to be empty are never looked at
+    /// again.
     pub fn free_slot<R: Region>(&mut self, region: &R, tree: Tree) -> Option<u64>
         requires sound { IsSound (current_words (R.memory region.now)) tree.root tree.size }
         requires right { IsIndexOf (current_words (R.memory region.now)) tree.root tree.size self.old }
@@ -143,7 +144,7 @@ impl Index {
         None
     }
 
-    /// What [`bp_dirs::find_or_free`] tells.
+    /// Returns what [`bp_dirs::find_or_free`] returns.
     pub fn find_or_free<R: Region>(&mut self, region: &R, tree: Tree, name: &[u8]) -> Spot
         requires sound { IsSound (current_words (R.memory region.now)) tree.root tree.size }
         requires short { length name.now ≤ max_name }
@@ -159,8 +160,8 @@ impl Index {
         }
     }
 
-    /// A name comes to a slot. Where this answers false the index is right no more, and is to be dropped: there is no
-    /// memory, the slot is behind those for which there is room, or another name has the hash.
+    /// Updates the index after a name was added in a slot. If it returns false, the index is no longer correct and has
+    /// to be dropped: allocation failed, the slot is past those for which there is room, or another name has the hash.
     pub fn enter(&mut self, name: &[u8], slot: u64) -> bool
         ensures enters { OnTrue result (EntersSlot self.old self.new name.now slot) }
         ensures succeeds { CanEnter self.old name.now slot → result ≡ true }
@@ -176,7 +177,7 @@ impl Index {
         true
     }
 
-    /// A name leaves its slot.
+    /// Updates the index after a name was removed from its slot.
     pub fn leave(&mut self, name: &[u8], slot: u64)
         ensures { LeavesSlot self.old self.new name.now slot }
     {

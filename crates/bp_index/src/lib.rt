@@ -1,7 +1,7 @@
-//! The index of a directory: a table from the hash of a name to its slot, and the slots that may be empty, so that a name and
-//! an empty slot are found with a look or two at the directory, however many names it has.
+//! The index of a directory: a table from the hash of a name to its slot, and the slots that may be empty. With it a
+//! name or an empty slot is found after a look or two at the directory, however many names it has.
 //!
-//! It is memory of the program alone. Where there is none, or it has gone wrong, the directory is searched without it.
+//! An index is in the memory of the program only. Without one, or if it was dropped, the directory is searched.
 #![tactic(auto)]
 
 mod entry;

@@ -5,11 +5,11 @@ ghost use Rattle.bp_index.specs.Slots.{SetsSlot};
 
 use bp_free::Numbers;
 
-/// What slots are numbers of.
+/// The kind of numbers that slots are.
 #[derive(Clone, Copy)]
 pub(crate) struct SlotNumbers;
 
-/// Puts a slot in, which may be in already.
+/// Puts a slot into the set, which may have it already.
 pub(crate) fn put_in(slots: &mut Numbers<SlotNumbers>, slot: u32)
     requires { slot < length slots.old }
     ensures { SetsSlot slots.old slots.new slot true }
@@ -19,7 +19,7 @@ pub(crate) fn put_in(slots: &mut Numbers<SlotNumbers>, slot: u32)
     }
 }
 
-/// Takes a slot out, which need not be in.
+/// Takes a slot out of the set, which need not have it.
 pub(crate) fn take_out(slots: &mut Numbers<SlotNumbers>, slot: u32)
     requires { slot < length slots.old }
     ensures { SetsSlot slots.old slots.new slot false }

@@ -1,4 +1,4 @@
--- What is stored where an inode is new.
+-- The stores that make a new inode.
 use Rattle.std.specs.Prelude.{◌≡◌, ℕ, ◌+◌, ◌*◌}
 use Rattle.bp_limits.specs.Limits.{inode_words}
 use Rattle.bp_layout.specs.Inode.{ContentStandsAt}
@@ -8,14 +8,14 @@ use Rattle.pm_epochs.specs.May.{AnyAt}
 use Rattle.pm_region.specs.Memory.{Memory, current_words}
 use Rattle.pm_region.specs.Safe.{AddsMay}
 
--- an inode of this kind, without a block and without bytes, stands at this place
+-- an inode of this kind, without blocks and bytes, is at this place
 pub record HasInodeAt (image : Image) (place kind : ℕ) : Type 0 where
   pub kind_is : word image place ≡ kind
   pub root : word image (place + 1) ≡ 0
   pub size : word image (place + 2) ≡ 0
 
--- Stores to the kind, the root word and the size of inode i alone, three at most, after which it is of this kind and
--- has no bytes.
+-- At most three stores, only to the kind, the root word and the size of inode i. Afterwards the inode has this kind and
+-- no bytes.
 pub record FillsInode (old new : Memory) (i kind : ℕ) : Type 0 where
   pub place : ℕ
   pub stands : ContentStandsAt (current_words old) 0 (inode_words * i) place

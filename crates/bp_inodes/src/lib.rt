@@ -1,6 +1,7 @@
-//! Inodes: rows of eight words in the content of the inode file.
+//! Inodes: records of eight words in the content of the inode file.
 //!
-//! Word 0 of an inode is its kind, word 1 the root word of its tree and word 2 its size in bytes; the others are unused.
+//! Word 0 of an inode is its kind, word 1 the root word of its tree, and word 2 its size in bytes. The others are
+//! unused.
 #![tactic(auto)]
 
 ghost use Rattle.std.specs.Prelude.{◌≡◌, ◌+◌, ◌*◌, ◌<◌, ◌≤◌, length};
@@ -27,7 +28,7 @@ use bp_limits::{
 use bp_tree::{Slots, Tree, content_place, leaf_block, word_path};
 use pm_region::Region;
 
-/// The inode file: words 2 and 3 of the superblock are its root word and its size.
+/// Returns the tree of the inode file: words 2 and 3 of the superblock are its root word and its size.
 pub fn inode_file<R: Region>(region: &R) -> Tree
     requires { 4 ≤ length (current_words (R.memory region.now)) }
     ensures root { result.root ≡ root_of (current_words (R.memory region.now)) 0 }
@@ -39,7 +40,7 @@ pub fn inode_file<R: Region>(region: &R) -> Tree
     }
 }
 
-/// The inode with a number.
+/// Returns inode number `i`.
 pub fn get<R: Region>(region: &R, i: u32) -> Inode
     requires sound { let words = current_words (R.memory region.now) in
         IsSound words (root_of words 0) (size_of words 0) }
@@ -53,14 +54,14 @@ pub fn get<R: Region>(region: &R, i: u32) -> Inode
 {
     let inodes = inode_file(region);
     let block = leaf_block(region, inodes, (i / BLOCK_INODES) as u64);
-    // An inode that is there stands in a block, and words are counted in 32 bits, so that the place of one fits.
+    // An existing inode is in a block, and word numbers have 32 bits, so its place fits.
     let _words = region.words();
     let first = BLOCK_WORDS * block as u32 + INODE_WORDS * (i % BLOCK_INODES);
     let words = region.load_words(first, 3);
     Inode::read(&[words[0], words[1], words[2]])
 }
 
-/// The word of the region at which a word of an inode stands.
+/// Returns the place in the region of a word of an inode.
 pub fn place<R: Region>(region: &R, i: u32, field: u32) -> u32
     requires sound { let words = current_words (R.memory region.now) in
         IsSound words (root_of words 0) (size_of words 0) }
@@ -78,21 +79,21 @@ pub fn place<R: Region>(region: &R, i: u32, field: u32) -> u32
     )
 }
 
-/// Makes the inode at a word of the region a file or a directory without bytes.
+/// Makes the inode at a place of the region a file or a directory without bytes.
 fn put<R: Region>(region: &mut R, place: u32, kind: Kind)
     requires in_range { place + 3 ≤ length (R.memory region.old).base }
     requires room { 3 ≤ room_in (R.memory region.old) }
     ensures stores { AddsMay (AnyAt (IsWithin place 3)) 0 3 (R.memory region.old) (R.memory region.new) }
     ensures inode { HasInodeAt (current_words (R.memory region.new)) place (kind_word kind) }
 {
-    // Words are counted in 32 bits, so that the last place fits.
+    // Word numbers have 32 bits, so the last place fits.
     let _words = region.words();
     region.store(place, kind.word());
     region.store(place + ROOT_FIELD, 0);
     region.store(place + SIZE_FIELD, 0);
 }
 
-/// Makes an inode that nobody reaches a file or a directory without bytes, by stores to its words alone.
+/// Makes an unreachable inode a file or a directory without bytes, by stores to its words only.
 pub fn fill<R: Region>(region: &mut R, i: u32, kind: Kind)
     requires well_formed { IsWellFormed (current_words (R.memory region.old)) }
     requires free { IsFreeInode (current_words (R.memory region.old)) i }
@@ -103,7 +104,7 @@ pub fn fill<R: Region>(region: &mut R, i: u32, kind: Kind)
     put(region, at, kind);
 }
 
-/// The tree of an inode.
+/// Returns the tree of an inode.
 pub fn tree_of<R: Region>(region: &R, i: u32) -> Tree
     requires well_formed { IsWellFormed (current_words (R.memory region.now)) }
     requires reached { IsReached (current_words (R.memory region.now)) i }
@@ -115,7 +116,7 @@ pub fn tree_of<R: Region>(region: &R, i: u32) -> Tree
     Tree::of(&inode)
 }
 
-/// The path of the root word of an inode.
+/// Returns the path of the root word of an inode.
 pub fn root_path<R: Region>(region: &R, i: u32) -> Slots
     requires { 4 ≤ length (current_words (R.memory region.now)) }
     ensures { result.items ≡ inode_path (height_of (root_of (current_words (R.memory region.now)) 0)) i 1 }
@@ -126,7 +127,7 @@ pub fn root_path<R: Region>(region: &R, i: u32) -> Slots
     )
 }
 
-/// The path of the size word of an inode.
+/// Returns the path of the size word of an inode.
 pub fn size_path<R: Region>(region: &R, i: u32) -> Slots
     requires { 4 ≤ length (current_words (R.memory region.now)) }
     ensures { result.items ≡ inode_path (height_of (root_of (current_words (R.memory region.now)) 0)) i 2 }

@@ -1,4 +1,4 @@
-//! The commit of one word in its place.
+//! The commit of one word in place.
 #![tactic(auto)]
 
 ghost use Rattle.std.specs.Prelude.{◌<◌, ◌≤◌, length};
@@ -7,8 +7,8 @@ ghost use Rattle.pm_region.specs.Memory.{room_in, Adds};
 
 use pm_region::Region;
 
-/// Stores one word alone in its epoch: all stores before it are written back before it, and it before all later ones.
-/// The word is a place in the region, in words. It takes room for three events.
+/// Stores one word alone in its epoch: all earlier stores are written back before it, and it before all later ones.
+/// `word` is an index in the region, in words. Takes three entries of the log.
 pub fn commit_word<R: Region>(region: &mut R, word: u32, value: u64)
     requires in_range { word < length (R.memory region.old).base }
     requires room { 3 ≤ room_in (R.memory region.old) }

@@ -1,4 +1,4 @@
--- What the sources, sinks and files in memory hold.
+-- The contents of the sources, sinks and files in memory.
 use Rattle.std.specs.Prelude.{◌/◌, length, if◌then◌else◌, List, ℕ, Option, Some, None}
 use Rattle.bp_limits.specs.Limits.{block_size}
 use Rattle.bp_io.specs.Views.{View}
@@ -11,19 +11,19 @@ use Rattle.bp_io.specs.declared.memory_streams.NullSink.{NullSink}
 use Rattle.bp_io.specs.declared.fair_files.FairFiles.{FairFiles}
 use Rattle.bp_io.specs.declared.mem_files.MemFiles.{MemFiles}
 
--- a plan as the program keeps it
+-- A plan, from its representation in code.
 abbrev pub plan_of : CallPlan → FaultPlan
 plan_of p = record { fail_at = p.fail_at.now; next = p.next }
 
--- the bytes that are left
+-- The bytes that are left.
 abbrev pub fair_left : FairSource → List ℕ
 fair_left s = s.rest.now
 
--- the bytes that are left
+-- The bytes that are left.
 abbrev pub mem_left : MemSource → List ℕ
 mem_left s = s.rest.now
 
--- the most bytes of one piece
+-- The maximum number of bytes that one read returns.
 abbrev pub source_most : MemSource → ℕ
 source_most s = s.most
 
@@ -33,11 +33,11 @@ source_plan s = plan_of s.plan
 abbrev pub source_faults : MemSource → ℕ
 source_faults s = s.plan.faults
 
--- the bytes that it took
+-- The bytes that the sink took.
 abbrev pub mem_taken : MemSink → List ℕ
 mem_taken s = s.bytes.items
 
--- how many bytes it can still take
+-- The number of bytes that the sink can still take.
 abbrev pub sink_room : MemSink → ℕ
 sink_room s = s.room
 
@@ -47,15 +47,15 @@ sink_plan s = plan_of s.plan
 abbrev pub sink_faults : MemSink → ℕ
 sink_faults s = s.plan.faults
 
--- how many bytes it took
+-- The number of bytes that the sink took.
 abbrev pub null_count : NullSink → ℕ
 null_count s = s.count
 
--- the bytes of the file of every name
+-- The bytes of the file that has every name.
 abbrev pub fair_image : FairFiles → List ℕ
 fair_image s = s.image.bytes.items
 
--- what is told of it
+-- What is known of the file.
 abbrev pub fair_view : FairFiles → View
 fair_view s = record {
   is_attached = λ name. s.is_attached;
@@ -66,11 +66,11 @@ fair_view s = record {
   faults = 0;
 }
 
--- the bytes of the file of every name, where there is one
+-- The bytes of the file that has every name, if it exists.
 abbrev pub mem_image : MemFiles → Option (List ℕ)
 mem_image s = if s.is_there then Some s.image.bytes.items else None
 
--- what is told of it
+-- What is known of the file.
 abbrev pub mem_view : MemFiles → View
 mem_view s = record {
   is_attached = λ name. s.is_attached;

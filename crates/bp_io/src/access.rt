@@ -1,13 +1,13 @@
-//! What a file is attached for.
+//! The access for which a file is attached.
 
-/// What a file is attached for.
+/// The access for which a file is attached.
 #[derive(Clone, Copy, Debug, PartialEq, Eq)]
 pub enum Access {
-    /// To be read. A file that may not be written can be attached so.
+    /// Read only. A file that may not be written can be attached so.
     Read,
-    /// To be read and written.
+    /// Read and write.
     Write,
-    /// To be read and written; a name that is not there is given an empty file.
+    /// Read and write; a name that does not exist gets an empty file.
     Make,
 }
 
@@ -15,7 +15,7 @@ impl Access {
     ghost use Rattle.std.specs.Prelude.{◌≡◌};
     ghost use Rattle.bp_io.specs.Files.{makes, may_change};
 
-    /// Whether an attached file may be written.
+    /// Returns whether an attached file may be written.
     pub(crate) fn may_change(self) -> bool
         ensures { result ≡ may_change self }
     {
@@ -25,7 +25,7 @@ impl Access {
         }
     }
 
-    /// Whether a name that is not there is given a file.
+    /// Returns whether a name that does not exist gets a file.
     pub(crate) fn makes(self) -> bool
         ensures { result ≡ makes self }
     {

@@ -1,4 +1,4 @@
-//! Files on the disk. They tell no bytes.
+//! Files on the disk. Their contents are not known to the specification.
 
 ghost use Rattle.std.specs.Prelude.{◌≡◌, ◌/◌, List, ℕ, IfOk, None, true, false, is_some, if◌then◌else◌};
 ghost use Rattle.bp_io.specs.Files.{makes, may_change};
@@ -15,63 +15,68 @@ use std::fs::File;
 use std::io::ErrorKind;
 use std::{io, rt};
 
-/// The files that a runtime opens, by path. They tell no bytes: that blocks are read from and
-/// written to the file is trusted, and tested.
+/// The files that a runtime opens, by path. Their contents are not known to the specification: that blocks are read
+/// from the file and written to it is trusted, and tested.
 ///
-/// Every error of the system is a fault; only a name that is not there, and is not to be made, is
-/// none. A name that is there but is no regular file, as a folder or a device, is a fault, and so is
-/// a read of a block that the file lost since it was attached.
+/// Every error of the system is a fault, except that a name that does not exist and is not to be created is none. A
+/// name of something other than a regular file, such as a directory or a device, is a fault. So is a read of a block
+/// that the file lost since it was attached.
 ///
-/// **One process at a time.** A file that may be written is locked for this process alone as long as
-/// it is attached, and one that is only read together with all that read it; to attach a file that
-/// another process has locked otherwise is a fault. The lock binds those that ask for it, as each
-/// `DiskFiles` does. Where the file system knows no locks there is none.
+/// **One process at a time.** A file that may be written is locked for this process alone as long as it is attached. A
+/// file that is only read is locked together with all its readers. Attaching a file that another process has locked
+/// otherwise is a fault. The lock binds only programs that ask for it, as each `DiskFiles` does. If the file system
+/// has no locks, there is none.
 ///
-/// **What is written is there at the flush, whole.** What is written between two flushes goes to a
-/// second file in the same folder. A flush completes that one by the bytes of the first that it lacks,
-/// makes it last, gives it the name of the first, and makes that last too. So whenever the process
-/// is killed, or the power fails, the name leads to a file as it was at the end of one flush (or as
-/// it was attached), and to none older than the last that was answered. The new file has the owner,
-/// the group and the permissions of the old one; what else hangs on a file, as access lists, is not
-/// kept. Symbolic links are followed. The second file is called as the first one with `.bpfs-sync`
-/// behind it, and that name is taken for its alone: a process that is killed leaves the file there,
-/// and the next flush of the first one begins by removing it, as may anyone.
+/// **What is written appears at the flush, whole.** What is written between two flushes goes to a second file in the
+/// same directory. A flush copies the bytes of the first file that the second one lacks, makes the second file
+/// durable, gives it the name of the first, and makes the name durable too. So whenever the process is killed, or the
+/// power fails, the name leads to a file as of the end of one flush (or as it was attached), and not of an older flush
+/// than the last that succeeded.
 ///
-/// **The file that was replaced is the next second one**, so that only the first flush has to find room on the
-/// disk, and to copy the whole file: from then on it lacks the blocks that the flush before wrote, and no other
-/// ones. It waits under the second name, and is removed when another file is attached and when the files are
-/// dropped. On its way there it is called as the first one with `.bpfs-sync-old` behind it, of which the
-/// same holds. None waits where a file can't have two names, or a folder can't be made last, and one that has
-/// another name meanwhile, or another length or time of change, is not written: a new one is made. A change
-/// within the same tick of the system's clock as the flush is not seen. Who opened the file before a flush
-/// reads on in the one that was replaced, and sees what is written for the flush behind the next.
+/// The new file has the owner, the group and the permissions of the old one; other attributes of a file, such as
+/// access lists, are not kept. Symbolic links are followed. The name of the second file is that of the first with
+/// `.bpfs-sync` appended, and this name is reserved for it. A killed process leaves the second file there. The next
+/// flush of the first one begins by removing it, and anyone else may remove it too.
 ///
-/// A file is written **in place** where no second one can be had, or none may take its place: where
-/// it has several hard links; where its folder cannot be opened, or no file be made in it; where the
-/// owner, the group or the permissions cannot be given to a new file; where the second name is too
-/// long, or has something under it that no process left; and where there is no room on the disk for
-/// a second file, while the file has all of its own room, and is not to grow. Then each block is the
-/// old or the new one when the process is killed between two flushes.
+/// **The replaced file is the next second file.** So only the first flush has to find room on the disk and to copy the
+/// whole file; after it, the second file lacks exactly the blocks that the previous flush wrote. The replaced file
+/// waits under the second name, and is removed when another file is attached and when the files are dropped. While it
+/// is renamed, its name is that of the first file with `.bpfs-sync-old` appended, to which the same rules apply.
 ///
-/// **A file whose length another program changed is not written.** The first write behind a flush and the flush
-/// itself look at it, and each is a fault where it is not the one that the file had as it was attached, or was
-/// given since. Between the last look and the moment at which the second file takes the name none is seen.
+/// No file waits if a file cannot have two names, or if a directory cannot be made durable. A waiting file that
+/// meanwhile has another name, another length, or another time of change is not written: a new file is made. A change
+/// within the same tick of the system's clock as the flush is not noticed. A program that opened the file before a
+/// flush reads on in the replaced file, and sees what is written for the flush after the next.
 ///
-/// **A replace takes little time**: a second file has zeros by its length alone, and nothing is copied to
-/// it. Most file systems give such zeros no room on the disk until they are written. In place `front` is
-/// written, and zeros where the file had bytes behind it.
+/// A file is written **in place** if no second file can be made, or if none may take its place:
 ///
-/// **A fault loses what was written since the last flush**: the file is as it was then, or in place
-/// each of its blocks is the old one or the new one. After it each read, write and flush is a fault
-/// until a file is attached anew. Where there is no room on the disk, and the file cannot be written
-/// in place as above, that is such a fault.
+/// - it has several hard links;
+/// - its directory cannot be opened, or no file can be made in it;
+/// - the owner, the group or the permissions cannot be given to a new file;
+/// - the second name is too long, or belongs to something that no process left there;
+/// - the disk has no room for a second file, while the file has all of its own room and is not to grow.
 ///
-/// Blocks that are written one by one, one behind another, wait in memory, at most 64 of them (256 KiB),
-/// and go to the disk together before any block is read or another one is written, and before the file
-/// is flushed, resized or left for another one. So the fault of a write may come in such a later call.
-/// Blocks that are written in one call go to the disk at once, behind those that wait.
-/// What was written is flushed before another file is attached; without that and without a flush it
-/// does not come to the file, but in place, where a part may.
+/// Then each block is the old or the new one if the process is killed between two flushes.
+///
+/// **A file whose length another program changed is not written.** The first write after a flush, and the flush
+/// itself, look at the length. Each is a fault if the length is not the one that the file had when it was attached, or
+/// was given since. A change between the last look and the renaming of the second file is not noticed.
+///
+/// **A replace takes little time**: a second file has zeros by its length alone, and nothing is copied to it. Most
+/// file systems allocate no room on the disk for such zeros until they are written. In place, `front` is written, and
+/// zeros where the file had bytes after it.
+///
+/// **A fault loses what was written since the last flush**: the file is as it was then, or, in place, each of its
+/// blocks is the old or the new one. After it each read, write and flush is a fault until a file is attached again. If
+/// the disk has no room, and the file cannot be written in place as above, that is such a fault.
+///
+/// Consecutive blocks that are written one by one wait in memory, at most 64 of them (256 KiB). They go to the disk
+/// together before any block is read, before a block elsewhere is written, and before the file is flushed, resized or
+/// another one is attached. So the fault of a write may come in such a later call. Blocks that are written in one call
+/// go to the disk at once, after those that wait.
+///
+/// What was written is flushed before another file is attached. Without that and without a flush, it does not reach
+/// the file, except in place, where a part of it may.
 pub struct DiskFiles<R: rt::Files<File = File> + Drop> {
     alloc: Global,
     runtime: R,
@@ -84,11 +89,11 @@ pub struct DiskFiles<R: rt::Files<File = File> + Drop> {
 }
 
 impl<R: rt::Files<File = File> + Drop> DiskFiles<R> {
-    /// The files of this runtime, of which none is attached yet.
+    /// Makes the files of this runtime, of which none is attached yet.
     ///
     /// # Errors
     ///
-    /// `AllocError` only where there is no memory for 64 blocks, and for what 65,536 blocks hold.
+    /// `AllocError`: no memory for 64 blocks, and for the state of 65,536 blocks.
     pub fn new(alloc: Global, runtime: R) -> Result<Self, AllocError>
         ensures attached { IfOk result (λ files. (name : List ℕ) →
             (⟦<DiskFiles<R> as files::Files>⟧.view files).is_attached name ≡ false) }
@@ -108,12 +113,12 @@ impl<R: rt::Files<File = File> + Drop> DiskFiles<R> {
         })
     }
 
-    /// The last error of the system, where there was one.
+    /// Returns the last error of the system, if there was one.
     pub fn last_error(&self) -> Option<io::Error> {
         self.faults.last
     }
 
-    /// Attaches an open file in place of the one before.
+    /// Attaches an open file in place of the previous one.
     fn take(&mut self, name: &str, access: Access, file: File, length: u64)
         ensures file { is_some self.new.file ≡ true }
         ensures blocks { self.new.blocks ≡ length / block_size }
@@ -122,7 +127,7 @@ impl<R: rt::Files<File = File> + Drop> DiskFiles<R> {
         ensures flushed_before { self.new.is_flushed ≡ true → self.old.is_flushed ≡ true }
         ensures faults { self.new.faults.count ≡ self.old.faults.count }
     {
-        // A file whose names cannot be made out is written in place.
+        // A file whose names cannot be determined is written in place.
         let names = if access.may_change() {
             Names::of(self.alloc, &self.runtime, name).ok()
         } else {
@@ -150,12 +155,12 @@ impl<R: rt::Files<File = File> + Drop> Drop for DiskFiles<R> {
             faults: _,
             mut saver,
         } = self;
-        // Its lock goes behind that.
+        // Its lock is released after that.
         saver.remove_second(&runtime);
     }
 }
 
-/// The file that is attached.
+/// Returns the attached file.
 fn attached(file: &Option<File>) -> &File
     requires { is_some file.now ≡ true }
 {

@@ -7,8 +7,8 @@ use crate::image::Image;
 use crate::{Access, BLOCK, Failed};
 use std::alloc::{AllocError, Global};
 
-/// A file in memory that has every name, and never fails: whatever is attached is this file. It has
-/// room for 65,536 blocks of 4,096 bytes from the start.
+/// A file in memory that has every name and never fails: every attach attaches this file. It has memory for 65,536
+/// blocks of 4,096 bytes from the start.
 #[derive(Drop)]
 pub struct FairFiles {
     image: Image,
@@ -20,12 +20,11 @@ pub struct FairFiles {
 impl FairFiles {
     ghost use Rattle.bp_io.specs.Memory.{fair_image, fair_view};
 
-    /// A file of these bytes, which is not attached yet.
+    /// Makes a file of these bytes, which is not attached yet.
     ///
     /// # Errors
     ///
-    /// `AllocError` only where there is no memory for 268,435,456 bytes, or for these where they are
-    /// more.
+    /// `AllocError`: no memory for 268,435,456 bytes, or for these bytes if they are more.
     pub fn new(alloc: Global, bytes: &[u8]) -> Result<Self, AllocError>
         ensures image { IfOk result (λ files. fair_image files ≡ bytes.now) }
         ensures attached { IfOk result (λ files. (fair_view files).is_attached ≡ λ name. false) }
@@ -39,14 +38,14 @@ impl FairFiles {
         })
     }
 
-    /// The file's bytes.
+    /// Returns the bytes of the file.
     pub fn image(&self) -> &[u8]
         ensures { result.now ≡ fair_image self.now }
     {
         self.image.bytes()
     }
 
-    /// Whether all that was written is flushed.
+    /// Returns whether all that was written is flushed.
     pub fn is_flushed(&self) -> bool
         ensures { result ≡ (fair_view self.now).is_flushed }
     {

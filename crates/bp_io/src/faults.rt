@@ -1,12 +1,12 @@
-//! Faults of the outside, and how they are counted.
+//! Faults of the environment, and how they are counted.
 
 ghost use Rattle.std.specs.Prelude.{◌≡◌, ◌≤◌, ◌↔◌, IsErr};
 ghost use Rattle.bp_io.specs.Causes.{HasCause, Rose};
 
 use std::io;
 
-/// The outside failed in this call, which the object counted: its count of faults rose by at least
-/// one, or stands at `u64::MAX`, where it stops.
+/// Error: the environment failed in this call. The object counted the fault: its count of faults rose by at least one,
+/// or is at `u64::MAX`, where it stops.
 #[derive(Clone, Copy, Debug, PartialEq, Eq)]
 pub struct Failed;
 
@@ -19,7 +19,7 @@ pub(crate) fn raise(faults: &mut u64) -> Failed
     Failed
 }
 
-/// The faults of a device of the system: how many there were, and the last one.
+/// The faults of a device of the system: their number, and the last one.
 #[derive(Drop)]
 pub(crate) struct SystemFaults {
     pub(crate) count: u64,
@@ -36,7 +36,7 @@ impl SystemFaults {
         }
     }
 
-    /// Counts and keeps a fault.
+    /// Counts and stores a fault.
     pub(crate) fn raise(&mut self, error: io::Error) -> Failed
         ensures later { self.old.count ≤ self.new.count }
         ensures rose { Rose self.old.count self.new.count }
@@ -45,7 +45,7 @@ impl SystemFaults {
         raise(&mut self.count)
     }
 
-    /// An error of std is a fault.
+    /// Turns an error of std into a fault.
     pub(crate) fn or_fault(&mut self, done: io::Result<()>) -> Result<(), Failed>
         ensures { HasCause self.old.count self.new.count result }
     {
@@ -79,7 +79,7 @@ impl<'a> CallPlan<'a> {
         }
     }
 
-    /// Counts a call, and a fault where it is one of those that fail.
+    /// Counts a call, and a fault if the call is one of those that fail.
     pub(crate) fn call(&mut self) -> Result<(), Failed>
         ensures fails { IsErr result ↔ FailsNext (plan_of self.old) }
         ensures plan { plan_of self.new ≡ after_call (plan_of self.old) }
@@ -93,7 +93,7 @@ impl<'a> CallPlan<'a> {
         Ok(())
     }
 
-    /// Counts a fault of a call that was not to fail.
+    /// Counts a fault of a call that is not in the list.
     pub(crate) fn fault(&mut self) -> Failed
         ensures plan { plan_of self.new ≡ plan_of self.old }
         ensures later { self.old.faults ≤ self.new.faults }

@@ -13,49 +13,47 @@ pub const BLOCK: usize = BLOCK_SIZE as usize;
 
 /// Files of blocks of 4,096 bytes, of which one at a time is attached.
 ///
-/// What an implementation does not tell of a file stays untold. A call fails only where the outside
-/// did in that call, and counts it; a failed call leaves the same file attached, and where its
-/// clauses do not say else it changes nothing.
+/// What is unknown of a file stays unknown. A call fails only if the environment failed in that call, and it counts
+/// the fault. A failed call leaves the same file attached, and changes nothing except what its postconditions allow.
 pub trait Files {
-    /// What is told of the files.
+    /// What is known of the files.
     ghost view: { Self → View };
 
-    /// Attaches the file of that name in place of the one before, and answers its length in bytes;
-    /// `None` exactly where the name is not there and none is to be made. With `Access::Make`, a
-    /// name that is not there is given an empty file. A length that is no whole number of blocks is
-    /// answered as it is; the bytes after the last whole block are no block.
+    /// Attaches the file of that name in place of the previous one, and returns its length in bytes, or `None` exactly
+    /// if the name does not exist and no file is to be created. With `Access::Make`, a name that does not exist gets
+    /// an empty file. A length that is no whole number of blocks is returned as it is; the bytes after the last whole
+    /// block belong to no block.
     ///
     /// # Errors
     ///
-    /// `Failed` only where the outside failed in this call. No file is attached in place of the one
-    /// before then; with `Access::Make`, the name may have been given an empty file.
+    /// `Failed`: the environment failed in this call. The previous file stays attached; with `Access::Make`, the name
+    /// may have got an empty file.
     fn attach(&mut self, name: &str, access: Access) -> Result<Option<u64>, Failed>
         ensures answers { IfOk result (Answers ((view self.old).contents name.now) (makes access)) }
         ensures attached { IfOk result (λ r. IfSome r (IsAttached (view self.new) name.now access)) }
         ensures contents { IfOk result (λ r. Attaches ((view self.old).contents name.now) r
             ((view self.new).contents name.now)) }
 
-        // Where no file was attached, the one before still is.
+        // If no file was attached, the previous one still is.
         ensures missing { IfOk result (λ r. IfNone r (StaysAttached (view self.old) (view self.new))) }
         ensures failed { OnErr result (StaysAttached (view self.old) (view self.new)) }
 
-        // Each file that is there keeps its bytes, and a file that is made is empty.
+        // Each existing file keeps its bytes, and a new file is empty.
         ensures kept { (other : List ℕ) →
             Becomes (λ bytes. bytes) ((view self.old).contents other) ((view self.new).contents other) }
         ensures made { (other : List ℕ) →
             StaysOrIsMade (makes access) ((view self.old).contents other) ((view self.new).contents other) }
 
-        // No attach makes a file flushed that was not known to be.
+        // An attach never turns a file into a flushed one that was not known to be.
         ensures flushed { makes access ≡ false → (view self.new).is_flushed ≡ (view self.old).is_flushed }
         ensures flushed_before { (view self.new).is_flushed ≡ true → (view self.old).is_flushed ≡ true }
         ensures cause { HasCause (view self.old).faults (view self.new).faults result };
 
-    /// Reads as many blocks of the attached file as `into` has room for, from the block `first` on,
-    /// counted from 0.
+    /// Reads as many blocks of the attached file as fit into `into`, from block `first` on, counted from 0.
     ///
     /// # Errors
     ///
-    /// `Failed` only where the outside failed in this call. What stands in `into` is not told then.
+    /// `Failed`: the environment failed in this call. The contents of `into` are unspecified.
     fn read_blocks(&mut self, first: u32, into: &mut [u8]) -> Result<(), Failed>
         requires whole { length into.old % BLOCK_SIZE ≡ 0 }
         requires inside { first + length into.old / BLOCK_SIZE ≤ (view self.old).blocks }
@@ -63,12 +61,11 @@ pub trait Files {
         ensures reads { Reads (view self.old) (view self.new) }
         ensures cause { HasCause (view self.old).faults (view self.new).faults result };
 
-    /// Writes the block `i` of the attached file, counted from 0. All other bytes stay.
+    /// Writes block `i` of the attached file, counted from 0. All other bytes stay.
     ///
     /// # Errors
     ///
-    /// `Failed` only where the outside failed in this call. The block is as before then, or the one
-    /// that was to be written.
+    /// `Failed`: the environment failed in this call. The block is as before, or the one that was to be written.
     fn write_block(&mut self, i: u32, from: &[u8; BLOCK]) -> Result<(), Failed>
         requires inside { i < (view self.old).blocks }
         requires may_write { (view self.old).may_write ≡ true }
@@ -79,13 +76,13 @@ pub trait Files {
         ensures flushed { (view self.new).is_flushed ≡ false }
         ensures cause { HasCause (view self.old).faults (view self.new).faults result };
 
-    /// Writes as many blocks of the attached file as `from` has, from the block `first` on, counted from 0.
-    /// All other bytes stay.
+    /// Writes as many blocks of the attached file as `from` has, from block `first` on, counted from 0. All other
+    /// bytes stay.
     ///
     /// # Errors
     ///
-    /// `Failed` only where the outside failed in this call. Each of these blocks is as before then, or the
-    /// one that was to be written.
+    /// `Failed`: the environment failed in this call. Each of these blocks is as before, or the one that was to be
+    /// written.
     fn write_blocks(&mut self, first: u32, from: &[u8]) -> Result<(), Failed>
         requires attached { (name : List ℕ) × ((view self.old).is_attached name ≡ true) }
         requires may_write { (view self.old).may_write ≡ true }
@@ -98,12 +95,11 @@ pub trait Files {
         ensures flushed { (view self.new).is_flushed ≡ false }
         ensures cause { HasCause (view self.old).faults (view self.new).faults result };
 
-    /// Gives the attached file a length of `n` blocks: it ends there, or is filled up with zeros.
+    /// Sets the length of the attached file to `n` blocks: it is truncated, or padded with zeros.
     ///
     /// # Errors
     ///
-    /// `Failed` only where the outside failed in this call. The file has its old length then, or
-    /// the new one.
+    /// `Failed`: the environment failed in this call. The file has its old length or the new one.
     fn set_blocks(&mut self, n: u32) -> Result<(), Failed>
         requires attached { (name : List ℕ) × ((view self.old).is_attached name ≡ true) }
         requires may_write { (view self.old).may_write ≡ true }
@@ -117,14 +113,13 @@ pub trait Files {
         ensures flushed { (view self.new).is_flushed ≡ false }
         ensures cause { HasCause (view self.old).faults (view self.new).faults result };
 
-    /// Makes the attached file `n` blocks, whatever it held: its first blocks are those of `front`, and all
-    /// behind them are zeros.
+    /// Replaces the attached file by `n` blocks, whatever its contents were: its first blocks are those of `front`,
+    /// and all blocks after them are zeros.
     ///
     /// # Errors
     ///
-    /// `Failed` only where the outside failed in this call. The file has its old length then, or
-    /// the new one, and each of its blocks is as before, or as before and filled up with zeros, or
-    /// the new one.
+    /// `Failed`: the environment failed in this call. The file has its old length or the new one, and each of its
+    /// blocks is as before, or as before and padded with zeros, or the new one.
     fn replace(&mut self, front: &[u8], n: u32) -> Result<(), Failed>
         requires attached { (name : List ℕ) × ((view self.old).is_attached name ≡ true) }
         requires may_write { (view self.old).may_write ≡ true }
@@ -139,12 +134,11 @@ pub trait Files {
         ensures flushed { (view self.new).is_flushed ≡ false }
         ensures cause { HasCause (view self.old).faults (view self.new).faults result };
 
-    /// Asks the system to make what was written to the attached file last. That it does is trusted.
+    /// Asks the system to make what was written to the attached file durable. That the system does so is trusted.
     ///
     /// # Errors
     ///
-    /// `Failed` only where the outside failed in this call. What was not known to be flushed still is
-    /// not then.
+    /// `Failed`: the environment failed in this call. What was not known to be flushed still is not.
     fn flush(&mut self) -> Result<(), Failed>
         requires attached { (name : List ℕ) × ((view self.old).is_attached name ≡ true) }
         requires may_write { (view self.old).may_write ≡ true }

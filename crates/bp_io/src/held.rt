@@ -1,30 +1,30 @@
-//! What the blocks of a second file hold.
+//! The state of the blocks of a second file.
 
 ghost use Rattle.std.specs.Prelude.{◌≡◌, ◌<◌, ◌≤◌, ◌+◌, ◌^◌, IfSome, vec_len};
 
 use bp_limits::{BLOCK_SIZE, MAX_BLOCKS};
 use std::alloc::{AllocError, Global};
 
-/// How many blocks are told apart.
+/// The number of blocks whose state is recorded.
 const BLOCKS: usize = MAX_BLOCKS as usize;
 
-/// The bytes of the blocks that are told apart.
+/// The bytes of the blocks whose state is recorded.
 pub(crate) const TOLD_APART: u64 = BLOCK_SIZE * MAX_BLOCKS as u64;
 
-/// What a block of a second file holds.
+/// The state of a block of a second file.
 #[derive(Clone, Copy, PartialEq, Eq)]
 pub(crate) enum Held {
-    /// The bytes of the first file, which stay.
+    /// It has the bytes of the first file, which stay.
     Same,
-    /// Not yet the bytes of the first file, which stay.
+    /// It does not have the bytes of the first file yet, which stay.
     Lacking,
-    /// Bytes that were written since the last flush.
+    /// It has bytes that were written since the last flush.
     Written,
-    /// Zeros by the length alone, since the last flush.
+    /// It has zeros by the length alone, since the last flush.
     Zeros,
 }
 
-/// Blocks in a row, by the bytes at which they begin and end in a file, and the number of the block behind them.
+/// Consecutive blocks, by the bytes at which they begin and end in a file, and the number of the block after them.
 #[derive(Clone, Copy)]
 pub(crate) struct Run {
     pub(crate) start: u64,
@@ -32,7 +32,7 @@ pub(crate) struct Run {
     pub(crate) next: usize,
 }
 
-/// What each block of a second file holds, of those that are told apart.
+/// The state of each block of a second file, as far as it is recorded.
 #[derive(Drop)]
 pub(crate) struct HeldBlocks {
     blocks: Vec<Held>,
@@ -40,19 +40,19 @@ pub(crate) struct HeldBlocks {
 }
 
 impl HeldBlocks {
-    /// No block holds its bytes.
+    /// Makes the state in which no block has its bytes.
     pub(crate) fn new(alloc: Global) -> Result<Self, AllocError> {
         Ok(HeldBlocks {
             blocks: vec![in alloc; Held::Lacking; BLOCKS]?,
         })
     }
 
-    /// No block holds its bytes.
+    /// Resets the state: no block has its bytes.
     pub(crate) fn clear(&mut self) {
         self.set(0, BLOCKS as u64, Held::Lacking);
     }
 
-    /// The blocks from one on, up to another one, hold this.
+    /// Sets the state of the blocks from one on, up to another one.
     fn set(&mut self, first: u64, end: u64, held: Held) {
         let end = end.min(BLOCKS as u64) as usize;
         let first = first.min(end as u64) as usize;
@@ -61,7 +61,7 @@ impl HeldBlocks {
         }
     }
 
-    /// The blocks that have these bytes were written.
+    /// Records that the blocks of these bytes were written.
     pub(crate) fn set_written(&mut self, at: u64, count: u64)
         requires { at + count < 2 ^ 64 }
     {
@@ -72,17 +72,18 @@ impl HeldBlocks {
         );
     }
 
-    /// All blocks behind these bytes are zeros by the length alone.
+    /// Records that all blocks after these bytes are zeros by the length alone.
     pub(crate) fn set_zeros_behind(&mut self, length: u64) {
         self.set(length.div_ceil(BLOCK_SIZE), BLOCKS as u64, Held::Zeros);
     }
 
-    /// The blocks of a run hold the bytes of the first file.
+    /// Records that the blocks of a run have the bytes of the first file.
     pub(crate) fn set_same(&mut self, run: Run) {
         self.set(run.start / BLOCK_SIZE, run.end / BLOCK_SIZE, Held::Same);
     }
 
-    /// The second file took the place of the first, which is the next second one: it lacks what was written.
+    /// Records that the second file took the place of the first, which is the next second file: it lacks what was
+    /// written.
     pub(crate) fn swap(&mut self) {
         for i in 0..BLOCKS {
             self.blocks[i] = match self.blocks[i] {
@@ -92,7 +93,7 @@ impl HeldBlocks {
         }
     }
 
-    /// The first block that holds this, from one on, or the number of all where none does.
+    /// Returns the first block in this state, from one on, or the number of all blocks if there is none.
     fn first_of(&self, from: usize, held: Held) -> usize
         requires { from ≤ 65536 }
         ensures low { from ≤ result }
@@ -105,7 +106,7 @@ impl HeldBlocks {
         at
     }
 
-    /// The end of the blocks in a row that hold this, from one on.
+    /// Returns the end of the consecutive blocks in this state, from one on.
     fn end_of(&self, from: usize, held: Held) -> usize
         requires { from ≤ 65536 }
         ensures low { from ≤ result }
@@ -118,7 +119,7 @@ impl HeldBlocks {
         at
     }
 
-    /// The next blocks in a row that hold this, from one on.
+    /// Returns the next consecutive blocks in this state, from one on.
     pub(crate) fn run_of(&self, from: usize, held: Held) -> Option<Run>
         requires { from ≤ 65536 }
         ensures more { IfSome result (λ run. from < run.next) }

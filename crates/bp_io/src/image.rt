@@ -8,10 +8,10 @@ use crate::BLOCK;
 use bp_limits::MAX_BLOCKS;
 use std::alloc::{AllocError, Global};
 
-/// The bytes of the most blocks.
+/// The number of bytes of the largest file.
 const ROOM: usize = BLOCK * MAX_BLOCKS as usize;
 
-/// A file's bytes, with room for the most blocks from the start, so that no change wants memory.
+/// The bytes of a file, with memory for the largest file from the start, so that no change allocates.
 #[derive(Drop)]
 pub(crate) struct Image {
     bytes: Vec<u8>,

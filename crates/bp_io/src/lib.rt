@@ -1,5 +1,5 @@
-//! The outside of the file system: where bytes come from (`Source`), where they go (`Sink`), and files
-//! of blocks of 4,096 bytes (`Files`), each with implementations over memory and over std.
+//! The environment of the file system: sources of bytes (`Source`), sinks of bytes (`Sink`), and files of blocks of
+//! 4,096 bytes (`Files`), each with implementations over memory and over std.
 #![tactic(auto)]
 
 mod access;

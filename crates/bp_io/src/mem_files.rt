@@ -1,4 +1,4 @@
-//! A file in memory that has every name, or none until it is made, and of which chosen calls fail.
+//! A file in memory that has every name, or none until it is created, and of which chosen calls fail.
 
 ghost use Rattle.std.specs.Prelude.{◌<◌, ◌+◌, ◌/◌, ◌%◌, ◌⊎◌, List, ℕ, OnOk, OnErr, IfNone, ◌≡◌, ◌≤◌, Some, true, false, length, IfOk, IfSome};
 ghost use Rattle.std.specs.Option.{option_copied};
@@ -13,11 +13,11 @@ use crate::{Access, BLOCK, Failed};
 use bp_limits::{BLOCK_SIZE, MAX_BLOCKS};
 use std::alloc::{AllocError, Global};
 
-/// A file in memory that has every name, or none until one is made; then each name has it. It has
-/// room for 65,536 blocks of 4,096 bytes from the start.
+/// A file in memory that has every name, or none until one is created; then each name has it. It has memory for 65,536
+/// blocks of 4,096 bytes from the start.
 ///
-/// Chosen calls fail, and change no byte: the calls of all its functions have one row of numbers
-/// from 0 on, and those fail whose numbers are in a list.
+/// Chosen calls fail, and change no byte. The calls of all functions are numbered together from 0, and those fail
+/// whose numbers are in a list.
 #[derive(Drop)]
 pub struct MemFiles<'a> {
     image: Image,
@@ -33,13 +33,12 @@ pub struct MemFiles<'a> {
 impl<'a> MemFiles<'a> {
     ghost use Rattle.bp_io.specs.Memory.{mem_image, mem_view, files_plan};
 
-    /// A file of these bytes, or none, of which the calls fail whose numbers are in `fail_at`: the
-    /// first call has the number 0. It is not attached yet.
+    /// Makes a file of these bytes, or none, which is not attached yet. The calls fail whose numbers are in `fail_at`;
+    /// the first call has the number 0.
     ///
     /// # Errors
     ///
-    /// `AllocError` only where there is no memory for 268,435,456 bytes, or for these where they are
-    /// more.
+    /// `AllocError`: no memory for 268,435,456 bytes, or for these bytes if they are more.
     pub fn new(alloc: Global, image: Option<&[u8]>, fail_at: &'a [u64]) -> Result<Self, AllocError>
         ensures image { IfOk result (λ files. mem_image files ≡ option_copied image.entry) }
         ensures attached { IfOk result (λ files. (mem_view files).is_attached ≡ λ name. false) }
@@ -57,7 +56,7 @@ impl<'a> MemFiles<'a> {
         })
     }
 
-    /// The file's bytes, where there is one.
+    /// Returns the bytes of the file, if it exists.
     pub fn image(&self) -> Option<&[u8]>
         ensures { option_copied result ≡ mem_image self.now }
     {
@@ -68,7 +67,7 @@ impl<'a> MemFiles<'a> {
         }
     }
 
-    /// Whether all that was written is flushed.
+    /// Returns whether all that was written is flushed.
     pub fn is_flushed(&self) -> bool
         ensures { result ≡ (mem_view self.now).is_flushed }
     {
@@ -86,22 +85,22 @@ impl Files for MemFiles<'_> {
         ensures attached { IfOk result (λ r. IfSome r (IsAttached (mem_view self.new) _name.now access)) }
         ensures contents { IfOk result (λ r. Attaches (Some (mem_image self.old)) r (Some (mem_image self.new))) }
 
-        // Where no file was attached, the one before still is.
+        // If no file was attached, the previous one still is.
         ensures missing { IfOk result (λ r. IfNone r (StaysAttached (mem_view self.old) (mem_view self.new))) }
         ensures failed { OnErr result (StaysAttached (mem_view self.old) (mem_view self.new)) }
 
-        // Each file that is there keeps its bytes, and a file that is made is empty.
+        // Each existing file keeps its bytes, and a new file is empty.
         ensures kept { (other : List ℕ) →
             Becomes (λ bytes. bytes) (Some (mem_image self.old)) (Some (mem_image self.new)) }
         ensures made { (other : List ℕ) →
             StaysOrIsMade (makes access) (Some (mem_image self.old)) (Some (mem_image self.new)) }
 
-        // No attach makes a file flushed that was not known to be.
+        // An attach never turns a file into a flushed one that was not known to be.
         ensures flushed { makes access ≡ false → (mem_view self.new).is_flushed ≡ (mem_view self.old).is_flushed }
         ensures flushed_before { (mem_view self.new).is_flushed ≡ true → (mem_view self.old).is_flushed ≡ true }
         ensures cause { HasCause (mem_view self.old).faults (mem_view self.new).faults result }
 
-        // A call fails exactly where the plan says, and changes no byte then.
+        // A call fails exactly if the plan says so, and then changes no byte.
         ensures plan { FollowsPlan (files_plan self.old) (files_plan self.new) result }
         ensures unchanged { OnErr result (mem_image self.new ≡ mem_image self.old) }
     {
@@ -125,7 +124,7 @@ impl Files for MemFiles<'_> {
         ensures reads { Reads (mem_view self.old) (mem_view self.new) }
         ensures cause { HasCause (mem_view self.old).faults (mem_view self.new).faults result }
 
-        // A call fails exactly where the plan says.
+        // A call fails exactly if the plan says so.
         ensures plan { FollowsPlan (files_plan self.old) (files_plan self.new) result }
     {
         self.plan.call()?;
@@ -143,7 +142,7 @@ impl Files for MemFiles<'_> {
         ensures flushed { (mem_view self.new).is_flushed ≡ false }
         ensures cause { HasCause (mem_view self.old).faults (mem_view self.new).faults result }
 
-        // A call fails exactly where the plan says, and changes no byte then.
+        // A call fails exactly if the plan says so, and then changes no byte.
         ensures plan { FollowsPlan (files_plan self.old) (files_plan self.new) result }
         ensures unchanged { OnErr result (mem_image self.new ≡ mem_image self.old) }
     {
@@ -167,7 +166,7 @@ impl Files for MemFiles<'_> {
         ensures flushed { (mem_view self.new).is_flushed ≡ false }
         ensures cause { HasCause (mem_view self.old).faults (mem_view self.new).faults result }
 
-        // A call fails exactly where the plan says, and changes no byte then.
+        // A call fails exactly if the plan says so, and then changes no byte.
         ensures plan { FollowsPlan (files_plan self.old) (files_plan self.new) result }
         ensures unchanged { OnErr result (mem_image self.new ≡ mem_image self.old) }
     {
@@ -191,7 +190,7 @@ impl Files for MemFiles<'_> {
         ensures flushed { (mem_view self.new).is_flushed ≡ false }
         ensures cause { HasCause (mem_view self.old).faults (mem_view self.new).faults result }
 
-        // A call fails exactly where the plan says, and changes no byte then.
+        // A call fails exactly if the plan says so, and then changes no byte.
         ensures plan { FollowsPlan (files_plan self.old) (files_plan self.new) result }
         ensures unchanged { OnErr result (mem_image self.new ≡ mem_image self.old) }
     {
@@ -216,7 +215,7 @@ impl Files for MemFiles<'_> {
         ensures flushed { (mem_view self.new).is_flushed ≡ false }
         ensures cause { HasCause (mem_view self.old).faults (mem_view self.new).faults result }
 
-        // A call fails exactly where the plan says, and changes no byte then.
+        // A call fails exactly if the plan says so, and then changes no byte.
         ensures plan { FollowsPlan (files_plan self.old) (files_plan self.new) result }
         ensures unchanged { OnErr result (mem_image self.new ≡ mem_image self.old) }
     {
@@ -235,7 +234,7 @@ impl Files for MemFiles<'_> {
         ensures failed { OnErr result ((mem_view self.new).is_flushed ≡ (mem_view self.old).is_flushed) }
         ensures cause { HasCause (mem_view self.old).faults (mem_view self.new).faults result }
 
-        // A call fails exactly where the plan says.
+        // A call fails exactly if the plan says so.
         ensures plan { FollowsPlan (files_plan self.old) (files_plan self.new) result }
     {
         self.plan.call()?;

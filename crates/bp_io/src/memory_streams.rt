@@ -11,7 +11,7 @@ use crate::faults::CallPlan;
 use crate::{Failed, Sink, Source};
 use std::alloc::{AllocError, Global};
 
-/// A source over bytes that never fails, and gives as many as fit.
+/// A source over bytes that never fails, and returns as many bytes as fit.
 #[derive(Drop)]
 pub struct FairSource<'a> {
     rest: &'a [u8],
@@ -20,7 +20,7 @@ pub struct FairSource<'a> {
 impl<'a> FairSource<'a> {
     ghost use Rattle.bp_io.specs.Memory.{fair_left};
 
-    /// A source with all of these bytes left.
+    /// Makes a source with all of these bytes left.
     pub fn new(bytes: &'a [u8]) -> Self
         ensures { fair_left result ≡ bytes.entry.now }
     {
@@ -38,7 +38,7 @@ impl Source for FairSource<'_> {
         ensures bytes { ReadConsumes (Some (fair_left self.old)) (Some (fair_left self.new)) result into.new }
         ensures cause { HasCause 0 0 result }
 
-        // It gives as much as it can.
+        // A read returns as many bytes as it can.
         ensures count { IfOk result (λ n. n ≡ min (length into.new) (length (fair_left self.old))) }
     {
         let count = into.len().min(self.rest.len());
@@ -49,7 +49,7 @@ impl Source for FairSource<'_> {
     }
 }
 
-/// A source over bytes that gives pieces of at most so many bytes, and of which chosen calls fail.
+/// A source over bytes that returns at most a fixed number of bytes in one read, and of which chosen calls fail.
 #[derive(Drop)]
 pub struct MemSource<'a> {
     rest: &'a [u8],
@@ -61,8 +61,8 @@ pub struct MemSource<'a> {
 impl<'a> MemSource<'a> {
     ghost use Rattle.bp_io.specs.Memory.{mem_left, source_most, source_plan, source_faults};
 
-    /// A source with all of these bytes left, which gives pieces of at most `most` bytes, and of
-    /// which the calls fail whose numbers are in `fail_at`: the first call has the number 0.
+    /// Makes a source with all of these bytes left. A read returns at most `most` bytes, and the calls fail whose
+    /// numbers are in `fail_at`; the first call has the number 0.
     pub fn new(bytes: &'a [u8], most: usize, fail_at: &'a [u64]) -> Self
         requires { 1 ≤ most }
         ensures left { mem_left result ≡ bytes.entry.now }
@@ -88,7 +88,7 @@ impl Source for MemSource<'_> {
         ensures bytes { ReadConsumes (Some (mem_left self.old)) (Some (mem_left self.new)) result into.new }
         ensures cause { HasCause (source_faults self.old) (source_faults self.new) result }
 
-        // The calls that fail are those of the plan, and the others give as much as they can.
+        // The calls that fail are those of the plan, and the others return as many bytes as they can.
         ensures plan { FollowsPlan (source_plan self.old) (source_plan self.new) result }
         ensures count { IfOk result (λ n.
             n ≡ min (min (length into.new) (length (mem_left self.old))) (source_most self.old)) }
@@ -103,7 +103,7 @@ impl Source for MemSource<'_> {
     }
 }
 
-/// A sink over memory of a fixed room, which takes as much as fits, and of which chosen calls fail.
+/// A sink over memory of a fixed size, which takes as many bytes as fit, and of which chosen calls fail.
 #[derive(Drop)]
 pub struct MemSink<'a> {
     bytes: Vec<u8>,
@@ -115,13 +115,12 @@ pub struct MemSink<'a> {
 impl<'a> MemSink<'a> {
     ghost use Rattle.bp_io.specs.Memory.{mem_taken, sink_room, sink_plan, sink_faults};
 
-    /// A sink with room for `room` bytes, of which the calls fail whose numbers are in `fail_at`
-    /// (the first call has the number 0), and also each that finds no room for a piece that is not
-    /// empty.
+    /// Makes a sink with room for `room` bytes. The calls fail whose numbers are in `fail_at` (the first call has the
+    /// number 0), and also each call with a piece that is not empty while no room is left.
     ///
     /// # Errors
     ///
-    /// `AllocError` only where there is no memory for the room.
+    /// `AllocError`: out of memory.
     pub fn new(alloc: Global, room: usize, fail_at: &'a [u64]) -> Result<Self, AllocError>
         ensures taken { IfOk result (λ sink. mem_taken sink ≡ []) }
         ensures room { IfOk result (λ sink. sink_room sink ≡ room) }
@@ -135,7 +134,7 @@ impl<'a> MemSink<'a> {
         })
     }
 
-    /// The bytes that it took.
+    /// Returns the bytes that the sink took.
     pub fn bytes(&self) -> &[u8]
         ensures { result.now ≡ mem_taken self.now }
     {
@@ -154,8 +153,8 @@ impl Sink for MemSink<'_> {
         ensures bytes { WriteAppends (Some (mem_taken self.old)) (Some (mem_taken self.new)) result piece.now }
         ensures cause { HasCause (sink_faults self.old) (sink_faults self.new) result }
 
-        // The calls that fail are those of the plan and those without room, and the others take as
-        // much as they can.
+        // The calls that fail are those of the plan and those without room, and the others take as many bytes as they
+        // can.
         ensures fails { IsErr result ↔
             (FailsNext (sink_plan self.old) ⊎ ((sink_room self.old ≡ 0) × (0 < length piece.now))) }
         ensures count { IfOk result (λ n. n ≡ min (sink_room self.old) (length piece.now)) }
@@ -178,7 +177,7 @@ impl Sink for MemSink<'_> {
     }
 }
 
-/// A sink that never fails, takes each piece whole, and keeps the number of bytes alone.
+/// A sink that never fails, takes each piece whole, and stores only the number of bytes.
 #[derive(Default, Drop)]
 pub struct NullSink {
     count: u64,
@@ -187,14 +186,14 @@ pub struct NullSink {
 impl NullSink {
     ghost use Rattle.bp_io.specs.Memory.{null_count};
 
-    /// A sink that took no byte yet.
+    /// Makes a sink that took no byte yet.
     pub fn new() -> Self
         ensures { null_count result ≡ 0 }
     {
         NullSink { count: 0 }
     }
 
-    /// How many bytes it took, up to `u64::MAX`, where the count stops.
+    /// Returns the number of bytes that the sink took, up to `u64::MAX`, where the count stops.
     pub fn count(&self) -> u64
         ensures { result ≡ null_count self.now }
     {

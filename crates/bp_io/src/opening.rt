@@ -1,4 +1,4 @@
-//! Opening a file on the disk, for one process at a time.
+//! Opens a file on the disk, for one process at a time.
 
 use crate::Access;
 use std::fs::{File, Metadata, OpenOptions, TryLockError};
@@ -6,7 +6,7 @@ use std::io::ErrorKind;
 use std::os::unix::fs::MetadataExt;
 use std::{fs, io, rt};
 
-/// How often a name is opened again that another process led to another file meanwhile.
+/// How often a name is opened again if another process meanwhile gave it to another file.
 const TRIES: u32 = 16;
 
 /// Returns the error of a name that leads to a directory. The system has another text for it where the
@@ -30,17 +30,17 @@ fn check_is_file(found: Metadata) -> io::Result<()> {
     Err(io::Error::new(ErrorKind::InvalidInput, "not a regular file"))
 }
 
-/// The fault of a file that another process has attached. Its kind is `ResourceBusy`.
+/// Makes the fault of a file that another process has attached. Its kind is `ResourceBusy`.
 pub(crate) fn in_use() -> io::Error {
     io::Error::new(ErrorKind::ResourceBusy, "in use by another process")
 }
 
-/// Locks a file, and never waits for that: for this process alone where it is to be written, and else
-/// together with all that read it. Where its file system knows no locks it stays without one.
+/// Locks a file, and never waits for the lock: for this process alone if the file is to be written, and otherwise
+/// together with all its readers. If the file system has no locks, the file stays unlocked.
 ///
 /// # Errors
 ///
-/// `in_use` where another process has a lock that does not go with this one.
+/// `in_use`: another process has a conflicting lock.
 pub(crate) fn lock(file: &File, access: Access) -> io::Result<()> {
     let done = if access.may_change() {
         file.try_lock()
@@ -53,7 +53,7 @@ pub(crate) fn lock(file: &File, access: Access) -> io::Result<()> {
     }
 }
 
-/// Whether a name leads to this file.
+/// Returns whether a name leads to this file.
 pub(crate) fn leads_to<R: rt::Files<File = File>>(
     runtime: &R,
     name: &str,
@@ -67,11 +67,11 @@ pub(crate) fn leads_to<R: rt::Files<File = File>>(
     Ok(found.dev() == own.dev() && found.ino() == own.ino())
 }
 
-/// Looks whether a name still leads to this file.
+/// Checks that a name still leads to this file.
 ///
 /// # Errors
 ///
-/// Where it leads to another file or to none; else an error of the system.
+/// The name leads to another file or to none, or the system returned an error.
 pub(crate) fn check_name<R: rt::Files<File = File>>(
     runtime: &R,
     name: &str,
@@ -88,11 +88,11 @@ pub(crate) fn check_name<R: rt::Files<File = File>>(
     Err(io::Error::new(ErrorKind::Other, message))
 }
 
-/// Looks whether a file still has its length. The lock binds no program that does not ask for it.
+/// Checks that a file still has its length. The lock does not bind a program that does not ask for it.
 ///
 /// # Errors
 ///
-/// Where it has another one; else an error of the system.
+/// The file has another length, or the system returned an error.
 pub(crate) fn check_length(file: &File, length: u64) -> io::Result<()> {
     if file.metadata()?.len() == length {
         return Ok(());
@@ -101,8 +101,8 @@ pub(crate) fn check_length(file: &File, length: u64) -> io::Result<()> {
     Err(io::Error::new(ErrorKind::Other, message))
 }
 
-/// Opens a regular file. One that may only be read is looked at before it is opened, since opening a
-/// pipe so would wait for a writer.
+/// Opens a regular file. A file that is only read is examined before it is opened, since opening a pipe so would wait
+/// for a writer.
 fn open_once<R: rt::Files<File = File>>(
     runtime: &R,
     name: &str,
@@ -124,13 +124,12 @@ fn open_once<R: rt::Files<File = File>>(
     Ok(file)
 }
 
-/// Opens and locks a regular file, and answers it with its length in bytes. The process that had the
-/// lock before may have put another file in the place of the one that was opened; then the name is
-/// opened again.
+/// Opens and locks a regular file, and returns it with its length in bytes. The process that had the lock before may
+/// have put another file in the place of the one that was opened; then the name is opened again.
 ///
 /// # Errors
 ///
-/// `in_use` where another process has the file; else an error of the system.
+/// `in_use`: another process has the file. Otherwise an error of the system.
 pub(crate) fn open<R: rt::Files<File = File>>(
     runtime: &R,
     name: &str,

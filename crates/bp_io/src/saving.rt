@@ -1,4 +1,4 @@
-//! How what is written comes to a file on the disk.
+//! How written data reaches a file on the disk.
 
 ghost use Rattle.std.specs.Prelude.{◌≡◌, ◌<◌, ◌+◌, ◌^◌, is_some, length};
 
@@ -14,40 +14,40 @@ use std::io::ErrorKind;
 use std::os::unix::fs::FileExt;
 use std::{io, mem, rt};
 
-/// How what is written comes to the attached file.
+/// How written data reaches the attached file.
 #[derive(Drop)]
 enum Way {
     /// Nothing was written since the last flush.
     Clean,
-    /// To a second file, which takes the place of the attached one when it is flushed.
+    /// By a second file, which takes the place of the attached one at the flush.
     Beside(SecondFile),
-    /// To the attached file itself.
+    /// By writing the attached file itself.
     InPlace,
     /// Not at all: a call failed, and what was written since the last flush is lost, or a part of it.
     Lost,
 }
 
-/// What was written to the attached file and is not flushed yet.
+/// The data that was written to the attached file and is not flushed yet.
 #[derive(Drop)]
 pub(crate) struct Saver {
     names: Option<Names>,
     /// The length of the attached file, as long as no other program changes it.
     length: u64,
     way: Way,
-    /// The file that was attached before the last flush. It waits under the second name to be the next second
-    /// file, which then has its room on the disk already, and most of its bytes.
+    /// The file that was attached before the last flush. It waits under the second name to be the next second file,
+    /// which then already has its room on the disk, and most of its bytes.
     waiting: Option<Waiting>,
-    /// What the blocks hold of the second file, or of the one that waits to be it.
+    /// The state of the blocks of the second file, or of the one that waits to be it.
     held: HeldBlocks,
     window: Window,
 }
 
-/// The fault of a file of which a write was lost.
+/// Makes the fault of a file of which a write was lost.
 fn lost() -> io::Error {
     io::Error::new(ErrorKind::Other, "an earlier write failed")
 }
 
-/// Whether an error says that a name may not be given to another file.
+/// Returns whether an error says that a name may not be given to another file.
 fn keeps_its_file(error: &io::Error) -> bool {
     matches!(
         error.kind(),
@@ -55,7 +55,7 @@ fn keeps_its_file(error: &io::Error) -> bool {
     )
 }
 
-/// The way of what is to be written to a file, which needs room for so many bytes at least.
+/// Chooses the way for data that is to be written to a file, which needs room for `least` bytes at least.
 fn way_to<R: rt::Files<File = File>>(
     runtime: &R,
     names: &Option<Names>,
@@ -69,7 +69,7 @@ fn way_to<R: rt::Files<File = File>>(
     };
     match SecondFile::new(runtime, names, file, waiting, held) {
         Ok(second) => Ok(Way::Beside(second)),
-        // Another process is writing, or no write gets through to the end of the file.
+        // Another process is writing, or no write reaches the end of the file.
         Err(e) if matches!(e.kind(), ErrorKind::ResourceBusy | ErrorKind::FileTooLarge) => Err(e),
         Err(e) if lacks_room(&e) && !has_room(file, least)? => Err(e),
         Err(_) => Ok(Way::InPlace),
@@ -77,7 +77,7 @@ fn way_to<R: rt::Files<File = File>>(
 }
 
 impl Saver {
-    /// Nothing is written, to no file.
+    /// Makes a saver for no file, with nothing written.
     pub(crate) fn new(alloc: Global) -> Result<Self, AllocError> {
         Ok(Saver {
             names: None,
@@ -89,7 +89,8 @@ impl Saver {
         })
     }
 
-    /// Nothing is written to a file of these names and this length. Without names it is written in place.
+    /// Restarts for a file of these names and this length, with nothing written. Without names the file is written in
+    /// place.
     pub(crate) fn restart(&mut self, names: Option<Names>, length: u64) {
         self.names = names;
         self.length = length;
@@ -107,14 +108,14 @@ impl Saver {
         }
     }
 
-    /// Gives up what was written since the last flush, and each later write.
+    /// Drops what was written since the last flush, and makes each later write fail.
     fn lose<R: rt::Files<File = File>>(&mut self, runtime: &R) {
         self.window.restart(0);
         self.remove_second(runtime);
         self.way = Way::Lost;
     }
 
-    /// Lets the file wait that a flush replaced, where that can be done.
+    /// Lets the file wait that a flush replaced, if possible.
     fn let_wait<R: rt::Files<File = File>>(&mut self, runtime: &R, file: File) {
         self.held.swap();
         self.waiting = match &self.names {
@@ -123,7 +124,7 @@ impl Saver {
         };
     }
 
-    /// The file that waits, unless something else was done with it.
+    /// Returns the file that waits, unless it was changed in any way.
     fn take_waiting<R: rt::Files<File = File>>(&mut self, runtime: &R) -> Option<File> {
         let waiting = self.waiting.take()?;
         match &self.names {
@@ -132,7 +133,7 @@ impl Saver {
         }
     }
 
-    /// An error loses what was written.
+    /// Loses what was written if the call failed.
     fn or_lose<T, R: rt::Files<File = File>>(
         &mut self,
         runtime: &R,
@@ -144,7 +145,7 @@ impl Saver {
         done
     }
 
-    /// Looks whether its name still leads to the attached file, and whether that one has its length.
+    /// Checks that its name still leads to the attached file, and that the file has its length.
     fn check_attached<R: rt::Files<File = File>>(
         &self,
         runtime: &R,
@@ -156,8 +157,8 @@ impl Saver {
         check_length(file, self.length)
     }
 
-    /// Chooses a way where something is written for the first time since the last flush. The file will
-    /// need room for so many bytes at least, and still has to have its name and its length.
+    /// Chooses a way at the first write since the last flush. The file will need room for `least` bytes at least, and
+    /// must still have its name and its length.
     fn begin<R: rt::Files<File = File>>(
         &mut self,
         runtime: &R,
@@ -176,7 +177,7 @@ impl Saver {
         }
     }
 
-    /// Goes on in place. What the second file has goes to the first.
+    /// Continues in place. The contents of the second file go to the first.
     fn go_in_place<R: rt::Files<File = File>>(
         &mut self,
         runtime: &R,
@@ -192,7 +193,7 @@ impl Saver {
         }
     }
 
-    /// Goes on in place where there was no room for the second file, and the first needs none.
+    /// Continues in place if there was no room for the second file, and the first needs none.
     fn or_go_in_place<R: rt::Files<File = File>>(
         &mut self,
         runtime: &R,
@@ -343,7 +344,7 @@ impl Saver {
         }
     }
 
-    /// Looks whether what was written can still come to the attached file.
+    /// Checks that what was written can still reach the attached file.
     fn check<R: rt::Files<File = File>>(&self, runtime: &R, file: &File) -> io::Result<()> {
         match self.way {
             Way::Clean | Way::Beside(_) | Way::InPlace => self.check_attached(runtime, file),
@@ -371,7 +372,7 @@ impl Saver {
         }
     }
 
-    /// Writes the block `i`, or lets it wait.
+    /// Writes block `i`, or lets it wait.
     pub(crate) fn write_block<R: rt::Files<File = File>>(
         &mut self,
         runtime: &R,
@@ -383,7 +384,7 @@ impl Saver {
         self.or_lose(runtime, done)
     }
 
-    /// Writes these blocks from a byte on, behind those that wait.
+    /// Writes these blocks from a byte on, after those that wait.
     pub(crate) fn write_blocks<R: rt::Files<File = File>>(
         &mut self,
         runtime: &R,
@@ -397,7 +398,7 @@ impl Saver {
         self.or_lose(runtime, done)
     }
 
-    /// Gives the file another length, in bytes.
+    /// Sets the length of the file, in bytes.
     pub(crate) fn set_len<R: rt::Files<File = File>>(
         &mut self,
         runtime: &R,
@@ -408,7 +409,7 @@ impl Saver {
         self.or_lose(runtime, done)
     }
 
-    /// Gives the file these bytes, and zeros behind them up to its new length, in bytes.
+    /// Replaces the file by these bytes, and zeros after them up to its new length, in bytes.
     pub(crate) fn replace<R: rt::Files<File = File>>(
         &mut self,
         runtime: &R,
@@ -420,7 +421,7 @@ impl Saver {
         self.or_lose(runtime, done)
     }
 
-    /// Reads from a byte on what was written, and what stands in the file where nothing was.
+    /// Reads what was written from a byte on, and the contents of the file where nothing was written.
     pub(crate) fn read<R: rt::Files<File = File>>(
         &mut self,
         runtime: &R,
@@ -437,7 +438,7 @@ impl Saver {
         }
     }
 
-    /// Makes what was written last, where a file is attached, which may then be another one.
+    /// Makes what was written durable, if a file is attached. Another file may be attached afterwards.
     pub(crate) fn flush<R: rt::Files<File = File>>(
         &mut self,
         runtime: &R,
@@ -452,8 +453,8 @@ impl Saver {
         self.or_lose(runtime, done)
     }
 
-    /// Flushes what was written, and lets go of the lock of the attached file, which may be the one that is
-    /// to be attached.
+    /// Flushes what was written, and releases the lock of the attached file, which may be the one that is to be
+    /// attached next.
     pub(crate) fn leave<R: rt::Files<File = File>>(
         &mut self,
         runtime: &R,
@@ -471,8 +472,7 @@ impl Saver {
         Ok(())
     }
 
-    /// Takes back the lock of a file that stays attached. Where another process has it now, each later
-    /// write is a fault.
+    /// Locks a file again that stays attached. If another process has the lock now, each later write is a fault.
     pub(crate) fn stay<R: rt::Files<File = File>>(
         &mut self,
         runtime: &R,

@@ -1,4 +1,4 @@
-//! A second file, which takes the place of the first once it is whole.
+//! A second file, which takes the place of the first once it is complete.
 
 ghost use Rattle.std.specs.Prelude.{◌<◌, ◌≤◌, ◌+◌, ◌^◌, length};
 
@@ -13,23 +13,23 @@ use std::os::unix::fs::{FileExt, MetadataExt, OpenOptionsExt, fchown};
 use std::path::PathBuf;
 use std::{fs, io, rt};
 
-/// What the name of a second file has behind that of the first.
+/// The ending of the name of a second file, after the name of the first.
 const ENDING: &str = "bpfs-sync";
 
-/// What the name has that the first file is given while the second one takes its place.
+/// The ending of the name that the first file gets while the second one takes its place.
 const OLD_ENDING: &str = "bpfs-sync-old";
 
-/// The permissions of a second file until it has those of the first: its maker may read and write it.
+/// The permissions of a second file until it has those of the first: its owner may read and write it.
 const PRIVATE: u32 = 0o600;
 
-/// The bytes that the system counts as one block of a file's room.
+/// The number of bytes that the system counts as one block of a file's room.
 const ROOM_UNIT: u64 = 512;
 
-/// The bytes that are copied at once.
+/// The number of bytes that are copied at once.
 const PIECE: usize = 65_536;
 
-/// The names of a file and of the second one beside it, and the one that a file has on its way from the first
-/// name to the second, behind all symbolic links.
+/// The names of a file and of its second file, and the name that a file has between the first name and the second,
+/// with all symbolic links resolved.
 #[derive(Drop)]
 pub(crate) struct Names {
     file: PathBuf,
@@ -49,7 +49,7 @@ impl Names {
         Ok(Names { file, second, old })
     }
 
-    /// Looks whether the first name still leads to this file.
+    /// Checks that the first name still leads to this file.
     pub(crate) fn check<R: rt::Files<File = File>>(
         &self,
         runtime: &R,
@@ -58,24 +58,24 @@ impl Names {
         check_name(runtime, self.file.as_str(), first)
     }
 
-    /// Removes the second file, where that can be done.
+    /// Removes the second file, if possible.
     pub(crate) fn remove_second<R: rt::Files<File = File>>(&self, runtime: &R) {
         let _ = fs::remove_file(runtime, &self.second);
     }
 
-    /// Takes the second name from a file, where it has it.
+    /// Removes the second name from a file, if the file has it.
     pub(crate) fn take_from<R: rt::Files<File = File>>(&self, runtime: &R, file: &File) {
         if matches!(is_name_of(runtime, self.second.as_str(), file), Ok(true)) {
             self.remove_second(runtime);
         }
     }
 
-    /// Whether a file has the second name, and no other one.
+    /// Returns whether a file has the second name, and no other one.
     fn is_second<R: rt::Files<File = File>>(&self, runtime: &R, file: &File) -> io::Result<bool> {
         Ok(file.metadata()?.nlink() == 1 && is_name_of(runtime, self.second.as_str(), file)?)
     }
 
-    /// Lets a file wait, where it has the second name and no other one. Else it has that name no more.
+    /// Lets a file wait if it has the second name and no other one. Otherwise it loses that name.
     pub(crate) fn let_wait<R: rt::Files<File = File>>(
         &self,
         runtime: &R,
@@ -90,8 +90,8 @@ impl Names {
         }
     }
 
-    /// The file that waits, where it still has the second name and no other one, and nothing else was done with
-    /// it. Else it has that name no more.
+    /// Returns the waiting file if it still has the second name and no other one, and was not changed in any way.
+    /// Otherwise it loses that name.
     pub(crate) fn if_unchanged<R: rt::Files<File = File>>(
         &self,
         runtime: &R,
@@ -107,8 +107,8 @@ impl Names {
         }
     }
 
-    /// Removes the name on the way, where a process left it that was killed. It may be one more of the
-    /// first file, which is locked already.
+    /// Removes the intermediate name if a killed process left it. It may be one more name of the first file, which is
+    /// already locked.
     fn remove_old<R: rt::Files<File = File>>(&self, runtime: &R, first: &File) {
         let old = self.old.as_str();
         let _ = match is_name_of(runtime, old, first) {
@@ -117,12 +117,12 @@ impl Names {
         };
     }
 
-    /// Gives the second file the name of the first, and the first that of the second, where it can have it:
-    /// a file system may know no two names of one file. The name of the first leads to one of them at any moment.
+    /// Gives the second file the name of the first, and the first that of the second, if the file system allows two
+    /// names of one file. The name of the first leads to one of them at any time.
     ///
     /// # Errors
     ///
-    /// The names lead as before then.
+    /// The names lead where they did before.
     fn exchange<R: rt::Files<File = File>>(&self, runtime: &R) -> io::Result<()> {
         let is_kept = fs::hard_link(runtime, &self.file, &self.old).is_ok();
         let renamed = fs::rename(runtime, &self.second, &self.file);
@@ -133,7 +133,8 @@ impl Names {
     }
 }
 
-/// The length of a file, and when it was last written or otherwise changed: what tells that nobody did since.
+/// The length of a file, and when it was last written or otherwise changed. An equal stamp shows that nobody changed
+/// it since.
 #[derive(Clone, Copy, PartialEq, Eq)]
 struct Stamp {
     length: u64,
@@ -160,28 +161,28 @@ pub(crate) struct Waiting {
 }
 
 impl Waiting {
-    /// Takes the second name from it.
+    /// Removes the second name from the file.
     pub(crate) fn remove<R: rt::Files<File = File>>(&self, runtime: &R, names: &Names) {
         names.take_from(runtime, &self.file);
     }
 }
 
-/// A second file beside a first one. What each of its blocks holds is told beside it; the bytes behind those that are
-/// told apart are those that are to be.
+/// A second file of a first one. The state of its blocks is in `HeldBlocks`; the bytes past the blocks whose state is
+/// recorded are final.
 #[derive(Drop)]
 pub(crate) struct SecondFile {
     file: File,
     folder: File,
-    /// How many bytes of the first file stay, but for those that were written.
+    /// The number of bytes of the first file that stay, except those that were written.
     kept: u64,
-    /// The length that is to be.
+    /// The length that the file will have.
     length: u64,
-    /// Whether zeros of the first file are left out: it was made anew, so that it has zeros there by its length, and the
-    /// first file lacks room of its own as well.
+    /// Whether zeros of the first file are left out: this file was newly made, so that it has zeros there by its
+    /// length, and the first file has holes as well.
     has_holes: bool,
 }
 
-/// Whether an error says that there is no room on the disk.
+/// Returns whether an error says that there is no room on the disk.
 pub(crate) fn lacks_room(error: &io::Error) -> bool {
     matches!(
         error.kind(),
@@ -189,26 +190,26 @@ pub(crate) fn lacks_room(error: &io::Error) -> bool {
     )
 }
 
-/// Whether a file has all of its room on the disk.
+/// Returns whether a file has all of its room on the disk.
 fn is_full(metadata: &Metadata) -> bool {
     metadata.len() / ROOM_UNIT <= metadata.blocks()
 }
 
-/// Whether a file has all of its room on the disk, so that no write in it wants more, up to this length.
+/// Returns whether a file has all of its room on the disk, so that no write in it needs more, up to this length.
 pub(crate) fn has_room(file: &File, length: u64) -> io::Result<bool> {
     let metadata = file.metadata()?;
     Ok(length <= metadata.len() && is_full(&metadata))
 }
 
-/// Whether this is a name of a file, and no symbolic link to it.
+/// Returns whether this is a name of a file, and no symbolic link to it.
 fn is_name_of<R: rt::Files<File = File>>(runtime: &R, name: &str, file: &File) -> io::Result<bool> {
     let found = fs::symlink_metadata(runtime, name)?;
     let own = file.metadata()?;
     Ok(found.dev() == own.dev() && found.ino() == own.ino())
 }
 
-/// Removes what a process left that was killed. A name that is no regular file, or whose file is
-/// locked or cannot be, was left by none.
+/// Removes what a killed process left. A name that is no regular file, or whose file is locked or cannot be, was left
+/// by no process.
 fn remove_leftover<R: rt::Files<File = File>>(runtime: &R, name: &str) -> io::Result<()> {
     if !fs::symlink_metadata(runtime, name)?.is_file() {
         return Err(ErrorKind::AlreadyExists.into());
@@ -224,7 +225,7 @@ fn remove_leftover<R: rt::Files<File = File>>(runtime: &R, name: &str) -> io::Re
     }
 }
 
-/// Makes a file under a name that is not there.
+/// Makes a file under a name that does not exist.
 fn make_new<R: rt::Files<File = File>>(runtime: &R, name: &str) -> io::Result<File> {
     OpenOptions::new()
         .read(true)
@@ -246,7 +247,7 @@ fn take_after(file: &File, first: &Metadata) -> io::Result<()> {
     file.set_permissions(first.permissions())
 }
 
-/// Whether a piece has the bytes of a hole, where there are holes.
+/// Returns whether a piece has only the bytes of a hole, if there are holes.
 fn is_hole(piece: &[u8], hole: Option<&[u8; PIECE]>) -> bool
     requires { length piece.now ≤ 65536 }
 {
@@ -256,8 +257,8 @@ fn is_hole(piece: &[u8], hole: Option<&[u8; PIECE]>) -> bool
     }
 }
 
-/// Copies the bytes from `start` up to `end` from a file to the same place in another one, by way of a piece of memory. Pieces
-/// that have the bytes of a hole are left out.
+/// Copies the bytes from `start` up to `end` from a file to the same place in another one, through a buffer. Pieces
+/// that have only the bytes of a hole are left out.
 fn copy_bytes(
     from: &File,
     to: &File,
@@ -279,7 +280,7 @@ fn copy_bytes(
     Ok(())
 }
 
-/// Writes zeros from the byte `start` up to `end`.
+/// Writes zeros from byte `start` up to `end`.
 fn write_zeros(file: &File, start: u64, end: u64) -> io::Result<()> {
     let piece = [0u8; PIECE];
     let mut at = start;
@@ -291,8 +292,8 @@ fn write_zeros(file: &File, start: u64, end: u64) -> io::Result<()> {
     Ok(())
 }
 
-/// Gives a file these bytes in place, and zeros behind them up to its new length. It gives up no room on
-/// the disk that it still needs, and has no third length on the way.
+/// Replaces a file by these bytes in place, and zeros after them up to its new length. The file frees no room on the
+/// disk that it still needs, and never has a third length.
 pub(crate) fn fill_in_place(file: &File, front: &[u8], length: u64) -> io::Result<()> {
     let had = file.metadata()?.len();
     file.set_len(length)?;
@@ -300,7 +301,7 @@ pub(crate) fn fill_in_place(file: &File, front: &[u8], length: u64) -> io::Resul
     write_zeros(file, front.len() as u64, had.min(length))
 }
 
-/// Makes a file of this name, in place of one that a process left that was killed.
+/// Makes a file of this name, in place of one that a killed process left.
 fn make_second<R: rt::Files<File = File>>(runtime: &R, name: &str) -> io::Result<File> {
     match make_new(runtime, name) {
         Err(e) if e.kind() == ErrorKind::AlreadyExists => {
@@ -311,7 +312,7 @@ fn make_second<R: rt::Files<File = File>>(runtime: &R, name: &str) -> io::Result
     }
 }
 
-/// Locks a file, and makes it like the first one but for the blocks that are told apart.
+/// Locks a file, and makes it like the first one except for the blocks whose state is recorded.
 fn prepare(file: &File, first: &File, metadata: &Metadata) -> io::Result<()> {
     lock(file, Access::Write)?;
     take_after(file, metadata)?;
@@ -326,7 +327,7 @@ fn prepare(file: &File, first: &File, metadata: &Metadata) -> io::Result<()> {
     )
 }
 
-/// The folder of a file, to be flushed.
+/// Opens the directory of a file, so that it can be flushed.
 fn open_folder<R: rt::Files<File = File>>(runtime: &R, file: &PathBuf) -> io::Result<File> {
     match file.parent() {
         Some(folder) => File::open(runtime, folder),
@@ -335,13 +336,13 @@ fn open_folder<R: rt::Files<File = File>>(runtime: &R, file: &PathBuf) -> io::Re
 }
 
 impl SecondFile {
-    /// Makes a second file beside the first: of the one that waits under the second name, which holds what is told of
-    /// it, or anew.
+    /// Makes a second file for the first: from the one that waits under the second name, whose state is in `held`, or
+    /// a new one.
     ///
     /// # Errors
     ///
-    /// `in_use` where another process has a file of that name; else that no such file can take the
-    /// place of the first. None is left then.
+    /// `in_use`: another process has a file of that name. Otherwise no such file can take the place of the first. No
+    /// second file is left.
     pub(crate) fn new<R: rt::Files<File = File>>(
         runtime: &R,
         names: &Names,
@@ -390,7 +391,7 @@ impl SecondFile {
         })
     }
 
-    /// Gives it these bytes from a byte on.
+    /// Writes these bytes from a byte on.
     pub(crate) fn write(&self, held: &mut HeldBlocks, from: &[u8], at: u64) -> io::Result<()>
         requires { at + length from.now < 2 ^ 64 }
     {
@@ -399,14 +400,14 @@ impl SecondFile {
         Ok(())
     }
 
-    /// Gives it the blocks that wait.
+    /// Writes the blocks that wait.
     pub(crate) fn take(&self, held: &mut HeldBlocks, window: &mut Window) -> io::Result<()> {
         self.write(held, window.bytes(), window.start())?;
         window.clear();
         Ok(())
     }
 
-    /// Gives it all bytes of the first file that it lacks. Where that one has holes, so has it.
+    /// Copies all bytes of the first file that this one lacks. If the first file has holes, so does this one.
     pub(crate) fn complete(&self, held: &mut HeldBlocks, first: &File) -> io::Result<()> {
         let (mut piece, zeros) = ([0; PIECE], [0; PIECE]);
         let hole = if self.has_holes { Some(&zeros) } else { None };
@@ -420,7 +421,7 @@ impl SecondFile {
         Ok(())
     }
 
-    /// Cuts it off there, or fills it up with zeros.
+    /// Sets the length: the file is truncated, or padded with zeros.
     pub(crate) fn set_len(&mut self, held: &mut HeldBlocks, length: u64) -> io::Result<()> {
         self.file.set_len(length)?;
         held.set_zeros_behind(self.length.min(length));
@@ -429,7 +430,8 @@ impl SecondFile {
         Ok(())
     }
 
-    /// Gives it these bytes, and zeros behind them up to its new length. Nothing of the first file stays.
+    /// Replaces the contents by these bytes, and zeros after them up to the new length. Nothing of the first file
+    /// stays.
     pub(crate) fn replace(
         &mut self,
         held: &mut HeldBlocks,
@@ -445,17 +447,17 @@ impl SecondFile {
         self.write(held, front, 0)
     }
 
-    /// Reads from it. It has to be complete.
+    /// Reads from the file, which must be complete.
     pub(crate) fn read(&self, into: &mut [u8], at: u64) -> io::Result<()> {
         self.file.read_exact_at(into, at)
     }
 
-    /// Whether its bytes can go to the first file without any more room on the disk.
+    /// Returns whether its bytes fit into the first file without more room on the disk.
     pub(crate) fn fits_in(&self, first: &File) -> io::Result<bool> {
         has_room(first, self.length)
     }
 
-    /// Gives the first file the blocks that were written.
+    /// Copies the blocks that were written to the first file.
     fn copy_written(&self, held: &HeldBlocks, first: &File) -> io::Result<()> {
         let mut piece = [0; PIECE];
         let mut at = 0;
@@ -467,7 +469,7 @@ impl SecondFile {
         copy_bytes(&self.file, first, TOLD_APART, self.length, &mut piece, None)
     }
 
-    /// Gives the first file zeros where this one has them by its length alone, up to a byte.
+    /// Writes zeros to the first file where this one has them by its length alone, up to a byte.
     fn copy_zeros(&self, held: &HeldBlocks, first: &File, end: u64) -> io::Result<()> {
         let mut at = 0;
         while let Some(run) = held.run_of(at, Held::Zeros) {
@@ -477,8 +479,8 @@ impl SecondFile {
         Ok(())
     }
 
-    /// Makes the first file what this one stands for, in place. It gives up no room on the disk that it
-    /// still needs, and has no third length on the way.
+    /// Writes the contents of this file to the first one, in place. The first file frees no room on the disk that it
+    /// still needs, and never has a third length.
     pub(crate) fn write_to(&self, held: &HeldBlocks, first: &File) -> io::Result<()> {
         let had = first.metadata()?.len();
         first.set_len(self.length)?;
@@ -486,12 +488,12 @@ impl SecondFile {
         self.copy_zeros(held, first, had.min(self.length))
     }
 
-    /// Flushes it, and gives it the name of the first file, which still has to have that name and this length.
-    /// The first file then has the second name, where it can have it. The second has to be complete.
+    /// Flushes the file, and gives it the name of the first, which must still have that name and this length. The
+    /// first file then has the second name, if it can have it. The second file must be complete.
     ///
     /// # Errors
     ///
-    /// The name leads as before then.
+    /// The name leads where it did before.
     pub(crate) fn take_place<R: rt::Files<File = File>>(
         &self,
         runtime: &R,
@@ -505,8 +507,8 @@ impl SecondFile {
         names.exchange(runtime)
     }
 
-    /// Flushes its new name, as far as the file system does that. Where it doesn't, the name may still lead to
-    /// the first file after the power failed: that one must not be written again, so it is removed.
+    /// Flushes the new name, as far as the file system supports this. If it does not, the name may still lead to the
+    /// first file after a power failure. That file must not be written again, so it is removed.
     pub(crate) fn settle<R: rt::Files<File = File>>(
         &self,
         runtime: &R,
@@ -521,12 +523,12 @@ impl SecondFile {
         }
     }
 
-    /// The length that it is to have.
+    /// Returns the length that the file will have.
     pub(crate) fn length(&self) -> u64 {
         self.length
     }
 
-    /// The file itself.
+    /// Returns the file itself.
     pub(crate) fn into_file(self) -> File {
         self.file
     }

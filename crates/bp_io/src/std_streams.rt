@@ -9,8 +9,8 @@ use crate::{Failed, Sink, Source};
 use std::io;
 use std::io::{ErrorKind, Read, Write};
 
-/// A reader of std as a source, as standard input or a file. It tells the bytes that the reader tells;
-/// standard input and files tell none, and that their bytes come in order is trusted, and tested.
+/// A reader of std as a source, such as standard input or a file. Its bytes are known if those of the reader are.
+/// Those of standard input and of files are not; that their bytes come in order is trusted, and tested.
 #[derive(Drop)]
 pub struct StdSource<R: Read> {
     reader: R,
@@ -18,7 +18,7 @@ pub struct StdSource<R: Read> {
 }
 
 impl<R: Read> StdSource<R> {
-    /// A source over this reader, from where it stands.
+    /// Makes a source over this reader, from its current position.
     pub fn new(reader: R) -> Self
         ensures left { (⟦<StdSource<R> as Source>⟧.view result).left ≡ R.remaining reader }
         ensures faults { (⟦<StdSource<R> as Source>⟧.view result).faults ≡ 0 }
@@ -29,13 +29,13 @@ impl<R: Read> StdSource<R> {
         }
     }
 
-    /// The last error of the system, where there was one.
+    /// Returns the last error of the system, if there was one.
     pub fn last_error(&self) -> Option<io::Error> {
         self.faults.last
     }
 }
 
-/// The first answer that is not a signal's interruption.
+/// Returns the first result that is not an interruption by a signal.
 fn read_retrying<R: Read>(reader: &mut R, into: &mut [u8]) -> io::Result<usize>
     ensures bound { ReadsAtMost result into.new }
     ensures bytes { ReadConsumes (R.remaining reader.old) (R.remaining reader.new) result into.new }
@@ -49,8 +49,8 @@ fn read_retrying<R: Read>(reader: &mut R, into: &mut [u8]) -> io::Result<usize>
     reader.read(into)
 }
 
-/// One read of the reader for each call, repeated where a signal interrupted it. Every other error
-/// of the reader is a fault.
+/// Each call reads once from the reader, and again if a signal interrupted the read. Every other error of the reader
+/// is a fault.
 impl<R: Read> Source for StdSource<R> {
     ghost view = { λ s. record { left = R.remaining s.reader; faults = s.faults.count } };
 
@@ -62,8 +62,8 @@ impl<R: Read> Source for StdSource<R> {
     }
 }
 
-/// A writer of std as a sink, as standard output or a file. It tells the bytes that the writer tells;
-/// standard output and files tell none, and that all bytes go there is trusted, and tested.
+/// A writer of std as a sink, such as standard output or a file. Its bytes are known if those of the writer are. Those
+/// of standard output and of files are not; that all bytes go there is trusted, and tested.
 #[derive(Drop)]
 pub struct StdSink<W: Write> {
     writer: W,
@@ -71,7 +71,7 @@ pub struct StdSink<W: Write> {
 }
 
 impl<W: Write> StdSink<W> {
-    /// A sink over this writer, from where it stands.
+    /// Makes a sink over this writer, from its current position.
     pub fn new(writer: W) -> Self
         ensures taken { (⟦<StdSink<W> as Sink>⟧.view result).taken ≡ W.contents writer }
         ensures faults { (⟦<StdSink<W> as Sink>⟧.view result).faults ≡ 0 }
@@ -82,13 +82,13 @@ impl<W: Write> StdSink<W> {
         }
     }
 
-    /// The last error of the system, where there was one.
+    /// Returns the last error of the system, if there was one.
     pub fn last_error(&self) -> Option<io::Error> {
         self.faults.last
     }
 }
 
-/// The first answer that is not a signal's interruption.
+/// Returns the first result that is not an interruption by a signal.
 fn write_retrying<W: Write>(writer: &mut W, piece: &[u8]) -> io::Result<usize>
     ensures bound { WritesAtMost result piece.now }
     ensures bytes { WriteAppends (W.contents writer.old) (W.contents writer.new) result piece.now }
@@ -102,8 +102,8 @@ fn write_retrying<W: Write>(writer: &mut W, piece: &[u8]) -> io::Result<usize>
     writer.write(piece)
 }
 
-/// One write of the writer for each call, repeated where a signal interrupted it. Every other error
-/// of the writer is a fault, and so is that it takes no byte of a piece that is not empty.
+/// Each call writes once to the writer, and again if a signal interrupted the write. Every other error of the writer
+/// is a fault, and so is a write that takes no byte of a piece that is not empty.
 impl<W: Write> Sink for StdSink<W> {
     ghost view = { λ s. record { taken = W.contents s.writer; faults = s.faults.count } };
 

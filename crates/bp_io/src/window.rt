@@ -9,10 +9,10 @@ use std::fs::File;
 use std::io;
 use std::os::unix::fs::FileExt;
 
-/// The most blocks that a window has.
+/// The maximum number of blocks in a window.
 const ROOM: usize = 64;
 
-/// Blocks of a file that lie one behind another and wait to be written. Many blocks so take one call of the system.
+/// Consecutive blocks of a file that wait to be written. One system call then writes many blocks.
 #[derive(Drop)]
 pub(crate) struct Window {
     bytes: Vec<u8>,
@@ -32,38 +32,38 @@ impl Window {
         })
     }
 
-    /// Whether no block waits.
+    /// Returns whether no block waits.
     pub(crate) fn is_empty(&self) -> bool {
         self.count == 0
     }
 
-    /// Where its blocks begin in the file, in bytes.
+    /// Returns the byte at which the blocks begin in the file.
     pub(crate) fn start(&self) -> u64
         ensures { result < 2 ^ 44 }
     {
         BLOCK_SIZE * self.first
     }
 
-    /// The bytes of its blocks.
+    /// Returns the bytes of the blocks.
     pub(crate) fn bytes(&self) -> &[u8]
         ensures { length result.now ≤ 262144 }
     {
         &self.bytes[..BLOCK * self.count]
     }
 
-    /// Forgets its blocks.
+    /// Drops the blocks.
     pub(crate) fn clear(&mut self) {
         self.count = 0;
     }
 
-    /// Writes its blocks, and then forgets them. Where that fails they still wait.
+    /// Writes the blocks, and then drops them. If the write fails they still wait.
     pub(crate) fn write_out(&mut self, file: &File) -> io::Result<()> {
         file.write_all_at(self.bytes(), self.start())?;
         self.clear();
         Ok(())
     }
 
-    /// Forgets its blocks, and stands before the block `i`.
+    /// Drops the blocks, and moves to block `i`.
     pub(crate) fn restart(&mut self, i: u32)
         ensures { self.new.count ≡ 0 }
     {
@@ -71,14 +71,14 @@ impl Window {
         self.count = 0;
     }
 
-    /// Whether the block `i` can wait behind those that wait already.
+    /// Returns whether block `i` can wait after those that wait already.
     pub(crate) fn takes(&self, i: u32) -> bool
         ensures { result ≡ true → self.now.count < 64 }
     {
         self.count < ROOM && u64::from(i) == self.first + self.count as u64
     }
 
-    /// Puts a block behind those that wait.
+    /// Appends a block to those that wait.
     pub(crate) fn push(&mut self, from: &[u8; BLOCK])
         requires { self.old.count < 64 }
     {

@@ -1,5 +1,5 @@
--- Which check of a mount fails at which place. Liveness is followed only through what passes: pointers in form and in
--- range, and trees whose height holds their size.
+-- Which check of a mount fails at which place of an image. Only trees that a mount can follow count: all pointers above
+-- are well formed and in range, and the height of each tree covers its size.
 use Rattle.std.specs.Prelude.{◌≡◌, ◌≢◌, ◌⊎◌, ℕ, zero, suc, ◌+◌, ◌*◌, ◌/◌, ◌%◌, ◌<◌, ◌≤◌}
 use Rattle.bp_layout.specs.Words.{Image, block_count, height_of}
 use Rattle.bp_layout.specs.Formatted.{version_of}
@@ -27,21 +27,22 @@ number_of Capacity = 11
 number_of NameForm = 12
 number_of NameTwice = 13
 
--- the pointer at a depth and number is in form and in range
+-- the pointer at this depth and number is well formed, and its block is in the image
 abbrev pub Passes : Image → ℕ → ℕ → ℕ → Type 0
 Passes image root zero index =
     (root % block_size ≤ greatest_height (version_of image)) × (node image root zero index < block_count image)
 Passes image root (suc depth) index =
     (tree_word image root (suc depth) index % block_size ≡ 0) × (node image root (suc depth) index < block_count image)
 
--- each pointer above passes, none is null, and the height holds the size
+-- every pointer above the word passes its checks and is not null, and the tree's height covers its size
 abbrev pub IsFollowed : Image → ℕ → ℕ → ℕ → ℕ → Type 0
 IsFollowed image root size zero index = Unit {0}
 IsFollowed image root size (suc depth) index =
     (size ≤ covered (suc (height_of root))) × IsFollowed image root size depth (index / block_words)
     × Passes image root depth (index / block_words) × (node image root depth (index / block_words) ≢ 0)
 
--- the place of the root word of a tree, and of its size
+-- the place of word f of inode i; `root_place`, `size_place`: the places of the root word and the size of a tree;
+-- `pointer_place`, `entry_place`: the place of a pointer of a tree, and of a word of an entry
 abbrev pub inode_place : Image → ℕ → ℕ → ℕ
 inode_place image i f =
     place_of image super_root (root_of image 0) (suc (height_of (root_of image 0))) (inode_words * i + f)
@@ -60,12 +61,13 @@ pointer_place image t depth index = place_of image (root_place image t) (root_of
 abbrev pub entry_place : Image → ℕ → ℕ → ℕ → ℕ
 entry_place image i slot f = pointer_place image i (suc (height_of (root_of image i))) (entry_words * slot + f)
 
--- the content word of a tree is followed
+-- the content word at this index of tree t can be followed
 abbrev pub ContentFollowed : Image → ℕ → ℕ → Type 0
 ContentFollowed image t index =
     IsFollowed image (root_of image t) (size_of image t) (suc (height_of (root_of image t))) index
 
--- the trees that are followed
+-- The trees that a mount finds: the inode file, the root directory, and each inode that a followed entry of a found
+-- directory names, if the inode itself can be followed.
 pub data IsFound (image : Image) : ℕ → Type 0 where
   inode_file : IsFound image 0
   root_directory : ContentFollowed image 0 inode_words → IsFound image root_inumber
@@ -73,14 +75,14 @@ pub data IsFound (image : Image) : ℕ → Type 0 where
       → ContentFollowed image i (entry_words * slot) → j < inode_count image
       → ContentFollowed image 0 (inode_words * j) → IsFound image j
 
--- a live pointer that is followed, and where it stands
+-- a live pointer of a found tree that can be followed, and its place
 pub record IsPointer (image : Image) (t depth index place : ℕ) : Type 0 where
   pub found : IsFound image t
   pub live : IsLivePointer (root_of image t) (size_of image t) depth index
   pub followed : IsFollowed image (root_of image t) (size_of image t) depth index
   pub at : pointer_place image t depth index ≡ place
 
--- a live entry that is followed and not empty, and where it stands
+-- a live entry of a found directory that is not empty and can be followed, and its place
 pub record IsEntry (image : Image) (i slot j place : ℕ) : Type 0 where
   pub found : IsFound image i
   pub names : EntryNames image i slot j

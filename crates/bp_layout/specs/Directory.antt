@@ -1,5 +1,5 @@
--- A directory is a row of entries of 32 words: an inumber, 0 where the entry is empty, the length of a name, and its
--- bytes.
+-- A directory is a sequence of entries of 32 words: an inumber (0 if the entry is empty), the length of a name in
+-- bytes, and the bytes of the name.
 use Rattle.std.specs.Prelude.{◌≡◌, ◌≢◌, ℕ, ◌+◌, ◌*◌, ◌/◌, ◌<◌, List, map, Bool, not, ◌&&◌, ◌==◌, bytes_eq, Option, None, find, option_map, if◌then◌else◌}
 use Rattle.std.specs.List.{range_with_len}
 use Rattle.bp_layout.specs.Paths.{Name}
@@ -20,11 +20,11 @@ abbrev pub name_in : Image → ℕ → ℕ → Name
 name_in image root slot =
     map (λ o. byte image root (entry_size * slot + 16 + o)) (range_with_len 0 (word_in image root slot 1))
 
--- the slots whose entries lie below the size
+-- the numbers of the slots (entries) that lie below the size of a directory
 abbrev pub slots : ℕ → List ℕ
 slots size = range_with_len 0 (size / entry_size)
 
--- the least slot that is empty, and the least with a name
+-- the first empty slot of a directory, and the first slot with a given name
 abbrev pub empty_slot_in : Image → ℕ → ℕ → Option ℕ
 empty_slot_in image root size = find (λ slot. inumber_in image root slot == 0) (slots size)
 
@@ -57,14 +57,14 @@ slot_named image i name = slot_named_in image (root_of image i) (size_of image i
 abbrev pub empty_slot : Image → ℕ → Option ℕ
 empty_slot image i = empty_slot_in image (root_of image i) (size_of image i)
 
--- directory i names inode j at this slot
+-- directory i has an entry for inode j at this slot
 pub record EntryNames (image : Image) (i slot j : ℕ) : Type 0 where
   pub directory : IsDirectory image i
   pub in_size : slot < entry_count image i
   pub inumber : inumber_at image i slot ≡ j
   pub not_empty : j ≢ 0
 
--- the inode that a name stands for in a directory
+-- the inode to which a name of directory i leads, or none
 abbrev pub lookup_in : Image → ℕ → Name → Option ℕ
 lookup_in image i name =
     if kind_of image i == directory_kind then option_map (inumber_at image i) (slot_named image i name) else None

@@ -6,7 +6,7 @@ use Rattle.bp_limits.specs.declared.version.Version.TheVariants.{One, Two}
 use Rattle.bp_limits.specs.Limits.{block_size, directory_kind, first_inode, magic, root_field, size_field, super_blocks, super_magic, super_root, super_second_root, super_second_size, super_size}
 use Rattle.bp_layout.specs.Stores.{after_stores}
 
--- the words that version 2 keeps for a second inode file, where there is none
+-- the stores that record in version 2 that there is no second inode file (no snapshot)
 abbrev pub no_second : List (ℕ × ℕ)
 no_second = (super_second_root, 0) ∷ (super_second_size, 0) ∷ []
 
@@ -14,16 +14,17 @@ abbrev pub kept_words : Version → List (ℕ × ℕ)
 kept_words One = []
 kept_words Two = no_second
 
--- the root directory without entries
+-- the stores that make inode 1 a root directory without entries
 abbrev pub no_entries : List (ℕ × ℕ)
 no_entries = (first_inode, directory_kind) ∷ (first_inode + root_field, 0) ∷ (first_inode + size_field, 0) ∷ []
 
--- the words of an empty file system of so many blocks, but for the mark
+-- the stores of an empty file system of this many blocks, except the magic number
 abbrev pub empty_words : Version → ℕ → List (ℕ × ℕ)
 empty_words version blocks = (super_blocks, blocks) ∷ (super_root, 0x1000) ∷ (super_size, block_size) ∷ []
     ++ kept_words version ++ no_entries
 
--- The mark goes, the words of an empty file system are stored, and the mark comes back, each in an epoch of its own.
+-- The stores of a format, in three epochs: the magic number is cleared, an empty file system is stored, and the new
+-- magic number is stored.
 abbrev pub format_epochs : Version → ℕ → List (List (ℕ × ℕ))
 format_epochs version blocks =
     ((super_magic, 0) ∷ []) ∷ empty_words version blocks ∷ ((super_magic, magic version) ∷ []) ∷ []
@@ -36,7 +37,7 @@ formatted image version blocks = after_stores image (format_stores version block
 
 -- ---- an upgrade of version 1
 
--- The words that version 2 keeps are stored, and then its mark.
+-- The stores of an upgrade, in two epochs: the words of version 2 for a snapshot, and then its magic number.
 abbrev pub upgrade_epochs : List (List (ℕ × ℕ))
 upgrade_epochs = no_second ∷ ((super_magic, magic Two) ∷ []) ∷ []
 

@@ -1,4 +1,4 @@
--- What is known of the slots of names, and when it is right.
+-- Slots of names that are remembered (hints), and when they are correct.
 use Rattle.std.specs.Prelude.{◌≡◌, ◌≢◌, ℕ, Some}
 use Rattle.std.specs.Ordering.{nat_cmp, on, then_cmp}
 use Rattle.std.specs.declared.cmp.Ordering.{Ordering}
@@ -14,25 +14,25 @@ use Rattle.bp_layout.specs.Reached.{IsReached}
 abbrev pub NameIn : Type 0
 NameIn = ℕ × Name
 
--- by their directories, and names of one directory by their bytes
+-- the order of such names: by directory, then by the bytes of the name
 abbrev pub name_in_cmp : NameIn → NameIn → Ordering
 name_in_cmp = then_cmp (on (λ n. n.0) nat_cmp) (on (λ n. n.1) (slice_cmp nat_cmp))
 
--- the slots of some names
+-- the remembered slots of some names
 abbrev pub Known : Type 0
 Known = FinMap name_in_cmp ℕ
 
--- A name has got this slot. All others are as they were, or not known any more.
+-- The name is remembered with this slot afterwards. Each other name has its old slot or is forgotten.
 pub record Learns (before after : Known) (name : NameIn) (slot : ℕ) : Type 0 where
   pub learned : get after name ≡ Some slot
   pub others : (other : NameIn) (s : ℕ) → other ≢ name → get after other ≡ Some s → get before other ≡ Some s
 
--- the name stands in a directory that is reached, and this is its slot there
+-- the name is in a reachable directory, and this is its slot there
 pub record IsSlotOf (image : Image) (name : NameIn) (slot : ℕ) : Type 0 where
   pub reached : IsReached image name.0
   pub directory : IsDirectory image name.0
   pub named : slot_named image name.0 name.1 ≡ Some slot
 
--- each name that is known has its slot
+-- each remembered slot is the name's slot in the image
 abbrev pub AreRight : Image → Known → Type 0
 AreRight image known = (name : NameIn) (slot : ℕ) → get known name ≡ Some slot → IsSlotOf image name slot

@@ -1,14 +1,14 @@
--- The trees of an image have numbers: 0 is the inode file, and any other number is an inode's.
+-- The numbers of the trees of an image: 0 is the inode file, and any other number is the tree of that inode.
 use Rattle.std.specs.Prelude.{◌≡◌, ◌≢◌, ℕ, zero, suc, ◌+◌, ◌*◌, ◌/◌, ◌%◌}
 use Rattle.bp_limits.specs.Limits.{block_words, directory_kind, file_kind, inode_size, inode_words, root_field, size_field, super_root, super_size}
 use Rattle.bp_layout.specs.Words.{Image, word, height_of}
 use Rattle.bp_layout.specs.Tree.{node, content_word}
 
--- word f of inode i, a word of the inode file's content
+-- word f of inode i, which is a word of the inode file's content
 abbrev pub inode_word : Image → ℕ → ℕ → ℕ
 inode_word image i f = content_word image (word image super_root) (inode_words * i + f)
 
--- the first word of an inode
+-- the kind of a tree: the first word of its inode; 0 for the inode file
 abbrev pub kind_of : Image → ℕ → ℕ
 kind_of image zero = 0
 kind_of image (suc i) = inode_word image (suc i) 0
@@ -30,16 +30,16 @@ size_of image (suc i) = inode_word image (suc i) size_field
 abbrev pub inode_count : Image → ℕ
 inode_count image = size_of image 0 / inode_size
 
--- word `index` at `depth` + 1 of tree t stands at this place
+-- the word number `index` at depth `depth` + 1 of tree t is at this place of the image
 pub record StandsAt (image : Image) (t depth index place : ℕ) : Type 0 where
   pub present : node image (root_of image t) depth (index / block_words) ≢ 0
   pub at : block_words * node image (root_of image t) depth (index / block_words) + index % block_words ≡ place
 
--- the same of a word of its content
+-- the content word number `index` of tree t is at this place of the image
 abbrev pub ContentStandsAt : Image → ℕ → ℕ → ℕ → Type 0
 ContentStandsAt image t index place = StandsAt image t (height_of (root_of image t)) index place
 
--- the place of the root word of a tree
+-- the place of the root word of a tree: in the superblock for the inode file, else in the inode
 pub data RootPlace (image : Image) : ℕ → ℕ → Type 0 where
   top : {t place : ℕ} → t ≡ 0 → place ≡ super_root → RootPlace image t place
   inode : {t place : ℕ} → t ≢ 0 → ContentStandsAt image 0 (inode_words * t + root_field) place → RootPlace image t place

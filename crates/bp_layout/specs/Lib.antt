@@ -1,4 +1,4 @@
--- What the words of an image mean. To be read in this order.
+-- The meaning of the words of an image. Read the modules in this order.
 
 -- names and paths, without an image
 pub mod Paths
@@ -8,13 +8,13 @@ pub mod Tree
 pub mod Inode
 pub mod Directory
 pub mod Reached
--- what an image shows, when it is a file system, and when it means the same as another
+-- the contents of an image, when it is a file system, and when two images mean the same
 pub mod Lookup
 pub mod Formatted
 pub mod WellFormed
 pub mod Checks
 pub mod Same
--- both trees
+-- both trees: the present one and the snapshot
 pub mod Trees
 -- the fields of an image, as code reads and writes them
 pub mod Fields
@@ -24,7 +24,7 @@ pub mod Bytes
 -- stores, and a format
 pub mod Stores
 pub mod Format
--- blocks: the free ones, the ways to words, trees in parts, what a change takes
+-- blocks: the free ones, the paths to words, parts of trees, and the blocks that a change takes
 pub mod Free
 pub mod WordPaths
 pub mod Pieces
@@ -34,5 +34,5 @@ pub mod Thaw
 pub mod Names
 pub mod Whole
 pub mod Members
--- what is known of the slots of names
+-- remembered slots of names
 pub mod Hints

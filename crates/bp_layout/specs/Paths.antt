@@ -1,4 +1,4 @@
--- Names and paths, and what can be at a path: a directory or a file. Nothing here knows of an image.
+-- Names and paths, and the kinds of node at a path: a directory or a file. Nothing here depends on an image.
 use Rattle.std.specs.Prelude.{◌≢◌, ◌≤◌, ℕ, List, [], ◌∷◌, length, All, Bool, not, ◌&&◌, ◌==◌, nat_le, nat_lt, bytes_eq, Option, None, Some, if◌then◌else◌}
 use Rattle.std.specs.List.{list_all}
 use Rattle.std.specs.Cmp.Lexicographic.{pointwise}
@@ -9,7 +9,7 @@ use Rattle.bp_limits.specs.CallLimits.{max_name, max_path}
 abbrev pub Name : Type 0
 Name = List ℕ
 
--- 1 to `max_name` bytes, none of them 0 or `/`, and neither `.` nor `..`
+-- a valid name: 1 to `max_name` bytes, none of them 0 or `/`, and neither `.` nor `..`
 pub record IsName (name : Name) : Type 0 where
   pub not_empty : 1 ≤ length name
   pub short : length name ≤ max_name
@@ -17,7 +17,7 @@ pub record IsName (name : Name) : Type 0 where
   pub not_dot : name ≢ 46 ∷ []
   pub not_dot_dot : name ≢ 46 ∷ 46 ∷ []
 
--- the same as a test
+-- whether the bytes are a valid name
 abbrev pub is_name : Name → Bool
 is_name name =
     nat_le 1 (length name) && nat_le (length name) max_name && list_all (λ b. not (b == 0) && not (b == 47)) name
@@ -25,7 +25,7 @@ is_name name =
 
 -- ---- paths
 
--- the names from the root directory on; the root directory itself has none
+-- a path: the names from the root directory on; the root directory's path has no name
 abbrev pub Path : Type 0
 Path = List Name
 
@@ -37,7 +37,7 @@ pub data Node : Type 0 where
 abbrev pub same_path : Path → Path → Bool
 same_path = pointwise bytes_eq
 
--- what follows the first path in the second one, if the first one is a prefix of it
+-- the rest of the second path after the first one, if the first one is a prefix of it
 abbrev pub rest_below : Path → Path → Option Path
 rest_below [] path = Some path
 rest_below (name ∷ above) [] = None
@@ -45,12 +45,12 @@ rest_below (name ∷ above) (other ∷ path) = if bytes_eq name other then rest_
 
 -- ---- the text of a path
 
--- the byte in front of the first part
+-- the byte added at the start of the first part
 abbrev pub onto_first : ℕ → List Name → List Name
 onto_first b [] = (b ∷ []) ∷ []
 onto_first b (part ∷ parts) = (b ∷ part) ∷ parts
 
--- the parts between the bytes `/`
+-- the parts of a text between its bytes `/`
 abbrev pub parts : List ℕ → List Name
 parts [] = [] ∷ []
 parts (b ∷ bytes) = if b == 47 then [] ∷ parts bytes else onto_first b (parts bytes)
@@ -59,7 +59,7 @@ abbrev pub names_after_slash : List ℕ → Option Path
 names_after_slash [] = Some []
 names_after_slash (b ∷ bytes) = if list_all is_name (parts (b ∷ bytes)) then Some (parts (b ∷ bytes)) else None
 
--- A path is at most `max_path` bytes: `/`, or one or more names with a `/` in front of each.
+-- The path that a text spells: at most `max_path` bytes, either `/` or one or more names, each after a `/`.
 abbrev pub parse : List ℕ → Option Path
 parse [] = None
 parse (b ∷ bytes) = if (b == 47) && nat_lt (length bytes) max_path then names_after_slash bytes else None

@@ -1,4 +1,4 @@
--- When two images stand for the same plain tree, in one version.
+-- When two images represent the same abstract tree, in one version.
 use Rattle.std.specs.Prelude.{◌≡◌}
 use Rattle.bp_layout.specs.Words.{Image}
 use Rattle.bp_layout.specs.Formatted.{version_of}

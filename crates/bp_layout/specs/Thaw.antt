@@ -1,5 +1,6 @@
--- The pointers of a change that lead to blocks that are kept: those of a snapshot, to which no call stores. Copies are
--- put in place of these blocks before anything else is done, and what the change then stores to is not kept.
+-- The pointers of a change that lead to kept blocks: blocks of a snapshot, to which no call stores. A change first
+-- replaces these blocks by copies (copy-on-write for the snapshot, called thaw), and then stores only to blocks that
+-- are not kept.
 use Rattle.std.specs.Prelude.{◌≡◌, ℕ, suc, ◌+◌, ◌/◌, List, [], ◌∷◌, ◌++◌, length, filter, flat_map, Bool, false, not, ◌&&◌, nat_lt, Option, None, Some, if◌then◌else◌}
 use Rattle.std.specs.List.{list_any}
 use Rattle.bp_layout.specs.Words.{Image, word, block_of, height_of}
@@ -12,12 +13,12 @@ use Rattle.bp_layout.specs.Need.{Beyond, Change, beyond, cover_of, entry_path_at
 use Rattle.bp_layout.specs.Need.Change.{enters, moves}
 use Rattle.bp_layout.specs.Need.Entrant.{taken}
 
--- ---- targets: the words near which a change stores, at the heights that the trees have
+-- ---- targets: the words near which a change stores, at the present heights of the trees
 
 abbrev pub heights_now : Image → ℕ → ℕ
 heights_now image t = height_of (root_of image t)
 
--- the node is there to which the pointer at a path points
+-- the node to which the pointer at a path leads exists now
 abbrev pub is_there_now : Image → WordPath → Bool
 is_there_now image path =
     is_present image (root_of image (pointed (heights_now image) path).0)
@@ -29,13 +30,13 @@ cover_now image change = cover_of (is_there_now image) (touched_at (heights_now 
 abbrev pub root_path_now : Image → ℕ → WordPath
 root_path_now image t = tree_path (heights_now image 0) t 0 0
 
--- the word of the byte at the size, or the root word where the tree is empty or too low for it
+-- the word of the byte at the size; the root word if the tree is empty or too low for that byte
 abbrev pub end_path_now : Image → ℕ → WordPath
 end_path_now image t =
     if nat_lt 0 (size_of image t) && nat_lt (size_of image t) (span (heights_now image t))
     then tree_path (heights_now image 0) t (suc (heights_now image t)) (size_of image t / 8) else root_path_now image t
 
--- where bytes come behind the size of a tree
+-- the targets of bytes that are added past the end of a tree
 abbrev pub end_targets : Image → Beyond → List WordPath
 end_targets image b = root_path_now image b.tree ∷ end_path_now image b.tree ∷ []
 
@@ -43,7 +44,7 @@ abbrev pub slot_target : Image → ℕ → Option ℕ → List WordPath
 slot_target image i None = []
 slot_target image i (Some slot) = entry_path_at (heights_now image) i slot 0 ∷ []
 
--- the inode that is taken, and the empty entry to which a name comes from another directory
+-- the inode that a new entry takes, and the empty entry to which a name moves from another directory
 abbrev pub entry_targets : Image → Change → List WordPath
 entry_targets image (enters i (taken j)) = inode_path (heights_now image 0) j 0 ∷ []
 entry_targets image (moves i s j) = slot_target image j (empty_slot image j)
@@ -54,38 +55,39 @@ targets image change =
     cover_now image change ∷ flat_map (end_targets image) (beyond image change ++ new_inodes image change)
     ++ entry_targets image change
 
--- ---- thaw
+-- ---- thaw: which blocks are copied
 
--- as where there is no snapshot
+-- the case without a snapshot: no block is kept
 abbrev pub none_kept : ℕ → Bool
 none_kept b = false
 
--- a live pointer leads to a block that is kept
+-- the pointer at this path is live and leads to a kept block
 abbrev pub is_kept_at : Image → (ℕ → Bool) → WordPath → Bool
 is_kept_at image kept path = is_there_now image path && kept (block_of (word image (address image path)))
 
--- the path begins with the front, and goes on behind it
+-- the path `front` is a proper prefix of the other path
 abbrev pub is_front : WordPath → WordPath → Bool
 is_front front path = is_prefix front path && nat_lt (length front) (length path)
 
--- The pointers on the ways to some words: the fronts of their paths. Each counts once, at the first path that goes on
--- behind it. So the root word of a tree, to which one way leads, counts where the next goes on below it.
+-- The pointers on the paths to some words: the proper prefixes of the paths. Each counts once, at the first path of
+-- which it is a proper prefix. A path that is itself a target, such as the root word of a tree, counts if a later path
+-- goes below it.
 abbrev pub fronts_of : List WordPath → List WordPath → List WordPath
 fronts_of earlier [] = []
 fronts_of earlier (path ∷ paths) =
     filter (λ front. not (list_any (is_front front) earlier)) (prefixes_from 0 path) ++ fronts_of (path ∷ earlier) paths
 
--- those of them that lead to blocks that are kept
+-- the pointers among them that lead to kept blocks
 abbrev pub thawed_on : Image → (ℕ → Bool) → List WordPath → List WordPath
 thawed_on image kept paths = filter (is_kept_at image kept) (fronts_of [] paths)
 
 abbrev pub thawed : Image → (ℕ → Bool) → Change → List WordPath
 thawed image kept change = thawed_on image kept (targets image change)
 
--- none of the blocks to which the pointers on a way lead is kept, from those with so many slots on
+-- no pointer on a path leads to a kept block, from the prefix of length `shortest` on
 abbrev pub IsLoose : Image → (ℕ → Bool) → ℕ → WordPath → Type 0
 IsLoose image kept shortest path = filter (is_kept_at image kept) (prefixes_from shortest path) ≡ []
 
--- how many blocks a change takes in all
+-- the number of blocks that a change takes in all, with the copies of kept blocks
 abbrev pub full_need : Image → (ℕ → Bool) → Change → ℕ
 full_need image kept change = length (thawed image kept change) + need image change

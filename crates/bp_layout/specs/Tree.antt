@@ -1,21 +1,22 @@
--- A tree under a root word: what it holds, which of its words are live, and when it is sound.
+-- A tree under a root word: its contents, which of its words are live, and when it is sound.
 use Rattle.std.specs.Prelude.{◌≡◌, ◌≢◌, ℕ, zero, suc, ◌+◌, ◌*◌, ◌/◌, ◌%◌, ◌^◌, ◌<◌, ◌≤◌, List, map}
 use Rattle.std.specs.List.{range_with_len}
 use Rattle.bp_layout.specs.Words.{Image, block_count, block_of, height_of, slot_word, byte_of}
 use Rattle.bp_limits.specs.Limits.{block_size, block_words, max_height}
 
--- The word with a number among the words at a depth. At depth 0 stands the root word alone. A word at a depth up to
--- the height points to a block, whose 512 words stand one deeper. So those one deeper than the height are the content.
+-- Word number `index` at a depth of the tree. At depth 0 is only the root word. A word at a depth up to the height
+-- points to a block, and the 512 words of that block are one level deeper. So the words one level deeper than the
+-- height are the content.
 unfoldable pub tree_word : Image → ℕ → ℕ → ℕ → ℕ
 tree_word image root zero index = root
 tree_word image root (suc depth) index =
     slot_word image (block_of (tree_word image root depth (index / block_words))) (index % block_words)
 
--- the block to which that word points, 0 where it is null or where a null is above it
+-- the block to which a word of the tree points, given by depth and number; 0 if the word, or one above it, is null
 abbrev pub node : Image → ℕ → ℕ → ℕ → ℕ
 node image root depth index = block_of (tree_word image root depth index)
 
--- the place at which that word stands, given that of the root word
+-- the place in the image of a word of the tree, given the place of the root word
 abbrev pub place_of : Image → ℕ → ℕ → ℕ → ℕ → ℕ
 place_of image at root zero index = at
 place_of image at root (suc depth) index =
@@ -27,15 +28,15 @@ content_word image root index = tree_word image root (suc (height_of root)) inde
 abbrev pub byte : Image → ℕ → ℕ → ℕ
 byte image root offset = byte_of (content_word image root (offset / 8)) (offset % 8)
 
--- the bytes below the size
+-- the bytes of the tree below its size
 abbrev pub content : Image → ℕ → ℕ → List ℕ
 content image root size = map (byte image root) (range_with_len 0 size)
 
--- A word that stands `rank` above the content words covers 8 * 512 ^ rank bytes.
+-- A word `rank` levels above the content words covers 8 * 512 ^ rank bytes.
 abbrev pub covered : ℕ → ℕ
 covered rank = 8 * block_words ^ rank
 
--- A node covers what its 512 words cover: 4096 bytes at level 0, that of the leaves.
+-- A node covers what its 512 words cover: 4096 bytes at level 0, the level of the leaves.
 abbrev pub span : ℕ → ℕ
 span level = covered (suc level)
 
@@ -45,13 +46,14 @@ pub record IsLiveWord (root size depth index : ℕ) : Type 0 where
   pub height : depth + rank ≡ suc (height_of root)
   pub live : index * covered rank < size
 
--- The same of a pointer, which stands above the content words.
+-- The pointer at this depth and number is live: the first byte that it covers is below the size. Pointers are above the
+-- content words.
 pub record IsLivePointer (root size depth index : ℕ) : Type 0 where
   pub level : ℕ
   pub height : depth + level ≡ height_of root
   pub live : index * covered (suc level) < size
 
--- the tree has this block: a live pointer names it
+-- the tree has this block: a live pointer leads to it
 pub record HasBlock (image : Image) (root size block : ℕ) : Type 0 where
   pub depth : ℕ
   pub index : ℕ
@@ -59,7 +61,7 @@ pub record HasBlock (image : Image) (root size block : ℕ) : Type 0 where
   pub named : node image root depth index ≡ block
   pub not_null : block ≢ 0
 
--- what each reader of a tree asks
+-- the condition that every reader of a tree requires
 pub record IsSound (image : Image) (root size : ℕ) : Type 0 where
   pub low : 0 < size → height_of root ≤ max_height
   pub root_bits : 0 < size → root / 8 % 512 ≡ 0

@@ -1,5 +1,5 @@
--- An image with both its trees: when it is a file system, which checks fail of it, when it means the same as another, and
--- which blocks it has free.
+-- An image with both its trees: when it is a file system, which checks fail in it, when it means the same as another,
+-- and its number of free blocks.
 use Rattle.std.specs.Prelude.{◌≡◌, ℕ, ◌==◌, Bool, true, if◌then◌else◌}
 use Rattle.bp_limits.specs.Limits.{super_root, super_second_root, super_second_size, super_size}
 use Rattle.bp_layout.specs.Checks.{Fails}
@@ -10,40 +10,40 @@ use Rattle.bp_layout.specs.Trees.{AreFrozen, has_snapshot, snapshot_of}
 use Rattle.bp_layout.specs.WellFormed.{IsWellFormed}
 use Rattle.bp_layout.specs.declared.check.Check.{Check}
 
--- each tree by itself; a block may be in both
+-- each tree is well formed; a block may be in both
 pub record IsFileSystem (image : Image) : Type 0 where
   pub first : IsWellFormed image
   pub second : has_snapshot image ≡ true → IsWellFormed (snapshot_of image)
 
--- Where a word of the image in which the second tree is the first stands in the image itself: the root word and the size
--- of that tree have places of their own.
+-- The place in the image of a word of `snapshot_of` that image: the root word and the size of the snapshot have places
+-- of their own; all other places are the same.
 abbrev pub second_place : ℕ → ℕ
 second_place place =
     if place == super_root then super_second_root
     else if place == super_size then super_second_size
     else place
 
--- a check fails at a place: one of the first tree, or one of the second, where it is there
+-- a check fails at a place, in the first tree or in the snapshot if there is one
 pub data FailsWhole (image : Image) : Check → ℕ → Type 0 where
   first : {check : Check} {place : ℕ} → Fails image check place → FailsWhole image check place
   second : {check : Check} {place : ℕ} → has_snapshot image ≡ true → Fails (snapshot_of image) check place
       → FailsWhole image check (second_place place)
 
--- none does at any place
+-- no check fails at any place, in either tree
 pub record NoneFailsWhole (image : Image) : Type 0 where
   pub none : (check : Check) (place : ℕ) → FailsWhole image check place → ⊥
 
--- both have a second tree, which means the same, or neither has one
+-- both images have a snapshot, and it means the same, or neither has one
 pub record SameSnapshot (old new : Image) : Type 0 where
   pub there : has_snapshot new ≡ has_snapshot old
   pub same : has_snapshot old ≡ true → Same (snapshot_of old) (snapshot_of new)
 
--- the first tree means the same, in one version, and so does the second
+-- the first trees mean the same, in one version, and so do the snapshots
 pub record SameFiles (old new : Image) : Type 0 where
   pub first : Same old new
   pub second : SameSnapshot old new
 
--- so many blocks are in neither tree
+-- `count` is the number of blocks that are in neither tree
 pub record HasSpace (image : Image) (count : ℕ) : Type 0 where
   pub kept : ℕ → Bool
   pub are : AreFrozen image kept

@@ -11,14 +11,14 @@ use crate::Name;
 /// An entry of a directory, 32 words.
 #[derive(Debug, Drop)]
 pub struct Entry {
-    /// The inode that it names, 0 where the entry is empty.
+    /// Inode that the entry names; 0 if the entry is empty.
     pub inumber: u64,
-    /// The name of that inode.
+    /// Name of that inode.
     pub name: Name,
 }
 
 impl Entry {
-    /// The inumber in word 0, and the name: as many bytes as word 1 says, from word 2 on.
+    /// Reads the inumber from word 0, and the name: word 1 has its length in bytes, and the bytes start at word 2.
     pub fn read(words: &[u64; 32]) -> Entry
         requires least { 1 ≤ slice_index words.now 1 }
         requires most { slice_index words.now 1 ≤ max_name }
@@ -35,7 +35,7 @@ impl Entry {
         }
     }
 
-    /// The words with these fields, with zeros behind the name.
+    /// Returns the words with these fields, with zeros after the name.
     pub fn words(&self) -> [u64; 32]
         requires { 1 ≤ array_vec_len self.now.name }
         ensures inumber { slice_index result 0 ≡ self.now.inumber }
@@ -53,7 +53,7 @@ impl Entry {
     }
 }
 
-/// A byte of a word, the lowest at index 0.
+/// Returns a byte of a word; index 0 is the lowest byte.
 fn byte(word: u64, index: usize) -> u8
     requires { index < 8 }
     ensures { result ≡ byte_of word index }
@@ -61,7 +61,7 @@ fn byte(word: u64, index: usize) -> u8
     word.to_le_bytes()[index]
 }
 
-/// The bytes of a name that stand in word `2 + index` of its entry, with zeros behind the name.
+/// Returns word `2 + index` of an entry: eight bytes of the name, with zeros after the name's end.
 pub fn name_word(name: &[u8], index: usize) -> u64
     requires { index < 30 }
     ensures { (offset : ℕ) → offset < 8 → byte_of result offset ≡ slice_index name.now (8 * index + offset) }

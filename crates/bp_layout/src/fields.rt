@@ -8,16 +8,16 @@ ghost use Rattle.bp_layout.specs.Words.{block_of, height_of};
 use arrayvec::ArrayVec;
 use bp_limits::{BLOCK_SIZE, DIRECTORY_KIND, FILE_KIND, MAX_NAME};
 
-/// The kind of an inode.
+/// Kind of an inode.
 #[derive(Clone, Copy, Debug, PartialEq, Eq)]
 pub enum Kind {
-    /// A row of bytes.
+    /// A sequence of bytes.
     File,
-    /// A row of entries, each of which names an inode.
+    /// A sequence of entries, each of which names an inode or is empty.
     Dir,
 }
 
-/// What a call tells of an inode.
+/// What `stat` returns of an inode.
 #[derive(Clone, Copy, Debug, PartialEq, Eq)]
 pub enum Stat {
     /// A file, and its size in bytes.
@@ -26,29 +26,29 @@ pub enum Stat {
     Dir { count: u64 },
 }
 
-/// The bytes of a name, 1 to 240 of them in an entry that names an inode.
+/// Bytes of a name, at most 240. In an entry that names an inode there are 1 to 240.
 pub type Name = ArrayVec<u8, MAX_NAME>;
 
-/// A word is no pointer: it has a bit that none has, or a height that no tree has.
+/// Error for a word that is no valid pointer: a reserved bit is set, or the height is above the greatest one.
 #[derive(Clone, Copy, Debug, PartialEq, Eq)]
 pub struct BadPointer;
 
-/// A root word: where a tree stands, and how high it is.
+/// Root word of a tree: its top block and its height.
 #[derive(Clone, Copy, Debug, PartialEq, Eq)]
 pub struct RootWord {
-    /// How many levels of blocks of pointers stand above the leaves.
+    /// Number of levels of pointer blocks above the leaves.
     pub height: u32,
-    /// The number of the topmost block, 0 where there is none.
+    /// Number of the top block, 0 if there is none.
     pub block: u64,
 }
 
 impl RootWord {
-    /// The fields of a root word: its height in bits 0 to 2, its block in bits 12 to 63. `top` is the greatest height that a
-    /// tree has.
+    /// Reads the fields of a root word: the height from bits 0 to 2, the block from bits 12 to 63. `top` is the
+    /// greatest height that a tree may have.
     ///
     /// # Errors
     ///
-    /// `BadPointer` exactly where the height is above `top`, or one of bits 3 to 11 is set.
+    /// - `BadPointer`: the height is above `top`, or one of bits 3 to 11 is set; in no other case.
     pub fn read(word: u64, top: u32) -> Result<RootWord, BadPointer>
         ensures form { IsOk result ↔ IsRootWord top word }
         ensures height { IfOk result (λ root. root.height ≡ height_of word) }
@@ -64,7 +64,7 @@ impl RootWord {
         })
     }
 
-    /// The word with these fields.
+    /// Returns the word with these fields.
     pub fn word(&self) -> u64
         requires height { self.now.height ≤ max_height }
         requires block { self.now.block < 2 ^ 52 }
@@ -74,11 +74,11 @@ impl RootWord {
     }
 }
 
-/// The block to which a pointer below a root word points, 0 where it is null: its bits 12 to 63.
+/// Returns the block to which a pointer below a root word leads (bits 12 to 63), 0 for a null pointer.
 ///
 /// # Errors
 ///
-/// `BadPointer` exactly where one of bits 0 to 11 is set.
+/// - `BadPointer`: one of bits 0 to 11 is set; in no other case.
 pub fn pointer(word: u64) -> Result<u64, BadPointer>
     ensures form { IsOk result ↔ IsPointerWord word }
     ensures block { IfOk result (λ block. block ≡ block_of word) }
@@ -89,7 +89,7 @@ pub fn pointer(word: u64) -> Result<u64, BadPointer>
     Ok(pm_words::block_of(word))
 }
 
-/// The pointer to a block.
+/// Returns the pointer to a block.
 pub fn pointer_word(block: u64) -> u64
     requires { block < 2 ^ 52 }
     ensures { result ≡ pointer_word block }
@@ -97,21 +97,21 @@ pub fn pointer_word(block: u64) -> u64
     BLOCK_SIZE * block
 }
 
-/// The words of a superblock that are not dead.
+/// Words of the superblock that have a meaning.
 #[derive(Clone, Copy, Debug, PartialEq, Eq)]
 pub struct Super {
-    /// The mark of a version in an image that is formatted.
+    /// Magic number: that of a version if the image is formatted.
     pub magic: u64,
-    /// The number of blocks of the image.
+    /// Number of blocks of the image.
     pub blocks: u64,
-    /// The root word of the inode file.
+    /// Root word of the inode file.
     pub root: u64,
-    /// The size of the inode file in bytes.
+    /// Size of the inode file in bytes.
     pub size: u64,
 }
 
 impl Super {
-    /// The fields in words 0 to 3 of an image.
+    /// Reads the fields in words 0 to 3 of an image.
     pub fn read(words: &[u64; 4]) -> Super
         ensures magic { result.magic ≡ slice_index words.now 0 }
         ensures blocks { result.blocks ≡ slice_index words.now 1 }
@@ -126,7 +126,7 @@ impl Super {
         }
     }
 
-    /// The words with these fields.
+    /// Returns the words with these fields.
     pub fn words(&self) -> [u64; 4]
         ensures { result ≡ words_of_super self.now }
     {
@@ -134,19 +134,19 @@ impl Super {
     }
 }
 
-/// The words of an inode that are not dead.
+/// Words of an inode that have a meaning.
 #[derive(Clone, Copy, Debug, PartialEq, Eq)]
 pub struct Inode {
-    /// What its bytes are.
+    /// Kind of the inode.
     pub kind: Kind,
-    /// The root word of its tree.
+    /// Root word of its tree.
     pub root: u64,
-    /// Its size in bytes.
+    /// Size in bytes.
     pub size: u64,
 }
 
 impl Inode {
-    /// The fields in words 0 to 2 of an inode, of which word 0 is 1 for a file and 2 for a directory.
+    /// Reads the fields in words 0 to 2 of an inode. Word 0 must be 1 (a file) or 2 (a directory).
     pub fn read(words: &[u64; 3]) -> Inode
         requires least { 1 ≤ slice_index words.now 0 }
         requires most { slice_index words.now 0 ≤ 2 }
@@ -165,7 +165,7 @@ impl Inode {
         }
     }
 
-    /// The words with these fields.
+    /// Returns the words with these fields.
     pub fn words(&self) -> [u64; 3]
         ensures { result ≡ words_of_inode self.now }
     {
@@ -174,7 +174,7 @@ impl Inode {
 }
 
 impl Kind {
-    /// The first word of an inode of this kind.
+    /// Returns the first word of an inode of this kind.
     pub fn word(self) -> u64
         ensures { result ≡ kind_word self }
     {

@@ -1,4 +1,4 @@
-//! Laws of what an image means. Each is the contract of a function that does nothing.
+//! Theorems on the meaning of an image. Each is the contract of a function with an empty body.
 
 ghost use Rattle.std.specs.Prelude.{None, Some, [], ℕ, ◌*◌, ◌∷◌, ◌↔◌, ◌≡◌, ◌≤◌, false, length};
 ghost use Rattle.bp_layout.specs.Checks.{NoneFails};
@@ -16,17 +16,19 @@ ghost use Rattle.bp_layout.specs.Whole.{IsFileSystem, NoneFailsWhole};
 
 use bp_limits::Version;
 
-/// The first tree of an image is well formed exactly where the image is formatted and no check of it fails at any place.
+/// States that the first tree of an image is well formed exactly if the image is formatted and no check of that tree
+/// fails at any place.
 pub fn well_formed_by_checks(image: &[u64])
     ensures { IsWellFormed image.now ↔ (IsFormatted image.now × NoneFails image.now) }
 {}
 
-/// An image is a file system exactly where it is formatted and no check of either tree fails at any place.
+/// States that an image is a file system exactly if it is formatted and no check of either tree fails at any place.
 pub fn file_system_by_checks(image: &[u64])
     ensures { IsFileSystem image.now ↔ (IsFormatted image.now × NoneFailsWhole image.now) }
 {}
 
-/// A format over any words makes a file system of its version, without a second tree, that shows the root directory alone.
+/// States that a format over any words makes a file system of its version, without a snapshot, whose only path is the
+/// root directory.
 pub fn format_shows_the_root(image: &[u64], version: Version, blocks: u64)
     requires whole { length image.now ≡ block_words * blocks }
     requires least { min_blocks ≤ blocks }
@@ -38,7 +40,8 @@ pub fn format_shows_the_root(image: &[u64], version: Version, blocks: u64)
     ensures alone { (name : Name) (path : Path) → shown (formatted image.now version blocks) (name ∷ path) ≡ None }
 {}
 
-/// An upgrade makes a well-formed image a file system of version 2, without a second tree, that shows the same.
+/// States that an upgrade makes a well-formed image a file system of version 2, without a snapshot, with the same
+/// contents at each path.
 pub fn upgrade_shows_the_same(image: &[u64])
     requires { IsWellFormed image.now }
     ensures well_formed { IsFileSystem (upgraded image.now) }
@@ -48,7 +51,7 @@ pub fn upgrade_shows_the_same(image: &[u64])
     ensures one { (p q : Path) → find_one (upgraded image.now) p q ≡ find_one image.now p q }
 {}
 
-/// In a well-formed image a directory stands at one path.
+/// States that a directory of a well-formed image has only one path.
 pub fn directory_has_one_path(image: &[u64])
     requires { IsWellFormed image.now }
     ensures { (one other : Path) (i : ℕ) → lookup image.now one ≡ Some i → lookup image.now other ≡ Some i

@@ -1,4 +1,4 @@
-//! What the words of an image mean, and the types of what stands in them.
+//! The meaning of the words of an image, and the types of its fields.
 #![tactic(auto)]
 
 mod check;

@@ -9,7 +9,7 @@ use crate::{Kind, Name};
 use std::alloc::{AllocError, Global};
 use std::marker::Model;
 
-/// A name of a listing: its kind, and where its bytes stand among those of all names.
+/// A name of a listing: its kind, and the position of its bytes among those of all names.
 #[derive(Clone, Copy)]
 struct Listed {
     first: usize,
@@ -17,7 +17,7 @@ struct Listed {
     kind: Kind,
 }
 
-/// A list of kinds and names, as a directory has them.
+/// A list of names with their kinds, as those of a directory.
 #[derive(Drop)]
 pub struct Listing {
     entries: Vec<Listed>,
@@ -33,11 +33,11 @@ impl Model for Listing {
 
     ghost view = { λ listing. listed_names listing.bytes.items listing.entries.items };
 
-    // So a name that is added moves none of the others.
+    // The bytes of a name never move when another name is added.
     ghost invariant = { λ listing. AreWithin listing.bytes.items listing.entries.items };
 }
 
-/// The bytes of a name, those of them that stand in `bytes`.
+/// Returns the bytes of a name, as far as they are in `bytes`.
 fn name_in(bytes: &[u8], listed: Listed) -> &[u8]
     ensures bytes { result.now ≡ take listed.len (drop listed.first bytes.now) }
     ensures few { length result.now ≤ listed.len }
@@ -47,11 +47,11 @@ fn name_in(bytes: &[u8], listed: Listed) -> &[u8]
 }
 
 impl Listing {
-    /// A list without names, with memory for so many, but for their bytes.
+    /// Makes a list without names, with memory for `count` entries (not for the bytes of the names).
     ///
     /// # Errors
     ///
-    /// Where there is no memory for them.
+    /// - `AllocError`: out of memory.
     pub fn with_capacity(alloc: Global, count: usize) -> Result<Listing, AllocError>
         ensures { IfOk result (λ listing. listing ≡ []) }
     {
@@ -61,11 +61,11 @@ impl Listing {
         })
     }
 
-    /// A list of these kinds and names.
+    /// Makes a list of these kinds and names.
     ///
     /// # Errors
     ///
-    /// Where there is no memory for it.
+    /// - `AllocError`: out of memory.
     pub fn of(alloc: Global, entries: &[(Kind, Name)]) -> Result<Listing, AllocError>
         ensures { IfOk result (λ listing. listing ≡ listed entries.now) }
     {
@@ -76,12 +76,13 @@ impl Listing {
         Ok(listing)
     }
 
-    /// Adds a name at the end, of 240 bytes at most.
+    /// Adds a name, of at most 240 bytes, at the end of the list.
     ///
     /// # Errors
     ///
-    /// Where there is no memory for it. The list stays as it was.
-    // Two walks push a name a turn, so no compiler inlines it by itself: a call would be 70 of some 1,400 instructions a name.
+    /// - `AllocError`: out of memory. The list is unchanged.
+    // Two walks add one name a step, so no compiler inlines this function by itself; a call would cost 70 of about
+    // 1,400 instructions a name.
     #[inline(always)]
     pub fn push(&mut self, kind: Kind, name: &[u8]) -> Result<(), AllocError>
         requires { length name.now ≤ max_name }
@@ -98,7 +99,7 @@ impl Listing {
         Ok(())
     }
 
-    /// Puts the names in the order of their bytes.
+    /// Sorts the names by their bytes.
     pub fn sort(&mut self)
         ensures all { IsPermutation self.old self.new }
         ensures sorted { IsSortedBy comes_before self.new }
@@ -109,21 +110,21 @@ impl Listing {
         )));
     }
 
-    /// How many names it has.
+    /// Returns the number of names.
     pub fn len(&self) -> usize
         ensures { result ≡ length self.now }
     {
         self.entries.len()
     }
 
-    /// Whether it has no names.
+    /// Returns whether the list has no names.
     pub fn is_empty(&self) -> bool
         ensures { IsTrue result ↔ (self.now ≡ []) }
     {
         self.entries.is_empty()
     }
 
-    /// The kind and the name at an index, from 0 on.
+    /// Returns the kind and the name at an index, from 0 on.
     pub fn at(&self, index: usize) -> (Kind, &[u8])
         requires { index < length self.now }
         ensures entry { slice_get self.now index ≡ Some (result.0, result.1.now) }

@@ -8,14 +8,14 @@ abbrev pub is_two : Version → Bool
 is_two One = false
 is_two Two = true
 
--- the greatest length of a name and of a path, in bytes
+-- The maximum length of a name and of a path, in bytes.
 abbrev pub max_name : ℕ
 max_name = MAX_NAME
 
 abbrev pub max_path : ℕ
 max_path = MAX_PATH
 
--- the greatest size of a file, a directory and the inode file, in bytes: what a tree of the greatest height covers
+-- The maximum size of a file, a directory and the inode file, in bytes: what a tree of the maximum height covers.
 abbrev pub max_size : ℕ
 max_size = MAX_SIZE
 
@@ -23,7 +23,7 @@ abbrev pub greatest_size : Version → ℕ
 greatest_size One = 549755813888
 greatest_size Two = max_size
 
--- the most bytes that one call writes: in any version, and by version
+-- The maximum number of bytes that one call writes: in any version, and by version.
 abbrev pub max_write : ℕ
 max_write = MAX_WRITE
 
@@ -31,6 +31,6 @@ abbrev pub greatest_write : Version → ℕ
 greatest_write One = 65536
 greatest_write Two = max_write
 
--- the most bytes of all pieces of a batch
+-- The maximum number of bytes of all pieces of a batch together.
 abbrev pub max_batch : ℕ
 max_batch = MAX_BATCH

@@ -6,14 +6,14 @@ use Rattle.bp_limits.specs.declared.version.Version.TheVariants.{One, Two}
 
 -- ---- words and blocks
 
--- the bytes of a block, and its words
+-- The size of a block, in bytes and in words.
 abbrev pub block_size : ℕ
 block_size = BLOCK_SIZE
 
 abbrev pub block_words : ℕ
 block_words = BLOCK_WORDS
 
--- the least and the greatest number of blocks of an image
+-- The minimum and the maximum number of blocks of an image.
 abbrev pub min_blocks : ℕ
 min_blocks = MIN_BLOCKS
 
@@ -22,16 +22,17 @@ max_blocks = MAX_BLOCKS
 
 -- ---- the superblock
 
--- the mark of a version, word 0 of its images: the bytes `BPFSRS01` and `BPFSRS02`
+-- The magic number of a version, which is word 0 of its images: the bytes `BPFSRS01` and `BPFSRS02`.
 abbrev pub magic : Version → ℕ
 magic One = 0x3130535253465042
 magic Two = 0x3230535253465042
 
--- the version that a word 0 marks, the first one where it is the mark of none
+-- The version of an image with this word 0: the first version if it is the magic number of none.
 abbrev pub version_at : ℕ → Version
 version_at word = if word == magic Two then Two else One
 
--- where the mark stands, the number of blocks, and the root word and the size of the inode file
+-- The word of the superblock with the magic number, and those with the number of blocks, the root word and the size of
+-- the inode file.
 abbrev pub super_magic : ℕ
 super_magic = SUPER_MAGIC
 
@@ -44,7 +45,7 @@ super_root = SUPER_ROOT
 abbrev pub super_size : ℕ
 super_size = SUPER_SIZE
 
--- where version 2 has place for the root word and the size of a second inode file
+-- The words of the superblock that have, in version 2, the root word and the size of a second inode file.
 abbrev pub super_second_root : ℕ
 super_second_root = SUPER_SECOND_ROOT
 
@@ -53,40 +54,40 @@ super_second_size = SUPER_SECOND_SIZE
 
 -- ---- inodes and directories
 
--- the bytes of an inode, and its words
+-- The size of an inode, in bytes and in words.
 abbrev pub inode_size : ℕ
 inode_size = INODE_SIZE
 
 abbrev pub inode_words : ℕ
 inode_words = INODE_WORDS
 
--- which of them are the root word and the size of its tree
+-- The words of an inode that are the root word and the size of its tree.
 abbrev pub root_field : ℕ
 root_field = ROOT_FIELD
 
 abbrev pub size_field : ℕ
 size_field = SIZE_FIELD
 
--- the inodes of a block
+-- The number of inodes in a block.
 abbrev pub block_inodes : ℕ
 block_inodes = BLOCK_INODES
 
--- the number of the root directory's inode
+-- The number of the root directory's inode.
 abbrev pub root_inumber : ℕ
 root_inumber = ROOT_INUMBER
 
--- the place of that inode in a new image, in words
+-- The first word of the root directory's inode in a new image.
 abbrev pub first_inode : ℕ
 first_inode = FIRST_INODE
 
--- the first word of a file's inode, and of a directory's
+-- The first word of a file's inode, and of a directory's.
 abbrev pub file_kind : ℕ
 file_kind = FILE_KIND
 
 abbrev pub directory_kind : ℕ
 directory_kind = DIRECTORY_KIND
 
--- the bytes of an entry of a directory, its words, and the entries of a block
+-- The size of a directory entry, in bytes and in words, and the number of entries in a block.
 abbrev pub entry_size : ℕ
 entry_size = ENTRY_SIZE
 
@@ -98,7 +99,7 @@ block_entries = BLOCK_ENTRIES
 
 -- ---- trees
 
--- the greatest height of a tree, in images of any version and of each
+-- The maximum height of a tree, in images of any version and by version.
 abbrev pub max_height : ℕ
 max_height = MAX_HEIGHT
 
@@ -108,39 +109,39 @@ greatest_height Two = max_height
 
 -- ---- calls
 
--- the most bytes that one call reads
+-- The maximum number of bytes that one call reads.
 abbrev pub max_read : ℕ
 max_read = MAX_READ
 
--- the most pieces of one batch
+-- The maximum number of pieces of one batch.
 abbrev pub max_pieces : ℕ
 max_pieces = MAX_PIECES
 
--- the room in the log below which a call drains first, in events
+-- The number of free log entries below which a call drains first.
 abbrev pub call_room : ℕ
 call_room = CALL_ROOM
 
 -- ---- scripts and programs
 
--- the longest line of a script, without its newline, and of a reply, with it
+-- The maximum length of a script line, without its newline, and of a reply, with it.
 abbrev pub max_line : ℕ
 max_line = MAX_LINE
 
 abbrev pub max_text : ℕ
 max_text = MAX_TEXT
 
--- the most bytes of a script
+-- The maximum number of bytes of a script.
 abbrev pub max_input : ℕ
 max_input = MAX_INPUT
 
--- the events that the log of a program's region can take
+-- The number of events that the log of a program's region can hold.
 abbrev pub log_events : ℕ
 log_events = LOG_EVENTS
 
--- the most places of the mask that a script's line spells
+-- The maximum number of positions of the mask that a script line spells out.
 abbrev pub max_mask : ℕ
 max_mask = MAX_MASK
 
--- the most turns of a play
+-- The maximum number of operations of `play`.
 abbrev pub max_turns : ℕ
 max_turns = MAX_TURNS

@@ -1,4 +1,4 @@
-//! The versions of the format, and the limits that are not the same in each.
+//! The versions of the format, and the limits that differ between them.
 
 ghost use Rattle.std.specs.Prelude.{◌≡◌, ◌≤◌};
 ghost use Rattle.bp_limits.specs.Numbers.{version_numbered};
@@ -7,17 +7,17 @@ ghost use Rattle.bp_limits.specs.CallLimits.{greatest_size, greatest_write, max_
 
 use crate::{MAX_HEIGHT, MAX_SIZE, MAX_WRITE};
 
-/// A version of the format, which word 0 of an image tells.
+/// A version of the format, which word 0 of an image identifies.
 #[derive(Clone, Copy, Debug, PartialEq, Eq)]
 pub enum Version {
-    /// The first one.
+    /// The first version.
     One,
-    /// With higher trees, longer writes and a snapshot.
+    /// The version with higher trees, longer writes and a snapshot.
     Two,
 }
 
 impl Version {
-    /// The version with a number, which is 1 or 2.
+    /// Returns the version with a number, which is 1 or 2.
     pub fn numbered(number: u8) -> Version
         requires least { 1 ≤ number }
         requires most { number ≤ 2 }
@@ -30,7 +30,7 @@ impl Version {
         }
     }
 
-    /// The version that a word 0 marks, the first one where it is the mark of none.
+    /// Returns the version of an image with this word 0: the first version if it is the magic number of none.
     pub fn at(word: u64) -> Version
         ensures { result ≡ version_at word }
     {
@@ -41,7 +41,7 @@ impl Version {
         }
     }
 
-    /// Word 0 of an image: the bytes `BPFSRS01` or `BPFSRS02`, the lowest first.
+    /// Returns the magic number, which is word 0 of an image: the bytes `BPFSRS01` or `BPFSRS02`, the lowest first.
     pub fn magic(self) -> u64
         ensures { result ≡ magic self }
     {
@@ -51,7 +51,7 @@ impl Version {
         }
     }
 
-    /// The greatest height of a tree.
+    /// Returns the maximum height of a tree.
     pub fn greatest_height(self) -> u32
         ensures height { result ≡ greatest_height self }
         ensures most { result ≤ max_height }
@@ -62,7 +62,8 @@ impl Version {
         }
     }
 
-    /// The greatest size of a file, a directory and the inode file, in bytes: what a tree of the greatest height covers.
+    /// Returns the maximum size of a file, a directory and the inode file, in bytes: what a tree of the maximum height
+    /// covers.
     pub fn greatest_size(self) -> u64
         ensures size { result ≡ greatest_size self }
         ensures most { result ≤ max_size }
@@ -73,7 +74,7 @@ impl Version {
         }
     }
 
-    /// The most bytes that one call writes.
+    /// Returns the maximum number of bytes that one call writes.
     pub fn greatest_write(self) -> usize
         ensures write { result ≡ greatest_write self }
         ensures most { result ≤ max_write }

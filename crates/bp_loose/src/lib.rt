@@ -1,4 +1,4 @@
-//! Values on the heap that are owned through a raw pointer: what code in another language is given to keep.
+//! Values on the heap that are owned through a raw pointer, for code in another language that keeps them.
 #![tactic(auto)]
 
 mod loose;

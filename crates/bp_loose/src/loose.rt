@@ -6,12 +6,12 @@ ghost use Rattle.std_alloc.specs.Box.Ownership.{box_owns};
 use std::alloc::Allocator;
 use std::marker::Model;
 
-/// A value on the heap, as its pointer and the allocator that frees it. It owns both as a box does; nothing frees them
-/// but the box that is made of it again.
+/// A value on the heap, as its pointer and the allocator that frees it. It owns both as a box does. Nothing frees them
+/// except the box that is made of it again.
 pub struct Loose<T, A: Allocator> {
-    /// Where the value stands.
+    /// The address of the value.
     pub at: *mut T,
-    /// What its memory is of.
+    /// The allocator of its memory.
     pub alloc: A,
     /// The value.
     pub ghost value: { T },
@@ -22,7 +22,7 @@ impl<T, A: Allocator> Model for Loose<T, A> {
 }
 
 impl<T: Drop, A: Allocator> Loose<T, A> {
-    /// What a box owns.
+    /// Takes a box apart into its pointer and its allocator.
     pub fn of(value: Box<T, A>) -> Loose<T, A>
         ensures { result.value ≡ value.value }
     {
@@ -30,7 +30,7 @@ impl<T: Drop, A: Allocator> Loose<T, A> {
         Loose { at, alloc }
     }
 
-    /// The box again.
+    /// Returns the box again.
     pub fn into_box(self) -> Box<T, A>
         ensures { result.value ≡ self.value }
     {

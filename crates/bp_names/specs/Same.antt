@@ -1,4 +1,4 @@
--- When names are one: what hashing and comparing them need.
+-- When two names are the same, as hashing and comparing them require.
 use Rattle.std.specs.Prelude.{◌≡◌, true, nat_eq, bytes_eq, IsTrue}
 use Rattle.std.specs.Cmp.{IsEquivalence, IsPartialEquivalence, and_equiv, on_equiv, nat_eq_equiv, partial_equiv_from_equiv, unsigned_Decides, first_so, second_so}
 use Rattle.std.specs.Cmp.Lexicographic.{nat_list_eq_equiv, bytes_decides}
@@ -17,6 +17,6 @@ same_names a b e i = (
   (bytes_decides a.1 b.1).0 (second_so (nat_eq a.0 b.0) (bytes_eq a.1 b.1) e) i,
 )
 
--- names that are one are hashed alike
+-- equal names have the same hash input
 pub same_writes : (a b : NameIn) → IsTrue (is_same a b) → hash_writes a ≡ hash_writes b
 same_writes a b e i = hash_writes (same_names a b e i)

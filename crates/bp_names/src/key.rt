@@ -6,12 +6,12 @@ use bp_limits::MAX_NAME;
 use std::hash::{Hash, Hasher};
 use std::marker::Model;
 
-/// A name in a directory, with its bytes in place, so that no key has memory of its own.
+/// A name in a directory. It holds its bytes itself, so that no key allocates memory.
 #[derive(Drop)]
 pub(crate) struct Key {
     dir: u32,
     len: usize,
-    // behind the name stands what was there
+    // the bytes after the name are old ones
     bytes: [u8; MAX_NAME],
 }
 
@@ -30,7 +30,7 @@ impl Model for Key {
 impl Key {
     ghost use Rattle.bp_limits.specs.CallLimits.{max_name};
 
-    /// The key of no name, to be set.
+    /// Makes an empty key, to be set later.
     pub fn new() -> Key
         ensures { result ≡ (0, []) }
     {
@@ -41,7 +41,7 @@ impl Key {
         }
     }
 
-    /// Makes it the key of a name.
+    /// Sets the key to a name.
     pub fn set(&mut self, dir: u32, name: &[u8])
         requires { length name.now ≤ max_name }
         ensures { self.new ≡ (dir, name.now) }
@@ -51,7 +51,7 @@ impl Key {
         self.bytes[..name.len()].copy_from_slice(name);
     }
 
-    /// The same key.
+    /// Returns a copy of the key.
     pub fn copied(&self) -> Key
         ensures { result ≡ self.now }
     {

@@ -1,4 +1,4 @@
-//! Where names were found, as many as there is room for: those that were sought last.
+//! Remembers the slots of the names that were looked up last, as many as there is room for.
 #![tactic(auto)]
 
 mod key;

@@ -15,12 +15,13 @@ use std::alloc::{AllocError, Global};
 use std::marker::Model;
 use std::num::NonZeroUsize;
 
-/// The slots of some names, at most as many as there is room for. Where there is none, the name goes that was neither
-/// found nor learned for the longest time. Contracts see the names and slots, the most recent first, and the room.
+/// A cache of the slots of names, at most as many as there is room for. If it is full, the name that was neither found
+/// nor learned for the longest time is forgotten. Contracts see the names and slots, the most recent first, and the
+/// room.
 #[derive(Drop)]
 pub struct Names {
     cache: LruCache<Key, u64>,
-    // the key of the name that is sought
+    // the key of the current lookup
     sought: Key,
 }
 
@@ -37,11 +38,11 @@ impl Model for Names {
 }
 
 impl Names {
-    /// Knows nothing yet, and has room for so many names.
+    /// Makes an empty cache with room for `room` names.
     ///
     /// # Errors
     ///
-    /// `AllocError` where there is no memory for it.
+    /// - `AllocError`: out of memory.
     pub fn new(alloc: Global, room: usize) -> Result<Names, AllocError>
         requires { 1 ≤ room }
         ensures { IfOk result (λ names. names ≡ remembered [] room) }
@@ -54,7 +55,7 @@ impl Names {
         })
     }
 
-    /// The slot of a name, which is the most recent then.
+    /// Returns the slot of a name, and makes the name the most recent one.
     fn recall(&mut self, dir: u32, name: &[u8]) -> Option<u64>
         ensures slot { result ≡ slot_in (dir, name.now) self.old.pairs }
         ensures recalled { self.new ≡ remembered (recalled (dir, name.now) self.old.pairs) self.old.room }
@@ -109,7 +110,8 @@ impl Names {
 impl Hints for Names {
     ghost known = { known_of };
 
-    /// The slot of a name, None exactly where it isn't known. A name that is found is the most recent then.
+    /// Returns the slot of a name, or `None` exactly if the name is not remembered. A name that is found becomes the
+    /// most recent one.
     fn hint(&mut self, dir: u32, name: &[u8]) -> Option<u64>
         ensures hint { result ≡ get (known_of self.old) (dir, name.now) }
         ensures same { known_of self.new ≡ known_of self.old }
@@ -119,8 +121,8 @@ impl Hints for Names {
         self.recall(dir, name)
     }
 
-    /// Is told the slot of a name, which is the most recent then. Answers false where there is no memory for a name
-    /// that isn't known, and then nothing has changed.
+    /// Remembers the slot of a name, which becomes the most recent one. Returns false if memory is out for a name that
+    /// is not remembered yet; then nothing has changed.
     fn learn(&mut self, dir: u32, name: &[u8], slot: u64) -> bool
         requires { length name.now ≤ max_name }
         ensures learned { result ≡ true → Learns (known_of self.old) (known_of self.new) (dir, name.now) slot }

@@ -7,7 +7,8 @@ use Rattle.bp_layout.specs.Directory.{lookup_in}
 use Rattle.bp_layout.specs.Lookup.{lookup_from}
 use Rattle.bp_layout.specs.Paths.{Path}
 
--- the inode where it ends, or how the first name fails: it is missing in a directory, or sought in a file
+-- The result of a walk: the inode where it ends, or how its first failing name fails. `missing`: the directory does
+-- not have it. `in_file`: it is searched for in a file.
 pub data Walked : Type 0 where
   found : ℕ → Walked
   missing : Walked
@@ -23,7 +24,7 @@ walk_from image i (name ∷ names) =
     if kind_of image i == directory_kind then onward (λ j. walk_from image j names) (lookup_in image i name)
     else in_file
 
--- a walk that is to end in a directory
+-- The result of a walk that has to end in a directory.
 abbrev pub in_directory : Image → Walked → Walked
 in_directory image (found i) = if kind_of image i == directory_kind then found i else in_file
 in_directory image missing = missing

@@ -1,8 +1,8 @@
-//! Laws of walks. Each is the contract of a function that does nothing.
+//! Properties of walks. Each is the contract of a function with an empty body.
 
 ghost use Rattle.bp_path.specs.Walk.{WalkIsLookup};
 
-/// A walk finds an inode exactly where a look-up of the names does.
+/// States that a walk finds an inode exactly when a look-up of the names does.
 pub fn walk_is_lookup(_image: &[u64])
     ensures { WalkIsLookup _image.now }
 {}

@@ -1,4 +1,4 @@
-//! Paths, and where they lead.
+//! Paths, and the inodes that they find.
 #![tactic(auto)]
 
 pub mod laws;

@@ -9,7 +9,7 @@ use bp_limits::MAX_NAME;
 use bp_text::{first_of, first_of_either};
 use memchr::memrchr;
 
-/// Whether bytes of which none is 0 or `/` may be a name: 1 to 240 of them, and neither `.` nor `..`.
+/// Returns whether bytes of which none is 0 or `/` are a valid name: 1 to 240 of them, and neither `.` nor `..`.
 fn is_plain_name(name: &[u8]) -> bool
     requires { list_all (λ b. not (b == 0) && not (b == 47)) name.now ≡ true }
     ensures { result ≡ is_name name.now }
@@ -26,7 +26,7 @@ fn is_plain_name(name: &[u8]) -> bool
     name != b".".as_slice() && name != b"..".as_slice()
 }
 
-/// Whether the parts round each `/` are names.
+/// Returns whether all parts that `/` separates are valid names.
 pub(crate) fn are_names(text: &[u8]) -> bool
     ensures { result ≡ list_all is_name (parts text.now) }
 {
@@ -43,7 +43,7 @@ pub(crate) fn are_names(text: &[u8]) -> bool
     is_plain_name(rest)
 }
 
-/// The first name of a text, and the text behind it.
+/// Returns the first name of a text, and the text after it.
 pub(crate) fn split_first(text: &[u8]) -> (&[u8], &[u8])
     requires some { 0 < length text.now }
     requires names { list_all is_name (path_parts text.now) ≡ true }
@@ -57,7 +57,7 @@ pub(crate) fn split_first(text: &[u8]) -> (&[u8], &[u8])
     }
 }
 
-/// Where the last part of a text begins.
+/// Returns the offset of the last part of a text.
 fn last_start(text: &[u8]) -> usize
     ensures within { result ≤ length text.now }
     ensures last { parts (drop result text.now) ≡ drop result text.now ∷ [] }
@@ -69,7 +69,7 @@ fn last_start(text: &[u8]) -> usize
     }
 }
 
-/// The text before the last name, and the last name.
+/// Returns the text before the last name, and the last name.
 pub(crate) fn split_last(text: &[u8]) -> (&[u8], &[u8])
     requires some { 0 < length text.now }
     requires names { list_all is_name (path_parts text.now) ≡ true }
@@ -80,7 +80,7 @@ pub(crate) fn split_last(text: &[u8]) -> (&[u8], &[u8])
     (&text[..start.saturating_sub(1)], &text[start..])
 }
 
-/// Whether the names of a text begin with all those of another one, and go on behind them.
+/// Returns whether the names of a text begin with all those of another one, and continue after them.
 pub(crate) fn is_below(text: &[u8], above: &[u8]) -> bool
     requires names { list_all is_name (path_parts text.now) ≡ true }
     requires above { list_all is_name (path_parts above.now) ≡ true }

@@ -1,4 +1,4 @@
-//! Paths that were read from text.
+//! Paths that were parsed from text.
 
 ghost use Rattle.std.specs.Prelude.{◌≡◌, ◌≢◌, ◌&&◌, ◌++◌, ◌∷◌, ◌↔◌, [], true, List, ℕ, None, Some, IsTrue, IfOk, OnErr, is_some, not};
 ghost use Rattle.std.specs.List.{list_all};
@@ -9,14 +9,15 @@ use crate::names::{are_names, is_below, split_last};
 use bp_limits::MAX_PATH;
 use std::marker::Model;
 
-/// A text is no path: it is longer than 4,096 bytes, or is neither `/` nor a `/` and a name, once or more.
+/// The text is no path: it is longer than 4,096 bytes, or it is neither `/` nor a sequence of `/` and a name, once or
+/// more.
 #[derive(Clone, Copy, Debug, PartialEq, Eq)]
 pub struct BadPath;
 
-/// A path from the root directory on: a list of names, none of them for `/`.
+/// A path from the root directory: a list of names, which is empty for `/`.
 #[derive(Drop)]
 pub struct Path<'a> {
-    // what stands behind the first `/`
+    // the text after the first `/`
     text: &'a [u8],
 }
 
@@ -28,11 +29,11 @@ impl<'a> Model for Path<'a> {
     ghost invariant = { λ path. list_all is_name (path_parts path.text.now) ≡ true };
 }
 
-/// The path that a text spells.
+/// Parses the text of a path.
 ///
 /// # Errors
 ///
-/// `BadPath` exactly where it spells none.
+/// - `BadPath`: the text is no path. It is returned in exactly this case.
 pub fn parse(text: &[u8]) -> Result<Path<'_>, BadPath>
     ensures ok { IfOk result (λ path. parse text.now ≡ Some path) }
     ensures err { OnErr result (parse text.now ≡ None) }
@@ -57,14 +58,14 @@ pub fn parse(text: &[u8]) -> Result<Path<'_>, BadPath>
 }
 
 impl<'a> Path<'a> {
-    /// Whether it is `/`.
+    /// Returns whether the path is `/`.
     pub fn is_root(&self) -> bool
         ensures { IsTrue result ↔ (self.now ≡ []) }
     {
         self.text().is_empty()
     }
 
-    /// The names with a `/` between them.
+    /// Returns the names, separated by `/`.
     pub(crate) fn text(&self) -> &'a [u8]
         ensures names { path_parts result.now ≡ self.now }
         ensures right { list_all is_name (path_parts result.now) ≡ true }
@@ -72,7 +73,7 @@ impl<'a> Path<'a> {
         self.text
     }
 
-    /// Its last name.
+    /// Returns the last name.
     pub fn last(&self) -> &'a [u8]
         requires { self.now ≢ [] }
         ensures last { (parent : List (List ℕ)) (name : List ℕ) → self.now ≡ parent ++ name ∷ []
@@ -82,7 +83,7 @@ impl<'a> Path<'a> {
         split_last(self.text()).1
     }
 
-    /// Whether another path has the same names before its last one.
+    /// Returns whether another path has the same names before its last one.
     pub fn is_beside(&self, other: &Path<'_>) -> bool
         requires below { self.now ≢ [] }
         requires other { other.now ≢ [] }
@@ -92,7 +93,7 @@ impl<'a> Path<'a> {
         split_last(self.text()).0 == split_last(other.text()).0
     }
 
-    /// Whether it begins with all names of another path, and goes on behind them.
+    /// Returns whether the path begins with all names of another path, and continues after them.
     pub fn is_below(&self, above: &Path<'_>) -> bool
         ensures { result ≡ (not (same_path above.now self.now) && is_some (rest_below above.now self.now)) }
     {

@@ -1,4 +1,4 @@
-//! Where a path leads, name by name from the root directory on.
+//! Walks: a path is resolved name by name from the root directory on.
 
 ghost use Rattle.std.specs.Prelude.{◌≡◌, ◌≢◌, ◌≤◌, [], true, length, Some, IfOk, IfErr};
 ghost use Rattle.std.specs.List.{list_all};
@@ -25,31 +25,32 @@ use bp_limits::ROOT_INUMBER;
 use bp_tree::Tree;
 use pm_region::Region;
 
-/// The directory entry that a path finds, and the inode that it names. The path `/` has an inode and no entry.
+/// The directory entry that a path finds, and the inode to which it refers. The path `/` has an inode and no entry.
 #[derive(Clone, Copy, Debug, PartialEq, Eq)]
 pub struct FoundEntry {
     /// The number of the inode.
     pub inumber: u32,
-    /// The number of the directory's inode, 0 for `/`.
+    /// The number of the directory's inode; 0 for `/`.
     pub dir: u32,
-    /// The entry's slot in the directory, 0 for `/`.
+    /// The entry's slot in the directory; 0 for `/`.
     pub slot: u64,
 }
 
-/// Why a path leads nowhere: of its names, in their order, the first that fails.
+/// Why a path finds nothing: how the first of its names that fails does so.
 #[derive(Clone, Copy, Debug, PartialEq, Eq)]
 pub enum WalkFault {
-    /// The name is sought in a directory that doesn't have it.
+    /// The name is searched for in a directory that does not have it.
     NotFound,
-    /// The name is sought in a file.
+    /// The name is searched for in a file.
     NotDir,
 }
 
-/// The inode that a name stands for in a directory.
+/// Returns the entry of a name in a directory, and its inode.
 ///
 /// # Errors
 ///
-/// `NotDir` where the name is sought in a file, `NotFound` where the directory lacks it.
+/// - `NotDir`: the name is searched for in a file.
+/// - `NotFound`: the directory does not have it.
 fn step<R: Region, F: Finder>(
     region: &R,
     dir: u32,
@@ -86,7 +87,7 @@ fn step<R: Region, F: Finder>(
     }
 }
 
-/// The inode to which names lead that stand with a `/` between them.
+/// Returns the entry and the inode to which names lead that are separated by `/`.
 fn walk_names<R: Region, F: Finder>(
     region: &R,
     text: &[u8],
@@ -119,11 +120,14 @@ fn walk_names<R: Region, F: Finder>(
     Ok(entry)
 }
 
-/// The inode to which a path leads.
+/// Returns the entry and the inode that a path finds.
 ///
 /// # Errors
 ///
-/// The first name that fails, in order: `NotDir` where it is sought in a file, `NotFound` where a directory lacks it.
+/// The first name that fails decides.
+///
+/// - `NotDir`: the name is searched for in a file.
+/// - `NotFound`: the directory does not have it.
 pub fn walk<R: Region>(region: &R, path: &Path<'_>) -> Result<FoundEntry, WalkFault>
     requires { IsWellFormed (current_words (R.memory region.now)) }
     ensures walked { walked_of result ≡ walk_from (current_words (R.memory region.now)) root_inumber path.now }
@@ -136,7 +140,7 @@ pub fn walk<R: Region>(region: &R, path: &Path<'_>) -> Result<FoundEntry, WalkFa
     walk_by(region, path, &mut Scan)
 }
 
-/// What [`walk`] tells, by what finds the names in the directories.
+/// Returns what [`walk`] returns, by a finder of the names in the directories.
 ///
 /// # Errors
 ///
@@ -160,7 +164,8 @@ pub fn walk_by<R: Region, F: Finder>(
     walk_names(region, path.text(), finder)
 }
 
-/// What [`walk`] tells. No directory is scanned for a name whose slot is known, and the slots of the others are learned.
+/// Returns what [`walk`] returns, by hints. It does not scan a directory for a name whose slot the hints know, and the
+/// hints learn the slots of the others.
 ///
 /// # Errors
 ///
@@ -184,11 +189,12 @@ pub fn walk_with<R: Region, H: Hints>(
     walk_by(region, path, &mut finder)
 }
 
-/// The directory in which the last name of a path is to be sought.
+/// Returns the parent directory of the last name of a path.
 ///
 /// # Errors
 ///
-/// Those of a walk to the parent, and `NotDir` where the parent is a file.
+/// - Those of a walk to the parent.
+/// - `NotDir`: the parent is a file.
 pub fn walk_parent<R: Region>(region: &R, path: &Path<'_>) -> Result<u32, WalkFault>
     requires well { IsWellFormed (current_words (R.memory region.now)) }
     requires below { path.now ≢ [] }
@@ -201,7 +207,7 @@ pub fn walk_parent<R: Region>(region: &R, path: &Path<'_>) -> Result<u32, WalkFa
     walk_parent_by(region, path, &mut Scan)
 }
 
-/// What [`walk_parent`] tells, by what finds the names in the directories.
+/// Returns what [`walk_parent`] returns, by a finder of the names in the directories.
 ///
 /// # Errors
 ///
@@ -230,8 +236,8 @@ pub fn walk_parent_by<R: Region, F: Finder>(
     }
 }
 
-/// What [`walk_parent`] tells. No directory is scanned for a name whose slot is known, and the slots of the others are
-/// learned.
+/// Returns what [`walk_parent`] returns, by hints. It does not scan a directory for a name whose slot the hints know,
+/// and the hints learn the slots of the others.
 ///
 /// # Errors
 ///

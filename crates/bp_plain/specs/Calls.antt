@@ -3,7 +3,7 @@ use Rattle.std.specs.Prelude.{ℕ, List}
 use Rattle.bp_layout.specs.declared.fields.Kind.{Kind}
 use Rattle.bp_layout.specs.Paths.{Name}
 
--- bytes for the file at a path, from an offset on
+-- one write of a batch: the path of the file, the offset in bytes, and the bytes to write
 pub record Piece : Type 0 where
   pub path : List ℕ
   pub off : ℕ
@@ -16,18 +16,18 @@ pub data Call : Type 0 where
   rmdir : List ℕ → Call
   list : List ℕ → Call
   stat : List ℕ → Call
-  -- a path, an offset, and a length or bytes
+  -- a path and an offset; then a length (of a read) or the bytes (of a write)
   read : List ℕ → ℕ → ℕ → Call
   write : List ℕ → ℕ → List ℕ → Call
   truncate : List ℕ → ℕ → Call
   rename : List ℕ → List ℕ → Call
-  -- a path that is there, and a new one
+  -- an existing path of a file, and the new path
   link : List ℕ → List ℕ → Call
   links : List ℕ → Call
   upgrade : Call
   snap : Call
   unsnap : Call
-  -- of the snapshot
+  -- the same calls on the snapshot
   snap_list : List ℕ → Call
   snap_stat : List ℕ → Call
   snap_read : List ℕ → ℕ → ℕ → Call
@@ -44,7 +44,7 @@ pub data Refusal : Type 0 where
   is_root : Refusal
   too_long : Refusal
   too_big : Refusal
-  -- the blocks that the call needs, and those that are free
+  -- the number of blocks that the call needs, and the number of free blocks
   no_space : ℕ → ℕ → Refusal
   no_memory : Refusal
   no_snap : Refusal

@@ -1,4 +1,4 @@
--- Copies of files in which something is different.
+-- Copies of the numbered files of a program that differ by one change.
 use Rattle.std.specs.Prelude.{ℕ, List, ◌==◌, Option, None, Some, if◌then◌else◌}
 use Rattle.std.specs.List.{filter_map}
 use Rattle.std.specs.FinMap.{entries, from_entries, insert}
@@ -10,12 +10,12 @@ use Rattle.bp_plain.specs.Numbered.Numbered.{directory, numbered_file}
 use Rattle.bp_plain.specs.Plain.{moved_entry}
 use Rattle.bp_plain.specs.SeenTree.{names_of}
 
--- the node, with these bytes where it is the file with this number
+-- the node with its content replaced by these bytes if it is the file with this number; else unchanged
 abbrev pub with_bytes_in : ℕ → List ℕ → Numbered → Numbered
 with_bytes_in id bytes directory = directory
 with_bytes_in id bytes (numbered_file other content) = numbered_file other (if other == id then bytes else content)
 
--- what becomes of an entry, unless it goes
+-- the entry after the change; nothing if the change removes the entry
 abbrev pub changed : Change → Path × Numbered → Option (Path × Numbered)
 changed Nothing entry = Some entry
 changed (Content id bytes) entry = Some (entry.0, with_bytes_in id bytes.now entry.1)
@@ -24,7 +24,7 @@ changed (Moved from to) entry = moved_entry (names_of from.now) (names_of to.now
 abbrev pub changed_files : Change → NumberedFiles → NumberedFiles
 changed_files change files = from_entries (filter_map (changed change) (entries files))
 
--- files with an entry, where there is one
+-- the files with this entry inserted; unchanged if there is no entry
 abbrev pub with_entry : Option (Path × Numbered) → NumberedFiles → NumberedFiles
 with_entry None files = files
 with_entry (Some entry) files = insert files entry.0 entry.1

@@ -1,4 +1,4 @@
--- A plain file tree as the calls that make it, from the root directory alone.
+-- Export: the calls that build an abstract file tree from a tree that has only the root directory.
 use Rattle.std.specs.Prelude.{◌≡◌, ◌≤◌, ◌+◌, ◌-◌, ◌*◌, ◌/◌, ◌==◌, ◌&&◌, ℕ, List, [], ◌∷◌, ◌++◌, length, take, drop, find, flat_map, Bool, true, None, Some, is_some, unwrap_or, nat_lt, if◌then◌else◌}
 use Rattle.std.specs.List.{filter, list_all, range_with_len}
 use Rattle.std.specs.FinMap.{get, entries, keys}
@@ -12,13 +12,14 @@ use Rattle.bp_plain.specs.Calls.Answer.{done}
 use Rattle.bp_plain.specs.Plain.{is_root_path, listing, plain}
 use Rattle.bp_plain.specs.PlainTree.{FileTree, IsFileTree, PathMap, is_one}
 
--- a `/` and a name, once for each name of a path
+-- the path text of a path: `/` and a name, for each name of the path
 abbrev pub path_text : Path → List ℕ
 path_text path = flat_map (λ name. 47 ∷ name) path
 
 -- ---- the calls that make a file
 
--- The bytes of a file in stretches, as long as a block each but for the last: how many there are, and each of them.
+-- A file's bytes are cut into stretches of one block each; the last stretch may be shorter. `stretches` is the number
+-- of stretches, `stretch` is stretch number k.
 abbrev pub stretches : List ℕ → ℕ
 stretches content = (length content + (block_size - 1)) / block_size
 
@@ -28,7 +29,7 @@ stretch content k = take block_size (drop (block_size * k) content)
 abbrev pub is_zeros : List ℕ → Bool
 is_zeros bytes = list_all (λ b. b == 0) bytes
 
--- a stretch is written whole, unless it has zeros alone
+-- the call that writes stretch number k whole; no call if all its bytes are zero
 abbrev pub write_of : List ℕ → List ℕ → ℕ → List Call
 write_of text content k =
     if is_zeros (stretch content k) then [] else write text (block_size * k) (stretch content k) ∷ []
@@ -36,7 +37,7 @@ write_of text content k =
 abbrev pub writes_of : List ℕ → List ℕ → List Call
 writes_of text content = flat_map (write_of text content) (range_with_len 0 (stretches content))
 
--- where the last stretch is not written, the size is given behind the writes
+-- the call that sets the size after the writes; needed only if the last stretch is all zeros and so not written
 abbrev pub size_call : List ℕ → List ℕ → List Call
 size_call text content =
     if nat_lt 0 (length content) && is_zeros (stretch content (stretches content - 1))
@@ -48,46 +49,47 @@ abbrev pub calls_for : List ℕ → Node → List Call
 calls_for text dir = mkdir text ∷ []
 calls_for text (file content) = create text ∷ writes_of text content ++ size_call text content
 
--- the first path, in their order, of the file at a path; of a directory its own
+-- the first path of the file at this path, in the order of paths; for a directory, the path itself
 abbrev pub first_of : PathMap → Path → Path
 first_of map path = unwrap_or (find (is_one map.one path) (keys map.nodes)) path
 
--- The root is there from the first. A later path of a file is a link to its first one.
+-- The calls for one entry of the tree: none for the root, which exists from the start; a link to the file's first path
+-- for each later path of that file.
 abbrev pub calls_at : PathMap → Path × Node → List Call
 calls_at map entry =
     if is_root_path entry.0 then []
     else if same_path (first_of map entry.0) entry.0 then calls_for (path_text entry.0) entry.1
     else link (path_text (first_of map entry.0)) (path_text entry.0) ∷ []
 
--- The paths of the tree come in their order, so that each stands behind the one above it.
+-- All calls of the export. Paths come in their order, so each path comes after that of its parent directory.
 abbrev pub export_calls : FileTree → List Call
 export_calls tree = flat_map (calls_at tree.now) (entries tree.now.nodes)
 
--- ---- what they come to
+-- ---- the effect of these calls
 
--- each call is carried out, has nothing to tell, and the last one leaves this tree
+-- each call succeeds and returns `done`, and the last one leaves the tree `after`
 abbrev pub AllDone : FileTree → List Call → FileTree → Type 0
 AllDone before [] after = before ≡ after
 AllDone before (call ∷ calls) after =
     (middle : FileTree) × (plain before call ≡ (done, middle)) × AllDone middle calls after
 
--- a tree but for its snapshot
+-- a tree with its snapshot removed
 abbrev pub without_snapshot : FileTree → FileTree
 without_snapshot tree = record tree { snap = None }
 
--- no path has more bytes than a call can spell
+-- the text of each path has at most `max_path` bytes, so a call can name it
 abbrev pub HasShortPaths : FileTree → Type 0
 HasShortPaths tree =
     (path : Path) (node : Node) → get tree.now.nodes path ≡ Some node → length (path_text path) ≤ max_path
 
--- Each path is one that a call can spell, and each file is no larger than the version has them.
+-- The condition of an export: a call can name each path, and no file is larger than the tree's version allows.
 pub record IsExportable (tree : FileTree) : Type 0 where
   pub is_tree : IsFileTree tree
   pub spelled : HasShortPaths tree
   pub sized : (path : Path) (content : List ℕ) → get tree.now.nodes path ≡ Some (file content)
       → length content ≤ greatest_size tree.version
 
--- Names and files are of bytes.
+-- Names and file contents are lists of bytes, numbers below 256.
 abbrev pub are_bytes : List ℕ → Bool
 are_bytes xs = list_all (λ b. nat_lt b 256) xs
 
@@ -96,13 +98,13 @@ pub record IsOfBytes (tree : FileTree) : Type 0 where
   pub contents : (path : Path) (content : List ℕ) → get tree.now.nodes path ≡ Some (file content)
       → are_bytes content ≡ true
 
--- ---- a tree as a walk finds it
+-- ---- a tree in the order of a directory walk
 
--- the entries at a path and below it, in their order
+-- the entries at a path and below it, in the order of paths
 abbrev pub entries_below : PathMap → Path → List (Path × Node)
 entries_below map path = filter (λ entry. is_some (rest_below path entry.0)) (entries map.nodes)
 
--- The entries below a directory are its own, and then name by name those below each name.
+-- The entries at and below a directory are its own entry and then, name by name, those at and below each name in it.
 pub record IsWalked (map : PathMap) : Type 0 where
   pub all : entries_below map [] ≡ entries map.nodes
   pub at_file : (path : Path) (content : List ℕ) → get map.nodes path ≡ Some (file content)

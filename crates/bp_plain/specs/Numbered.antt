@@ -1,4 +1,5 @@
--- A plain tree as a program keeps it: at each path a directory, or a file with a number that it has at each of its paths.
+-- The abstract tree as the program `Plain` holds it: at each path a directory, or a file with a number, which is the
+-- same at each path of the file.
 use Rattle.std.specs.Prelude.{ℕ, List, [], map, Bool, false, ◌==◌, Option, None, Some, if◌then◌else◌}
 use Rattle.std.specs.List.{filter_map}
 use Rattle.std.specs.FinMap as finite
@@ -16,11 +17,11 @@ pub data Numbered : Type 0 where
 abbrev pub NumberedFiles : Type 0
 NumberedFiles = FinMap path_cmp Numbered
 
--- the root directory alone
+-- the files of a tree that has only the root directory
 abbrev pub root_alone : NumberedFiles
 root_alone = finite.insert finite.empty [] directory
 
--- what it is without the number
+-- the node without its number
 abbrev pub plain_node : Numbered → Node
 plain_node directory = dir
 plain_node (numbered_file id content) = file content
@@ -31,7 +32,7 @@ plain_entry entry = (entry.0, plain_node entry.1)
 abbrev pub plain_nodes : NumberedFiles → Nodes
 plain_nodes files = from_sorted (map plain_entry (entries files))
 
--- the number of the file at a path
+-- the number of a node if it is a file; `number_at` gives the number of the file at a path
 abbrev pub number_in : Option Numbered → Option ℕ
 number_in (Some (numbered_file id content)) = Some id
 number_in _ = None
@@ -43,13 +44,13 @@ abbrev pub has_number : ℕ → Numbered → Bool
 has_number id directory = false
 has_number id (numbered_file other content) = other == id
 
--- the paths of entries with a number
+-- the paths of the entries that have this number
 abbrev pub path_if : ℕ → Path × Numbered → Option Path
 path_if id entry = if has_number id entry.1 then Some entry.0 else None
 
 abbrev pub paths_numbered : ℕ → List (Path × Numbered) → List Path
 paths_numbered id entries = filter_map (path_if id) entries
 
--- the paths of one number are one file
+-- the map of paths without the numbers: two paths are one file if their numbers are equal
 abbrev pub map_of : NumberedFiles → PathMap
 map_of files = record { nodes = plain_nodes files; one = kernel_from (number_at files) (finite.keys files) }

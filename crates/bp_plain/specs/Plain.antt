@@ -1,5 +1,5 @@
--- A plain file tree, and what each call makes of it: first what stands at paths, then which paths are one, and last
--- the calls.
+-- The abstract file tree, and the answer and the effect of each call on it: first the node at each path, then which
+-- paths are one file, and last the calls.
 use Rattle.std.specs.Prelude.{ℕ, ◌+◌, ◌-◌, List, [], ◌∷◌, ◌++◌, map, length, take, drop, replicate, Bool, true, false, not, ◌&&◌, ◌||◌, ◌==◌, nat_lt, Option, None, Some, is_some, is_none, option_map, unwrap_or, if◌then◌else◌}
 use Rattle.std.specs.List.{filter_map, list_any, sum_by}
 use Rattle.std.specs.FinMap.{FinMap, get, insert, remove, entries, from_entries}
@@ -23,7 +23,7 @@ parent_of [] = []
 parent_of (name ∷ []) = []
 parent_of (name ∷ other ∷ path) = name ∷ parent_of (other ∷ path)
 
--- ---- what stands at a path
+-- ---- the node at a path
 
 abbrev pub is_a_dir : Option Node → Bool
 is_a_dir (Some dir) = true
@@ -47,7 +47,7 @@ abbrev pub only_name : Option Path → Option Name
 only_name (Some (name ∷ [])) = Some name
 only_name _ = None
 
--- an entry's kind and name, where it stands in this directory itself
+-- the kind and name of an entry if it is an entry of this directory itself, not of one below it
 abbrev pub listed_in : Path → Path × Node → Option (Kind × Name)
 listed_in path entry = option_map (λ name. (kind_of_node entry.1, name)) (only_name (rest_below path entry.0))
 
@@ -71,7 +71,7 @@ first (Some refusal ∷ rest) = Some refusal
 abbrev pub is_root_path : Path → Bool
 is_root_path path = same_path path []
 
--- the first name that is sought in a file or is missing
+-- the refusal at the first name of the path that is looked up in a file (`not_dir`) or is missing (`not_found`)
 abbrev pub first_refusal_from : Nodes → Path → Path → Option Refusal
 first_refusal_from nodes here [] = None
 first_refusal_from nodes here (name ∷ path) =
@@ -81,7 +81,7 @@ first_refusal_from nodes here (name ∷ path) =
 abbrev pub walk : Nodes → Path → Option Refusal
 walk nodes path = first_refusal_from nodes [] path
 
--- the same of a parent, which is to be a directory
+-- the refusal of the walk to a path's parent directory, or `not_dir` if the parent is a file
 abbrev pub walk_parent : Nodes → Path → Option Refusal
 walk_parent nodes path = first (walk nodes (parent_of path) ∷ when (not (is_dir_at nodes (parent_of path))) not_dir ∷ [])
 
@@ -92,7 +92,7 @@ on_parsed (Some path) refusals = refusals path
 abbrev pub on_path : List ℕ → (Path → Option Refusal) → Option Refusal
 on_path text refusals = on_parsed (parse text) refusals
 
--- ---- moves that are refused
+-- ---- refused moves
 
 abbrev pub moves_below : Path → Path → Bool
 moves_below p q = not (same_path p q) && is_some (rest_below p q)
@@ -103,11 +103,11 @@ moves_file_onto_dir nodes p q = not (is_dir_at nodes p) && is_dir_at nodes q
 abbrev pub moves_dir_onto_file : Nodes → Path → Path → Bool
 moves_dir_onto_file nodes p q = is_dir_at nodes p && is_some (get nodes q) && not (is_dir_at nodes q)
 
--- a directory would move to one that has names in it
+-- a directory would replace a directory that is not empty
 abbrev pub moves_onto_names : Nodes → Path → Path → Bool
 moves_onto_names nodes p q = not (same_path p q) && is_dir_at nodes p && is_dir_at nodes q && not (is_empty_dir nodes q)
 
--- why what stands at the one path does not move to the other
+-- the first reason, in this order, why the node at path p cannot move to path q
 abbrev pub move_refusal : Nodes → Path → Path → Option Refusal
 move_refusal nodes p q = first (
     when (is_root_path p) is_root ∷ when (is_root_path q) is_root ∷ walk nodes p ∷ walk_parent nodes q
@@ -116,64 +116,64 @@ move_refusal nodes p q = first (
     ∷ when (moves_dir_onto_file nodes p q) not_dir
     ∷ when (moves_onto_names nodes p q) not_empty ∷ [])
 
--- ---- nodes with one path more, one fewer, or other bytes
+-- ---- nodes with a path added, removed, or with other bytes
 
--- this node stands at the path, whatever stood there
+-- the nodes with this node at the path, in place of any node there
 abbrev pub with_node : Nodes → Path → Node → Nodes
 with_node nodes path node = insert nodes path node
 
--- nothing stands at the path
+-- the nodes without the node at the path
 abbrev pub with_nothing_at : Nodes → Path → Nodes
 with_nothing_at nodes path = remove nodes path
 
--- a file with these bytes stands at the path
+-- the nodes with a file of these bytes at the path
 abbrev pub with_bytes : Nodes → Path → List ℕ → Nodes
 with_bytes nodes path content = with_node nodes path (file content)
 
--- where a path lies, once what is at or below the one is at or below the other
+-- a path after the move of p to q: a path at or below p gets q in place of the prefix p; others do not change
 abbrev pub moved_path : Path → Path → Path → Path
 moved_path p q path = unwrap_or (option_map (λ rest. q ++ rest) (rest_below p path)) path
 
--- an entry that moves so, unless it stood at the other path itself
+-- an entry after the move of p to q; none if the entry was at q itself
 abbrev pub moved_entry : {A : Type 0} → Path → Path → Path × A → Option (Path × A)
 moved_entry p q entry = if same_path entry.0 q then None else Some (moved_path p q entry.0, entry.1)
 
--- each path below the one moves below the other, whose own node is gone
+-- the entries after the move of p to q: the entries at and below p move, and the old node at q is removed
 abbrev pub moved : {A : Type 0} → Path → Path → FinMap path_cmp A → FinMap path_cmp A
 moved p q nodes = from_entries (filter_map (moved_entry p q) (entries nodes))
 
--- a file with these bytes stands at each of the paths
+-- the nodes with a file of these bytes at each of the paths
 abbrev pub with_bytes_at : List Path → List ℕ → Nodes → Nodes
 with_bytes_at [] content nodes = nodes
 with_bytes_at (path ∷ paths) content nodes = with_bytes (with_bytes_at paths content nodes) path content
 
--- ---- which paths are one
+-- ---- which paths are one file
 
--- the paths that are one with a path, itself among them
+-- the paths of the file at a path, the path itself among them
 abbrev pub paths_of : Aliases → Path → List Path
 paths_of one path = filter_map (λ pair. if same_path pair.0 path then Some pair.1 else None) (set.items one)
 
--- how many they are
+-- the number of paths of the file at a path
 abbrev pub path_count : Aliases → Path → ℕ
 path_count one path = set.len (set.from_list {R = path_cmp} (paths_of one path))
 
--- the pairs of a new path with itself and with each of some others
+-- the pairs of a new path with itself, and with each of the others in both orders
 abbrev pub pairs_with : Path → List Path → List (Path × Path)
 pairs_with path [] = (path, path) ∷ []
 pairs_with path (other ∷ others) = (path, other) ∷ (other, path) ∷ pairs_with path others
 
--- a path of a file of its own, and another one of the file at a path
+-- the pairs with a new file that has only this path; `linked`: with a new path of an existing file
 abbrev pub alone : Aliases → Path → Aliases
 alone one path = set.insert one (path, path)
 
 abbrev pub linked : Aliases → Path → Path → Aliases
 linked one path new = set.union one (set.from_list (pairs_with new (paths_of one path)))
 
--- no file has the path any more
+-- the pairs without those of this path
 abbrev pub without : Aliases → Path → Aliases
 without one path = set.retain one (λ pair. not (same_path pair.0 path) && not (same_path pair.1 path))
 
--- a pair whose paths move as entries do
+-- a pair of paths after the move of p to q; none if either path is q
 abbrev pub moved_pair : Path → Path → Path × Path → Option (Path × Path)
 moved_pair p q pair = if same_path pair.0 q || same_path pair.1 q then None
     else Some (moved_path p q pair.0, moved_path p q pair.1)
@@ -181,7 +181,7 @@ moved_pair p q pair = if same_path pair.0 q || same_path pair.1 q then None
 abbrev pub moved_one : Path → Path → Aliases → Aliases
 moved_one p q one = set.from_list (filter_map (moved_pair p q) (set.items one))
 
--- ---- what a call makes of both
+-- ---- the map after a change
 
 abbrev pub with_file : PathMap → Path → PathMap
 with_file map path = record { nodes = with_bytes map.nodes path []; one = alone map.one path }
@@ -189,7 +189,7 @@ with_file map path = record { nodes = with_bytes map.nodes path []; one = alone 
 abbrev pub with_dir : PathMap → Path → PathMap
 with_dir map path = record { nodes = with_node map.nodes path dir; one = map.one }
 
--- other bytes, at each path of the file
+-- the map with the content of the file at a path replaced, at each path of the file
 abbrev pub with_content : PathMap → Path → List ℕ → PathMap
 with_content map path content =
     record { nodes = with_bytes_at (paths_of map.one path) content map.nodes; one = map.one }
@@ -204,7 +204,7 @@ with_nothing map path = record { nodes = with_nothing_at map.nodes path; one = w
 abbrev pub with_moved : PathMap → Path → Path → PathMap
 with_moved map p q = record { nodes = moved p q map.nodes; one = moved_one p q map.one }
 
--- ---- what a call makes, where it is not refused
+-- ---- contents and maps after a call that is not refused
 
 abbrev pub written : List ℕ → ℕ → List ℕ → List ℕ
 written old off new = take off (old ++ replicate (off - length old) 0) ++ new ++ drop (off + length new) old
@@ -218,7 +218,7 @@ path_named text = unwrap_or (parse text) []
 abbrev pub with_written : PathMap → Path → ℕ → List ℕ → PathMap
 with_written map path off new = with_content map path (written (bytes_at map.nodes path) off new)
 
--- its bytes up to a size, with zeros behind them where it had fewer
+-- the map with the file at a path shortened to this size, or extended to it with zero bytes
 abbrev pub with_size : PathMap → Path → ℕ → PathMap
 with_size map path size = with_content map path (resized (bytes_at map.nodes path) size)
 
@@ -226,7 +226,7 @@ abbrev pub with_piece : PathMap → Piece → PathMap
 with_piece map piece =
     if nat_lt 0 (length piece.bytes) then with_written map (path_named piece.path) piece.off piece.bytes else map
 
--- the pieces one after the other
+-- the map after the pieces of a batch, written one after the other
 abbrev pub with_pieces : PathMap → List Piece → PathMap
 with_pieces map [] = map
 with_pieces map (piece ∷ pieces) = with_pieces (with_piece map piece) pieces
@@ -243,22 +243,22 @@ file_refusal nodes p = first (walk nodes p ∷ when (is_dir_at nodes p) is_dir �
 abbrev pub dir_refusal : Nodes → Path → Option Refusal
 dir_refusal nodes p = first (walk nodes p ∷ when (not (is_dir_at nodes p)) not_dir ∷ [])
 
--- of a directory that is to go
+-- the first refusal of a removal of the directory at this path
 abbrev pub rmdir_refusal : Nodes → Path → Option Refusal
 rmdir_refusal nodes p =
     first (when (is_root_path p) is_root ∷ dir_refusal nodes p ∷ when (not (is_empty_dir nodes p)) not_empty ∷ [])
 
--- a piece of a batch lies below the size of its file
+-- the first refusal of one piece of a batch: its bytes must end within its file
 abbrev pub piece_refusal : Nodes → Piece → Option Refusal
 piece_refusal nodes piece = first (file_refusal nodes (path_named piece.path)
     ∷ when (nat_lt (length (bytes_at nodes (path_named piece.path))) (piece.off + length piece.bytes)) past_end ∷ [])
 
--- of a snapshot
+-- a check on the snapshot's nodes, or `no_snap` if there is no snapshot
 abbrev pub on_snap : Option PathMap → (Nodes → Option Refusal) → Option Refusal
 on_snap None refusals = Some no_snap
 on_snap (Some map) refusals = refusals map.nodes
 
--- the first refusal of a call in this order
+-- the first refusal of a call in the order of the checks, or none if the call is carried out
 abbrev pub refusal : FileTree → Call → Option Refusal
 refusal tree (create text) = on_path text (new_refusal tree.now.nodes)
 refusal tree (mkdir text) = on_path text (new_refusal tree.now.nodes)
@@ -316,7 +316,7 @@ changes tree (unlink text) = true
 changes tree (rmdir text) = true
 changes tree (write text off new) = nat_lt 0 (length new)
 changes tree (truncate text size) = not (size == length (bytes_at tree.now.nodes (path_named text)))
--- two paths of one file stay as they are
+-- a rename between two paths of one file changes nothing
 changes tree (rename from to) = not (same_path (path_named from) (path_named to))
     && not (is_one tree.now.one (path_named from) (path_named to))
 changes tree (link from to) = true
@@ -338,7 +338,7 @@ abbrev pub stat_answer : Nodes → Path → Option Node → Answer
 stat_answer nodes path (Some (file content)) = file_of (length content)
 stat_answer nodes path _ = dir_of (length (listing nodes path))
 
--- what a snapshot has at paths, and nothing where there is none
+-- the nodes of the snapshot; no nodes if there is no snapshot
 abbrev pub snap_nodes : Option PathMap → Nodes
 snap_nodes None = from_entries []
 snap_nodes (Some map) = map.nodes

@@ -1,4 +1,4 @@
--- A plain file tree: what stands at each path, and which paths are one file.
+-- The abstract file tree: the node at each path, and which paths are one file.
 use Rattle.std.specs.Prelude.{◌≡◌, ℕ, List, [], ◌∷◌, ◌++◌, Bool, true, Option, None, Some}
 use Rattle.std.specs.Ordering.{nat_cmp, ordering_then}
 use Rattle.std.specs.declared.cmp.Ordering.{Ordering}
@@ -12,39 +12,39 @@ use Rattle.bp_layout.specs.Paths.Node.{dir, file}
 use Rattle.bp_limits.specs.declared.version.Version.{Version}
 use Rattle.bp_limits.specs.declared.version.Version.TheVariants.{Two}
 
--- paths by their names, and names by their bytes
+-- the order of paths: name by name, and names byte by byte
 abbrev pub path_cmp : Path → Path → Ordering
 path_cmp = slice_cmp (slice_cmp nat_cmp)
 
--- pairs of paths by the first of them, and then by the second
+-- the order of pairs of paths: by the first path, then by the second
 abbrev pub pair_cmp : Path × Path → Path × Path → Ordering
 pair_cmp a b = ordering_then (path_cmp a.0 b.0) (path_cmp a.1 b.1)
 
--- what stands at each path
+-- the node at each path
 abbrev pub Nodes : Type 0
 Nodes = FinMap path_cmp Node
 
--- pairs of paths that are one file: each path of a file makes one with itself
+-- the pairs of paths that are one file; each path of a file is a pair with itself
 abbrev pub Aliases : Type 0
 Aliases = FinSet pair_cmp
 
 abbrev pub is_one : Aliases → Path → Path → Bool
 is_one one p q = contains one (p, q)
 
--- both
+-- the nodes at all paths, with the pairs of paths that are one file
 pub record PathMap : Type 0 where
   pub nodes : Nodes
   pub one : Aliases
 
--- the version of the format; what stands at each path now; and what stood there at the snapshot, where one was
--- made
+-- The state of a file system: the version of its format, the map of its paths now, and the map of its snapshot if it
+-- has one.
 pub record FileTree : Type 0 where
   pub version : Version
   pub now : PathMap
   pub snap : Option PathMap
 
--- The root is a directory, and so is the parent of each other path. The pairs are those of an equivalence of the
--- paths of files, and the paths of a pair have the same bytes.
+-- A map that is a file tree: the root and each path's parent are directories. The pairs are an equivalence relation on
+-- the paths of files, and the two paths of a pair have the same bytes.
 pub record IsPathMap (map : PathMap) : Type 0 where
   pub root : get map.nodes [] ≡ Some dir
   pub parents : (path : Path) (name : Name) (node : Node) → get map.nodes (path ++ name ∷ []) ≡ Some node
@@ -60,7 +60,7 @@ pub record IsFileTree (tree : FileTree) : Type 0 where
   pub now : IsPathMap tree.now
   pub snap : (map : PathMap) → tree.snap ≡ Some map → (tree.version ≡ Two) × IsPathMap map
 
--- the root directory alone
+-- the map that has only the root directory
 abbrev pub empty_map : PathMap
 empty_map = record { nodes = finite.insert finite.empty [] dir; one = set.empty }
 

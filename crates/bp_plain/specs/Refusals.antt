@@ -1,4 +1,4 @@
--- How replies tell a refusal: by a number and a word.
+-- The number and the word by which replies name each refusal.
 use Rattle.std.specs.Prelude.{ℕ, List, codes}
 use Rattle.bp_plain.specs.Calls.{Refusal}
 use Rattle.bp_plain.specs.Calls.Refusal.{bad_path, not_found, not_dir, is_dir, exists, not_empty, into_self, is_root, too_long, too_big, no_space, no_memory, no_snap, has_snap, old_version, past_end}

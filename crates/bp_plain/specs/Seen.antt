@@ -1,4 +1,4 @@
--- The calls, refusals and answers of the program as those of the definitions.
+-- The program's calls, refusals and answers as those of the definitions.
 use Rattle.std.specs.Prelude.{ℕ, ◌≤◌, ◌+◌, List, length, map, slice_range}
 use Rattle.std.specs.List.{All}
 use Rattle.bp_limits.specs.Limits.{max_pieces, max_read}
@@ -12,7 +12,7 @@ use Rattle.bp_plain.specs.Calls.{Call, Piece, Refusal}
 use Rattle.bp_plain.specs.Calls.Call.{create, mkdir, unlink, rmdir, list, stat, read, write, truncate, rename, link, links, upgrade, snap, unsnap, snap_list, snap_stat, snap_read, batch}
 use Rattle.bp_plain.specs.Calls.Refusal.{bad_path, not_found, not_dir, is_dir, exists, not_empty, into_self, is_root, too_long, too_big, no_space, no_memory, no_snap, has_snap, old_version, past_end}
 
--- a part of a text, and a piece whose parts lie in one
+-- the bytes of a part of a text; `piece_in` is a piece whose path and bytes are parts of a text
 abbrev pub spanned : List ℕ → Span → List ℕ
 spanned text span = slice_range text span.at (span.at + span.len)
 
@@ -59,12 +59,13 @@ refusal_of fault.HasSnap = has_snap
 refusal_of fault.OldVersion = old_version
 refusal_of fault.PastEnd = past_end
 
--- the parts of a piece lie in a text
+-- the path and the bytes of a piece lie within the text
 pub record LiesIn (text : List ℕ) (piece : GivenPiece) : Type 0 where
   pub path : piece.path.at + piece.path.len ≤ length text
   pub bytes : piece.bytes.at + piece.bytes.len ≤ length text
 
--- A read asks for no more bytes than one call reads. A batch has 1 to 16 pieces, whose parts lie in its text.
+-- The condition on a call of `Plain::apply`: a read asks for at most `max_read` bytes, and a batch has 1 to
+-- `max_pieces` pieces whose parts lie within its text.
 abbrev pub CanAsk : GivenCall → Type 0
 CanAsk (given.Read path off len) = len ≤ max_read
 CanAsk (given.SnapRead path off len) = len ≤ max_read

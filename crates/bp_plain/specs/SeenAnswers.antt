@@ -1,4 +1,4 @@
--- The answers of the program as those of the definitions.
+-- The program's answers as those of the definitions.
 use Rattle.std.specs.Prelude.{ℕ, ◌≡◌, ◌≤◌, List, length, take}
 use Rattle.std.specs.Vec.{vec_len}
 use Rattle.bp_limits.specs.Limits.{max_read}
@@ -21,7 +21,7 @@ answer_seen (given.Names listing) = names listing.now
 answer_seen (given.LinksOf count) = links_of count
 answer_seen (given.Refused error) = refused (refusal_of error)
 
--- what is held, with the first bytes of the buffer
+-- the answer that a reply holds; for an answer of bytes, the first `count` bytes of its buffer
 abbrev pub held_answer : Held → List ℕ → Answer
 held_answer held.Done buffer = done
 held_answer (held.Bytes count) buffer = bytes (take count buffer)
@@ -34,7 +34,7 @@ held_answer (held.Refused error) buffer = refused (refusal_of error)
 abbrev pub reply_seen : Inside → ReplyView
 reply_seen reply = record { answer = held_answer reply.held reply.buffer.items; buffer = reply.buffer.items }
 
--- the bytes that are answered are no more than one call reads
+-- an answer of bytes has at most as many bytes as one call reads
 abbrev pub IsShortAnswer : GivenAnswer → Type 0
 IsShortAnswer (given.Bytes content) = length content.now ≤ max_read
 IsShortAnswer _ = Unit {0}
@@ -43,7 +43,7 @@ abbrev pub HeldFits : Held → Type 0
 HeldFits (held.Bytes count) = count ≤ max_read
 HeldFits _ = Unit {0}
 
--- the buffer has all the bytes that one call reads, and no more are answered
+-- the buffer has as many bytes as one call reads, and an answer of bytes is no longer
 pub record FitsBuffer (reply : Inside) : Type 0 where
   pub whole : vec_len reply.buffer ≡ max_read
   pub few : HeldFits reply.held

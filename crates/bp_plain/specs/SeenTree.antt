@@ -1,4 +1,4 @@
--- What contracts see of a plain tree that a program keeps.
+-- The abstract view, in contracts, of the nodes and paths that the program holds.
 use Rattle.std.specs.Prelude.{◌≡◌, ◌++◌, ℕ, List, [], ◌∷◌, map, true, Option, None, Some, if◌then◌else◌}
 use Rattle.std.specs.List.{list_all}
 use Rattle.std.specs.Global.{Vec}
@@ -44,14 +44,14 @@ pub record IsRooted (nodes : Nodes) : Type 0 where
   pub parents : (path : Path) (name : Name) (node : Node) → get nodes (path ++ name ∷ []) ≡ Some node
       → get nodes path ≡ Some dir
 
--- no path goes on from a path
+-- no path of the nodes is this path with one more name
 pub record HasNoneBelow (nodes : Nodes) (path : Path) : Type 0 where
   pub none : (name : Name) → get nodes (path ++ name ∷ []) ≡ None
 
--- what a call that is not refused answers and makes
+-- the answer and the new tree of a call that is not refused
 abbrev pub carried_out : FileTree → Call → Answer × FileTree
 carried_out tree call = answer_or tree call None
 
--- names behind others, where each of them is one
+-- these names with the parts appended, if each part is a valid name
 abbrev pub all_names : Path → List Name → Option Path
 all_names before parts = if list_all is_name parts then Some (before ++ parts) else None

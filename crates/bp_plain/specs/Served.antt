@@ -1,10 +1,10 @@
--- The calls that a volume carries out.
+-- The limits on a call that a volume carries out.
 use Rattle.std.specs.Prelude.{◌≤◌, length}
 use Rattle.bp_limits.specs.Limits.{max_pieces, max_read}
 use Rattle.bp_plain.specs.Calls.{Call}
 use Rattle.bp_plain.specs.Calls.Call.{read, snap_read, batch}
 
--- a read of so many bytes at most, of a snapshot too, and a batch of so many pieces at most, of which there is one
+-- a read, also of the snapshot, asks for at most `max_read` bytes, and a batch has 1 to `max_pieces` pieces
 abbrev pub IsServed : Call → Type 0
 IsServed (read text off len) = len ≤ max_read
 IsServed (snap_read text off len) = len ≤ max_read

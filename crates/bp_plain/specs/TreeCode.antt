@@ -1,4 +1,4 @@
--- Plain trees as values that a program is seen as.
+-- Codes of abstract trees: encodings that make a tree a value of the program's ghost state.
 use Rattle.std.specs.Prelude.{◌≡◌, ℕ, List, Bool, true, false, Option, None, Some, refl}
 use Rattle.std.specs.Coded.{Coded, code_by, coded_bool, coded_ℕ, coded_list, coded_option, coded×}
 use Rattle.std.specs.FinMap as finite

@@ -1,103 +1,103 @@
-//! The calls on the files of a volume.
+//! The calls on the files and directories of a volume.
 
-/// A part of a text: so many bytes from a place on.
+/// A part of a text: `len` bytes from position `at` on.
 #[derive(Clone, Copy, Debug, Default, PartialEq, Eq)]
 pub struct Span {
-    /// The place of its first byte.
+    /// Position of the first byte in the text.
     pub at: u32,
-    /// How many bytes it has.
+    /// Number of bytes.
     pub len: u32,
 }
 
-/// Bytes for the file at a path, from an offset on. Path and bytes are parts of one text.
+/// One write of a batch: bytes for the file at a path, from an offset on. The path and the bytes are parts of one text.
 #[derive(Clone, Copy, Debug, Default, PartialEq, Eq)]
 pub struct Piece {
-    /// The path.
+    /// Path of the file.
     pub path: Span,
-    /// The place of the first byte in the file.
+    /// Offset of the first byte in the file, in bytes.
     pub off: u64,
-    /// The bytes.
+    /// Bytes to write.
     pub bytes: Span,
 }
 
-/// A call on files and directories. Each path is the bytes of a path text, decoded.
+/// A call on files and directories. Each path is given as the bytes of a path text, already decoded.
 #[derive(Clone, Copy, Debug, PartialEq, Eq)]
 pub enum Call<'a> {
-    /// Makes an empty file at a path.
+    /// Creates an empty file at a path.
     Create(&'a [u8]),
-    /// Makes an empty directory at a path.
+    /// Creates an empty directory at a path.
     Mkdir(&'a [u8]),
-    /// Takes this name from a file, and removes the file with its last name.
+    /// Removes this path of a file, and the file itself with its last path.
     Unlink(&'a [u8]),
     /// Removes the empty directory at a path.
     Rmdir(&'a [u8]),
-    /// Asks for the names in the directory at a path.
+    /// Lists the names in the directory at a path.
     List(&'a [u8]),
-    /// Asks for the size of the file, or the count of the directory, at a path.
+    /// Returns the size of the file, or the number of names in the directory, at a path.
     Stat(&'a [u8]),
-    /// Asks for at most `len` bytes of the file at a path, from byte `off` on.
+    /// Reads at most `len` bytes of the file at a path, from byte `off` on.
     Read {
-        /// The path.
+        /// Path of the file.
         path: &'a [u8],
-        /// The place of the first byte in the file.
+        /// Offset of the first byte in the file, in bytes.
         off: u64,
-        /// The most bytes that are asked for.
+        /// Greatest number of bytes to return.
         len: usize,
     },
-    /// Puts bytes into the file at a path, from byte `off` on. Bytes between its end and `off` become 0.
+    /// Writes bytes to the file at a path, from byte `off` on. Bytes between its old end and `off` become 0.
     Write {
-        /// The path.
+        /// Path of the file.
         path: &'a [u8],
-        /// The place of the first byte in the file.
+        /// Offset of the first byte in the file, in bytes.
         off: u64,
-        /// The bytes. With none of them the file stays as it is.
+        /// Bytes to write. If there are none, the file does not change.
         bytes: &'a [u8],
     },
-    /// Gives the file at a path another size. Bytes behind its old end become 0.
+    /// Sets the size of the file at a path. Bytes past its old end become 0.
     Truncate {
-        /// The path.
+        /// Path of the file.
         path: &'a [u8],
-        /// The size in bytes.
+        /// New size in bytes.
         size: u64,
     },
-    /// Moves the file or the directory at a path, with all below it, to another path.
+    /// Moves the file or the directory at a path, with everything below it, to another path.
     Rename {
-        /// The path that it has.
+        /// Present path.
         from: &'a [u8],
-        /// The path that it gets. A file or an empty directory that stands there goes.
+        /// New path. A file or an empty directory at this path is replaced.
         to: &'a [u8],
     },
-    /// Gives the file at a path one more name.
+    /// Gives the file at a path another path (a hard link).
     Link {
-        /// A path of the file.
+        /// An existing path of the file.
         from: &'a [u8],
-        /// The path that it gets besides.
+        /// Additional path.
         to: &'a [u8],
     },
-    /// Asks how many names the file at a path has.
+    /// Returns the number of paths (links) of the file at a path.
     Links(&'a [u8]),
-    /// Makes the format version 2.
+    /// Changes the format to version 2.
     Upgrade,
-    /// Keeps the files and directories as they are now, for later calls to look at.
+    /// Takes a snapshot: keeps the files and directories as they are now, for later calls to read.
     Snap,
-    /// Keeps them no longer.
+    /// Deletes the snapshot.
     Unsnap,
-    /// Asks for the names in a directory of the snapshot.
+    /// Lists the names in a directory of the snapshot.
     SnapList(&'a [u8]),
-    /// Asks for the size of a file, or the count of a directory, of the snapshot.
+    /// Returns the size of a file, or the number of names in a directory, of the snapshot.
     SnapStat(&'a [u8]),
-    /// Asks for bytes of a file of the snapshot.
+    /// Reads bytes of a file of the snapshot.
     SnapRead {
-        /// The path.
+        /// Path of the file.
         path: &'a [u8],
-        /// The place of the first byte in the file.
+        /// Offset of the first byte in the file, in bytes.
         off: u64,
-        /// The most bytes that are asked for.
+        /// Greatest number of bytes to return.
         len: usize,
     },
-    /// Puts bytes into several files, or into one, all at once: the pieces in their order.
+    /// Writes bytes to one or several files, all at once: the pieces are written in their order.
     Batch {
-        /// The text of which paths and bytes are parts.
+        /// Text that contains the paths and bytes of the pieces.
         text: &'a [u8],
         /// The pieces, 1 to 16 of them.
         pieces: &'a [Piece],

@@ -10,7 +10,7 @@ use crate::replies::Reply;
 use bp_limits::Version;
 use std::alloc::{AllocError, Global};
 
-/// At most so many bytes from an offset on.
+/// Returns at most `len` bytes of `content` from byte `off` on.
 pub(crate) fn part(content: &[u8], off: u64, len: usize) -> &[u8]
     ensures { result.now ≡ take len (drop off content.now) }
 {
@@ -21,14 +21,14 @@ pub(crate) fn part(content: &[u8], off: u64, len: usize) -> &[u8]
     &rest[..rest.len().min(len)]
 }
 
-/// Whether there are bytes, and they end behind the greatest size.
+/// Returns whether a write has bytes and ends past the version's greatest file size.
 pub(crate) fn ends_too_late(version: Version, off: u64, new: &[u8]) -> bool
     ensures { result ≡ (nat_lt 0 (length new.now) && nat_lt (greatest_size version) (off + length new.now)) }
 {
     !new.is_empty() && u128::from(off) + new.len() as u128 > u128::from(version.greatest_size())
 }
 
-/// The old bytes with the new ones laid over them, and 0 between.
+/// Returns the old bytes with the new ones written over them from byte `off` on, and 0 between the old end and `off`.
 pub(crate) fn written(
     alloc: Global,
     old: &[u8],
@@ -43,7 +43,7 @@ pub(crate) fn written(
     Ok(content)
 }
 
-/// The bytes behind so many from an offset on.
+/// Returns the bytes of `content` after byte `off + len`.
 fn behind(content: &[u8], off: usize, len: usize) -> &[u8]
     ensures { result.now ≡ drop (off + len) content.now }
 {
@@ -57,7 +57,7 @@ fn behind(content: &[u8], off: usize, len: usize) -> &[u8]
     &rest[len..]
 }
 
-/// So many of the bytes, and 0 behind them.
+/// Returns the first `size` of the old bytes, extended with 0 up to that size.
 pub(crate) fn resized(alloc: Global, old: &[u8], size: usize) -> Result<Vec<u8>, AllocError>
     ensures { IfOk result (λ content. content.items ≡ plain.resized old.now size) }
 {
@@ -67,7 +67,7 @@ pub(crate) fn resized(alloc: Global, old: &[u8], size: usize) -> Result<Vec<u8>,
     Ok(content)
 }
 
-/// Answers these bytes.
+/// Sets the answer to these bytes.
 pub(crate) fn answer_bytes(reply: &mut Reply, content: &[u8])
     requires { length content.now ≤ max_read }
     ensures { reply.new.answer ≡ bytes content.now }

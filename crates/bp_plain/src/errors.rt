@@ -6,25 +6,25 @@ ghost use Rattle.std.specs.Prelude.{◌≡◌};
 
 use thiserror::Error;
 
-/// Why a call was refused. The call has then changed nothing.
+/// Reason why a call was refused. A refused call changes nothing.
 #[derive(Clone, Copy, Debug, PartialEq, Eq, Error)]
 pub enum FsError {
-    /// The text of a path is not one.
+    /// The text of a path is not a valid path.
     #[error("bad path")]
     BadPath,
-    /// A name on the way to what is asked for is missing.
+    /// A name of the path does not exist.
     #[error("not found")]
     NotFound,
-    /// A file stands where a directory is wanted.
+    /// A file is where a directory is needed.
     #[error("not a directory")]
     NotDir,
-    /// A directory stands where a file is wanted.
+    /// A directory is where a file is needed.
     #[error("is a directory")]
     IsDir,
-    /// Something stands at the path already.
+    /// The path exists already.
     #[error("exists")]
     Exists,
-    /// The directory has names in it.
+    /// The directory is not empty.
     #[error("not empty")]
     NotEmpty,
     /// A directory would move below itself.
@@ -33,7 +33,7 @@ pub enum FsError {
     /// The root directory can be neither removed nor moved.
     #[error("is the root directory")]
     IsRoot,
-    /// There are more bytes than one call takes.
+    /// There are more bytes than one call may write.
     #[error("too long")]
     TooLong,
     /// The file would grow past the greatest size.
@@ -42,12 +42,12 @@ pub enum FsError {
     /// Fewer blocks are free than the call needs.
     #[error("no space: {need} blocks are needed, {free} are free")]
     NoSpace {
-        /// The blocks that the call needs.
+        /// Number of blocks that the call needs.
         need: u32,
-        /// The blocks that are free.
+        /// Number of free blocks.
         free: u32,
     },
-    /// The program has no memory left for the answer.
+    /// The program is out of memory for this call.
     #[error("out of memory")]
     Memory,
     /// There is no snapshot.
@@ -65,7 +65,7 @@ pub enum FsError {
 }
 
 impl FsError {
-    /// The number under which replies tell the refusal.
+    /// Returns the number by which replies name the refusal.
     pub fn number(&self) -> u8
         ensures { result ≡ refusal_number (refusal_of self.now) }
     {
@@ -89,7 +89,7 @@ impl FsError {
         }
     }
 
-    /// The word under which replies tell the refusal.
+    /// Returns the word by which replies name the refusal.
     pub fn word(&self) -> &'static str
         ensures { result.now ≡ refusal_word (refusal_of self.now) }
     {

@@ -1,4 +1,4 @@
-//! Laws over what an image means.
+//! Theorems on the abstract tree that an image represents.
 
 ghost use Rattle.bp_layout.specs.Format.{formatted};
 ghost use Rattle.bp_limits.specs.Limits.{max_blocks, min_blocks};
@@ -11,26 +11,25 @@ ghost use Rattle.std.specs.Prelude.{◌*◌, ◌≡◌, ◌≤◌, length, true}
 
 use bp_limits::Version;
 
-/// A well-formed image shows exactly one map of paths.
+/// States that a well-formed image has exactly one map of paths.
 pub fn one_map(_image: &[u64])
     requires { IsWellFormed _image.now }
     ensures { ShowsOne _image.now }
 {}
 
-/// A well-formed image whose snapshot, where it has one, is well formed too stands for exactly one plain tree.
+/// States that an image represents exactly one abstract tree, if it is well formed and so is its snapshot, if any.
 pub fn one_tree(_image: &[u64])
     requires first { IsWellFormed _image.now }
     requires second { has_snapshot _image.now ≡ true → IsWellFormed (snapshot_of _image.now) }
     ensures { StandsForOne _image.now }
 {}
 
-/// The plain tree for which an image stands has a directory at its root, and one above each other path.
+/// States that the abstract tree of an image has a directory at its root and above each other path.
 pub fn file_tree(_image: &[u64])
     ensures { (tree : FileTree) → Stands _image.now tree → IsFileTree tree }
 {}
 
-/// After the stores of a format over any words, an image of so many blocks stands for the root directory alone, in its
-/// version.
+/// States that formatting any words as an image of `_blocks` blocks makes an image of the empty tree of that version.
 pub fn format_is_empty(_image: &[u64], _version: Version, _blocks: u64)
     requires whole { length _image.now ≡ 512 * _blocks }
     requires least { min_blocks ≤ _blocks }
@@ -38,18 +37,20 @@ pub fn format_is_empty(_image: &[u64], _version: Version, _blocks: u64)
     ensures { Stands (formatted _image.now _version _blocks) (empty_tree _version) }
 {}
 
-/// The calls of a tree's export, one after the other from the empty tree of its version, are all carried out, and
-/// make that tree but for its snapshot.
+/// States that all calls of a tree's export succeed, applied one after the other to the empty tree of its version, and
+/// make that tree without its snapshot.
 pub fn exports_come_back()
     ensures { (tree : FileTree) → IsExportable tree → AllDone (empty_tree tree.version) (export_calls tree) (without_snapshot tree) }
 {}
 
-/// The entries of a map are those that a walk finds: a directory's own, and then those below each of its names, in order.
+/// States that the entries of a map are those that a walk finds, in the same order: for a directory its own entry, and
+/// then those at and below each of its names.
 pub fn trees_are_walked()
     ensures { (map : PathMap) → IsPathMap map → IsWalked map }
 {}
 
-/// The tree of an image can be exported and is of bytes, where no path of it has more bytes than a call can spell.
+/// States that the tree of an image consists of bytes and can be exported, if each of its paths is short enough for a
+/// call.
 pub fn images_are_exportable(_image: &[u64])
     ensures { (tree : FileTree) → Stands _image.now tree → HasShortPaths tree → IsExportable tree × IsOfBytes tree }
 {}

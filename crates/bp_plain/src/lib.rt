@@ -1,4 +1,4 @@
-//! The plain file tree that an image stands for, and the calls on it with their answers.
+//! The abstract file tree that an image represents, and the calls on it with their answers.
 #![tactic(auto)]
 
 mod calls;

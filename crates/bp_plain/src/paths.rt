@@ -12,7 +12,7 @@ use bp_layout::Name;
 use bp_limits::{MAX_NAME, MAX_PATH};
 use std::alloc::{AllocError, Global};
 
-/// The names of the path that a text spells, where it spells one.
+/// Returns the names of the path that a text spells, or `None` if it is no valid path.
 pub(crate) fn parse(alloc: Global, text: &[u8]) -> Result<Option<Vec<Name>>, AllocError>
     ensures { IfOk result (λ path. option_map (λ names. names_of names.items) path ≡ parse text.now) }
 {
@@ -32,7 +32,7 @@ pub(crate) fn parse(alloc: Global, text: &[u8]) -> Result<Option<Vec<Name>>, All
     names_in(alloc, text)
 }
 
-/// The same of a text that spells a path, and `/` for any other.
+/// Returns the names of the path that a text spells, or the root path if it is no valid path.
 pub(crate) fn path_of(alloc: Global, text: &[u8]) -> Result<Vec<Name>, AllocError>
     ensures { IfOk result (λ names. names_of names.items ≡ plain.path_named text.now) }
 {
@@ -42,7 +42,7 @@ pub(crate) fn path_of(alloc: Global, text: &[u8]) -> Result<Vec<Name>, AllocErro
     }
 }
 
-/// The parts of a text round each `/`, where each is a name.
+/// Returns the parts of a text between its `/` bytes, or `None` if one of them is no valid name.
 fn names_in(alloc: Global, text: &[u8]) -> Result<Option<Vec<Name>>, AllocError>
     ensures { IfOk result (λ path. option_map (λ names. names_of names.items) path ≡ all_names [] (parts text.now)) }
 {
@@ -70,7 +70,7 @@ fn first_slash(text: &[u8]) -> Option<usize>
     text.iter().position(|byte| *byte == b'/')
 }
 
-/// These bytes as a name, where they are one.
+/// Returns these bytes as a name, or `None` if they are no valid name.
 fn name(bytes: &[u8]) -> Option<Name>
     ensures { option_map (λ name. name.items) result ≡ (if is_name bytes.now then Some bytes.now else None) }
 {
@@ -107,21 +107,21 @@ fn has_plain_bytes(bytes: &[u8]) -> bool
     bytes.iter().all(|byte| *byte != 0 && *byte != b'/')
 }
 
-/// A path without its last name.
+/// Returns a path without its last name.
 pub(crate) fn parent_of(path: &[Name]) -> &[Name]
     ensures { names_of result.now ≡ plain.parent_of (names_of path.now) }
 {
     &path[..path.len().saturating_sub(1)]
 }
 
-/// Whether two paths have the same names.
+/// Returns whether two paths have the same names.
 pub(crate) fn is_same(path: &[Name], other: &[Name]) -> bool
     ensures { result ≡ same_path (names_of path.now) (names_of other.now) }
 {
     path == other
 }
 
-/// The names of one path, and then those of another.
+/// Returns the names of one path followed by those of another.
 pub(crate) fn joined(alloc: Global, above: &[Name], below: &[Name]) -> Result<Vec<Name>, AllocError>
     ensures { IfOk result (λ path. names_of path.items ≡ names_of above.now ++ names_of below.now) }
 {
@@ -131,7 +131,7 @@ pub(crate) fn joined(alloc: Global, above: &[Name], below: &[Name]) -> Result<Ve
     Ok(path)
 }
 
-/// The same names.
+/// Returns a copy of these names.
 pub(crate) fn copied(alloc: Global, names: &[Name]) -> Result<Vec<Name>, AllocError>
     ensures { IfOk result (λ path. names_of path.items ≡ names_of names.now) }
 {
@@ -149,14 +149,14 @@ fn add_names(path: &mut Vec<Name>, names: &[Name]) -> Result<(), AllocError>
     Ok(())
 }
 
-/// The refusal where something holds.
+/// Returns the refusal if `holds`, else `None`.
 pub(crate) fn when(holds: bool, error: FsError) -> Option<FsError>
     ensures { option_map refusal_of result ≡ plain.when holds (refusal_of error) }
 {
     if holds { Some(error) } else { None }
 }
 
-/// The first refusal of all.
+/// Returns the first refusal of the list, or `None` if there is none.
 pub(crate) fn first(refusals: &[Option<FsError>]) -> Option<FsError>
     ensures { option_map refusal_of result ≡ plain.first (map (option_map refusal_of) refusals.now) }
 {

@@ -1,4 +1,4 @@
-//! How a call was answered.
+//! The answers of calls.
 
 ghost use Rattle.bp_limits.specs.Limits.{max_read};
 ghost use Rattle.bp_plain.specs.Calls.Answer.{bytes, dir_of, done, file_of, links_of, names, refused};
@@ -11,26 +11,26 @@ use bp_limits::MAX_READ;
 use std::alloc::{AllocError, Global};
 use std::marker::Model;
 
-/// The answer of a call.
+/// Answer of a call.
 #[derive(Clone, Copy)]
 pub enum Answer<'a> {
-    /// The call was carried out, and there is nothing to tell.
+    /// The call was carried out and returns no value.
     Done,
     /// Bytes of a file.
     Bytes(&'a [u8]),
-    /// A file of so many bytes.
+    /// A file, with its size in bytes.
     FileOf(u64),
-    /// A directory with so many names.
+    /// A directory, with the number of names in it.
     DirOf(u64),
     /// The names in a directory, in the order of their bytes.
     Names(&'a Listing),
-    /// A file with so many names.
+    /// A file, with the number of its paths.
     LinksOf(u32),
     /// The call was refused, and has changed nothing.
     Refused(FsError),
 }
 
-/// An answer as a reply keeps it: its bytes are so many of the buffer, from the first on.
+/// An answer as a reply holds it. The bytes of an answer are the first ones of the buffer; `Held` has their number.
 #[derive(Drop)]
 enum Held {
     Done,
@@ -42,7 +42,7 @@ enum Held {
     Refused(FsError),
 }
 
-/// The answer of a call with the memory that it needs.
+/// Answer of a call, with the memory that it needs.
 #[derive(Drop)]
 pub struct Reply {
     held: Held,
@@ -58,7 +58,7 @@ impl Model for Reply {
 
     ghost view = { reply_seen };
 
-    // So no later call takes memory.
+    // The buffer has its full size from the start, so no later call allocates it.
     ghost invariant = { FitsBuffer };
 }
 
@@ -68,7 +68,7 @@ impl Reply {
     ghost use Rattle.bp_plain.specs.contracts.replies.Reply.{the_row};
     ghost use Rattle.std.specs.Borrow.{Array, Lends, sem, u8 as byte};
 
-    /// A reply with memory for every answer, at first that a call is done.
+    /// Makes a reply with a buffer that is large enough for every answer. The first answer is `done`.
     pub fn new(alloc: Global) -> Result<Reply, AllocError>
         ensures { IfOk result (λ reply. reply.answer ≡ done) }
     {
@@ -79,7 +79,7 @@ impl Reply {
         })
     }
 
-    /// The answer of the last call that was made with it; at first that a call is done.
+    /// Returns the answer of the last call that used this reply; at first, `done`.
     pub fn answer(&self) -> Answer<'_>
         ensures seen { answer_seen result ≡ self.now.answer }
         ensures short { IsShortAnswer result }
@@ -95,7 +95,7 @@ impl Reply {
         }
     }
 
-    /// The memory for the bytes of an answer, 65,536 bytes that may be written. The answer is then that the call was carried out.
+    /// Lends the 65,536 bytes of the buffer for writing. The answer is then `done`.
     pub fn buffer(&mut self) -> &mut [u8]
         ensures* lends { sem 𝓛 (Lends the_row (Array byte 0) self.entry result (lent_out self.old)) }
         ensures bytes { result.now ≡ self.old.buffer }
@@ -105,7 +105,7 @@ impl Reply {
         self.buffer.as_mut_slice()
     }
 
-    /// Answers that the call was carried out.
+    /// Sets the answer to `done`: the call was carried out.
     pub fn set_done(&mut self)
         ensures answer { self.new.answer ≡ done }
         ensures buffer { self.new.buffer ≡ self.old.buffer }
@@ -113,7 +113,7 @@ impl Reply {
         self.held = Held::Done;
     }
 
-    /// Answers a file's size in bytes.
+    /// Sets the answer to a file's size in bytes.
     pub fn set_file(&mut self, size: u64)
         ensures answer { self.new.answer ≡ file_of size }
         ensures buffer { self.new.buffer ≡ self.old.buffer }
@@ -121,7 +121,7 @@ impl Reply {
         self.held = Held::FileOf(size);
     }
 
-    /// Answers how many names a directory has.
+    /// Sets the answer to the number of names in a directory.
     pub fn set_dir(&mut self, count: u64)
         ensures answer { self.new.answer ≡ dir_of count }
         ensures buffer { self.new.buffer ≡ self.old.buffer }
@@ -129,7 +129,7 @@ impl Reply {
         self.held = Held::DirOf(count);
     }
 
-    /// Answers the names in a directory.
+    /// Sets the answer to the names in a directory.
     pub fn set_names(&mut self, listing: Listing)
         ensures answer { self.new.answer ≡ names listing }
         ensures buffer { self.new.buffer ≡ self.old.buffer }
@@ -137,7 +137,7 @@ impl Reply {
         self.held = Held::Names(listing);
     }
 
-    /// Answers how many names a file has.
+    /// Sets the answer to the number of paths of a file.
     pub fn set_links(&mut self, count: u32)
         ensures answer { self.new.answer ≡ links_of count }
         ensures buffer { self.new.buffer ≡ self.old.buffer }
@@ -145,7 +145,7 @@ impl Reply {
         self.held = Held::LinksOf(count);
     }
 
-    /// Answers a refusal.
+    /// Sets the answer to a refusal.
     pub fn set_refused(&mut self, error: FsError)
         ensures answer { self.new.answer ≡ refused (refusal_of error) }
         ensures buffer { self.new.buffer ≡ self.old.buffer }
@@ -153,7 +153,7 @@ impl Reply {
         self.held = Held::Refused(error);
     }
 
-    /// Answers the first `n` bytes of the buffer, at most 65,536.
+    /// Sets the answer to the first `n` bytes of the buffer, at most 65,536.
     pub fn set_bytes(&mut self, n: usize)
         requires { n ≤ max_read }
         ensures answer { self.new.answer ≡ bytes (take n self.old.buffer) }

@@ -1,4 +1,4 @@
-//! The plain file tree as a program. It is slow and meant to be seen through: a volume is compared with it in tests.
+//! The abstract file tree as a program. It is slow and easy to understand; tests compare a volume with it.
 
 ghost use Rattle.bp_limits.specs.Limits.{max_read};
 ghost use Rattle.bp_limits.specs.CallLimits.{is_two};
@@ -25,7 +25,7 @@ use maps::FileMap;
 use std::alloc::{AllocError, Global};
 use std::marker::Model;
 
-/// A file tree: its version, with what stands at each path, now and at the snapshot.
+/// A file tree: its version, and the map of its paths, now and at the snapshot.
 #[derive(Drop)]
 pub struct Plain {
     version: Version,
@@ -47,7 +47,7 @@ impl Model for Plain {
 }
 
 impl Plain {
-    /// The root directory alone, in a version. Fails only for want of memory.
+    /// Makes a tree that has only the root directory, in this version. Fails only if memory is out.
     pub fn of(alloc: Global, version: Version) -> Result<Plain, AllocError>
         ensures { IfOk result (λ tree. tree ≡ empty_tree version) }
     {
@@ -58,21 +58,21 @@ impl Plain {
         })
     }
 
-    /// Its version.
+    /// Returns the version.
     fn version(&self) -> Version
         ensures { result ≡ self.now.version }
     {
         self.version
     }
 
-    /// What stands at each path now.
+    /// Returns the present map of paths.
     fn current(&self) -> &FileMap
         ensures { result.now ≡ self.now.now }
     {
         &self.current
     }
 
-    /// What stood at each path at the snapshot.
+    /// Returns the map of paths of the snapshot, if there is one.
     fn snapshot(&self) -> Option<&FileMap>
         ensures { option_map (λ map. map.now) result ≡ self.now.snap }
     {
@@ -82,12 +82,12 @@ impl Plain {
         }
     }
 
-    /// Does a call, and puts its answer into the reply. A read asks for at most 65,536 bytes, and a batch has 1 to 16
-    /// pieces whose parts lie in its text.
+    /// Carries out a call and puts its answer into the reply. A read may ask for at most 65,536 bytes, and a batch has
+    /// 1 to 16 pieces whose parts lie within its text.
     ///
     /// # Errors
     ///
-    /// `AllocError` for want of memory. The tree is then as it was.
+    /// - `AllocError`: out of memory. The tree is unchanged.
     pub fn apply(
         &mut self,
         alloc: Global,
@@ -107,7 +107,7 @@ impl Plain {
         }
     }
 
-    // ---- refusals, in the order in which they are looked for
+    // ---- refusals, in the order of the checks
 
     fn refusal(&self, alloc: Global, call: &Call<'_>) -> Result<Option<FsError>, AllocError>
         requires { CanAsk call.now }
@@ -135,7 +135,7 @@ impl Plain {
         }
     }
 
-    /// A new file is refused as a new directory is.
+    /// Returns why a new file cannot be created. A new directory has the same refusals.
     fn refuses_new(&self, alloc: Global, text: &[u8]) -> Result<Option<FsError>, AllocError>
         ensures { IfOk result (λ found. option_map refusal_of found ≡ plain.refusal self.now (create text.now)) }
     {
@@ -315,7 +315,7 @@ impl Plain {
         }
     }
 
-    /// Why a path is not that of a directory of the snapshot.
+    /// Returns why a path is no directory of the snapshot.
     fn refuses_dir_then(&self, path: &[Name]) -> Option<FsError>
         ensures { option_map refusal_of result
             ≡ plain.on_snap self.now.snap (λ nodes. plain.dir_refusal nodes (names_of path.now)) }
@@ -326,7 +326,7 @@ impl Plain {
         }
     }
 
-    /// Why a path is not one of the snapshot.
+    /// Returns why a path does not exist in the snapshot.
     fn refuses_walk_then(&self, path: &[Name]) -> Option<FsError>
         ensures { option_map refusal_of result
             ≡ plain.on_snap self.now.snap (λ nodes. plain.walk nodes (names_of path.now)) }
@@ -337,7 +337,7 @@ impl Plain {
         }
     }
 
-    /// Why a path is not that of a file of the snapshot.
+    /// Returns why a path is no file of the snapshot.
     fn refuses_file_then(&self, path: &[Name]) -> Option<FsError>
         ensures { option_map refusal_of result
             ≡ plain.on_snap self.now.snap (λ nodes. plain.file_refusal nodes (names_of path.now)) }
@@ -348,7 +348,7 @@ impl Plain {
         }
     }
 
-    // ---- what a call makes and answers, where it is not refused
+    // ---- effects and answers of calls that are not refused
 
     fn carry_out(
         &mut self,
@@ -583,7 +583,7 @@ impl Plain {
     }
 }
 
-/// Whether a version has no snapshots.
+/// Returns whether a version has no snapshots.
 fn is_old(version: Version) -> bool
     ensures { result ≡ not (is_two version) }
 {

@@ -1,4 +1,4 @@
--- What a play does to a region, and what it tells.
+-- The effect of a play on a region, and its summary.
 use Rattle.std.specs.Prelude.{ℕ, ◌≡◌, List}
 use Rattle.pm_region.specs.Memory.{Memory}
 use Rattle.bp_layout.specs.Words.{Image}
@@ -11,7 +11,7 @@ use Rattle.bp_play.specs.Summaries.{sums}
 use Rattle.bp_play.specs.Turns.{turns}
 use Rattle.bp_play.specs.declared.summary.Summary.{Summary}
 
--- The turns of a seed are served as a script's lines are, and the summary is the sums of the replies.
+-- The operations of a seed are served as the lines of a script are, and the summary is the sums of the replies.
 pub record Plays (old new : Memory) (seed count : ℕ) (summary : Summary) : Type 0 where
   pub replies : List LineReply
   pub session : (saved : Image) → Session (state old saved) (turns seed count) replies (state new saved)

@@ -1,4 +1,4 @@
--- Turns as code holds them.
+-- Operations as the code represents them.
 use Rattle.std.specs.Prelude.{ℕ, ◌≡◌, ◌≤◌, List, [], replicate}
 use Rattle.bp_plain.specs.Calls.{Call}
 use Rattle.bp_plain.specs.Calls.Call.{create, mkdir, unlink, rmdir, read, write, truncate, rename}
@@ -11,16 +11,16 @@ use Rattle.bp_play.specs.declared.turning.PlayCall.TheVariants as given
 use Rattle.bp_play.specs.declared.turning.Turn.{Turn}
 use Rattle.bp_play.specs.declared.turning.Turn.TheVariants as turn
 
--- the most bytes that a turn writes
+-- The greatest number of bytes that an operation writes.
 abbrev pub most_bytes : ℕ
 most_bytes = 9000
 
--- the bytes that the call writes
+-- The bytes that the call writes.
 abbrev pub bytes_by : PlayCall → List ℕ
 bytes_by (given.Write path off len byte) = replicate len byte
 bytes_by _ = []
 
--- the call
+-- The call.
 abbrev pub call_by : PlayCall → Call
 call_by (given.Create path) = create (play_path path)
 call_by (given.Mkdir path) = mkdir (play_path path)
@@ -35,7 +35,7 @@ abbrev pub command_by : Turn → Command
 command_by (turn.Call call) = file_call (call_by call)
 command_by (turn.Storm seed) = storm seed
 
--- it reads and writes no more bytes than there is memory for
+-- The call reads and writes no more bytes than there is memory for.
 abbrev pub IsSmall : PlayCall → Type 0
 IsSmall (given.Read path off len) = len ≤ most_bytes
 IsSmall (given.Write path off len byte) = len ≤ most_bytes
@@ -45,7 +45,7 @@ abbrev pub IsSmallTurn : Turn → Type 0
 IsSmallTurn (turn.Call call) = IsSmall call
 IsSmallTurn (turn.Storm seed) = Unit {0}
 
--- The turn is the one that was drawn, and the generator stands behind it.
+-- The operation is the one that was drawn, and the generator is in the state after it.
 pub record IsDrawn (draw : Draw) (turn : Turn) (state : ℕ) : Type 0 where
   pub asks : command_by turn ≡ draw.command
   pub goes_on : state ≡ draw.state

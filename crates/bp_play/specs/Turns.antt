@@ -1,5 +1,5 @@
--- The turns of a play: a script that is made from one number. Each turn draws first what it does, and then its paths,
--- places, lengths and bytes, in the order in which they stand here.
+-- The operations of a play: a script that is made from one number. For each operation the kind is drawn first, and
+-- then its paths, offsets, lengths and bytes, in the order of their definition here.
 use Rattle.std.specs.Prelude.{ℕ, ◌+◌, ◌/◌, ◌%◌, ◌==◌, nat_lt, List, [], ◌∷◌, ◌++◌, codes, if◌then◌else◌, replicate}
 use Rattle.std.proofs.Common.{zero, suc}
 use Rattle.bp_plain.specs.Calls.Call.{create, mkdir, unlink, rmdir, read, write, truncate, rename}
@@ -11,23 +11,23 @@ use Rattle.bp_play.specs.declared.sort.Sort.TheVariants.{Create, Mkdir, Write, T
 
 -- ---- paths
 
--- a letter before a digit, behind a slash
+-- A path of a slash, a letter and a digit.
 abbrev pub named : List ℕ → ℕ → List ℕ
 named letter digit = codes "/" ++ letter ++ (48 + digit) ∷ []
 
--- one of four directories below the root
+-- One of four directories below the root.
 abbrev pub dir_name : ℕ → List ℕ
 dir_name r = named (codes "d") (r % 4)
 
--- one of eight files, in one of the four directories or in the root
+-- One of eight files, in one of the four directories or in the root.
 abbrev pub path_name : ℕ → List ℕ
 path_name r =
     if r % 5 == 4 then named (codes "f") (r / 8 % 8)
     else named (codes "d") (r % 5) ++ named (codes "f") (r / 8 % 8)
 
--- ---- one turn
+-- ---- one operation
 
--- what a turn does, by a number below 16
+-- The kind of an operation, by a number below 16.
 abbrev pub sort_of : ℕ → Sort
 sort_of op =
     if nat_lt op 3 then Create
@@ -41,12 +41,12 @@ sort_of op =
     else if nat_lt op 15 then Read
     else Storm
 
--- a command that was drawn, and the state of the generator behind it
+-- A command that was drawn, and the state of the generator after it.
 pub record Draw : Type 0 where
   pub command : Command
   pub state : ℕ
 
--- commands of one draw, of two, of three and of four, from this state on
+-- Commands of one draw, of two, of three and of four, from this state on.
 abbrev pub by_one : (ℕ → Command) → ℕ → Draw
 by_one made a = record { command = made (drawn a); state = next_state a }
 
@@ -59,7 +59,7 @@ by_three made a = by_two (made (drawn a)) (next_state a)
 abbrev pub by_four : (ℕ → ℕ → ℕ → ℕ → Command) → ℕ → Draw
 by_four made a = by_three (made (drawn a)) (next_state a)
 
--- the command of each sort
+-- The command of each kind.
 abbrev pub draw_of : Sort → ℕ → Draw
 draw_of Create = by_one (λ r. file_call (create (path_name r)))
 draw_of Mkdir = by_one (λ r. file_call (mkdir (dir_name r)))
@@ -73,13 +73,13 @@ draw_of Rmdir = by_one (λ r. file_call (rmdir (dir_name r)))
 draw_of Read = by_three (λ r off len. file_call (read (path_name r) (off % 70000) (len % 9000)))
 draw_of Storm = by_one storm
 
--- the turn that begins in a state
+-- The operation that begins in a state.
 abbrev pub turn : ℕ → Draw
 turn state = draw_of (sort_of (drawn state % 16)) (next_state state)
 
 -- ---- a play
 
--- so many turns from a seed
+-- The first `count` operations of a seed.
 abbrev pub turns : ℕ → ℕ → List Command
 turns seed zero = []
 turns seed (suc count) = (turn seed).command ∷ turns (turn seed).state count

@@ -14,7 +14,7 @@ impl PlayPath {
     ghost use Rattle.bp_play.specs.Paths.{play_path};
     ghost use Rattle.bp_play.specs.Turns.{dir_name, path_name};
 
-    /// The path of a directory that a draw stands for.
+    /// Makes the path of the directory that a drawn number selects.
     pub(crate) fn dir(number: u32) -> PlayPath
         ensures { play_path result ≡ dir_name number }
     {
@@ -25,7 +25,7 @@ impl PlayPath {
         }
     }
 
-    /// The path of a file that a draw stands for.
+    /// Makes the path of the file that a drawn number selects.
     pub(crate) fn file(number: u32) -> PlayPath
         ensures { play_path result ≡ path_name number }
     {
@@ -44,7 +44,7 @@ impl PlayPath {
         }
     }
 
-    /// Its bytes.
+    /// Returns its bytes.
     pub(crate) fn as_bytes(&self) -> &[u8]
         ensures { result.now ≡ play_path self.now }
     {

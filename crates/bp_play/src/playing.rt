@@ -19,10 +19,10 @@ use pm_region::Region;
 use pm_steps::Backs;
 use std::alloc::{AllocError, Global};
 
-/// The most bytes that a turn writes.
+/// The greatest number of bytes that an operation writes.
 const MOST_BYTES: usize = LENGTHS as usize;
 
-/// The memory of a play. It takes no other.
+/// The memory of a play, which allocates no other.
 #[derive(Drop)]
 pub struct PlayBuffers {
     bytes: Vec<u8>,
@@ -35,7 +35,7 @@ pub struct PlayBuffers {
 }
 
 impl PlayBuffers {
-    /// Room for logs of a program's region. It fails for want of memory alone.
+    /// Allocates memory for logs of a program's region. Fails only if memory lacks.
     pub fn new(alloc: Global) -> Result<PlayBuffers, AllocError> {
         Ok(PlayBuffers {
             bytes: Vec::with_capacity(alloc, MOST_BYTES)?,
@@ -62,7 +62,7 @@ fn fill(bytes: &mut Vec<u8>, call: &PlayCall)
     }
 }
 
-/// The call, with the bytes that it writes.
+/// Makes a call with the bytes that it writes.
 fn with_bytes<'a>(call: &'a PlayCall, bytes: &'a [u8]) -> Call<'a>
     requires { bytes.now ≡ bytes_by call.now }
     ensures { call_of result ≡ call_by call.now }
@@ -111,7 +111,7 @@ fn make_call<R: Region>(
     summary.count_answer(&buffers.reply.answer());
 }
 
-/// Crashes with what a storm keeps, and counts that.
+/// Crashes the volume as a storm chooses, and counts the calls that it keeps.
 fn raise_storm<R: Region>(
     volume: &mut Volume<R>,
     seed: u64,
@@ -122,7 +122,7 @@ fn raise_storm<R: Region>(
     requires room { CanCount summary.old }
     ensures { TakesTurn volume.old volume.new (storm seed) summary.old summary.new }
 {
-    // The log is no longer than its room.
+    // The log is no longer than its capacity.
     let _events = volume.region().event_count();
     storm(
         volume.region(),
@@ -136,7 +136,7 @@ fn raise_storm<R: Region>(
     }
 }
 
-/// Takes one turn.
+/// Carries out one operation.
 fn take_turn<R: Region>(
     alloc: Global,
     volume: &mut Volume<R>,
@@ -155,8 +155,9 @@ fn take_turn<R: Region>(
     }
 }
 
-/// Takes so many turns, at most 1,000,000, each made from the seed and the turns before it, and sums up their replies. The
-/// same image, seed and count give the same summary. The volume's log is to have no more room than the buffers.
+/// Carries out `count` operations, at most 1,000,000, each made from the seed and the operations before it, and sums
+/// up their replies. The same image, seed and count give the same summary. The capacity of the volume's log is at
+/// most that of the buffers.
 pub fn play_on<R: Region>(
     alloc: Global,
     volume: &mut Volume<R>,

@@ -1,18 +1,18 @@
-//! What a turn does.
+//! The kinds of operations.
 
 ghost use Rattle.std.specs.Prelude.{◌≡◌, ◌%◌};
 ghost use Rattle.bp_play.specs.Turns.{sort_of};
 
-/// What a turn of a play does.
+/// The kind of an operation of a play.
 #[derive(Clone, Copy, Debug, PartialEq, Eq)]
 pub enum Sort {
-    /// Makes a file.
+    /// Creates a file.
     Create,
-    /// Makes a directory.
+    /// Creates a directory.
     Mkdir,
-    /// Writes one byte over and over.
+    /// Writes one byte repeatedly.
     Write,
-    /// Gives a file another size.
+    /// Changes the size of a file.
     Truncate,
     /// Removes a file.
     Unlink,
@@ -24,11 +24,11 @@ pub enum Sort {
     Rmdir,
     /// Reads bytes of a file.
     Read,
-    /// Crashes, with what a storm keeps.
+    /// Crashes, as a storm chooses.
     Storm,
 }
 
-/// The sort that a draw stands for.
+/// Returns the kind that a drawn number selects.
 pub(crate) fn sort_by(number: u32) -> Sort
     ensures { result ≡ sort_of (number % 16) }
 {

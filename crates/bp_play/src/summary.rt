@@ -1,4 +1,4 @@
-//! What came of a play.
+//! The outcome of a play.
 
 ghost use Rattle.std.specs.Prelude.{◌≡◌, ◌≤◌, []};
 ghost use Rattle.bp_limits.specs.Limits.{log_events};
@@ -10,18 +10,18 @@ ghost use Rattle.bp_script.specs.Texts.LineReply.{answered, kept_of};
 use bp_plain::{Answer, FsError};
 use pm_epochs::Kept;
 
-/// What came of a play.
+/// The outcome of a play.
 #[derive(Clone, Copy, Debug, PartialEq, Eq)]
 pub struct Summary {
-    /// The turns that were answered without a refusal, storms not among them.
+    /// The number of operations that were answered without a refusal, without storms.
     pub ok: u64,
-    /// The turns that were refused, by the number of the refusal less 1.
+    /// The numbers of operations that were refused, by the number of the refusal less 1.
     pub refused: [u64; 12],
-    /// The storms.
+    /// The number of storms.
     pub crashes: u64,
-    /// The calls that the storms kept.
+    /// The number of calls that survived the storms.
     pub kept: u64,
-    /// The calls of which they kept them.
+    /// The number of calls of the log before the storms.
     pub of: u64,
 }
 
@@ -29,7 +29,7 @@ impl Summary {
     ghost use Rattle.bp_play.specs.Summaries.{sums};
     ghost use Rattle.bp_play.specs.Counting.{CanCount, CountsReply};
 
-    /// That of a play of no turn.
+    /// Makes the summary of a play without operations.
     pub(crate) fn new() -> Summary
         ensures { result ≡ sums [] }
     {
@@ -53,8 +53,8 @@ impl Summary {
         }
     }
 
-    /// Counts a refusal. Those numbers that only calls on snapshots and batches answer have no count: no turn makes such a
-    /// call.
+    /// Counts a refusal. Refusals that only calls on snapshots and batches return are not counted: no operation makes
+    /// such a call.
     fn count_refusal(&mut self, error: &FsError)
         requires { CanCount self.old }
         ensures { CountsReply self.old (answered (refused (refusal_of error.now))) self.new }
@@ -65,7 +65,7 @@ impl Summary {
         }
     }
 
-    /// Counts a storm that kept so many calls.
+    /// Counts a storm and the calls that it kept.
     pub(crate) fn count_storm(&mut self, kept: Kept)
         requires room { CanCount self.old }
         requires kept { kept.c ≤ log_events }

@@ -1,4 +1,4 @@
-//! Turns, as they are drawn.
+//! The drawing of operations.
 
 ghost use Rattle.std.specs.Prelude.{◌≡◌, ◌<◌, ◌%◌};
 ghost use Rattle.bp_play.specs.Paths.{play_path};
@@ -11,13 +11,13 @@ use crate::paths::PlayPath;
 use crate::sort::{Sort, sort_by};
 use bp_replay::Generator;
 
-/// Offsets, in bytes, are drawn below it.
+/// The bound below which offsets, in bytes, are drawn.
 const OFFSETS: u32 = 70_000;
 
-/// How many bytes are read is drawn below it, and one less than how many are written.
+/// The bound below which the number of bytes of a read is drawn, and one less than the number of bytes of a write.
 pub(crate) const LENGTHS: u32 = 9_000;
 
-/// Sizes to which files are cut or lengthened, in bytes, are drawn below it.
+/// The bound below which the sizes, in bytes, of truncated or lengthened files are drawn.
 const SIZES: u32 = 100_000;
 
 /// A call of a play.
@@ -32,7 +32,7 @@ pub(crate) enum PlayCall {
         off: u64,
         len: usize,
     },
-    /// The same byte, so many times.
+    /// Writes the same byte `len` times.
     Write {
         path: PlayPath,
         off: u64,
@@ -49,7 +49,7 @@ pub(crate) enum PlayCall {
     },
 }
 
-/// A turn of a play.
+/// An operation of a play.
 #[derive(Clone, Copy)]
 pub(crate) enum Turn {
     Call(PlayCall),
@@ -130,7 +130,7 @@ fn draw_dir_rename(generator: &mut Generator) -> Turn
     Turn::Call(PlayCall::Rename { from, to })
 }
 
-/// Draws what a turn of a sort asks for.
+/// Draws the operation of a kind.
 fn draw_by(sort: Sort, generator: &mut Generator) -> Turn
     ensures { IsDrawn (draw_of sort generator.old.state) result generator.new.state }
 {
@@ -148,7 +148,7 @@ fn draw_by(sort: Sort, generator: &mut Generator) -> Turn
     }
 }
 
-/// Draws a turn.
+/// Draws an operation.
 pub(crate) fn draw_turn(generator: &mut Generator) -> Turn
     ensures { IsDrawn (turn generator.old.state) result generator.new.state }
 {

@@ -1,4 +1,4 @@
--- What a rename is asked for, and which change it is.
+-- Preconditions of a rename, and the change that it is.
 use Rattle.std.specs.Prelude.{◌≡◌, ◌≢◌, ℕ, ◌==◌, length, Option, None, Some, if◌then◌else◌}
 use Rattle.bp_changes.specs.Effects.{IsAtOrBelow}
 use Rattle.bp_layout.specs.Directory.{EntryNames, empty_slot, inumber_at, slot_named}
@@ -11,12 +11,13 @@ use Rattle.bp_layout.specs.WellFormed.{IsWellFormed}
 use Rattle.bp_layout.specs.Words.{Image}
 use Rattle.bp_rename.specs.declared.moving.Move.{Move}
 
--- the inode that moves
+-- The inode that moves.
 abbrev pub moved_inode : Image → Move → ℕ
 moved_inode image move = inumber_at image move.from_dir move.from_slot
 
--- The image is well formed. The entry names an inode, and the new directory is neither that inode nor below it: so no
--- inode is lost. The entry that has the new name, where there is one, names another inode, a file or an empty directory.
+-- The image is well formed. The entry refers to an inode, and the new directory is neither that inode nor below it, so
+-- no inode becomes unreachable. If an entry has the new name, it refers to another inode, which is a file or an empty
+-- directory.
 pub record CanRename (image : Image) (move : Move) : Type 0 where
   pub well_formed : IsWellFormed image
   pub source : IsReached image move.from_dir
@@ -30,7 +31,8 @@ pub record CanRename (image : Image) (move : Move) : Type 0 where
       inumber_at image move.to_dir r ≢ inumber_at image move.from_dir move.from_slot
   pub alone : (r x l : ℕ) → move.to_slot ≡ Some r → EntryNames image (inumber_at image move.to_dir r) x l → ⊥
 
--- onto the entry that has the new name; and where none has it, within the directory or across to another one
+-- The change of a move: onto the entry that has the new name, if any; else within the directory, or to another
+-- directory.
 abbrev pub change_to : ℕ → ℕ → ℕ → ℕ → Option ℕ → Change
 change_to i s j len (Some r) = replaces i s j r
 change_to i s j len None = if i == j then respells i s len else moves i s j
@@ -38,14 +40,14 @@ change_to i s j len None = if i == j then respells i s len else moves i s j
 abbrev pub change_of : Move → Change
 change_of move = change_to move.from_dir move.from_slot move.to_dir (length move.name.now) move.to_slot
 
--- onto the entry in this slot of the new directory, and across to that directory
+-- The change of a move onto the entry in this slot of the new directory.
 abbrev pub change_onto : Move → ℕ → Change
 change_onto move slot = replaces move.from_dir move.from_slot move.to_dir slot
 
 abbrev pub change_across : Move → Change
 change_across move = moves move.from_dir move.from_slot move.to_dir
 
--- where the name moves to another directory and is new there, this is the least empty slot of that directory
+-- If the name moves to another directory and is new there, `slot` is the least empty slot of that directory.
 abbrev pub IsSlotAcross : Image → Move → Option ℕ → Type 0
 IsSlotAcross image move slot = move.to_slot ≡ None → move.from_dir ≢ move.to_dir →
     slot ≡ empty_slot image move.to_dir

@@ -1,4 +1,4 @@
--- What a rename makes of the plain tree, and which names that paths find may move.
+-- The effect of a rename on the abstract tree, and the names that paths find that may move.
 use Rattle.std.specs.Prelude.{◌≡◌, ◌≢◌, ℕ, [], ◌∷◌, ◌++◌, None, Some}
 use Rattle.bp_calls.specs.Removed.{IsFoundAt}
 use Rattle.bp_changes.specs.Effects.{CanUnlink}
@@ -13,16 +13,16 @@ use Rattle.bp_plain.specs.Stands.{Shows}
 use Rattle.bp_rename.specs.CanRename.{moved_inode}
 use Rattle.bp_rename.specs.declared.moving.Move.{Move}
 
--- Wherever paths find the two directories, and the second is not below the name, the second image shows the name, with
--- all below it, as the new name in the second directory.
+-- For each two paths that find the two directories, of which the second is not below the name, the second image has
+-- the name, with all below it, as the new name in the second directory.
 abbrev pub MovesPath : Move → Image → Image → Type 0
 MovesPath move old new = (map : PathMap) (from to : Path) → Shows old map →
     lookup old from ≡ Some move.from_dir → lookup old to ≡ Some move.to_dir →
     rest_below (from ++ name_at old move.from_dir move.from_slot ∷ []) to ≡ None →
     Shows new (with_moved map (from ++ name_at old move.from_dir move.from_slot ∷ []) (to ++ move.name.now ∷ []))
 
--- A path finds the directory to which a name is to come, and is not below the name's own path. Where an entry has the
--- new name there, it names another inode, and may leave.
+-- A path finds the new directory, and is not below the name's own path. If an entry has the new name there, it refers
+-- to another inode, and may be removed.
 pub record IsFoundTarget (image : Image) (source to : Path) (move : Move) : Type 0 where
   pub found : lookup image to ≡ Some move.to_dir
   pub directory : IsDirectory image move.to_dir
@@ -32,7 +32,7 @@ pub record IsFoundTarget (image : Image) (source to : Path) (move : Move) : Type
   pub apart : (r : ℕ) → move.to_slot ≡ Some r → inumber_at image move.to_dir r ≢ moved_inode image move
   pub leaves : (r : ℕ) → move.to_slot ≡ Some r → CanUnlink image move.to_dir r (inumber_at image move.to_dir r)
 
--- A path finds the entry that moves, by the name that it has, and another path the directory to which it comes.
+-- A path finds the entry that moves, by its name, and another path finds the new directory.
 pub record IsFoundMove (image : Image) (move : Move) : Type 0 where
   pub from : Path
   pub to : Path

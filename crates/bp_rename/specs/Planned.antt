@@ -1,4 +1,4 @@
--- What is touched for a rename, and what stands once nothing is left to thaw on the ways to it.
+-- What a rename touches, and the state once no block is left to thaw on the paths to it.
 use Rattle.std.specs.Prelude.{◌≡◌, ℕ, ◌+◌, ◌^◌, ◌<◌, List}
 use Rattle.arrayvec.specs.ArrayVec.{ArrayVec}
 use Rattle.bp_calls.specs.ThawedFor.{IsThawedFor}
@@ -23,7 +23,7 @@ use Rattle.bp_rename.specs.Respelled.{TouchesName}
 use Rattle.bp_rename.specs.TouchesTwo.{AnyTree, AreTwo, OtherTree, TouchesTwo, inumber_path, size_path}
 use Rattle.bp_rename.specs.declared.moving.Move.{Move}
 
--- what is touched by each kind of a rename: the words of the new name, or two words
+-- What each kind of rename touches: the words of the new name, or two words.
 abbrev pub TouchesWithin : Image → Move → Touched → Type 0
 TouchesWithin image move touched = TouchesName image move.from_dir move.from_slot move.name.now touched
 
@@ -42,7 +42,7 @@ TouchesBehind image move touched =
     TouchesTwo image (OtherTree move.to_dir) touched (size_path image move.to_dir)
     (inumber_path image move.from_dir move.from_slot) (size_of image move.to_dir + entry_size) 0
 
--- the two words, with what they are given
+-- The two touched words of each kind of rename, with their new values.
 abbrev pub AreWordsOnto : Image → Move → ℕ → List (ArrayVec ℕ × ℕ) → Type 0
 AreWordsOnto image move slot words = AreTwo words (inumber_path image move.from_dir move.from_slot)
     (inumber_path image move.to_dir slot) 0 (moved_inode image move)
@@ -55,20 +55,21 @@ abbrev pub AreWordsBehind : Image → Move → List (ArrayVec ℕ × ℕ) → Ty
 AreWordsBehind image move words = AreTwo words (size_path image move.to_dir)
     (inumber_path image move.from_dir move.from_slot) (size_of image move.to_dir + entry_size) 0
 
--- The cover of what is touched is that of the rename. The ways to it lead inside the image, and still do behind a thaw.
+-- The cover of the touched words is that of the rename. The paths to them lead inside the image, and still do after a
+-- thaw.
 pub record IsPlanned (image : Image) (move : Move) (touched : Touched) : Type 0 where
   pub shape : IsTouched touched
   pub apart : NoneBegins (all_paths touched)
   pub inside : (after : Image) → SameShape image after → LeadsInside after touched
   pub cover : commit_cover image touched ≡ cover_now image (change_of move)
 
--- with so many blocks besides, as many are copied as the rename needs
+-- The copied blocks and `besides` further blocks are together as many as the rename needs.
 pub record Needs (image : Image) (move : Move) (touched : Touched) (besides : ℕ) : Type 0 where
   pub all : besides + copied_count image touched ≡ need image (change_of move)
   pub few : besides + copied_count image touched < 2 ^ 31
 
--- Behind the thaw the name may still move, with the blocks and the room that this needs. The ways to what is touched are
--- found. The rename then does what it does with the thaw before it.
+-- After the thaw the name may still move, with the blocks and the log room that this needs. The paths to the touched
+-- words are found. The move, together with the thaw before it, is the whole rename.
 pub record IsReadyToRename {R : Type 0} (memory : R → Memory) (move : Move) (touched : Touched) (old new : Parts R)
     (found : FoundWays) : Type 0 where
   pub shape : SameShape (current_words (memory old.region)) (current_words (memory new.region))

@@ -13,21 +13,21 @@ use Rattle.bp_layout.specs.Words.{Image, height_of, word}
 use Rattle.bp_shapes.specs.Forest.{root_trail}
 use Rattle.bp_shapes.specs.Trail.{trail_of}
 
--- the path of the inumber of an entry
+-- The path of the inode number of an entry.
 abbrev pub inumber_path : Image → ℕ → ℕ → WordPath
 inumber_path image i slot =
     tree_path (height_of (root_of image 0)) i (suc (height_of (root_of image i))) (entry_words * slot + 0)
 
--- the path of the size word of an inode
+-- The path of the size word of an inode.
 abbrev pub size_path : Image → ℕ → WordPath
 size_path image i = inode_path (height_of (root_of image 0)) i size_field
 
--- two words, in this order, by their paths and with the values that they are given
+-- The list has two words, in this order, with these paths and these new values.
 pub record AreTwo (words : List (ArrayVec ℕ × ℕ)) (first second : WordPath) (one two : ℕ) : Type 0 where
   pub paths : map (λ word. word.0.items) words ≡ first ∷ second ∷ []
   pub values : map (λ word. word.1) words ≡ one ∷ two ∷ []
 
--- A tree that an image reaches, and that has bytes: how high it is, and its size.
+-- A tree of the image that is reachable and not empty: the path of its root word, its height and its size.
 pub record IsSizedTree (image : Image) (t : ℕ) (tree : TreeSize) : Type 0 where
   pub reached : IsReached image t
   pub some : 0 < size_of image t
@@ -36,7 +36,7 @@ pub record IsSizedTree (image : Image) (t : ℕ) (tree : TreeSize) : Type 0 wher
   pub low : tree.height ≤ max_height
   pub size : tree.size ≡ size_of image t
 
--- each of these is such a tree, one of those that are told
+-- Each of these is such a tree of the image, and one of those that `Among` admits.
 abbrev pub ListsTrees : Image → (ℕ → Type 0) → List TreeSize → Type 0
 ListsTrees image Among trees = (tree : TreeSize) → Has trees tree → (t : ℕ) × (Among t × IsSizedTree image t tree)
 
@@ -46,8 +46,8 @@ AnyTree t = Unit {0}
 abbrev pub OtherTree : ℕ → ℕ → Type 0
 OtherTree j t = t ≢ j
 
--- These words alone are touched, in this order, and get these values. Trees that the ways to them go through are told of
--- an image, one of these.
+-- The two words, in this order, are all that is touched, and they get these values. The trees listed with them, which
+-- the paths to them may go through, are trees of the image that `Among` admits.
 pub record TouchesTwo (image : Image) (Among : ℕ → Type 0) (touched : Touched) (first second : WordPath)
     (one two : ℕ) : Type 0 where
   pub none : touched.runs.now ≡ []

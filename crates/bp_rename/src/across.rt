@@ -1,4 +1,4 @@
-//! A name moves to another directory, into an empty entry.
+//! Moves of a name to another directory, into an empty entry.
 
 ghost use Rattle.std.specs.Prelude.{◌≡◌, ◌≢◌, None, Some};
 ghost use Rattle.bp_calls.specs.Commits.{CommitsChange, CommitsOrLacksSpace};
@@ -23,7 +23,8 @@ use bp_inodes::tree_of;
 use bp_tree::Slots;
 use pm_region::Region;
 
-/// The words that are touched: the inumber of an empty entry of the new directory, and that of the entry that moves.
+/// Returns the touched words: the inode number of an empty entry of the new directory, and that of the entry that
+/// moves.
 fn words_into<R: Region>(region: &R, to_move: &Move<'_>, slot: u64) -> [(Slots, u64); 2]
     requires can { CanRename (current_words (R.memory region.now)) to_move.now }
     requires found { empty_slot (current_words (R.memory region.now)) to_move.now.to_dir ≡ Some slot }
@@ -36,8 +37,8 @@ fn words_into<R: Region>(region: &R, to_move: &Move<'_>, slot: u64) -> [(Slots, 
     [(entered, inode), (emptied, 0)]
 }
 
-/// Moves a name into an empty entry: it is written there, where nobody sees it, and then one commit at the ways that were
-/// found gives both inumbers.
+/// Moves a name into an empty entry: the name is written there, where it is not visible, and then one commit stores
+/// both inode numbers, by the paths that were found.
 fn move_into<R: Region>(
     parts: &mut Parts<R>,
     to_move: &Move<'_>,
@@ -58,8 +59,8 @@ fn move_into<R: Region>(
     let target = tree_of(&parts.region, to_move.to_dir);
     let entry = entry_place(&parts.region, target, slot, 0);
     put_name(&mut parts.region, entry, to_move.name);
-    // The store of `commit_at` has a barrier before it anyway. But what it tells of a crash begins with the words that it
-    // finds, so all stores before it are written back first.
+    // The store of `commit_at` has a barrier before it anyway. But its contract on crashes starts from the words that
+    // it finds, so all stores before it are written back first.
     parts.region.barrier();
     commit_at(parts, touched, found);
 }
@@ -68,7 +69,7 @@ fn move_into<R: Region>(
 ///
 /// # Errors
 ///
-/// As those of `rename`.
+/// Those of `rename`.
 pub(crate) fn rename_into<R: Region>(
     parts: &mut Parts<R>,
     to_move: &Move<'_>,

@@ -1,4 +1,4 @@
-//! A name moves to another directory, none of whose entries is empty.
+//! Moves of a name to another directory, none of whose entries is empty.
 
 ghost use Rattle.std.specs.Prelude.{◌≡◌, ◌≢◌, None};
 ghost use Rattle.bp_calls.specs.Commits.{CommitsChange, CommitsOrLacksSpace};
@@ -25,8 +25,8 @@ use bp_limits::ENTRY_SIZE;
 use bp_tree::Slots;
 use pm_region::Region;
 
-/// The words that are touched: the size of the new directory, which will take in one entry more, and the inumber of the
-/// entry that moves.
+/// Returns the touched words: the size of the new directory, which will include one more entry, and the inode number
+/// of the entry that moves.
 fn words_behind<R: Region>(region: &R, to_move: &Move<'_>) -> [(Slots, u64); 2]
     requires can { CanRename (current_words (R.memory region.now)) to_move.now }
     ensures { AreWordsBehind (current_words (R.memory region.now)) to_move.now result }
@@ -37,8 +37,9 @@ fn words_behind<R: Region>(region: &R, to_move: &Move<'_>) -> [(Slots, u64); 2]
     [(sized, target.size + ENTRY_SIZE), (emptied, 0)]
 }
 
-/// Moves a name behind the last entry of its new directory: an entry is put there, where nobody sees it, and then one
-/// commit at the ways that were found takes it in by the directory's size, and empties the old one.
+/// Moves a name after the last entry of its new directory. An entry is written there, where it is not visible. Then
+/// one commit, by the paths that were found, stores the directory's size, which includes the entry, and empties the
+/// old entry.
 fn move_behind<R: Region>(
     parts: &mut Parts<R>,
     to_move: &Move<'_>,
@@ -62,11 +63,11 @@ fn move_behind<R: Region>(
     commit_at(parts, touched, found);
 }
 
-/// Moves a name to another directory, in which it is new, behind the last entry of that directory.
+/// Moves a name to another directory, in which it is new, after the last entry of that directory.
 ///
 /// # Errors
 ///
-/// As those of `rename`.
+/// Those of `rename`.
 pub(crate) fn rename_behind<R: Region>(
     parts: &mut Parts<R>,
     to_move: &Move<'_>,

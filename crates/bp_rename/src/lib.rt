@@ -1,4 +1,4 @@
-//! A name moves: onto another one, within its directory, or across to another directory.
+//! Renames: a name moves onto another one, within its directory, or to another directory.
 #![tactic(auto)]
 
 mod across;

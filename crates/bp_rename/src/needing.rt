@@ -1,4 +1,4 @@
-//! What a rename needs, and near which words it stores.
+//! What a rename needs, and the words near which it stores.
 
 ghost use Rattle.std.specs.Prelude.{◌≡◌, ◌^◌, ◌<◌, ◌∷◌, [], None, true, IfErr, IfOk, OnErr};
 ghost use Rattle.bp_calls.specs.Space.{HasRoomWhereFree, LacksSpace};
@@ -19,7 +19,7 @@ use bp_inodes::{root_path, tree_of};
 use bp_thaw::thaw_need;
 use pm_region::Region;
 
-/// Adds the words near which a name comes to another directory, given the least empty slot of that directory.
+/// Adds the words near which a name is stored in another directory, given the least empty slot of that directory.
 fn push_new<R: Region>(near: &mut Targets, region: &R, to_move: &Move<'_>, empty: Option<u64>)
     requires can { CanRename (current_words (R.memory region.now)) to_move.now }
     requires slot { empty ≡ empty_slot (current_words (R.memory region.now)) to_move.now.to_dir }
@@ -35,8 +35,8 @@ fn push_new<R: Region>(near: &mut Targets, region: &R, to_move: &Move<'_>, empty
     }
 }
 
-/// The words near which a rename stores, given the least empty slot where a name is new in another directory, and what it
-/// touches: that of the cover, and those of such an entry.
+/// Returns the words near which a rename stores: the cover, and those of a new entry in another directory. The least
+/// empty slot of the new directory is given (used only if the name is new there), and the touched words.
 fn targets_of<R: Region>(
     region: &R,
     to_move: &Move<'_>,
@@ -60,7 +60,7 @@ fn targets_of<R: Region>(
     }
 }
 
-/// Whether nothing that is kept has to be thawed before a rename.
+/// Returns whether no block of the snapshot has to be thawed before a rename.
 fn is_clear<R: Region>(
     parts: &Parts<R>,
     to_move: &Move<'_>,
@@ -81,11 +81,14 @@ fn is_clear<R: Region>(
     thaw_need(parts, &targets) == 0
 }
 
-/// Thaws what is kept near the words of a rename that takes `more` blocks after that, and finds the ways anew.
+/// Thaws the blocks of the snapshot near the words of a rename that takes `more` blocks after that, and finds the
+/// paths again.
 ///
 /// # Errors
 ///
-/// `NoSpace` exactly where fewer blocks are free than that takes and `more`. Nothing has changed then.
+/// Nothing has changed then.
+///
+/// - `NoSpace`: fewer blocks are free than the thaw and `more`. It is returned in exactly this case.
 fn thaw_ways<R: Region>(
     parts: &mut Parts<R>,
     to_move: &Move<'_>,
@@ -112,13 +115,16 @@ fn thaw_ways<R: Region>(
     }
 }
 
-/// Finds the ways to what a rename touches, once nothing that is kept is left on them, given the least empty slot where the
-/// name is new in another directory, and how many blocks it takes besides those that are copied.
+/// Finds the paths to what a rename touches, once no block of the snapshot is left on them. Given are the least empty
+/// slot of the new directory (used only if the name is new in another directory), and the number of blocks that the
+/// rename takes besides those that are copied.
 ///
 /// # Errors
 ///
-/// `NoSpace` exactly where fewer blocks are free than the rename needs, those that are thawed among them. Nothing has
-/// changed then.
+/// Nothing has changed then.
+///
+/// - `NoSpace`: fewer blocks are free than the rename needs, including those that are thawed. It is returned in
+///   exactly this case.
 pub(crate) fn ready_ways<R: Region>(
     parts: &mut Parts<R>,
     to_move: &Move<'_>,

@@ -1,4 +1,4 @@
-//! A name moves onto another one, which it replaces.
+//! Moves of a name onto another one, which it replaces.
 
 ghost use Rattle.std.specs.Prelude.{◌≡◌, Some};
 ghost use Rattle.bp_calls.specs.Commits.{CommitsChange, CommitsOrLacksSpace};
@@ -22,7 +22,8 @@ use bp_inodes::{get, tree_of};
 use bp_tree::{Slots, Tree};
 use pm_region::Region;
 
-/// The words that are touched: the inumber of the entry that moves, and that of the entry in a slot of the new directory.
+/// Returns the touched words: the inode number of the entry that moves, and that of the entry in a slot of the new
+/// directory.
 fn words_onto<R: Region>(region: &R, to_move: &Move<'_>, slot: u64) -> [(Slots, u64); 2]
     requires can { CanRename (current_words (R.memory region.now)) to_move.now }
     requires onto { to_move.now.to_slot ≡ Some slot }
@@ -35,8 +36,9 @@ fn words_onto<R: Region>(region: &R, to_move: &Move<'_>, slot: u64) -> [(Slots, 
     [(emptied, 0), (entered, inode)]
 }
 
-/// Moves a name onto another one, by one commit of both inumbers at the ways that were found. What had that name has a
-/// name less. Where that was its last one, its inode comes back, and so do its blocks that are not kept.
+/// Moves a name onto another one, by one commit of both inode numbers by the paths that were found. The inode that had
+/// that name has one link less. If that was its last link, its inode is freed, and so are its blocks that are not
+/// those of the snapshot.
 fn move_onto<R: Region>(
     parts: &mut Parts<R>,
     to_move: &Move<'_>,
@@ -60,7 +62,7 @@ fn move_onto<R: Region>(
     if names > 0 {
         return;
     }
-    // Nobody reaches the inode any more, but its words still lead to its blocks.
+    // The inode is not reachable any more, but its words still lead to its blocks.
     let inode = get(&parts.region, replaced);
     let tree = Tree {
         root: inode.root,
@@ -74,7 +76,7 @@ fn move_onto<R: Region>(
 ///
 /// # Errors
 ///
-/// As those of `rename`.
+/// Those of `rename`.
 pub(crate) fn rename_onto<R: Region>(
     parts: &mut Parts<R>,
     to_move: &Move<'_>,

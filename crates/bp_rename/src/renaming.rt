@@ -1,4 +1,4 @@
-//! Renames: four ways, by where the new name stands.
+//! Renames. There are four cases, by the place of the new name.
 
 ghost use Rattle.bp_calls.specs.Commits.{CommitsOrLacksSpace};
 ghost use Rattle.bp_calls.specs.Space.{HasRoomWhereFree};
@@ -15,16 +15,18 @@ use crate::within::rename_within;
 use bp_free::{NoSpace, Parts};
 use pm_region::Region;
 
-/// Moves a name, by one store alone in its epoch. Where the new name stood, that file or empty directory has a name less.
-/// Where it has none left its inode comes back, and so do its blocks that are not kept.
+/// Moves a name, by one store alone in its epoch. The file or empty directory that had the new name has one link less.
+/// If that was its last link, its inode is freed, and so are its blocks that are not those of the snapshot.
 ///
-/// The caller has found the least empty slot of the new directory, None where no entry is empty. Where the new name is
-/// there, or the name stays in its directory, the slot is not looked at.
+/// The caller has found the least empty slot of the new directory, `None` if no entry is empty. If an entry has the
+/// new name, or if the name stays in its directory, the slot is not used.
 ///
 /// # Errors
 ///
-/// `NoSpace` exactly where fewer blocks are free than it needs, those that are thawed among them. Nothing has changed
-/// then.
+/// Nothing has changed then.
+///
+/// - `NoSpace`: fewer blocks are free than the rename needs, including those that are thawed. It is returned in
+///   exactly this case.
 pub fn rename<R: Region>(
     parts: &mut Parts<R>,
     to_move: &Move<'_>,

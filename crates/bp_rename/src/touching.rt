@@ -1,4 +1,4 @@
-//! The words that a rename touches, and the trees that the ways to them go through.
+//! The words that a rename touches, and the trees on the paths to them.
 
 ghost use Rattle.std.specs.Prelude.{◌≡◌, ◌≢◌, ℕ, ◌<◌, ◌≤◌, []};
 ghost use Rattle.bp_layout.specs.Inode.{size_of};
@@ -12,7 +12,7 @@ use bp_inodes::{inode_file, root_path, tree_of};
 use bp_tree::Slots;
 use pm_region::Region;
 
-/// The tree of a directory that has entries, with its size.
+/// Returns the tree of a directory that has entries, with its size.
 fn size_of_directory<R: Region>(region: &R, dir: u32) -> TreeSize
     requires well_formed { IsWellFormed (current_words (R.memory region.now)) }
     requires reached { IsReached (current_words (R.memory region.now)) dir }
@@ -28,7 +28,7 @@ fn size_of_directory<R: Region>(region: &R, dir: u32) -> TreeSize
     }
 }
 
-/// The inode file, with its size.
+/// Returns the inode file, with its size.
 fn size_of_inodes<R: Region>(region: &R) -> TreeSize
     requires { IsWellFormed (current_words (R.memory region.now)) }
     ensures { IsSizedTree (current_words (R.memory region.now)) 0 result }
@@ -41,7 +41,7 @@ fn size_of_inodes<R: Region>(region: &R) -> TreeSize
     }
 }
 
-/// The trees that the ways to words of a directory go through.
+/// Returns the trees on the paths to words of a directory.
 pub(crate) fn trees_of_one<R: Region>(region: &R, dir: u32) -> [TreeSize; 2]
     requires well_formed { IsWellFormed (current_words (R.memory region.now)) }
     requires reached { IsReached (current_words (R.memory region.now)) dir }
@@ -52,7 +52,7 @@ pub(crate) fn trees_of_one<R: Region>(region: &R, dir: u32) -> [TreeSize; 2]
     [size_of_directory(region, dir), size_of_inodes(region)]
 }
 
-/// The same of two directories.
+/// Returns the trees on the paths to words of two directories.
 pub(crate) fn trees_of_both<R: Region>(region: &R, first: u32, second: u32) -> [TreeSize; 3]
     requires well_formed { IsWellFormed (current_words (R.memory region.now)) }
     requires first_reached { IsReached (current_words (R.memory region.now)) first }
@@ -70,7 +70,7 @@ pub(crate) fn trees_of_both<R: Region>(region: &R, first: u32, second: u32) -> [
     ]
 }
 
-/// What is touched by two words and no run, on ways through these trees.
+/// Returns what two words and no run touch, on paths through these trees.
 pub(crate) fn touched_two<'a>(words: &'a [(Slots, u64); 2], trees: &'a [TreeSize]) -> Touched<'a>
     ensures words { result.words.now ≡ words.now }
     ensures none { result.runs.now ≡ [] }

@@ -1,4 +1,4 @@
-//! A name is spelled anew, within its directory.
+//! Renames within a directory: the entry gets another name.
 
 ghost use Rattle.std.specs.Prelude.{◌≡◌, ◌≤◌, None, length};
 ghost use Rattle.bp_calls.specs.Commits.{CommitsOrLacksSpace};
@@ -19,8 +19,8 @@ use bp_inodes::{root_path, tree_of};
 use bp_limits::{ENTRY_SIZE, MAX_NAME};
 use pm_region::Region;
 
-/// A byte of an entry behind its inumber: eight are the length of the name, the lowest first, and then comes the name,
-/// with zeros behind it.
+/// Returns a byte of an entry after its inode number: eight are the length of the name, least significant first, and
+/// then comes the name, followed by zeros.
 fn respelled_byte(name: &[u8], at: usize) -> u8
     requires { length name.now ≤ max_name }
     ensures { result ≡ respelled_byte name.now at }
@@ -34,7 +34,7 @@ fn respelled_byte(name: &[u8], at: usize) -> u8
     }
 }
 
-/// The bytes of an entry behind its inumber.
+/// Returns the bytes of an entry after its inode number.
 fn respelled(name: &[u8]) -> [u8; MAX_NAME + 8]
     requires { length name.now ≤ max_name }
     ensures { IsRespelled name.now result }
@@ -46,7 +46,8 @@ fn respelled(name: &[u8]) -> [u8; MAX_NAME + 8]
     bytes
 }
 
-/// The words that get others: that of the length of the name, and those of the name to the end of the last.
+/// Returns the run of the words that change: that of the length of the name, and those of the name up to the end of
+/// its last word.
 fn name_run<'a, R: Region>(region: &R, to_move: &Move<'_>, bytes: &'a [u8; MAX_NAME + 8]) -> Run<'a>
     requires can { CanRename (current_words (R.memory region.now)) to_move.now }
     requires bytes { IsRespelled to_move.now.name.now bytes.now }
@@ -63,11 +64,11 @@ fn name_run<'a, R: Region>(region: &R, to_move: &Move<'_>, bytes: &'a [u8; MAX_N
     }
 }
 
-/// Spells a name anew, by one commit of its words.
+/// Gives an entry another name, by one commit of its words.
 ///
 /// # Errors
 ///
-/// As those of `rename`.
+/// Those of `rename`.
 pub(crate) fn rename_within<R: Region>(
     parts: &mut Parts<R>,
     to_move: &Move<'_>,

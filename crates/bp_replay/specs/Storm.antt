@@ -1,4 +1,4 @@
--- A storm: what a crash finds at a moment, in an epoch and with stores written back that are drawn by lot.
+-- A storm: what a crash finds at a random point, in a random epoch, with random stores written back.
 use Rattle.std.specs.Prelude.{◌≡◌, ◌↔◌, ℕ, ◌+◌, ◌%◌, ◌==◌, Bool, true, false, not, ◌&&◌, List, [], ◌∷◌, ◌++◌, length, take, replicate, Some, slice_get}
 use Rattle.std.proofs.Common.{zero, suc}
 use Rattle.pm_epochs.specs.declared.event.Event.{Event}
@@ -10,17 +10,18 @@ use Rattle.pm_steps.specs.Machine.{cut_of, is_some_store}
 use Rattle.pm_steps.specs.Runs.{AreBackBefore, RunsInLogOrder}
 use Rattle.bp_replay.specs.Generator.{next_state, drawn}
 
--- whether a store to the word goes back: its draw is odd, and no earlier store to the word waits
+-- Whether a store to the word is written back: its draw is odd, and no earlier store to the word waits.
 abbrev pub goes_back : ℕ → List ℕ → ℕ → Bool
 goes_back state waiting word = drawn state % 2 == 1 && not (is_noted waiting word)
 
--- the words of the stores that wait, behind a store to this word that is back or not
+-- The words of the waiting stores, after a store to this word that is written back or not.
 abbrev pub waiting_behind : Bool → List ℕ → ℕ → List ℕ
 waiting_behind true waiting word = waiting
 waiting_behind false waiting word = waiting ++ word ∷ []
 
--- Which of the taken events are stores that are back. All stores of the epochs before the storm's are; in its own,
--- whose waiting stores went to these words so far, each store is drawn for; of later ones none is.
+-- Which of the executed events are stores that are written back. All stores of the epochs before the storm's are, and
+-- none of later epochs. In the storm's own epoch each store is drawn for; the list of words has those to which a store
+-- of that epoch waits so far.
 abbrev pub storm_flags : ℕ → ℕ → List ℕ → List Event → List Bool
 storm_flags state epoch waiting [] = []
 storm_flags state zero waiting (Store word value ∷ events) =
@@ -31,35 +32,35 @@ storm_flags state (suc epoch) waiting (Store word value ∷ events) = true ∷ s
 storm_flags state (suc epoch) waiting (Barrier ∷ events) = false ∷ storm_flags state epoch waiting events
 storm_flags state epoch waiting (Mark ∷ events) = false ∷ storm_flags state epoch waiting events
 
--- how many events a storm takes, and its epoch of those
+-- The number of events that a storm executes, and its epoch among them.
 abbrev pub storm_moment : List Event → ℕ → ℕ
 storm_moment events seed = drawn seed % (length events + 1)
 
 abbrev pub storm_epoch : List Event → ℕ → ℕ
 storm_epoch taken seed = drawn (next_state seed) % (barriers taken + 1)
 
--- the flags of a storm whose generator begins with this seed
+-- The flags of a storm whose generator starts with this seed.
 abbrev pub flags_from : List Event → ℕ → List Bool
 flags_from taken seed = storm_flags (next_state (next_state seed)) (storm_epoch taken seed) [] taken
 
 abbrev pub flags_of_storm : List Event → ℕ → List Bool
 flags_of_storm events seed = flags_from (take (storm_moment events seed) events) seed
 
--- what the crash keeps
+-- The crash point of a storm.
 abbrev pub storm_cut : List Event → ℕ → PowerCut
 storm_cut events seed = cut_of events (flags_of_storm events seed)
 
--- what is kept at a moment, where the stores of this epoch are drawn for from this state on
+-- The crash point after this number of events, if the stores of this epoch are drawn for from this state on.
 abbrev pub drawn_cut : List Event → ℕ → ℕ → ℕ → PowerCut
 drawn_cut events state moment epoch = cut_of events (storm_flags state epoch [] (take moment events))
 
--- The write-back machine comes over these words to what a storm leaves, where the stores go back in the order of the log.
+-- Over these words, the write-back machine reaches what a storm leaves if the stores go back in the order of the log.
 abbrev pub RunsToStorm : List ℕ → List Event → ℕ → Type 0
 RunsToStorm base events seed = RunsInLogOrder base events (flags_of_storm events seed)
 
 -- ## The rule by which stores are written back
 
--- the number that is drawn behind so many others
+-- The number drawn after this number of other draws.
 abbrev pub draw_at : ℕ → ℕ → ℕ
 draw_at state zero = drawn state
 draw_at state (suc count) = draw_at (next_state state) count
@@ -67,23 +68,24 @@ draw_at state (suc count) = draw_at (next_state state) count
 abbrev pub IsOdd : ℕ → Type 0
 IsOdd number = number % 2 ≡ 1
 
--- the event at this index is a store
+-- The event at this index is a store.
 abbrev pub IsStoreAt : List Event → ℕ → Type 0
 IsStoreAt events which = is_some_store (slice_get events which) ≡ true
 
--- of each store of a log this holds, by its index
+-- The property holds of each store of a log, by its index.
 abbrev pub OfEachStore : List Event → (ℕ → Type 0) → Type 0
 OfEachStore events Holds = (i : ℕ) → IsStoreAt events i → Holds i
 
--- where the stores of this epoch are drawn for from this state on: the store at this index is written back
+-- If the stores of this epoch are drawn for from this state on, the store at this index is written back.
 abbrev pub IsWrittenBack : ℕ → ℕ → List Event → ℕ → Type 0
 IsWrittenBack state epoch events which = slice_get (storm_flags state epoch [] events) which ≡ Some true
 
--- .. or it is not
+-- If the stores of this epoch are drawn for from this state on, the store at this index is not written back.
 abbrev pub IsNotWrittenBack : ℕ → ℕ → List Event → ℕ → Type 0
 IsNotWrittenBack state epoch events which = slice_get (storm_flags state epoch [] events) which ≡ Some false
 
--- .. or it is exactly where its own draw is odd and each store went that must go before it
+-- If the stores of this epoch are drawn for from this state on, the store at this index is written back exactly if its
+-- own draw is odd and each store is written back that must go before it.
 abbrev pub GoesByItsDraw : ℕ → ℕ → List Event → ℕ → Type 0
 GoesByItsDraw state epoch events which =
     IsWrittenBack state epoch events which

@@ -1,4 +1,4 @@
-//! Crashes of a run with two cores' caches.
+//! Crashes after a run with two cores' caches.
 
 ghost use Rattle.std.specs.Prelude.{◌≡◌, ℕ, ◌*◌, ◌<◌, ◌≤◌, length};
 ghost use Rattle.pm_epochs.specs.declared.event.EventKind.TheVariants.{Store};
@@ -15,10 +15,10 @@ use pm_cores::laws::a_choice_leaves_the_memory;
 use pm_epochs::{Choice, EventKind};
 use pm_region::Region;
 
-/// A random run of two cores' caches over the region's log, and the choice of what a crash then keeps. A moment is drawn. Core
-/// 0 does the events before it, and behind each a number is drawn: core 1 reads the word of the last store, or that word is
-/// written back where that is allowed, or nothing is done. The same log and seed give the same choice. Takes no memory, and
-/// time for the events of the log.
+/// Runs two cores' caches at random over the region's log, and sets `choice` to what a crash then keeps. A number of
+/// events is drawn. Core 0 executes these events. After each a number is drawn: core 1 reads the word of the last
+/// store, or that word is written back if that is allowed, or nothing is done. The same log and seed give the same
+/// choice. Allocates nothing, and takes time for the events of the log.
 pub fn cache<R: Region>(region: &R, seed: u64, cores: &mut Cores, choice: &mut Choice)
     requires cores { 2 ≤ cores.old.cores }
     requires words { cores.old.words ≡ length (R.memory region.now).base }
@@ -46,7 +46,7 @@ pub fn cache<R: Region>(region: &R, seed: u64, cores: &mut Cores, choice: &mut C
     cores.choice(choice, moment);
 }
 
-/// Core 0 does an event of a kind. A store is one of 0, since no value plays a part in what a crash keeps.
+/// Executes an event of a kind on core 0. A store has the value 0, since no value affects what a crash keeps.
 fn play_kind(kind: EventKind, cores: &mut Cores)
     requires cores { 0 < cores.old.cores }
     requires word { (word : ℕ) → kind ≡ Store word → word < cores.old.words }
@@ -60,7 +60,7 @@ fn play_kind(kind: EventKind, cores: &mut Cores)
     }
 }
 
-/// The word of the last store, behind one more event.
+/// Returns the word of the last store after one more event.
 fn word_behind(last: Option<u32>, kind: EventKind) -> Option<u32>
     ensures { result ≡ last_word last (event_of kind 0) }
 {
@@ -71,7 +71,7 @@ fn word_behind(last: Option<u32>, kind: EventKind) -> Option<u32>
     }
 }
 
-/// Does what is drawn behind an event.
+/// Does what is drawn after an event.
 fn play_draw<R: Region>(region: &R, draw: u32, last: Option<u32>, cores: &mut Cores)
     requires region { cores.old.words ≡ length (R.memory region.now).base }
     requires cores { 1 < cores.old.cores }
@@ -99,7 +99,7 @@ fn play_eighth<R: Region>(region: &R, eighth: u32, word: u32, cores: &mut Cores)
     }
 }
 
-/// Writes a word back where it is dirty and may go.
+/// Writes a word back if it is dirty and may go.
 fn write_back(word: u32, cores: &mut Cores)
     requires { word < cores.old.words }
     ensures { cores.new ≡ after_back cores.old word }

@@ -1,4 +1,4 @@
-//! The numbers that storms and plays draw.
+//! The random numbers of storms and of `play`.
 
 ghost use Rattle.std.specs.Prelude.{◌≡◌, ◌+◌, ◌%◌};
 ghost use Rattle.bp_replay.specs.Generator.{next_state, drawn};
@@ -7,15 +7,15 @@ const FACTOR: u64 = 6_364_136_223_846_793_005;
 
 const STEP: u64 = 1_442_695_040_888_963_407;
 
-/// Numbers that look random, the same ones from the same seed.
+/// A generator of pseudo-random numbers, the same ones from the same seed.
 #[derive(Clone, Copy, Debug, PartialEq, Eq)]
 pub struct Generator {
-    /// The seed, and behind each draw what that draw left.
+    /// The seed, and after each draw the state that the draw left.
     pub state: u64,
 }
 
 impl Generator {
-    /// Begins with a seed.
+    /// Makes a generator with a seed.
     pub fn new(seed: u64) -> Generator
         ensures { result.state ≡ seed }
     {

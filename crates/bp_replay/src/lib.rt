@@ -1,4 +1,4 @@
-//! What a script's crash keeps: choices that are written out, and storms.
+//! What a script's crash keeps: crash points that the script spells out, and storms.
 #![tactic(auto)]
 
 pub mod caching;

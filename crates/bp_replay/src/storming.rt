@@ -1,4 +1,4 @@
-//! Crashes that are drawn by lot.
+//! Random crashes.
 
 ghost use Rattle.std.specs.Prelude.{◌≡◌, ◌<◌, ◌≤◌, [], length, take};
 ghost use Rattle.pm_region.specs.Epochs.{epoch_start};
@@ -12,10 +12,10 @@ use pm_epochs::{Choice, EventKind};
 use pm_region::Region;
 use pm_steps::Backs;
 
-/// A random run of the write-back machine over the region's log, and the choice of what a crash then keeps. A moment is
-/// drawn, and an epoch before it; all stores of earlier epochs are written back, and of its own each whose draw is odd,
-/// unless an earlier store of the epoch to the same word waits. The same log and seed give the same choice. Takes no memory,
-/// and time for the events of the log.
+/// Runs the write-back machine at random over the region's log, and sets `choice` to what a crash then keeps. A number
+/// of events is drawn, and an epoch among them. All stores of earlier epochs are written back. Of the epoch's own
+/// stores, each is whose draw is odd, unless an earlier store of the epoch to the same word waits. The same log and
+/// seed give the same choice. Allocates nothing, and takes time for the events of the log.
 pub fn storm<R: Region>(region: &R, seed: u64, backs: &mut Backs, choice: &mut Choice)
     requires backs { length (R.memory region.now).events ≤ backs.old.room }
     requires choice { length (R.memory region.now).events ≤ choice.old.room }
@@ -33,8 +33,9 @@ pub fn storm<R: Region>(region: &R, seed: u64, backs: &mut Backs, choice: &mut C
     choose_drawn(region, start, &mut generator, backs, choice);
 }
 
-/// Draws for the stores of the storm's epoch, which begins at `start`, and chooses what is back then. Where all of them are,
-/// the machine has come to the first later epoch with a store, or the last one: of those no store is back.
+/// Draws for the stores of the storm's epoch, which begins at `start`, and sets `choice` to what is then written back.
+/// If all of these stores are, the machine is in the first later epoch with a store, or in the last one; no store of
+/// that epoch is written back.
 fn choose_drawn<R: Region>(
     region: &R,
     start: usize,
@@ -61,7 +62,7 @@ fn choose_drawn<R: Region>(
     let moment = choice.moment();
     // Only the stores of the storm's own epoch are drawn for.
     let mut draws = true;
-    // Whether a store waits of the epoch that the machine has come to, which it does not leave then.
+    // Whether a store of the machine's current epoch waits; the machine does not leave the epoch then.
     let mut waits = false;
     for i in start..moment {
         match region.kind(i) {
@@ -83,7 +84,7 @@ fn choose_drawn<R: Region>(
     }
 }
 
-/// Draws whether a store to a word is written back. It waits where an earlier one to its word does.
+/// Draws whether a store to a word is written back. It waits if an earlier store to its word does.
 fn draw_for(word: u32, generator: &mut Generator, backs: &mut Backs) -> bool
     requires { length backs.old.waiting < backs.old.room }
     ensures state { generator.new.state ≡ next_state generator.old.state }

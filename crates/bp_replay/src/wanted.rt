@@ -1,4 +1,4 @@
-//! Choices that a script writes out.
+//! Crash points that a script spells out.
 
 ghost use Rattle.std.specs.Prelude.{◌≡◌, ◌+◌, ◌*◌, ◌<◌, ◌≤◌, ◌↔◌, ◌++◌, true, IsOk, OnOk, Some, length, take, replicate, slice_get, ◌^◌, []};
 ghost use Rattle.pm_epochs.specs.Log.{barriers, epoch_stores};
@@ -9,9 +9,15 @@ use super::cut::Cut;
 use pm_epochs::{BadChoice, Choice, EventKind};
 use pm_region::Region;
 
-/// Makes the choice that a script asks for. `BadChoice` is the answer where it is not right for the region's log: its moment
-/// is behind the log's end, the log has fewer barriers before that moment than the epoch wants, or the mask has a bit set
-/// behind the epoch's stores before that moment. The choice is then any. Takes no memory.
+/// Sets `choice` to the crash point that a script asks for. Allocates nothing.
+///
+/// # Errors
+///
+/// `BadChoice`: the crash point is not valid for the region's log; `choice` then has any contents. It is not valid if
+///
+/// - its event count is past the end of the log,
+/// - the log has fewer barriers before that count than the epoch's number, or
+/// - the mask has a bit set past the epoch's stores before that count.
 pub fn choice_of<R: Region>(region: &R, cut: &Cut<'_>, choice: &mut Choice) -> Result<(), BadChoice>
     requires log { length (R.memory region.now).events ≤ choice.old.room }
     requires mask { mask_places cut.now ≤ choice.old.room }
@@ -37,7 +43,7 @@ pub fn choice_of<R: Region>(region: &R, cut: &Cut<'_>, choice: &mut Choice) -> R
     }
 }
 
-/// How many stores an epoch has before a moment. It has begun by then.
+/// Returns the number of stores of an epoch among the first `moment` events. The epoch has begun by then.
 fn stores_before<R: Region>(region: &R, moment: usize, epoch: usize) -> usize
     requires taken { moment ≤ length (R.memory region.now).events }
     requires begun { epoch ≤ barriers (take moment (R.memory region.now).events) }
@@ -55,7 +61,7 @@ fn stores_before<R: Region>(region: &R, moment: usize, epoch: usize) -> usize
     count
 }
 
-/// Chooses each store of the log.
+/// Sets `choice` to keep each store of the log.
 fn choose_all<R: Region>(region: &R, choice: &mut Choice)
     requires { length (R.memory region.now).events ≤ choice.old.room }
     ensures { choice.new ≡ record { cut = cut_for (R.memory region.now).events all; room = choice.old.room } }
@@ -67,7 +73,7 @@ fn choose_all<R: Region>(region: &R, choice: &mut Choice)
     push_true(choice, stores);
 }
 
-/// Keeps so many stores more.
+/// Appends to the mask that the next `stores` stores are kept.
 fn push_true(choice: &mut Choice, stores: usize)
     requires { length choice.old.cut.mask + stores ≤ choice.old.room }
     ensures { choice.new ≡ record {
@@ -80,8 +86,8 @@ fn push_true(choice: &mut Choice, stores: usize)
     }
 }
 
-/// Chooses what was written back at a moment. The numbers of a script may be too large for the machine: those are refused
-/// before they are cast.
+/// Sets `choice` to what was written back at a crash point. The numbers of a script may be too large for the machine;
+/// such numbers are refused before they are cast.
 fn choose_at<R: Region>(
     region: &R,
     moment: u64,
@@ -118,7 +124,7 @@ fn choose_at<R: Region>(
     Ok(())
 }
 
-/// Keeps the stores at the places whose bits are set. The places behind the last of them are left out.
+/// Keeps the stores at the positions whose bits are set. The positions after the last of these are left out.
 fn push_mask(choice: &mut Choice, mask: &[u8])
     requires room { 8 * length mask.now ≤ choice.old.room }
     requires empty { choice.old.cut.mask ≡ [] }
@@ -127,7 +133,7 @@ fn push_mask(choice: &mut Choice, mask: &[u8])
       room = choice.old.room;
     } }
 {
-    // Its room bounds the number of the places.
+    // The capacity of the choice bounds the number of positions.
     let _room = choice.room();
     let places = places_up_to_last(mask);
     for place in 0..places {
@@ -135,7 +141,7 @@ fn push_mask(choice: &mut Choice, mask: &[u8])
     }
 }
 
-/// How many places a mask has up to the last one whose bit is set.
+/// Returns the number of positions of a mask up to the last one whose bit is set.
 fn places_up_to_last(mask: &[u8]) -> usize
     requires { 8 * length mask.now < 2 ^ 64 }
     ensures few { result ≤ 8 * length mask.now }
@@ -150,7 +156,7 @@ fn places_up_to_last(mask: &[u8]) -> usize
     places
 }
 
-/// Whether the bit of a place is set. Each byte has eight, the lowest first.
+/// Returns whether the bit of a position is set. Each byte has eight positions, the lowest bit first.
 fn is_set(mask: &[u8], place: usize) -> bool
     requires { place < 8 * length mask.now }
     ensures { slice_get (bits mask.now) place ≡ Some result }

@@ -3,11 +3,11 @@ use Rattle.std.specs.Prelude.{◌≡◌, ℕ, List, ◌++◌, Option, take}
 use Rattle.std.specs.Io.KnownBytes.{Appends}
 use Rattle.bp_replies.specs.declared.replies.Replies.{Replies}
 
--- the bytes that wait
+-- The waiting bytes.
 abbrev pub waiting : Replies → List ℕ
 waiting replies = take replies.count replies.bytes.items
 
--- A text was added to what waited, and a sink took a front of both: the rest waits.
+-- A text was added to the waiting bytes, and a sink took a prefix of both: the rest waits.
 pub record PassesOn (text before after : List ℕ) (taken now : Option (List ℕ)) : Type 0 where
   pub sent : List ℕ
   pub whole : before ++ text ≡ sent ++ after

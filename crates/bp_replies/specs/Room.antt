@@ -1,6 +1,6 @@
--- How much waits for a sink.
+-- The amount of data that may wait for a sink.
 use Rattle.std.specs.Prelude.{ℕ}
 
--- the bytes that may wait where more follow
+-- The number of bytes that may wait while more follow.
 abbrev pub gathered_size : ℕ
 gathered_size = 65536

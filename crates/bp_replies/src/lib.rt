@@ -1,4 +1,4 @@
-//! Texts on their way to a sink: gathered, and handed over piece by piece.
+//! Texts on their way to a sink: gathered, and passed on piece by piece.
 #![tactic(auto)]
 
 mod replies;

@@ -10,10 +10,10 @@ use bp_limits::MAX_TEXT;
 use bp_script::{Said, say};
 use std::alloc::{AllocError, Global};
 
-/// The bytes of lines that may wait where more follow, before they are handed over.
+/// The number of bytes of lines that may wait while more follow, before they go to the sink.
 pub const GATHERED: usize = 65_536;
 
-/// Lines that are told and that a sink did not take yet, in order. There is always room for one line more.
+/// Lines that were written and that a sink has not taken yet, in order. There is always room for one more line.
 #[derive(Drop)]
 pub struct Replies {
     bytes: Vec<u8>,
@@ -30,11 +30,11 @@ impl Replies {
     ghost use Rattle.bp_replies.specs.Gathering.{PassesOn, waiting};
     ghost use Rattle.bp_replies.specs.Taking.{TakesPart};
 
-    /// None yet.
+    /// Makes a buffer in which no line waits.
     ///
     /// # Errors
     ///
-    /// `AllocError` for want of memory.
+    /// * `AllocError`: allocation fails.
     pub fn new(alloc: Global) -> Result<Self, AllocError>
         ensures { IfOk result (λ replies. waiting replies ≡ []) }
     {
@@ -44,18 +44,18 @@ impl Replies {
         })
     }
 
-    /// Gives up what waits.
+    /// Drops the waiting lines.
     pub fn clear(&mut self)
         ensures { waiting self.new ≡ [] }
     {
         self.count = 0;
     }
 
-    /// Hands all that waits to a sink. Then nothing waits.
+    /// Passes all waiting lines to a sink. Nothing waits afterwards.
     ///
     /// # Errors
     ///
-    /// `Failed` where the sink failed. It took a proper front then, and the rest is given up.
+    /// * `Failed`: the sink failed. It took a proper prefix, and the rest is dropped.
     pub fn hand_over<K: Sink>(&mut self, out: &mut K) -> Result<(), Failed>
         ensures all { OnOk result (Appends (K.view out.old).taken (K.view out.new).taken (waiting self.old)) }
         ensures some { OnErr result (TakesPart (waiting self.old) (K.view out.old).taken (K.view out.new).taken) }
@@ -67,7 +67,7 @@ impl Replies {
         send(out, &self.bytes[..count])
     }
 
-    /// Hands over what waits, where it is more than so many bytes.
+    /// Passes the waiting lines to a sink, if they have more than `most` bytes.
     ///
     /// # Errors
     ///
@@ -86,7 +86,7 @@ impl Replies {
         Ok(())
     }
 
-    /// Adds a line, where there is room for it.
+    /// Adds a line, for which there is room.
     fn add(&mut self, said: &Said<'_>)
         requires room { length (waiting self.old) ≤ gathered_size }
         requires short { FitsReply said.now }
@@ -95,12 +95,12 @@ impl Replies {
         self.count += say(said, &mut self.bytes[self.count..]);
     }
 
-    /// Adds a line. What waited before is handed over first where it is more than `GATHERED` bytes.
+    /// Adds a line. The lines that waited before go to the sink first, if they have more than `GATHERED` bytes.
     ///
     /// # Errors
     ///
-    /// `Failed` where the sink failed. It took a proper front of what waited then, the rest is given up, and the line isn't
-    /// added.
+    /// * `Failed`: the sink failed. It took a proper prefix of the lines that waited, the rest is dropped, and the
+    ///   line is not added.
     pub fn tell<K: Sink>(&mut self, said: &Said<'_>, out: &mut K) -> Result<(), Failed>
         requires { FitsReply said.now }
         ensures all { OnOk result (PassesOn (said_text said.now) (waiting self.old) (waiting self.new)

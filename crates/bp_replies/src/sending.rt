@@ -7,11 +7,11 @@ ghost use Rattle.bp_replies.specs.Taking.{TakesPart};
 
 use bp_io::{Failed, Sink};
 
-/// Hands all bytes to a sink.
+/// Passes all bytes to a sink.
 ///
 /// # Errors
 ///
-/// `Failed` where the sink failed. It took a proper front of them then.
+/// * `Failed`: the sink failed. It took a proper prefix of them.
 pub fn send<K: Sink>(out: &mut K, bytes: &[u8]) -> Result<(), Failed>
     ensures all { OnOk result (Appends (K.view out.old).taken (K.view out.new).taken bytes.now) }
     ensures some { OnErr result (TakesPart bytes.now (K.view out.old).taken (K.view out.new).taken) }

@@ -1,4 +1,4 @@
-//! The replies of a run beside those of the plain, slow program.
+//! Comparison of the replies of a run with those of the slow program of the abstract tree.
 
 ghost use Rattle.bp_limits.specs.Limits.{max_line};
 ghost use Rattle.bp_script.specs.Lines.{decoded_room};
@@ -11,10 +11,10 @@ use bp_plain::{Answer, Plain, Reply};
 use bp_script::{Decoded, Line, Said, Syntax, say};
 use std::alloc::{AllocError, Global};
 
-/// The beginnings of replies that a volume gives for want of blocks or of memory. A plain tree lacks neither.
+/// The beginnings of replies that a volume gives for lack of blocks or of memory. An abstract tree lacks neither.
 const OWN_REPLIES: [&str; 2] = ["err 11 ", "err 12 "];
 
-/// A plain tree, and the answer of its last call.
+/// An abstract tree, and the answer of its last call.
 #[derive(Drop)]
 struct Asked {
     tree: Plain,
@@ -29,7 +29,7 @@ impl Asked {
     }
 }
 
-/// A plain tree, what it takes to ask it, and the replies that were not compared yet.
+/// An abstract tree, the memory to ask it, and the replies that were not compared yet.
 #[derive(Drop)]
 pub struct Comparison<'a> {
     asked: Asked,
@@ -39,9 +39,9 @@ pub struct Comparison<'a> {
     ghost decodes: { max_line ≤ decoded_room decoded },
 }
 
-/// Writes whether the replies to a script are those of the plain program, which begins with the empty tree of a
-/// version, or else the first line at which they differ. A line for which the volume lacks blocks or memory is told,
-/// and the plain program does not do it either.
+/// Writes whether the replies to a script are those of the abstract tree, which begins empty in a version, or else
+/// the first line at which they differ. A line for which the volume lacks blocks or memory is reported, and the
+/// abstract tree does not do it either.
 pub fn compare(
     alloc: Global,
     version: Version,
@@ -53,13 +53,13 @@ pub fn compare(
     comparison.take_all(alloc, script, report)
 }
 
-/// The first line of a text, and what stands behind it.
+/// Splits a text into its first line and the rest.
 fn first_line(text: &str) -> (&str, &str) {
     text.split_once('\n').unwrap_or((text, ""))
 }
 
 impl<'a> Comparison<'a> {
-    /// An empty tree of a version, beside these replies.
+    /// Makes an empty abstract tree of a version, to compare with these replies.
     pub fn new(
         alloc: Global,
         version: Version,
@@ -90,7 +90,7 @@ impl<'a> Comparison<'a> {
         self.finish(report)
     }
 
-    /// Does a line, and compares what it says with the first of the replies. False is the answer where they differ.
+    /// Does a line, and compares its reply with the first of the replies. Returns false if they differ.
     fn take(&mut self, alloc: Global, line: &str, report: &mut String) -> Result<bool, AllocError> {
         self.lines = self.lines.saturating_add(1);
         let (reply, rest) = first_line(self.replies);
@@ -109,7 +109,7 @@ impl<'a> Comparison<'a> {
         }
     }
 
-    /// Goes on behind the reply to a line, where it is the one that was expected. False is the answer where it is another.
+    /// Skips the reply to a line, if it is the expected one. Returns false if it is another.
     fn pass(
         &mut self,
         line: &str,
@@ -128,7 +128,7 @@ impl<'a> Comparison<'a> {
         }
     }
 
-    /// Ends the comparison behind the last line.
+    /// Ends the comparison after the last line.
     fn finish(&self, report: &mut String) -> Result<(), AllocError> {
         if !self.replies.is_empty() {
             return self.differ("", "", report);
@@ -137,7 +137,7 @@ impl<'a> Comparison<'a> {
         writeln!(report, "same as the plain tree in {lines} lines")
     }
 
-    /// Writes at which line the replies differ, and both replies.
+    /// Writes the line at which the replies differ, and both replies.
     fn differ(&self, line: &str, expected: &str, report: &mut String) -> Result<(), AllocError> {
         report.push_str("differs from the plain tree at: ")?;
         put_short(report, line)?;
@@ -147,8 +147,8 @@ impl<'a> Comparison<'a> {
         put_short(report, first_line(expected).0)
     }
 
-    /// Does a line, and writes its reply. False is the answer for a line that asks for blocks, a log or a crash, of which a plain
-    /// tree knows nothing.
+    /// Does a line, and writes its reply. Returns false for a line that asks for blocks, a log or a crash, which the
+    /// abstract tree does not determine.
     pub fn answer(
         &mut self,
         alloc: Global,

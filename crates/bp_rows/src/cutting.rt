@@ -1,4 +1,5 @@
-//! Power cuts all over a script: what each leaves is mounted, and asked beside the plain, slow program.
+//! Crashes all over a script: each image that a crash leaves is mounted, and compared with the slow program of the
+//! abstract tree.
 
 use crate::comparing::Comparison;
 use crate::row::Row;
@@ -13,13 +14,14 @@ use pm_raw::RawRegion;
 use pm_region::Region;
 use std::alloc::{AllocError, Global};
 
-/// Each moment that is a multiple is tried, besides those beside barriers and marks.
+/// The event counts that are multiples of this number are tried, besides those next to barriers and end-of-call
+/// markers.
 const STRIDE: usize = 64;
 
 /// The room for replies, in bytes.
 const ROOM: usize = 65_536;
 
-/// Which stores of its epoch a cut keeps.
+/// The stores of its epoch that a crash keeps.
 #[derive(Clone, Copy)]
 enum Mask {
     Empty,
@@ -31,7 +33,7 @@ enum Mask {
 const MASKS: [Mask; 4] = [Mask::Empty, Mask::Whole, Mask::Odd, Mask::Even];
 
 impl Mask {
-    /// Whether it has the store at a place.
+    /// Whether it keeps the store at an index.
     fn has(self, place: usize) -> bool {
         match self {
             Mask::Empty => false,
@@ -42,7 +44,7 @@ impl Mask {
     }
 }
 
-/// A script, what is asked behind each cut, and what came of the cuts so far.
+/// A script, the lines to ask after each crash, and the results of the crashes so far.
 #[derive(Drop)]
 struct Cuts<'a> {
     alloc: Global,
@@ -52,15 +54,15 @@ struct Cuts<'a> {
     asks: &'a str,
     work: Work,
     choice: Choice,
-    /// What each event of the log is.
+    /// The kind of each event of the log.
     events: Vec<EventKind>,
-    /// Whether some cut kept so many calls, for each number of them.
+    /// Whether some crash kept this number of calls, for each number.
     kept: Vec<bool>,
 }
 
-/// Cuts the power of a run of a row's script over an image: at each moment beside a barrier or a mark and at every
-/// 64th, with each epoch, and none, all, the odd and the even stores of it. Writes which numbers of calls were kept,
-/// or else the first cut whose answers are not those of the plain tree after the calls that it keeps.
+/// Crashes runs of a row's script over an image: at each event count next to a barrier or an end-of-call marker and
+/// at every 64th, with each epoch, and none, all, the odd and the even stores of it. Writes which numbers of calls
+/// survived, or else the first crash whose answers are not those of the abstract tree after the calls that it keeps.
 pub fn cut_all_over(
     alloc: Global,
     row: &Row,
@@ -71,7 +73,7 @@ pub fn cut_all_over(
     cuts.cut_all(report)
 }
 
-/// Whether cuts at a moment are tried.
+/// Whether crashes at an event count are tried.
 fn is_tried(events: &[EventKind], moment: usize) -> bool {
     let before = match moment.checked_sub(1) {
         Some(last) => events.get(last),
@@ -80,7 +82,7 @@ fn is_tried(events: &[EventKind], moment: usize) -> bool {
     moment % STRIDE == 0 || is_border(before) || is_border(events.get(moment))
 }
 
-/// Whether an event is a barrier or a mark, or none is there.
+/// Whether an event is a barrier or an end-of-call marker, or there is none.
 fn is_border(event: Option<&EventKind>) -> bool {
     match event {
         Some(EventKind::Store(_)) => false,
@@ -90,7 +92,7 @@ fn is_border(event: Option<&EventKind>) -> bool {
     }
 }
 
-/// How many stores an epoch has.
+/// Counts the stores of an epoch.
 fn stores_of(events: &[EventKind], epoch: usize) -> usize {
     let mut barriers: usize = 0;
     let mut stores: usize = 0;
@@ -115,7 +117,7 @@ fn barriers_of(events: &[EventKind]) -> usize {
         .count()
 }
 
-/// How many calls have their end among events.
+/// Counts the calls that end among events.
 fn calls_of(events: &[EventKind]) -> usize {
     events
         .iter()
@@ -123,7 +125,7 @@ fn calls_of(events: &[EventKind]) -> usize {
         .count()
 }
 
-/// Serves a script over an image. The volume is what it leaves; none is the answer where the image can't be opened.
+/// Serves a script over an image, and returns the volume at the end; none if the image cannot be opened.
 fn serve_over<K: Sink>(
     alloc: Global,
     work: &mut Work,
@@ -146,7 +148,7 @@ fn serve_file<K: Sink>(
     match open(alloc, "f", files) {
         Ok(mut volume) => {
             let mut source = FairSource::new(script.as_bytes());
-            // A serving that broke off shows by what the sink took.
+            // If serving was broken off, the bytes that the sink took show it.
             let _ = serve(alloc, &mut volume, work, &mut source, out, files);
             Some(volume)
         }
@@ -155,7 +157,7 @@ fn serve_file<K: Sink>(
 }
 
 impl<'a> Cuts<'a> {
-    /// No cut yet.
+    /// Makes a record of no crash.
     fn new(alloc: Global, row: &'a Row, image: &'a [u8]) -> Result<Cuts<'a>, AllocError> {
         let choice = Choice::new(alloc, LOG_EVENTS)?;
         let work = Work::new(alloc)?;
@@ -184,7 +186,7 @@ impl<'a> Cuts<'a> {
         )
     }
 
-    /// Tries all cuts of a run of the script.
+    /// Tries all crashes of a run of the script.
     fn cut_all(&mut self, report: &mut String) -> Result<(), AllocError> {
         if !self.read_log()? {
             return report.push_str("  the script can't be run, or has a line that is no call\n");
@@ -195,8 +197,8 @@ impl<'a> Cuts<'a> {
         Ok(())
     }
 
-    /// Reads the log of a run of the script. False is the answer where it can't be run, or has not a call for each line: the calls that
-    /// a cut keeps would not be its first lines then.
+    /// Reads the log of a run of the script. Returns false if the script cannot be run, or has not a call for each
+    /// line: the calls that a crash keeps would not be its first lines then.
     fn read_log(&mut self) -> Result<bool, AllocError> {
         match self.run()? {
             Some(volume) => self.take_events(volume.region()),
@@ -204,7 +206,7 @@ impl<'a> Cuts<'a> {
         }
     }
 
-    /// Takes what the events of a region's log are. The answer is whether they are of a call for each line.
+    /// Copies the kinds of the events of a region's log. Returns whether they are of a call for each line.
     fn take_events<R: Region>(&mut self, region: &R) -> Result<bool, AllocError> {
         for i in 0..region.event_count() {
             self.events.push(region.kind(i))?;
@@ -214,7 +216,7 @@ impl<'a> Cuts<'a> {
         Ok(calls == self.script.lines().count())
     }
 
-    /// Tries the cuts at each moment that is tried. False is the answer where one is wrong.
+    /// Tries the crashes at each event count that is tried. Returns false if one is wrong.
     fn cut_at_all(&mut self, report: &mut String) -> Result<bool, AllocError> {
         for moment in 0..self.events.len().saturating_add(1) {
             if is_tried(&self.events, moment) && !self.cut_at(moment, report)? {
@@ -224,7 +226,7 @@ impl<'a> Cuts<'a> {
         Ok(true)
     }
 
-    /// Tries the cuts at a moment. False is the answer where one is wrong.
+    /// Tries the crashes at an event count. Returns false if one is wrong.
     fn cut_at(&mut self, moment: usize, report: &mut String) -> Result<bool, AllocError> {
         let barriers = barriers_of(self.events.get(..moment).unwrap_or(&[]));
         for epoch in 0..barriers.saturating_add(1) {
@@ -235,7 +237,7 @@ impl<'a> Cuts<'a> {
         Ok(true)
     }
 
-    /// Tries the cuts at a moment in an epoch. False is the answer where one is wrong.
+    /// Tries the crashes at an event count in an epoch. Returns false if one is wrong.
     fn cut_in(
         &mut self,
         moment: usize,
@@ -251,7 +253,7 @@ impl<'a> Cuts<'a> {
         Ok(true)
     }
 
-    /// Chooses what a cut keeps.
+    /// Chooses the stores that a crash keeps.
     fn choose(&mut self, moment: usize, epoch: usize, mask: Mask) {
         let stores = stores_of(self.events.get(..moment).unwrap_or(&[]), epoch);
         self.choice.start(moment, epoch);
@@ -262,7 +264,8 @@ impl<'a> Cuts<'a> {
         }
     }
 
-    /// Cuts the power as was chosen. False is the answer where what is left is not the plain tree after the calls that are kept.
+    /// Crashes a run as chosen. Returns false if the image is not that of the abstract tree after the calls that
+    /// survive.
     fn cut(&mut self, report: &mut String) -> Result<bool, AllocError> {
         match self.run()? {
             Some(mut volume) => self.crash(&mut volume, report),
@@ -270,7 +273,7 @@ impl<'a> Cuts<'a> {
         }
     }
 
-    /// Cuts the power of a volume behind the script.
+    /// Crashes a volume after the script.
     fn crash<R: Region>(
         &mut self,
         volume: &mut Volume<R>,
@@ -285,7 +288,7 @@ impl<'a> Cuts<'a> {
         }
     }
 
-    /// Compares the bytes that were left with the plain tree after the calls that are kept.
+    /// Compares the remaining bytes with the abstract tree after the calls that survive.
     fn judge(
         &mut self,
         left: &[u8],
@@ -301,14 +304,14 @@ impl<'a> Cuts<'a> {
         Ok(true)
     }
 
-    /// Whether what is asked is answered over the bytes that were left as by the plain tree after so many calls.
+    /// Whether the answers over the remaining bytes are those of the abstract tree after this number of calls.
     fn is_as_plain(&mut self, left: &[u8], calls: usize) -> Result<bool, AllocError> {
         let told = self.asked(left)?;
         let expected = self.expected(calls)?;
         Ok(told.as_slice() == expected.as_bytes())
     }
 
-    /// What is answered over the bytes that were left.
+    /// Returns the answers over the remaining bytes.
     fn asked(&mut self, left: &[u8]) -> Result<Vec<u8>, AllocError> {
         let mut sink = MemSink::new(self.alloc, ROOM, &[])?;
         if self.ask(left, &mut sink)? {
@@ -318,19 +321,19 @@ impl<'a> Cuts<'a> {
         }
     }
 
-    /// Asks what is asked of the bytes that were left. False is the answer where they can't be opened.
+    /// Asks the lines over the remaining bytes. Returns false if they cannot be opened.
     fn ask(&mut self, left: &[u8], sink: &mut MemSink<'_>) -> Result<bool, AllocError> {
         let volume = serve_over(self.alloc, &mut self.work, left, self.asks, sink)?;
         Ok(volume.is_some())
     }
 
-    /// What the plain tree answers after the first calls of the script.
+    /// Returns the answers of the abstract tree after the first calls of the script.
     fn expected(&self, calls: usize) -> Result<String, AllocError> {
         let mut tree = Comparison::new(self.alloc, self.version, "")?;
         self.answers(calls, &mut tree)
     }
 
-    /// What an empty plain tree answers after the first calls of the script.
+    /// Returns the answers of an empty abstract tree after the first calls of the script.
     fn answers(&self, calls: usize, tree: &mut Comparison<'_>) -> Result<String, AllocError> {
         self.do_first(calls, tree)?;
         let mut told = String::new(self.alloc);
@@ -340,7 +343,7 @@ impl<'a> Cuts<'a> {
         Ok(told)
     }
 
-    /// Does the first calls of the script in the plain tree.
+    /// Does the first calls of the script in the abstract tree.
     fn do_first(&self, calls: usize, tree: &mut Comparison<'_>) -> Result<(), AllocError> {
         let mut unused = String::new(self.alloc);
         for line in self.script.lines().take(calls) {
@@ -349,7 +352,7 @@ impl<'a> Cuts<'a> {
         Ok(())
     }
 
-    /// Writes what is wrong with a cut.
+    /// Writes why a crash is wrong.
     fn differ(&self, what: &str, report: &mut String) -> Result<bool, AllocError> {
         let moment = self.choice.moment();
         let epoch = self.choice.epoch();
@@ -359,7 +362,7 @@ impl<'a> Cuts<'a> {
         Ok(false)
     }
 
-    /// Writes which numbers of calls were kept.
+    /// Writes which numbers of calls survived.
     fn finish(&self, report: &mut String) -> Result<(), AllocError> {
         report.push_str("  each cut as the plain tree after the calls that it keeps:")?;
         for count in 0..self.kept.len() {
@@ -371,7 +374,7 @@ impl<'a> Cuts<'a> {
     }
 }
 
-/// The bytes of a region's words.
+/// Converts the words of a region to bytes.
 fn bytes_of<R: Region>(alloc: Global, region: &R) -> Result<Vec<u8>, AllocError> {
     let mut bytes = Vec::new(alloc);
     for word in 0..region.words() {

@@ -1,6 +1,6 @@
 //! The words of FILE's bytes, the lowest byte first.
 
-/// The word at a place, 0 behind the end.
+/// Returns the word at an index, 0 past the end.
 pub fn word_at(bytes: &[u8], place: usize) -> u64 {
     let rest = bytes.get(place.saturating_mul(8)..).unwrap_or(&[]);
     match rest.first_chunk::<8>() {
@@ -9,7 +9,7 @@ pub fn word_at(bytes: &[u8], place: usize) -> u64 {
     }
 }
 
-/// Sets the word at a place. Behind the end it sets none, and answers false.
+/// Sets the word at an index. Past the end it sets none, and returns false.
 pub fn set_word(bytes: &mut [u8], place: u64, value: u64) -> bool {
     let places = (bytes.len() / 8) as u64;
     if place >= places {

@@ -1,4 +1,4 @@
-//! What a line of the input says.
+//! The lines of the input.
 
 /// A device of a run.
 #[derive(Clone, Copy)]
@@ -18,7 +18,7 @@ impl Device {
         }
     }
 
-    /// The word for it.
+    /// Returns the name of the device.
     pub fn name(self) -> &'static str {
         match self {
             Device::Files => "files",
@@ -52,49 +52,50 @@ impl Versions {
 pub enum InputLine<'a> {
     /// An empty line, or one that begins with `#`.
     Nothing,
-    /// A row of this name begins: FILE is missing, the script empty, and no device fails.
+    /// A row of this name begins: FILE is missing, the script is empty, and no device fails.
     Row(&'a str),
-    /// The row runs in these versions, each over images of its own. It runs in the first one where nothing is said.
+    /// The row runs in these versions, each over images of its own. Without such a line it runs in version 1.
     Versions(Versions),
-    /// FILE is a format of so many blocks.
+    /// FILE is a format of this number of blocks.
     Format(&'a str),
-    /// FILE is so many bytes of zeros.
+    /// FILE is this number of zero bytes.
     Zeros(u64),
     /// There is no FILE.
     Missing,
-    /// What FILE is now is kept for later rows.
+    /// The current contents of FILE are kept for later rows.
     Keep,
-    /// FILE is what was kept.
+    /// FILE has the kept contents.
     Kept,
-    /// Words of FILE, each a place and a value.
+    /// Words of FILE, each an index and a value.
     Set(&'a str),
-    /// All words of FILE from the first place up to the second have the value.
+    /// All words of FILE from the first index up to the second have the value.
     Fill { from: u64, to: u64, value: u64 },
     /// The calls of a device that fail, by their numbers from 0.
     Fail(Device, &'a str),
-    /// The source gives pieces of at most so many bytes.
+    /// The source returns pieces of at most this number of bytes.
     Piece(u64),
-    /// What is run.
+    /// The arguments that are run.
     Words(&'a str),
     /// A line of the script.
     Script(&'a str),
     /// The last line of the script, without a newline.
     Part(&'a str),
-    /// Run it.
+    /// Runs the row.
     Go,
-    /// Run it over a format of so many blocks, and compare its replies with those of the plain, slow program.
+    /// Runs the row over a format of this number of blocks, and compares its replies with those of the slow program
+    /// of the abstract tree.
     Plain(&'a str),
-    /// A line that is asked behind each cut.
+    /// A line that is asked after each crash.
     Ask(&'a str),
-    /// Run it over a format of so many blocks again and again, each time with another cut of the power behind it.
+    /// Runs the row over a format of this number of blocks repeatedly, each time with another crash after it.
     Cuts(&'a str),
-    /// Serve lines and scripts by the parts of a session.
+    /// Serves lines and scripts by the parts of a session.
     Parts,
-    /// Run it again and again, each time with another call of a device failing, from 0 up to a number of calls.
+    /// Runs the row repeatedly, each time with another call of a device failing, from 0 up to a number of calls.
     Sweep(Device, u64),
 }
 
-/// A number in decimal digits, or in hexadecimal ones behind `0x`.
+/// Reads a number in decimal digits, or in hexadecimal ones after `0x`.
 pub fn number(text: &str) -> Option<u64> {
     match text.strip_prefix("0x") {
         Some(digits) => u64::from_str_radix(digits, 16).ok(),
@@ -110,7 +111,7 @@ fn fill(text: &str) -> Option<InputLine<'_>> {
     Some(InputLine::Fill { from, to, value })
 }
 
-/// Reads a line, `None` where it has no such form.
+/// Reads a line, `None` if it has no such form.
 pub fn read(line: &str) -> Option<InputLine<'_>> {
     let (word, rest) = line.split_once(' ').unwrap_or((line, ""));
     Some(match word {

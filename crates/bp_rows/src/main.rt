@@ -1,5 +1,6 @@
-//! Runs rows of worked examples over the devices in memory: reads rows from standard input, and writes to standard output for
-//! each run its replies, its status and what FILE holds then. `docs/rows.md` has the form of a row.
+//! Runs rows of worked examples over the devices in memory: reads rows from standard input, and writes to standard
+//! output for each run its replies, its status and the contents of FILE afterwards. `docs/rows.md` has the form of a
+//! row.
 #![tactic(auto)]
 
 mod comparing;

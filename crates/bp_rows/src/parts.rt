@@ -1,5 +1,5 @@
-//! What a caller has besides `run` over FILE in full: `run` over a file that never fails and a sink that only counts, `open`,
-//! `serve` more than once over the same memory, and `serve_line`.
+//! Calls that a caller has besides `run` over the whole of FILE: `run` over a file that never fails and a sink that
+//! only counts, `open`, `serve` more than once over the same memory, and `serve_line`.
 
 ghost use Rattle.bp_io.specs.Memory.{fair_view};
 ghost use Rattle.bp_limits.specs.Limits.{log_events};
@@ -18,7 +18,7 @@ use std::alloc::{AllocError, Global};
 /// The length of a line that is too long.
 const LONG: usize = MAX_LINE + 1;
 
-/// Runs a program with no script, and writes its status, and how many bytes were told.
+/// Runs a program with no script, and writes its status, and the number of bytes that it printed.
 fn count(
     alloc: Global,
     words: &[&str],
@@ -34,7 +34,8 @@ fn count(
     writeln!(report, ", {length} in the file")
 }
 
-/// Serves one script after another over the same memory. The last line of the first has no newline, and is none of the next.
+/// Serves one script after another over the same memory. The last line of the first has no newline, and is not part
+/// of the next.
 fn serve_scripts<R: Region>(
     alloc: Global,
     volume: &mut Volume<R>,
@@ -52,7 +53,7 @@ fn serve_scripts<R: Region>(
     serve_script(alloc, volume, work, files, "", report)
 }
 
-/// Serves one line after another over the same memory, of which one is as long as a line may be, and one too long.
+/// Serves one line after another over the same memory, of which one has the greatest length, and one is too long.
 fn serve_lines<R: Region>(
     alloc: Global,
     volume: &mut Volume<R>,
@@ -85,7 +86,7 @@ fn serve_over<R: Region>(
     serve_with(alloc, volume, &mut work, files, report)
 }
 
-/// Serves scripts and lines over a volume, by this memory.
+/// Serves scripts and lines over a volume, in this memory.
 fn serve_with<R: Region>(
     alloc: Global,
     volume: &mut Volume<R>,
@@ -124,7 +125,7 @@ fn serve_new_file(
     count(alloc, &["bpfs", "check", "f"], files, report)
 }
 
-/// Formats and checks a file, and between serves lines and scripts over it. Writes what came of each.
+/// Formats and checks a file, and between serves lines and scripts over it. Writes the result of each.
 pub fn serve_parts(alloc: Global, report: &mut String) -> Result<(), AllocError> {
     let mut files = FairFiles::new(alloc, &[])?;
     serve_new_file(alloc, &mut files, report)

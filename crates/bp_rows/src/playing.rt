@@ -9,14 +9,14 @@ use std::alloc::{AllocError, Global};
 /// The room of the sink, in bytes.
 const ROOM: usize = 4_194_304;
 
-/// What a run leaves.
+/// The results of a run.
 #[derive(Drop)]
 pub struct Ran {
     /// The exit status.
     pub status: u8,
-    /// What the sink took.
+    /// The bytes that the sink took.
     pub told: Vec<u8>,
-    /// FILE, where there is one.
+    /// FILE, if there is one.
     pub file: Option<Vec<u8>>,
 }
 
@@ -27,7 +27,7 @@ fn image_of(alloc: Global, files: &MemFiles<'_>) -> Result<Option<Vec<u8>>, Allo
     }
 }
 
-/// The bytes of a format of so many blocks and of a version, `None` where the program refuses the number.
+/// Returns the bytes of a format of this number of blocks and of a version, `None` if the program refuses the number.
 pub fn formatted(
     alloc: Global,
     blocks: &str,
@@ -50,7 +50,7 @@ pub fn formatted(
     format_over(alloc, &words, &mut files)
 }
 
-/// Runs a format over these devices. The bytes are what it leaves, `None` where it refuses.
+/// Runs a format over these devices. Returns the bytes that it makes, `None` if it refuses.
 fn format_over(
     alloc: Global,
     words: &[&str],
@@ -64,7 +64,7 @@ fn format_over(
     }
 }
 
-/// What a run leaves in these devices.
+/// Returns the contents of these devices after a run.
 fn left(
     alloc: Global,
     status: u8,
@@ -76,7 +76,7 @@ fn left(
     Ok(Ran { status, told, file })
 }
 
-/// Runs the words of a row over its devices, of which the file is this one.
+/// Runs the arguments of a row over its devices, of which the file is this one.
 fn play_over(
     alloc: Global,
     row: &Row,
@@ -90,7 +90,7 @@ fn play_over(
     left(alloc, status.code(), &sink, files)
 }
 
-/// Runs these words over a row's devices.
+/// Runs these arguments over a row's devices.
 fn play_words(alloc: Global, row: &Row, words: &[&str]) -> Result<Ran, AllocError> {
     let mut files = MemFiles::new(alloc, row.file.as_deref(), &row.failing.files)?;
     play_over(alloc, row, words, &mut files)

@@ -1,9 +1,9 @@
-//! What is written of a call.
+//! The report of a call.
 
 use bp_session::Broken;
 use std::alloc::AllocError;
 
-/// Writes what was told, two blanks before each line, and whether all was served.
+/// Writes the printed bytes, with two blanks before each line, and whether all was served.
 pub fn tell(
     report: &mut String,
     told: &[u8],

@@ -1,4 +1,4 @@
-//! A row in one version: what FILE is, the script, what is run, and which calls fail.
+//! A row in one version: FILE, the script, the arguments, and the calls that fail.
 
 use crate::image::set_word;
 use crate::line::{Device, InputLine, number};
@@ -7,10 +7,10 @@ use crate::script::expand;
 use bp_limits::{BLOCK_SIZE, MAX_BLOCKS, Version};
 use std::alloc::{AllocError, Global};
 
-/// The most bytes of zeros that FILE is made of: a block more than an image has.
+/// The greatest number of zero bytes of FILE: one block more than an image has.
 const MOST_ZEROS: u64 = (MAX_BLOCKS as u64 + 1) * BLOCK_SIZE;
 
-/// The most bytes of a piece of the source, where a row says nothing.
+/// The greatest number of bytes of a piece of the source, unless a row gives another.
 const PIECE: usize = 65_536;
 
 /// The numbers of the calls that fail, device by device.
@@ -25,7 +25,7 @@ pub struct Failing {
 }
 
 impl Failing {
-    /// None fails.
+    /// Makes a record in which no call fails.
     pub fn none(alloc: Global) -> Failing {
         Failing {
             files: Vec::new(alloc),
@@ -34,7 +34,7 @@ impl Failing {
         }
     }
 
-    /// One more call of a device fails.
+    /// Adds a call of a device that fails.
     pub fn add(&mut self, device: Device, call: u64) -> Result<(), AllocError> {
         match device {
             Device::Files => self.files.push(call)?,
@@ -45,26 +45,26 @@ impl Failing {
     }
 }
 
-/// What is run.
+/// A row: FILE, the script, the arguments, and the calls that fail.
 #[derive(Drop)]
 pub struct Row {
-    /// The version of the formats that are made for it, and of the plain tree beside it.
+    /// The version of the formats that are made for the row, and of the abstract tree compared with it.
     pub version: Version,
-    /// FILE, where there is one.
+    /// FILE, if there is one.
     pub file: Option<Vec<u8>>,
-    /// What is run, where a line says it.
+    /// The arguments that are run, if a line gives them.
     words: Option<String>,
-    /// The script, with its copies spelled out.
+    /// The script, with its copies expanded.
     pub script: String,
-    /// What is asked behind each cut of the power.
+    /// The lines that are asked after each crash.
     pub asks: String,
-    /// The most bytes of a piece of the source.
+    /// The greatest number of bytes of a piece of the source.
     pub piece: usize,
-    /// Which calls of the devices fail.
+    /// The calls of the devices that fail.
     pub failing: Failing,
 }
 
-/// Adds a line, whose copies are spelled out. False is the answer where it has no such form.
+/// Adds a line, with its copies expanded. Returns false if it has no such form.
 fn add_line(text: &str, script: &mut String) -> Result<bool, AllocError> {
     let is_whole = expand(text, script)?;
     script.push_str("\n")?;
@@ -72,7 +72,7 @@ fn add_line(text: &str, script: &mut String) -> Result<bool, AllocError> {
 }
 
 impl Row {
-    /// `run` over a file that is missing, with no script, and no call fails.
+    /// Makes a row with `run` over a missing file and no script, in which no call fails.
     pub fn new(alloc: Global, version: Version) -> Row {
         Row {
             version,
@@ -85,13 +85,13 @@ impl Row {
         }
     }
 
-    /// The next run of the row: over what FILE holds, with an empty script.
+    /// Begins the next run of the row: over the contents of FILE, with an empty script.
     pub fn go_on(&mut self, alloc: Global, file: Option<Vec<u8>>) {
         *self = Row::new(alloc, self.version);
         self.file = file;
     }
 
-    /// What is run.
+    /// Returns the arguments that are run.
     pub fn words(&self) -> &str {
         match &self.words {
             Some(words) => words.as_str(),
@@ -99,7 +99,7 @@ impl Row {
         }
     }
 
-    /// Sets what a line says. False is the answer where it can't be.
+    /// Sets what a line gives. Returns false if that is impossible.
     pub fn set(&mut self, alloc: Global, line: InputLine<'_>) -> Result<bool, AllocError> {
         match line {
             InputLine::Format(blocks) => {

@@ -1,4 +1,4 @@
-//! Rows, one line after another, and what is told of their runs.
+//! Rows, line by line, and the report of their runs.
 
 use crate::line::{InputLine, Versions, read};
 use crate::parts::serve_parts;
@@ -15,14 +15,14 @@ struct Rows {
     second: Side,
 }
 
-/// Does what each line of a text says, and writes what came of it.
+/// Does what each line of a text asks, and writes the results.
 pub fn run_rows(alloc: Global, text: &str, report: &mut String) -> Result<(), AllocError> {
     let mut rows = Rows::new(alloc);
     rows.take_all(text, report)
 }
 
 impl Rows {
-    /// No row yet.
+    /// Makes the state before the first row.
     fn new(alloc: Global) -> Rows {
         Rows {
             alloc,
@@ -39,7 +39,7 @@ impl Rows {
         Ok(())
     }
 
-    /// Does what a line says. One that is no line of a row is told, and the next one is read.
+    /// Does what a line asks. A line that is not part of a row is reported, and the next one is read.
     fn take(&mut self, text: &str, report: &mut String) -> Result<(), AllocError> {
         let Some(line) = read(text) else {
             return refuse(text, report);
@@ -75,7 +75,7 @@ impl Rows {
         }
     }
 
-    /// Does what a line says in both versions. What is the same in both is told once.
+    /// Does what a line asks in both versions. A result that is the same in both is written once.
     fn take_in_both(
         &mut self,
         text: &str,
@@ -90,7 +90,7 @@ impl Rows {
     }
 }
 
-/// Writes what came of a line in the first version and in the second.
+/// Writes the results of a line in version 1 and in version 2.
 fn tell_both(first: &str, second: &str, report: &mut String) -> Result<(), AllocError> {
     report.push_str(first)?;
     if first != second {

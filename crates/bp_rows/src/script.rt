@@ -2,10 +2,10 @@
 
 use std::alloc::AllocError;
 
-/// The most copies that a line asks for at once.
+/// The greatest number of copies that a line asks for at once.
 const MOST_COPIES: u32 = 1_000_000;
 
-/// Adds a text, in which `{N*PIECE}` stands for N copies of PIECE. False is the answer where a `{` begins no such form.
+/// Adds a text, in which `{N*PIECE}` means N copies of PIECE. Returns false if a `{` begins no such form.
 pub fn expand(text: &str, script: &mut String) -> Result<bool, AllocError> {
     let mut parts = text.split('{');
     script.push_str(parts.next().unwrap_or(""))?;

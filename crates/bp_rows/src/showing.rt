@@ -1,16 +1,16 @@
-//! What is written of a run.
+//! The report of a run.
 
 use crate::image::word_at;
 use crate::playing::Ran;
 use std::alloc::AllocError;
 
-/// The most words of FILE that are written.
+/// The greatest number of words of FILE that are written.
 const MOST_WORDS: usize = 16;
 
-/// The longest reply that is written whole.
+/// The length of the longest reply that is written whole.
 const MOST_REPLY: usize = 120;
 
-/// Writes the replies, the status and what FILE holds as compared with before.
+/// Writes the replies, the status, and the contents of FILE compared with those before.
 pub fn show(report: &mut String, before: Option<&[u8]>, ran: &Ran) -> Result<(), AllocError> {
     show_replies(report, &ran.told)?;
     let status = ran.status;
@@ -35,7 +35,7 @@ fn show_replies(report: &mut String, told: &[u8]) -> Result<(), AllocError> {
     Ok(())
 }
 
-/// Writes a line, and of a long one the front.
+/// Writes a line, and of a long one the beginning.
 pub fn put_short(report: &mut String, line: &str) -> Result<(), AllocError> {
     let length = line.len();
     if length <= MOST_REPLY {
@@ -46,7 +46,7 @@ pub fn put_short(report: &mut String, line: &str) -> Result<(), AllocError> {
     }
 }
 
-/// How many words differ.
+/// Counts the words that differ.
 pub fn changed_words(before: &[u8], after: &[u8]) -> usize {
     (0..after.len() / 8)
         .filter(|place| word_at(after, *place) != word_at(before, *place))
@@ -79,7 +79,8 @@ fn show_file(report: &mut String, before: Option<&[u8]>, after: &[u8]) -> Result
     Ok(())
 }
 
-/// Writes a run of a sweep on one line: its status, how many lines were told, and how many words of FILE changed.
+/// Writes a run of a sweep on one line: its status, the number of lines that it printed, and the number of words of
+/// FILE that changed.
 pub fn show_short(report: &mut String, before: Option<&[u8]>, ran: &Ran) -> Result<(), AllocError> {
     let status = ran.status;
     let lines = ran.told.iter().filter(|byte| **byte == b'\n').count();
@@ -90,7 +91,7 @@ pub fn show_short(report: &mut String, before: Option<&[u8]>, ran: &Ran) -> Resu
     }
 }
 
-/// Writes how many words of FILE changed.
+/// Writes the number of words of FILE that changed.
 fn show_change(report: &mut String, before: Option<&[u8]>, after: &[u8]) -> Result<(), AllocError> {
     let old = before.unwrap_or(&[]);
     if before.is_some() && old == after {

@@ -24,13 +24,13 @@ fn copy_of(alloc: Global, file: &Option<Vec<u8>>) -> Result<Option<Vec<u8>>, All
     }
 }
 
-/// Tells a line that is none of a row.
+/// Reports a line that is not part of a row.
 pub fn refuse(text: &str, report: &mut String) -> Result<(), AllocError> {
     writeln!(report, "bad row: {text}")
 }
 
 impl Side {
-    /// No row yet, and no image.
+    /// Makes the state before the first row, with no image.
     pub fn new(alloc: Global, version: Version) -> Side {
         Side {
             alloc,
@@ -44,7 +44,7 @@ impl Side {
         self.row = Row::new(self.alloc, self.row.version);
     }
 
-    /// Does what a line of the row says, and writes what came of it.
+    /// Does what a line of the row asks, and writes the result.
     pub fn take(
         &mut self,
         text: &str,
@@ -92,7 +92,7 @@ impl Side {
         Ok(())
     }
 
-    /// Compares what was told of the script with what the plain program tells.
+    /// Compares the replies to the script with those of the abstract tree.
     fn compare_told(&self, told: &[u8], report: &mut String) -> Result<(), AllocError> {
         let told = str::from_utf8(told).unwrap_or("");
         let script = self.row.script.as_str();
@@ -117,7 +117,7 @@ impl Side {
         Ok(())
     }
 
-    /// Runs the row, and writes on one line what came of it. The row stays.
+    /// Runs the row, and writes the result on one line. The row is kept.
     fn go_short(&self, report: &mut String) -> Result<(), AllocError> {
         let ran = play(self.alloc, &self.row)?;
         show_short(report, self.row.file.as_deref(), &ran)

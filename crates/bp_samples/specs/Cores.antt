@@ -1,8 +1,8 @@
--- The caches of the rows.
+-- The caches of the samples.
 use Rattle.std.specs.Prelude.{◌≡◌}
 use Rattle.pm_cores.specs.Caches.{Caches}
 
--- two cores' caches over two lines of words
+-- The caches of two cores over two cache lines of words.
 pub record AreTwo (caches : Caches) : Type 0 where
   pub cores : caches.cores ≡ 2
   pub words : caches.words ≡ 16

@@ -1,4 +1,4 @@
-//! Needs of a tree without bytes.
+//! The blocks that a tree without bytes needs.
 
 use crate::images::laid;
 use bp_append::need_prep;

@@ -1,10 +1,10 @@
-//! Words that the command takes, and words that it refuses.
+//! Arguments that the command accepts, and arguments that it refuses.
 
 use bp_command::{Program, WordsFault, mistake_line, read_words};
 use bp_limits::Version;
 use std::alloc::Global;
 
-/// Words, and the program that they ask for.
+/// Arguments, and the program that they ask for.
 const TAKEN: [(&[&str], Program<'static>); 9] = [
     (&["bpfs", "run", "f"], Program::Run { name: "f" }),
     (&["bpfs", "check", "f"], Program::Check { name: "f" }),
@@ -66,7 +66,7 @@ fn takes_words(rt: HostRuntime) {
     }
 }
 
-/// The line that tells what is wrong with the words.
+/// Returns the line that reports the mistake in the arguments.
 fn told(alloc: Global, words: &[&str]) -> Option<String> {
     match read_words(alloc, words) {
         Err(WordsFault::Usage(mistake)) => mistake_line(alloc, &mistake).ok(),
@@ -74,7 +74,7 @@ fn told(alloc: Global, words: &[&str]) -> Option<String> {
     }
 }
 
-/// Words that are refused, and the line that tells why.
+/// Arguments that are refused, and the line that reports why.
 const REFUSED: [(&[&str], &str); 12] = [
     (
         &["bpfs"],

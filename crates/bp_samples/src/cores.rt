@@ -1,4 +1,4 @@
-//! What a few steps of two cores leave in their caches and in the memory.
+//! The effect of a few steps of two cores on their caches and on the memory.
 
 ghost use Rattle.std.specs.Prelude.{◌≡◌, ◌<◌, IfOk, length, true};
 ghost use Rattle.bp_samples.specs.Cores.{AreTwo};
@@ -9,27 +9,27 @@ use std::alloc::{AllocError, Global};
 
 const CORES: u32 = 2;
 
-/// The words of the memory: two lines of a cache.
+/// The number of words of the memory: two cache lines.
 const WORDS: u32 = 16;
 
-/// The entries of the caches' log.
+/// The number of entries of the caches' log.
 const ROOM: usize = 8;
 
-/// What is done, and what it gives.
+/// A step, and its expected result.
 #[derive(Clone, Copy)]
 enum Step {
     Store { core: u32, word: u32, value: u64 },
     Barrier { core: u32 },
     Load { core: u32, word: u32, value: u64 },
-    /// A word goes back, unless another one has to go before it.
+    /// A word is written back, unless another one has to be written back before it.
     Back { word: u32, needs: Option<u32> },
 }
 
-/// Steps over a memory of zeros, and what some of its words are behind them.
+/// Steps over a memory of zeros, and some of its words after them.
 type Row = (&'static [Step], &'static [(u32, u64)]);
 
 const ROWS: [Row; 4] = [
-    // An epoch goes back before a later one, and a load by another core settles.
+    // An epoch is written back before a later one, and a load by another core settles.
     (
         &[
             Step::Store {
@@ -55,7 +55,7 @@ const ROWS: [Row; 4] = [
         ],
         &[(0, 1), (8, 2)],
     ),
-    // A store to a line of an older epoch settles that one, and waits itself.
+    // A store to a line of an older epoch settles that epoch, and waits itself.
     (
         &[
             Step::Store {
@@ -72,7 +72,7 @@ const ROWS: [Row; 4] = [
         ],
         &[(0, 1), (1, 0)],
     ),
-    // What settles are one core's words.
+    // The words that settle are those of one core.
     (
         &[
             Step::Store {
@@ -93,7 +93,7 @@ const ROWS: [Row; 4] = [
         ],
         &[(0, 1), (8, 0)],
     ),
-    // A store behind a write back waits.
+    // A store after a write-back waits.
     (
         &[
             Step::Store {
@@ -115,7 +115,7 @@ const ROWS: [Row; 4] = [
     ),
 ];
 
-/// Two cores that have done nothing.
+/// Makes two cores that have done nothing.
 fn two_cores(alloc: Global) -> Result<Cores, AllocError>
     ensures { IfOk result AreTwo }
 {
@@ -131,7 +131,7 @@ fn may_step(cores: &Cores, core: u32, word: u32) -> bool
     core < CORES && word < WORDS && cores.room() > 0
 }
 
-/// Stores a value, where that may be done.
+/// Stores a value, if that is allowed.
 fn store(cores: &mut Cores, core: u32, word: u32, value: u64) -> bool
     requires { AreTwo cores.old }
     ensures { AreTwo cores.new }
@@ -143,7 +143,7 @@ fn store(cores: &mut Cores, core: u32, word: u32, value: u64) -> bool
     true
 }
 
-/// Ends an epoch, where that may be done.
+/// Ends an epoch, if that is allowed.
 fn end_epoch(cores: &mut Cores, core: u32) -> bool
     requires { AreTwo cores.old }
     ensures { AreTwo cores.new }
@@ -155,7 +155,7 @@ fn end_epoch(cores: &mut Cores, core: u32) -> bool
     true
 }
 
-/// What a core loads, where that may be done.
+/// Returns the value that a core loads, if that is allowed.
 fn load<R: Region>(region: &R, cores: &mut Cores, core: u32, word: u32) -> Option<u64>
     requires { AreTwo cores.old }
     ensures { AreTwo cores.new }
@@ -166,7 +166,7 @@ fn load<R: Region>(region: &R, cores: &mut Cores, core: u32, word: u32) -> Optio
     Some(cores.load(region, core, word))
 }
 
-/// Writes a dirty word back, and tells what has to go before it.
+/// Writes a dirty word back, or returns the word that has to be written back before it.
 fn write_back(cores: &mut Cores, word: u32) -> Option<u32>
     requires { AreTwo cores.old }
     ensures { AreTwo cores.new }
@@ -180,7 +180,7 @@ fn write_back(cores: &mut Cores, word: u32) -> Option<u32>
     }
 }
 
-/// Does a step, and tells whether it gave what it should.
+/// Does a step, and returns whether it had its expected result.
 fn gives<R: Region>(step: Step, region: &R, cores: &mut Cores) -> bool
     requires { AreTwo cores.old }
     ensures { AreTwo cores.new }
@@ -193,7 +193,7 @@ fn gives<R: Region>(step: Step, region: &R, cores: &mut Cores) -> bool
     }
 }
 
-/// A word of the memory.
+/// Returns a word of the memory.
 fn word_of<R: Region>(region: &R, cores: &Cores, word: u32) -> Option<u64>
     requires { AreTwo cores.now }
 {

@@ -1,4 +1,5 @@
-//! Sets of free numbers and counts of names: each call once, the numbers at the ends of words, and where a copy goes.
+//! Sets of free numbers and counts of links: each call once, the numbers at the ends of words, and the place of a
+//! copy.
 
 ghost use Rattle.std.specs.Prelude.{◌≡◌, ◌+◌, ◌<◌, ◌≤◌, length};
 ghost use Rattle.bp_limits.specs.Limits.{max_blocks};
@@ -53,7 +54,7 @@ fn names_are_counted(rt: HostRuntime) -> Result<(), Fail> {
     Ok(())
 }
 
-/// A search of 65,536 numbers has seventeen steps at most.
+/// Takes a block: a search of 65,536 numbers has at most seventeen steps.
 fn take_in_seventeen<L: Ledger>(blocks: &mut Blocks, steps: &mut Steps<L>) -> Option<u32>
     requires { length blocks.old ≡ max_blocks }
     ensures { steps.new ≤ steps.old + 17 }
@@ -91,7 +92,7 @@ fn blocks_are_found_in_seventeen_steps(rt: HostRuntime) -> Result<(), Fail> {
     Ok(())
 }
 
-/// Takes a block in place of another one, where one is free.
+/// Takes a block in place of another one, if one is free.
 fn take_in_place_of(blocks: &mut Blocks, block: u64) -> Option<u32> {
     if blocks.count() == 0 {
         return None;
@@ -99,7 +100,7 @@ fn take_in_place_of(blocks: &mut Blocks, block: u64) -> Option<u32> {
     Some(blocks.take_in_place_of(block))
 }
 
-/// Gives a block back that is not free.
+/// Frees a block that is not free.
 fn give_back(blocks: &mut Blocks, block: u32) {
     if block < blocks.room() && !blocks.is_free(block) {
         blocks.give(block);
@@ -113,12 +114,12 @@ fn a_block_is_taken_where_an_older_version_stands(rt: HostRuntime) -> Result<(),
     blocks.fill(10, 200);
     assert_eq!(rt; take_in_place_of(&mut blocks, 5), Some(10));
     give_back(&mut blocks, 5);
-    // The copy of the copy goes back, and a block of which nothing is known does not go there.
+    // The copy of the copy is freed, and a block of which nothing is known does not take its place.
     assert_eq!(rt; take_in_place_of(&mut blocks, 7), Some(11));
     assert_eq!(rt; take_in_place_of(&mut blocks, 10), Some(5));
     give_back(&mut blocks, 10);
     assert_eq!(rt; take_in_place_of(&mut blocks, 5), Some(10));
-    // Where the older version was written over, there is another one.
+    // If the older version was overwritten, another one is taken.
     assert_eq!(rt; take_in_place_of(&mut blocks, 10), Some(12));
     Ok(())
 }
@@ -128,7 +129,7 @@ fn blocks_without_a_hint_begin_again(rt: HostRuntime) -> Result<(), Fail> {
     let mut blocks = Blocks::new(rt.alloc(), 200)?;
     assert_eq!(rt; blocks.room(), 200);
     blocks.fill(2, 200);
-    // Two blocks are in use, so it begins again behind 2 * 2 + 64.
+    // Two blocks are in use, so the search begins again after 2 * 2 + 64.
     for wanted in 2..69 {
         assert_eq!(rt; take_in_place_of(&mut blocks, u64::MAX), Some(wanted));
         give_back(&mut blocks, wanted);

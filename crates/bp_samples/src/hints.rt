@@ -1,4 +1,4 @@
-//! Names that are remembered, and walks that are given hints.
+//! Remembered names, and walks with hints.
 
 ghost use Rattle.std.specs.Prelude.{◌*◌, ◌≡◌, vec_len};
 ghost use Rattle.bp_layout.specs.Hints.{AreRight};
@@ -18,14 +18,14 @@ use pm_region::ListRegion;
 use std::alloc::Global;
 use std::process::Abort;
 
-/// What `/d/f` finds in the image [`DEEP`].
+/// The entry that `/d/f` finds in the image [`DEEP`].
 const FILE: FoundEntry = FoundEntry {
     inumber: 3,
     dir: 2,
     slot: 0,
 };
 
-/// Counts what it is asked, and what it is to learn.
+/// Counts the hints that are asked for, and the names to remember.
 #[derive(Drop)]
 struct Counting {
     names: Names,
@@ -49,7 +49,7 @@ impl Hints for Counting {
     }
 }
 
-/// The words of a file system of one directory with one file.
+/// Makes the words of a file system of one directory with one file.
 fn deep_words(rt: &impl Abort, alloc: Global) -> Vec<u64>
     ensures { vec_len result ≡ min_blocks * block_words }
 {
@@ -58,7 +58,7 @@ fn deep_words(rt: &impl Abort, alloc: Global) -> Vec<u64>
     words
 }
 
-/// A file system of one directory with one file.
+/// Makes a file system of one directory with one file.
 fn deep(rt: &impl Abort, alloc: Global) -> ListRegion
     ensures { IsWellFormed (current_words result) }
 {
@@ -73,7 +73,7 @@ fn deep(rt: &impl Abort, alloc: Global) -> ListRegion
     region
 }
 
-/// Hints that know nothing yet.
+/// Makes hints that know nothing yet.
 fn nothing_known(rt: &impl Abort, alloc: Global) -> Counting
     ensures { (image : Image) → AreRight image (known_of result.names) }
 {
@@ -98,7 +98,7 @@ fn a_second_walk_asks_two_hints_and_learns_nothing(rt: HostRuntime) {
     assert_eq!(rt; (hints.asked, hints.learned), (5, 2));
 }
 
-/// a name that is missing, and a name below a file, of which nobody is asked
+/// A missing name, and a name below a file, for which no hint is asked.
 #[test]
 fn what_is_not_found_is_not_learned(rt: HostRuntime) {
     let region = deep(&rt, rt.alloc());
@@ -125,7 +125,7 @@ fn who_knows_nothing_is_led_by_the_directories(rt: HostRuntime) {
     assert_eq!(rt; walk_with(&region, &path, &mut NoHints), Ok(FILE));
 }
 
-/// What is remembered of names, each of a directory: its slot.
+/// Checks the remembered slots of names, each in a directory.
 fn remembers(rt: &impl Abort, names: &mut Names, wanted: &[(u32, &[u8], Option<u64>)]) {
     for (dir, name, slot) in wanted {
         assert_eq!(rt; names.hint(*dir, *name), *slot, "{dir}");

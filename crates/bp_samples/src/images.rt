@@ -1,4 +1,4 @@
-//! The images of the samples, by the words that are not 0.
+//! The images of the samples, as the words that are not 0.
 
 ghost use Rattle.std.specs.Prelude.{◌*◌, ◌≡◌, IfOk, vec_len};
 ghost use Rattle.bp_limits.specs.Limits.{block_words, min_blocks};
@@ -10,19 +10,19 @@ use bp_limits::{
 };
 use std::alloc::{AllocError, Global};
 
-/// The place of each word in an image, and what stands there.
+/// The index of each word in an image, and its value.
 pub type Stores<'a> = &'a [(usize, u64)];
 
-/// The words of an image of 8 blocks.
+/// The number of words of an image of 8 blocks.
 const WORDS: usize = MIN_BLOCKS as usize * BLOCK_WORDS as usize;
 
-/// The mark of the first version, `BPFSRS01`.
+/// The magic number of version 1, `BPFSRS01`.
 const MARK: u64 = 0x3130_5352_5346_5042;
 
-/// The mark of the second version, `BPFSRS02`.
+/// The magic number of version 2, `BPFSRS02`.
 const SECOND_MARK: u64 = 0x3230_5352_5346_5042;
 
-/// A file system of 8 blocks in the first version: the inodes in block 1, and a root directory without an entry.
+/// A file system of 8 blocks in version 1: the inodes in block 1, and a root directory without an entry.
 pub const EMPTY: [(usize, u64); 5] = [
     (SUPER_MAGIC as usize, MARK),
     (SUPER_BLOCKS as usize, MIN_BLOCKS as u64),
@@ -31,13 +31,13 @@ pub const EMPTY: [(usize, u64); 5] = [
     (520, 2),
 ];
 
-/// On top of any of these: the mark of the second version.
+/// On top of any of these: the magic number of version 2.
 pub const SECOND: (usize, u64) = (SUPER_MAGIC as usize, SECOND_MARK);
 
 /// On top of [`EMPTY`]: in block 2 a root directory of two entries, which are empty.
 pub const TWO_ENTRIES: [(usize, u64); 2] = [(521, 0x2000), (522, 512)];
 
-/// On top of [`TWO_ENTRIES`]: they name the empty files `a` and `b`, inodes 2 and 3.
+/// On top of [`TWO_ENTRIES`]: the entries name the empty files `a` and `b`, inodes 2 and 3.
 pub const TWO_NAMES: [(usize, u64); 8] = [
     (528, 1),
     (536, 1),
@@ -65,7 +65,7 @@ pub const DEEP: [(usize, u64); 12] = [
     (1538, 0x66),
 ];
 
-/// A tree of two leaves, blocks 4 and 5, with a null between them. Its root word stands at word 2 and its size at word 3.
+/// A tree of two leaves, blocks 4 and 5, with a null between them. Its root word is word 2 and its size is word 3.
 pub const TWO_LEAVES: [(usize, u64); 6] = [
     (2, 0x3001),
     (3, 8200),
@@ -75,7 +75,7 @@ pub const TWO_LEAVES: [(usize, u64); 6] = [
     (2560, 0x2200),
 ];
 
-/// The length of a name in bytes, and the word of its first eight bytes with what is dead of them.
+/// The length of a name in bytes, and the word of its first eight bytes, with its unused bytes.
 pub type Start = (u64, u64);
 
 /// Block 3 as a directory of two entries, which name the inodes 2 and 3.
@@ -90,7 +90,7 @@ pub fn leaf(first: Start, second: Start) -> [(usize, u64); 6] {
     ]
 }
 
-/// Stores on top of these words. One behind their end does nothing.
+/// Writes stores on top of these words. A store past their end does nothing.
 pub fn put(words: &mut Vec<u64>, stores: Stores<'_>)
     ensures words { words.new.items ≡ after_stores words.old.items stores.now }
     ensures whole { vec_len words.new ≡ vec_len words.old }
@@ -102,7 +102,7 @@ pub fn put(words: &mut Vec<u64>, stores: Stores<'_>)
     }
 }
 
-/// The words of an image of 8 blocks with these stores over words of 0.
+/// Makes the words of an image of 8 blocks with these stores over words of 0.
 pub fn laid(alloc: Global, stores: Stores<'_>) -> Result<Vec<u64>, AllocError>
     ensures words { IfOk result (λ words. words.items ≡ laid_image stores.now) }
     ensures whole { IfOk result (λ words. vec_len words ≡ min_blocks * block_words) }

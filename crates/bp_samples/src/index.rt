@@ -5,7 +5,7 @@ use bp_dirs::{Found, Spot};
 use bp_index::Index;
 use std::test::Fail;
 
-/// "ab" and "c" are found in their slots; "a" is not, and no slot is empty
+/// "ab" and "c" are found in their slots; "a" is not, and no slot is empty.
 #[test]
 fn names_are_found_by_an_index(rt: HostRuntime) -> Result<(), Fail> {
     let region = sample(rt.alloc(), (2, 0x6261), (1, 0x7863))?;
@@ -22,7 +22,7 @@ fn names_are_found_by_an_index(rt: HostRuntime) -> Result<(), Fail> {
     Ok(())
 }
 
-/// a name comes to a slot once, and again when it has left it; there is no room for slot 5,000
+/// A name gets a slot once, and again after it left the slot; there is no room for slot 5,000.
 #[test]
 fn names_come_and_leave(rt: HostRuntime) -> Result<(), Fail> {
     let region = sample(rt.alloc(), (2, 0x6261), (1, 0x7863))?;

@@ -1,4 +1,4 @@
-//! The outside: the edge to std, and each call once on its happy path.
+//! The devices: their boundary to std, and each call once on its success path.
 
 ghost use Rattle.std.specs.Prelude.{◌<◌, ◌≡◌, List, ℕ, true};
 
@@ -12,7 +12,7 @@ use std::io::{ErrorKind, Read, Write};
 use std::process::Abort;
 use std::{fs, io, rt};
 
-/// The bytes at these places of a file.
+/// Checks the bytes at these offsets of a file.
 fn has_bytes(rt: &impl Abort, bytes: &[u8], wanted: &[(usize, u8)]) {
     for (at, want) in wanted {
         assert_eq!(rt; bytes.get(*at), Some(want), "at {at}");
@@ -35,7 +35,7 @@ fn disk_files_keep_blocks(rt: HostRuntime) {
     fs::remove_file(&rt, "disk.img").expect(&rt, "it is removed");
 }
 
-/// Writes a block of one byte alone.
+/// Writes a block in which all bytes are equal.
 fn fill_block<F: Files>(files: &mut F, i: u32, byte: u8) -> Result<(), Failed>
     requires inside { i < (F.view files.old).blocks }
     requires may_write { (F.view files.old).may_write ≡ true }
@@ -46,7 +46,7 @@ fn fill_block<F: Files>(files: &mut F, i: u32, byte: u8) -> Result<(), Failed>
     files.write_block(i, &[byte; 4096])
 }
 
-/// Whether a block is of one byte alone.
+/// Whether all bytes of a block are this one.
 fn is_filled<F: Files>(files: &mut F, i: u32, byte: u8) -> Result<bool, Failed>
     requires inside { i < (F.view files.old).blocks }
     ensures blocks { (F.view files.new).blocks ≡ (F.view files.old).blocks }
@@ -58,7 +58,7 @@ fn is_filled<F: Files>(files: &mut F, i: u32, byte: u8) -> Result<bool, Failed>
     Ok(read == [byte; 4096])
 }
 
-/// Makes a file of 8 blocks, and writes one of them. The answer is whether it was not there.
+/// Makes a file of 8 blocks, and writes one of them. Returns whether the file did not exist.
 fn make_short<F: Files>(files: &mut F) -> Result<bool, Failed> {
     if files.attach("short.img", Access::Make)? != Some(0) {
         return Ok(false);
@@ -69,7 +69,7 @@ fn make_short<F: Files>(files: &mut F) -> Result<bool, Failed> {
     Ok(true)
 }
 
-/// Whether the file of 8 blocks has the block that was written, and zeros in the one behind it.
+/// Whether the file of 8 blocks has the written block, and zeros in the next one.
 fn reads_short<F: Files>(files: &mut F) -> Result<bool, Failed> {
     if files.attach("short.img", Access::Write)? != Some(32_768) {
         return Ok(false);
@@ -77,7 +77,7 @@ fn reads_short<F: Files>(files: &mut F) -> Result<bool, Failed> {
     Ok(is_filled(files, 3, 77)? && is_filled(files, 4, 0)?)
 }
 
-/// Cuts the file of 8 blocks. The answer is whether it had them.
+/// Shortens the file of 8 blocks. Returns whether it had them.
 fn cut_short<F: Files>(files: &mut F) -> Result<bool, Failed> {
     if files.attach("short.img", Access::Write)? != Some(32_768) {
         return Ok(false);
@@ -87,7 +87,7 @@ fn cut_short<F: Files>(files: &mut F) -> Result<bool, Failed> {
     Ok(true)
 }
 
-/// Whether a file is there for nobody else.
+/// Whether nobody else can attach a file.
 fn is_locked<F: Files>(files: &mut F, name: &str) -> bool {
     for access in [Access::Read, Access::Write, Access::Make] {
         if files.attach(name, access) != Err(Failed) {
@@ -134,7 +134,7 @@ fn disk_files_change_at_the_flush(rt: HostRuntime) {
         fs::read(&rt, "whole.img").expect(&rt, "it is there").len(),
         8192
     );
-    // It is flushed before it is left.
+    // It is flushed before it is detached.
     assert_eq!(rt; files.attach("whole.img", Access::Read), Ok(Some(12_288)));
     let bytes = fs::read(&rt, "whole.img").expect(&rt, "it is there");
     has_bytes(&rt, &bytes, &[(4095, 5), (4096, 6), (8191, 6), (8192, 0)]);
@@ -162,7 +162,7 @@ fn disk_files_are_replaced(rt: HostRuntime) {
     fs::remove_file(&rt, "front.img").expect(&rt, "it is removed");
 }
 
-/// What the block `i` of the long file holds in each of its bytes.
+/// Returns the byte that fills block `i` of the long file.
 fn long_byte(i: u8) -> u8 {
     match i {
         0 => 77,
@@ -173,7 +173,7 @@ fn long_byte(i: u8) -> u8 {
     }
 }
 
-/// Writes the first blocks of the long file one behind another, as they are at first.
+/// Writes the first blocks of the long file in order, with their first contents.
 fn write_row<F: Files>(files: &mut F) -> Result<(), Failed>
     requires blocks { (F.view files.old).blocks ≡ 201 }
     requires may_write { (F.view files.old).may_write ≡ true }
@@ -198,7 +198,7 @@ fn is_long(bytes: &[u8]) -> bool {
     true
 }
 
-/// Whether the blocks of a file are those of the long file: one that is read alone, and a run of many.
+/// Whether the blocks of a file are those of the long file: one that is read by itself, and a run of many.
 fn reads_long<F: Files>(alloc: Global, files: &mut F) -> Result<bool, AllocError>
     requires { (F.view files.old).blocks ≡ 201 }
 {
@@ -210,8 +210,8 @@ fn reads_long<F: Files>(alloc: Global, files: &mut F) -> Result<bool, AllocError
     Ok(is_long(&read))
 }
 
-/// Writes blocks of the long file over those of the row: one far behind it, one that is then read, and two more. The answer
-/// is whether that one was read as it was written.
+/// Writes blocks of the long file over those of the run: one far past it, one that is then read, and two more.
+/// Returns whether the block that was read had the written bytes.
 fn write_over<F: Files>(files: &mut F) -> Result<bool, Failed>
     requires blocks { (F.view files.old).blocks ≡ 201 }
     requires may_write { (F.view files.old).may_write ≡ true }
@@ -226,7 +226,7 @@ fn write_over<F: Files>(files: &mut F) -> Result<bool, Failed>
     Ok(is_read)
 }
 
-/// Makes the long file. The answer is whether it was not there, and whether a block was read as it was written.
+/// Makes the long file. Returns whether it did not exist, and whether a block was read as it was written.
 fn make_long<F: Files>(files: &mut F) -> Result<bool, Failed> {
     if files.attach("long.img", Access::Make)? != Some(0) {
         return Ok(false);
@@ -238,7 +238,7 @@ fn make_long<F: Files>(files: &mut F) -> Result<bool, Failed> {
     Ok(is_read)
 }
 
-/// Whether the long file is there.
+/// Whether the long file exists.
 fn keeps_long<F: Files>(alloc: Global, files: &mut F) -> Result<bool, AllocError> {
     if files.attach("long.img", Access::Read) != Ok(Some(823_296)) {
         return Ok(false);
@@ -295,7 +295,7 @@ fn disk_files_keep_off_a_file_cut_short(rt: HostRuntime) {
     fs::remove_file(&rt, "cut.img").expect(&rt, "it is removed");
 }
 
-/// Flushes a file of two blocks, and once more when another program made it longer. The answer is whether that is a fault.
+/// Flushes a file of two blocks, and again when another program made it longer. Returns whether that is a fault.
 fn flush_made_longer<R: rt::Files<File = File>, F: Files>(
     runtime: &R,
     files: &mut F,
@@ -316,7 +316,7 @@ fn disk_files_flush_no_file_made_longer(rt: HostRuntime) {
     fs::remove_file(&rt, "longer.img").expect(&rt, "it is removed");
 }
 
-/// A signal interrupts the first calls; then it gives and takes one byte at a time.
+/// A stream whose first calls a signal interrupts; then it reads and writes one byte at a time.
 #[derive(Drop)]
 struct Interrupted {
     signals: u32,
@@ -358,7 +358,7 @@ impl Write for Interrupted {
     }
 }
 
-/// It takes no byte.
+/// A stream that accepts no byte.
 #[derive(Drop)]
 struct Stuck;
 
@@ -464,7 +464,7 @@ fn memory_sinks_take_pieces(rt: HostRuntime) {
     assert_eq!(rt; null.count(), 6);
 }
 
-/// Makes two blocks of the bytes of a file. The second one.
+/// Makes two blocks from the bytes of a file, and returns the second.
 fn grown(rt: &impl Abort, files: &mut FairFiles) -> [u8; 4096] {
     assert_eq!(rt; files.attach("disk.img", Access::Write), Ok(Some(5000)));
     assert_eq!(rt; files.set_blocks(2), Ok(()));
@@ -474,7 +474,7 @@ fn grown(rt: &impl Abort, files: &mut FairFiles) -> [u8; 4096] {
     read
 }
 
-/// Writes over the first block of two.
+/// Overwrites the first of two blocks.
 fn write_first(rt: &impl Abort, files: &mut FairFiles, block: &[u8; 4096]) {
     assert_eq!(rt; files.attach("disk.img", Access::Write), Ok(Some(8192)));
     assert_eq!(rt; files.write_block(0, block), Ok(()));

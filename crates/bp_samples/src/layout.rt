@@ -1,4 +1,4 @@
-//! Words of the format, and what they say. The values are from outside.
+//! Words of the format, and their meaning. The values were computed independently.
 
 use bp_layout::{
     BadPointer, Entry, Inode, Kind, Listing, Name, RootWord, Super, name_word, pointer,

@@ -1,9 +1,9 @@
-//! Worked samples of the layers below the calls: what each says of a few small images, of logs, devices and words, when it
-//! is called from Rust. `bp_examples` has those of the calls, a volume and the programs.
+//! Worked samples of the layers below the calls: their results for a few small images, logs, devices and words, when
+//! called from Rattle. `bp_examples` has the samples of the calls, a volume and the programs.
 //!
-//! The images stand in one table, told by their words. A row of `bp_rows` shows what a script, the words of a command or a
-//! failing device can show; here is the rest. No crate has tests of its own, since one with tests is proved once more with
-//! them.
+//! The images are in one table, as their words. A row of `bp_rows` shows whatever a script, the arguments of a
+//! command or a failing device can show; the rest is here. No crate has tests of its own, since a crate with tests is
+//! proved again with them.
 #![tactic(auto)]
 
 #[cfg(test)]

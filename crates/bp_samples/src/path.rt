@@ -58,7 +58,7 @@ fn refuses_what_is_no_path(rt: HostRuntime) {
     assert!(rt; parse(b"/...").is_ok());
 }
 
-/// the root directory, which has no entry, and inode 1 in the inode file
+/// The root directory, which has no entry, and inode 1 in the inode file.
 #[test]
 fn reads_an_empty_directory(rt: HostRuntime) -> Result<(), Fail> {
     let region = fresh(rt.alloc())?;

@@ -1,4 +1,4 @@
-//! The plain tree: each call once, and the numbers and words of refusals.
+//! The abstract tree: each call once, and the numbers and words of refusals.
 
 ghost use Rattle.bp_plain.specs.Seen.{CanAsk};
 
@@ -40,7 +40,7 @@ fn is_done(reply: &Reply) -> bool {
     matches!(reply.answer(), Answer::Done)
 }
 
-/// Whether an answer is of these bytes.
+/// Whether an answer has these bytes.
 fn tells(reply: &Reply, bytes: &[u8]) -> bool {
     match reply.answer() {
         Answer::Bytes(told) => told == bytes,
@@ -78,7 +78,7 @@ fn answers_others(rt: &impl Abort, reply: &mut Reply, listing: Listing) {
     assert!(rt; is_done(reply));
 }
 
-/// One reply is given every answer, in place of the one before.
+/// One reply gets every answer, in place of the one before.
 #[test]
 fn answers(rt: HostRuntime) {
     let mut reply = Reply::new(rt.alloc()).expect(&rt, "there is memory");
@@ -92,7 +92,7 @@ fn answers(rt: HostRuntime) {
     );
 }
 
-/// A plain tree, and the answer of its last call.
+/// An abstract tree, and the answer of its last call.
 #[derive(Drop)]
 struct Asked {
     alloc: Global,
@@ -114,7 +114,7 @@ impl Asked {
         Ok(self.reply.answer())
     }
 
-    /// Whether a call is done, with nothing to tell.
+    /// Whether a call succeeds without a result.
     fn does(&mut self, call: &Call<'_>) -> Result<bool, AllocError>
         requires { CanAsk call.now }
     {
@@ -132,7 +132,7 @@ impl Asked {
         Ok(tells(&self.reply, bytes))
     }
 
-    /// Whether a file has so many names.
+    /// Whether a file has this number of links.
     fn has_names(&mut self, path: &[u8], names: u32) -> Result<bool, AllocError> {
         match self.ask(&Call::Links(path))? {
             Answer::LinksOf(count) => Ok(count == names),

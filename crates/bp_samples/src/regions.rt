@@ -1,4 +1,4 @@
-//! A log of two epochs, what a crash leaves of it, and both regions.
+//! A log of two epochs, the words that a crash leaves of it, and both regions.
 
 use bp_second::Shown;
 use pm_epochs::{BadChoice, Choice, Event, EventKind, Kept, check_choice, kept_calls, replay_word};
@@ -17,8 +17,8 @@ const TWO_EPOCHS: [Event; 5] = [
     Event::Store { word: 2, value: 4 },
 ];
 
-/// A choice of what a crash keeps of the two epochs, by its moment, its epoch and its mask, and what is left then of words
-/// of 0: `None` where the choice is not right.
+/// A choice of the stores that survive a crash in the two epochs, by its event count, its epoch and its mask, and the
+/// words that it leaves over words of 0: `None` if it is no valid crash point of the log.
 type Crash = (usize, usize, &'static [bool], Option<[u64; 3]>);
 
 const CRASHES: [Crash; 7] = [
@@ -105,7 +105,7 @@ fn follow<R: Region>(region: &mut R, events: &[Event]) {
     }
 }
 
-/// Whether an event of a region's log is this one: by itself, by what it is, and by the word that it stores to.
+/// Whether an event of a region's log is this one: by itself, by its kind, and by the word that it stores to.
 fn has_event<R: Region>(region: &R, i: usize, event: Event) -> bool {
     if i >= region.event_count() || region.event(i) != event || region.kind(i) != event.kind() {
         return false;
@@ -119,7 +119,7 @@ fn has_event<R: Region>(region: &R, i: usize, event: Event) -> bool {
     }
 }
 
-/// Whether a region's log has these events, and no more.
+/// Whether a region's log has exactly these events.
 fn has_log<R: Region>(region: &R, log: &[Event]) -> bool {
     for (i, event) in log.iter().enumerate() {
         if !has_event(region, i, *event) {
@@ -129,7 +129,7 @@ fn has_log<R: Region>(region: &R, log: &[Event]) -> bool {
     log.len() == region.event_count()
 }
 
-/// Whether these are a region's words, as the processor sees them and at the last drain.
+/// Whether these are the words of a region, as the processor sees them and at the last drain.
 fn stands_at<R: Region>(region: &R, now: &[u64], base: &[u64]) -> bool {
     let words = region.words();
     for word in 0..words {
@@ -143,7 +143,7 @@ fn stands_at<R: Region>(region: &R, now: &[u64], base: &[u64]) -> bool {
     now.len() == words as usize
 }
 
-/// What is done to a region: at first nothing.
+/// A step that is done to a region: at first nothing.
 #[derive(Clone, Copy)]
 enum Step {
     Look,
@@ -151,12 +151,13 @@ enum Step {
     Drain,
 }
 
-/// A step, what the log of two places has then, and the words, as the processor sees them and at the last drain.
+/// A step, the log with room for two events after it, and the words, as the processor sees them and at the last
+/// drain.
 type Stepped = (Step, &'static [Event], [u64; 4], [u64; 4]);
 
 const FIVE: Event = Event::Store { word: 1, value: 5 };
 
-/// A store and a barrier fill the log, and a drain brings the store to the words at the last drain.
+/// A store and a barrier fill the log, and a drain writes the store to the words at the last drain.
 const STEPS: [Stepped; 4] = [
     (Step::Look, &[], [0; 4], [0; 4]),
     (Step::Log(FIVE), &[FIVE], [0, 5, 0, 0], [0; 4]),
@@ -186,7 +187,7 @@ fn takes_steps<R: Region, A: Abort>(rt: &A, region: &mut R) {
     }
 }
 
-/// Of three words of 0, with room for the two epochs.
+/// Checks the crashes of three words of 0, with room for the two epochs.
 fn crash_leaves<R: Region, A: Abort>(
     rt: &A,
     region: &mut R,
@@ -213,7 +214,7 @@ fn crash_leaves<R: Region, A: Abort>(
     }
 }
 
-/// A store that a crash loses, before one that it keeps: then the call of both is not kept.
+/// Checks a crash that loses a store before one that it keeps: the call of both does not survive.
 fn crash_keeps_what_was_written_back<R: Region, A: Abort>(rt: &A, region: &mut R, choice: &Choice) {
     let events = [
         Event::Store { word: 0, value: 1 },
@@ -257,7 +258,7 @@ fn both_regions_drain(rt: HostRuntime) {
     takes_steps(&rt, &mut list(&rt, rt.alloc(), 4, 2));
 }
 
-/// The words of a region, and those that it shows with its second tree in the first one's place.
+/// The words of a region, and those that it shows with its second tree in place of the first.
 const TREES: [u64; 10] = [0, 1, 2, 3, 4, 5, 6, 7, 8, 9];
 
 const SECOND: [u64; 10] = [0, 1, 4, 5, 4, 5, 6, 7, 8, 9];
@@ -280,7 +281,7 @@ fn a_second_tree_is_shown_first(rt: HostRuntime) {
     takes_event(&rt, &mut Shown::First(&mut region));
 }
 
-/// A store goes through to the region that is shown as it is.
+/// Checks that a store goes through to the region that is shown unchanged.
 fn takes_event<R: Region, A: Abort>(rt: &A, region: &mut R) {
     follow_one(region, FIVE);
     assert!(rt; has_log(region, &[FIVE]));
@@ -292,7 +293,7 @@ fn a_log_too_long_is_refused(rt: HostRuntime) {
     assert!(rt; RawRegion::new(rt.alloc(), 1, usize::MAX).is_err());
 }
 
-/// A store of the two epochs that is to go back, by its place in the log, the answer, and the memory then.
+/// A store of the two epochs to be written back, by its index in the log, the result, and the memory afterwards.
 type WriteBack = (usize, Result<(), NotYet>, [u64; 3]);
 
 const WRITE_BACKS: [WriteBack; 7] = [
@@ -313,7 +314,7 @@ fn execute_all<R: Region>(machine: &mut Machine<'_, R>) {
     }
 }
 
-/// Writes an event of the log back: `None` where it was not executed, is back, or is no store.
+/// Writes an event of the log back: `None` if it was not executed, is written back, or is no store.
 fn write_back<R: Region>(machine: &mut Machine<'_, R>, which: usize) -> Option<Result<(), NotYet>> {
     if which >= machine.moment() || machine.is_back(which) {
         return None;
@@ -337,7 +338,7 @@ fn has_words<R: Region>(machine: &Machine<'_, R>, words: &[u64; 3]) -> bool {
     true
 }
 
-/// All stores of an epoch go back before any of the next one, and those to one word in their order.
+/// All stores of an epoch are written back before any of the next one, and those to one word in their order.
 #[test]
 fn stores_go_back_in_order(rt: HostRuntime) {
     let mut region = list(&rt, rt.alloc(), 3, 8);

@@ -22,7 +22,7 @@ const TOTALS: Totals = Totals {
     live: 2,
 };
 
-/// Stores over the base image, the check that then fails, and the word at which it does.
+/// Stores over the base image, the check that fails then, and the word at which it does.
 type Damage = (&'static [(usize, u64)], Check, u32);
 
 const DAMAGES: [Damage; 27] = [
@@ -79,14 +79,14 @@ const SNAPSHOT: [(usize, u64); 8] = [
     (1560, 1),
 ];
 
-/// What a scan answers; how many blocks and how many inodes are free then, and how many blocks the second tree has; and how
-/// many names the inodes 1 to 3 have.
+/// The result of a scan; the numbers of free blocks and of free inodes then, and of the blocks of the second tree;
+/// and the numbers of links of the inodes 1 to 3.
 type Found = (Result<Totals, MountFault>, (u32, u32, u32), [u32; 3]);
 
-/// The base image.
+/// The result for the base image.
 const BASE: Found = (Ok(TOTALS), (5, 60, 0), [0, 1, 1]);
 
-/// What a fault leaves.
+/// Returns the result for a fault.
 fn refused(fault: MountFault) -> Found {
     (Err(fault), (0, 0, 0), [0, 0, 0])
 }
@@ -100,7 +100,7 @@ fn base(rt: &impl Abort, alloc: Global) -> Vec<u64>
     words
 }
 
-/// The set of all blocks.
+/// Makes the set of all blocks.
 fn all_blocks(rt: &impl Abort, alloc: Global) -> Blocks
     ensures { length result ≡ BLOCKS }
 {
@@ -109,7 +109,7 @@ fn all_blocks(rt: &impl Abort, alloc: Global) -> Blocks
     blocks
 }
 
-/// The set of all inodes.
+/// Makes the set of all inodes.
 fn all_inodes(rt: &impl Abort, alloc: Global) -> Inodes
     ensures { length result ≡ INODES }
 {
@@ -118,7 +118,7 @@ fn all_inodes(rt: &impl Abort, alloc: Global) -> Inodes
     inodes
 }
 
-/// Scans an image, with sets and counts that have something before.
+/// Scans an image, with sets and counts that have contents before.
 fn scanned(rt: &impl Abort, alloc: Global, words: Vec<u64>) -> Found
     requires { vec_len words ≡ min_blocks * block_words }
 {
@@ -160,7 +160,7 @@ fn an_image_is_scanned(rt: HostRuntime) {
     );
 }
 
-/// Both entries name inode 2, so that inode 3 is free.
+/// Both entries name inode 2, so inode 3 is free.
 #[test]
 fn a_file_has_two_names(rt: HostRuntime) {
     let mut words = base(&rt, rt.alloc());
@@ -172,7 +172,7 @@ fn a_file_has_two_names(rt: HostRuntime) {
     );
 }
 
-/// Block 2 is in both trees and block 3 in the second one alone; without the mark of version 2 there is one tree.
+/// Block 2 is in both trees, and block 3 only in the second; without the magic number of version 2 there is one tree.
 #[test]
 fn both_trees_are_scanned(rt: HostRuntime) {
     let mut words = base(&rt, rt.alloc());

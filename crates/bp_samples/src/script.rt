@@ -15,7 +15,7 @@ fn asks(rt: &impl Abort, decoded: &mut Decoded, bytes: &[u8], want: Result<Line<
     assert_eq!(rt; decoded.line(bytes), want, "{bytes:?}");
 }
 
-/// Lines, and the calls that they are.
+/// Lines, and the calls that they ask for.
 const CALLS: [(&[u8], Call<'static>); 22] = [
     (b"create /a", Call::Create(b"/a")),
     (b"mkdir /a", Call::Mkdir(b"/a")),
@@ -131,7 +131,7 @@ fn lines_of_reads(rt: HostRuntime) -> Result<(), Fail> {
     Ok(())
 }
 
-/// Lines that are none of a script.
+/// Lines that are not in the table of commands.
 const NO_LINES: [&[u8]; 34] = [
     b"write /a 0 0",
     b"write /a 0 0g",

@@ -27,7 +27,7 @@ pub(crate) fn sample(alloc: Global, first: Start, second: Start) -> Result<ListR
     Ok(region)
 }
 
-/// by a table
+/// Checks the names by a table.
 fn checked(
     alloc: Global,
     first: Start,
@@ -39,7 +39,7 @@ fn checked(
     Ok(check_names(&region, TREE, &mut entries, &mut numbers))
 }
 
-/// where there is no memory for a table
+/// Checks the names without memory for a table.
 fn checked_by_order(
     alloc: Global,
     first: Start,
@@ -51,7 +51,7 @@ fn checked_by_order(
     Ok(check_names(&region, TREE, &mut entries, &mut numbers))
 }
 
-/// "ab" and "ac", whatever stands in their dead bytes; "..." is a name
+/// "ab" and "ac", with any unused bytes; "..." is a name.
 #[test]
 fn names_that_differ(rt: HostRuntime) -> Result<(), Fail> {
     for (first, second) in [
@@ -74,7 +74,7 @@ fn names_that_differ(rt: HostRuntime) -> Result<(), Fail> {
     Ok(())
 }
 
-/// "ab" twice, with other dead bytes
+/// "ab" twice, with different unused bytes.
 #[test]
 fn names_that_are_equal(rt: HostRuntime) -> Result<(), Fail> {
     let answer = checked(rt.alloc(), (2, 0x1234_6261), (2, 0xff00_6261))?;
@@ -84,7 +84,7 @@ fn names_that_are_equal(rt: HostRuntime) -> Result<(), Fail> {
     Ok(())
 }
 
-/// no byte, 241 bytes, "a/b", "a" and byte 0, ".", ".." and their dead bytes
+/// No byte, 241 bytes, "a/b", "a" and byte 0, ".", ".." and their unused bytes.
 #[test]
 fn names_of_a_wrong_form(rt: HostRuntime) -> Result<(), Fail> {
     for wrong in [

@@ -1,4 +1,4 @@
-//! Words: values from outside.
+//! Words. The values were computed independently.
 
 use pm_words::{MAX_LEVEL, block_of, digit, read_word, span, write_word};
 

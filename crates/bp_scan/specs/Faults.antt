@@ -1,4 +1,4 @@
--- Why an image is no file system, and why its first tree is not well formed.
+-- Why an image is not a file system, and why its first tree is not well formed.
 use Rattle.std.specs.Prelude.{◌≡◌, ◌≢◌, ℕ, ◌-◌, ◌*◌, ◌^◌, min}
 use Rattle.bp_layout.specs.Checks.{Fails}
 use Rattle.bp_layout.specs.Whole.{FailsWhole, second_place}
@@ -10,8 +10,9 @@ use Rattle.bp_layout.specs.declared.check.Check.{Check}
 use Rattle.bp_scan.specs.declared.fault.MountFault.{MountFault}
 use Rattle.bp_scan.specs.declared.fault.MountFault.TheVariants.{NotFormatted, BadSize, Damaged, Memory}
 
--- This is why: the image has the mark of no version; or such a mark, and another number of blocks than it says; or both
--- as they should be, and a check fails at a place. It is never want of memory.
+-- The fault applies to the image. `NotFormatted`: the magic number is that of no version. `BadSize`: the magic number
+-- is right, and the number of blocks is another one than the superblock has. `Damaged`: both are right, and this check
+-- fails at this place. `Memory` never applies.
 abbrev pub IsFaultBy : (Check → ℕ → Type 0) → Image → MountFault → Type 0
 IsFaultBy DoesFail image NotFormatted = (version : Version) → word image super_magic ≢ magic version
 IsFaultBy DoesFail image (BadSize found wanted) =
@@ -22,15 +23,15 @@ IsFaultBy DoesFail image (Damaged check place) =
     × DoesFail check place
 IsFaultBy DoesFail image Memory = ⊥
 
--- by the checks of the first tree
+-- The fault applies, by the checks of the first tree.
 abbrev pub IsTreeFault : Image → MountFault → Type 0
 IsTreeFault image = IsFaultBy (Fails image) image
 
--- by those of both
+-- The fault applies, by the checks of both trees.
 abbrev pub IsFault : Image → MountFault → Type 0
 IsFault image = IsFaultBy (FailsWhole image) image
 
--- a fault of the image in which the second tree is the first, told of the image itself
+-- The fault of an image whose second tree has this fault when it is read as the first one. The place is converted.
 abbrev pub of_second : MountFault → MountFault
 of_second NotFormatted = NotFormatted
 of_second (BadSize found wanted) = BadSize found wanted

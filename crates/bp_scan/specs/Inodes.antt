@@ -1,4 +1,4 @@
--- What is found where an inode is entered.
+-- What a scan finds when it enters an inode.
 use Rattle.std.specs.Prelude.{length, Bool, false, ◌≡◌, ◌≢◌, ℕ, ◌+◌, ◌%◌, ◌<◌, ◌≤◌}
 use Rattle.bp_free.specs.Set.{Set, with}
 use Rattle.bp_limits.specs.Limits.{root_inumber, file_kind, directory_kind, entry_size}
@@ -12,7 +12,7 @@ use Rattle.bp_walk.specs.Walk.{TakesTree, FailsTree}
 use Rattle.bp_scan.specs.declared.trees.InodeWords.{InodeWords}
 use Rattle.bp_scan.specs.declared.work.Scan.{Scan}
 
--- the words of inode i, and where they stand
+-- These are the words of inode `i` and their places.
 pub record AreWords (image : Image) (i : ℕ) (words : InodeWords) : Type 0 where
   pub place : inode_place image i 0 ≡ words.place
   pub root_place : root_place image i ≡ words.place + 1
@@ -23,21 +23,22 @@ pub record AreWords (image : Image) (i : ℕ) (words : InodeWords) : Type 0 wher
   pub root : root_of image i ≡ words.tree.root
   pub size : size_of image i ≡ words.tree.size
 
--- an inode's kind and its size in bytes are right: it is a file or a directory, a directory has whole entries, and
--- inode 1 is one
+-- The kind and the size in bytes of inode `i` are right: it is a file or a directory, a directory has whole entries,
+-- and inode 1 is a directory.
 pub record IsRightInode (i kind size : ℕ) : Type 0 where
   pub least : 1 ≤ kind
   pub most : kind ≤ 2
   pub root : i ≡ root_inumber → kind ≡ directory_kind
   pub entries : kind ≡ directory_kind → size % entry_size ≡ 0
 
--- the check that the words of an inode fail, where the first stands at a place
+-- A check that the words of an inode fail, given the place of the first word.
 pub data IsWrong (i kind size place : ℕ) : Check → ℕ → Type 0 where
   no_kind : kind ≢ file_kind → kind ≢ directory_kind → IsWrong i kind size place Kind place
   root_file : i ≡ root_inumber → kind ≢ directory_kind → IsWrong i kind size place Kind place
   part_of_entry : kind ≡ directory_kind → size % entry_size ≢ 0 → IsWrong i kind size place DirectorySize (place + 2)
 
--- inode i is right, its blocks left the set, it is counted, and it is to do where it is a directory
+-- Inode `i` is right, its blocks are taken out of the set, it is counted, and it is marked to be read if it is a
+-- directory.
 pub record EntersInode (image : Image) (i : ℕ) (old new : Scan) : Type 0 where
   pub right : IsRightInode i (kind_of image i) (size_of image i)
   pub holes : Bool
@@ -50,12 +51,12 @@ pub record EntersInode (image : Image) (i : ℕ) (old new : Scan) : Type 0 where
   pub directory : IsDirectory image i → new.todo ≡ with old.todo i
   pub file : kind_of image i ≢ directory_kind → new.todo ≡ old.todo
 
--- the check that the tree of inode i fails
+-- A check that the tree of inode `i` fails.
 abbrev pub FailsTreeOf : Image → ℕ → Bool → Set → Check → ℕ → Type 0
 FailsTreeOf image i holes old check place =
     FailsTree image (root_place image i) (root_of image i) (size_of image i) holes old check place
 
--- the check that inode i or its tree fails
+-- A check that inode `i` or its tree fails.
 pub data FailsInode (image : Image) (i : ℕ) (old : Set) : Check → ℕ → Type 0 where
   words : {c : Check} {p : ℕ} → IsWrong i (kind_of image i) (size_of image i) (inode_place image i 0) c p
       → FailsInode image i old c p

@@ -7,7 +7,7 @@ use Rattle.bp_spelling.specs.Names.{AreWrong}
 use Rattle.bp_spelling.specs.declared.fault.NameFault.{NameFault}
 use Rattle.bp_spelling.specs.declared.fault.NameFault.TheVariants.{Form, Twice}
 
--- the check that a fault fails, and the word at which it does
+-- The check that fails for a fault of a name. `fault_place` is the place of the word at which it fails.
 abbrev pub check_of : NameFault → Check
 check_of (Form place) = NameForm
 check_of (Twice place) = NameTwice
@@ -16,7 +16,7 @@ abbrev pub fault_place : NameFault → ℕ
 fault_place (Form place) = place
 fault_place (Twice place) = place
 
--- a fault of the names fails this check at this word
+-- The names of a directory fail this check at this word.
 pub record FailsNames (image : Image) (root size : ℕ) (c : Check) (p : ℕ) : Type 0 where
   pub fault : NameFault
   pub wrong : AreWrong image root size fault

@@ -1,24 +1,24 @@
--- Sets made of other sets, number by number.
+-- Sets computed from other sets, number by number.
 use Rattle.std.specs.Prelude.{◌≡◌, ℕ, ◌<◌, ◌≤◌, length, false, not, ◌&&◌}
 use Rattle.bp_free.specs.Set.{Set, has}
 
--- Below a number it has just those from 1 on that another set lacks, and from there on none.
+-- Below `to`, `others` has exactly the numbers from 1 on that `set` lacks, and from `to` on none.
 pub record HasOthersBelow (set others : Set) (to : ℕ) : Type 0 where
   pub room : length others ≡ length set
   pub first : has others 0 ≡ false
   pub below : (i : ℕ) → 1 ≤ i → i < to → has others i ≡ not (has set i)
   pub above : (i : ℕ) → to ≤ i → has others i ≡ false
 
--- of all numbers
+-- `others` has exactly the numbers from 1 on that `set` lacks.
 abbrev pub HasOthers : Set → Set → Type 0
 HasOthers set others = HasOthersBelow set others (length set)
 
--- Below a number it has lost those of another set, and from there on it is the same.
+-- Below `to`, the new set is the old one without the numbers of `lost`, and from `to` on it is the old one.
 pub record LosesBelow (lost old new : Set) (to : ℕ) : Type 0 where
   pub room : length new ≡ length old
   pub below : (i : ℕ) → i < to → has new i ≡ (has old i && not (has lost i))
   pub above : (i : ℕ) → to ≤ i → has new i ≡ has old i
 
--- of all numbers
+-- The new set is the old one without the numbers of `lost`.
 abbrev pub Loses : Set → Set → Set → Type 0
 Loses lost old new = LosesBelow lost old new (length old)

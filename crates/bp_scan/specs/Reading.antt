@@ -1,4 +1,4 @@
--- What holds while the trees of an image are read.
+-- Properties that hold while the trees of an image are read.
 use Rattle.std.specs.Prelude.{length, replicate, true, false, ◌≡◌, ◌⊎◌, ℕ, ◌+◌, ◌*◌, ◌/◌, ◌%◌, ◌<◌, ◌≤◌, vec_len}
 use Rattle.bp_free.specs.Set.{Set, has, members, empty}
 use Rattle.bp_limits.specs.Limits.{block_size, block_inodes, entry_size, root_inumber}
@@ -14,17 +14,17 @@ use Rattle.bp_scan.specs.Room.{HasScanMemory}
 use Rattle.bp_scan.specs.declared.directories.Directory.{Directory}
 use Rattle.bp_scan.specs.declared.work.Scan.{Scan}
 
--- whole blocks of inodes, in an image that is formatted
+-- The image is formatted, and its inode file has whole blocks of inodes, at least one.
 pub record HasWholeInodes (image : Image) : Type 0 where
   pub formatted : IsFormatted image
   pub inode_blocks : size_of image 0 % block_size ≡ 0
   pub some_inodes : block_size ≤ size_of image 0
 
--- the inode file was entered, and no other tree
+-- The inode file was entered, and no other tree.
 abbrev pub HasInodeFile : Image → Set → Set → Type 0
 HasInodeFile image all left = IsScanned image (λ t. ⊥ ⊎ (t ≡ 0)) (λ i s. ⊥) all left
 
--- nothing was entered: the sets are empty, and no name and no inode is counted
+-- Nothing was entered: the sets are empty, and no link and no inode is counted.
 pub record IsUnread (image : Image) (work : Scan) : Type 0 where
   pub room : HasScanMemory image work
   pub blocks : work.blocks ≡ empty (block_count image)
@@ -33,7 +33,7 @@ pub record IsUnread (image : Image) (work : Scan) : Type 0 where
   pub counts : work.counts ≡ replicate (block_inodes * block_count image) 0
   pub totals : work.totals ≡ no_totals
 
--- the work in the middle of a scan; the directory at hand is 0 between directories
+-- The state of a scan in progress. The current directory is 0 between directories.
 pub record IsReading (image : Image) (work : Scan) (current slot : ℕ) : Type 0 where
   pub ready : HasWholeInodes image
   pub room : HasScanMemory image work
@@ -43,14 +43,14 @@ pub record IsReading (image : Image) (work : Scan) (current slot : ℕ) : Type 0
   pub counts : CountsAmong image (IsDone image work.inodes work.todo current slot) work.counts
   pub counted : HasCounted image work.inodes (inode_count image) work.totals
 
--- a directory is at hand
+-- A scan that reads a directory, which is the current one.
 pub record IsAtHand (image : Image) (work : Scan) (current slot : ℕ) : Type 0 where
   pub reading : IsReading image work current slot
   pub entered : IsEntered image work.inodes current
   pub kind : IsDirectory image current
   pub out : has work.todo current ≡ false
 
--- the same of one whose names are right, and the numbers of the inodes that its entries name are written down
+-- A scan that reads a directory whose names are right. The inode numbers of its entries are recorded.
 pub record IsInside (image : Image) (work : Scan) (directory : Directory) (slot : ℕ) : Type 0 where
   pub at : IsAtHand image work directory.inode slot
   pub root : root_of image directory.inode ≡ directory.tree.root
@@ -59,6 +59,7 @@ pub record IsInside (image : Image) (work : Scan) (directory : Directory) (slot 
   pub numbers : AreNumbers image directory.tree.root (directory.tree.size / entry_size) work.numbers.items
   pub few : directory.tree.size / entry_size ≤ vec_len work.numbers
 
--- how many steps are left at most: each takes an inode, which may be a directory, or a directory
+-- An upper bound on the remaining steps: each takes an inode out of the free ones, or a directory out of those to be
+-- read.
 abbrev pub steps : Scan → ℕ
 steps work = length (members work.inodes) + length (members work.todo)

@@ -1,4 +1,4 @@
--- What a scan has seen so far of an image.
+-- What a scan has found so far of an image.
 use Rattle.std.specs.Prelude.{length, Bool, true, false, ◌≡◌, ◌≢◌, ◌⊎◌, ℕ, suc, ◌%◌, ◌<◌, ◌≤◌}
 use Rattle.bp_free.specs.Set.{Set, has}
 use Rattle.bp_limits.specs.Limits.{block_size, root_inumber, entry_size}
@@ -11,7 +11,7 @@ use Rattle.bp_layout.specs.Reached.{IsLiveBlock}
 use Rattle.bp_layout.specs.Checks.{IsFound, IsPointer, IsFollowed, Passes, entry_place}
 use Rattle.bp_walk.specs.Taken.{Takes}
 
--- each pointer of the tree that is followed passes, and none is null where none may be
+-- Each pointer of the tree that is followed passes its checks, and none is null where none may be.
 pub record IsChecked (image : Image) (t : ℕ) : Type 0 where
   pub fits : size_of image t ≤ covered (suc (height_of (root_of image t)))
   pub passes : (d k : ℕ) → IsLivePointer (root_of image t) (size_of image t) d k
@@ -20,7 +20,7 @@ pub record IsChecked (image : Image) (t : ℕ) : Type 0 where
       → IsFollowed image (root_of image t) (size_of image t) d k →
       node image (root_of image t) d k ≢ 0
 
--- a pointer of a tree that was entered
+-- The place is that of a pointer of a tree that was entered.
 pub record IsSeen (image : Image) (E : ℕ → Type 0) (place : ℕ) : Type 0 where
   pub tree : ℕ
   pub depth : ℕ
@@ -28,8 +28,8 @@ pub record IsSeen (image : Image) (E : ℕ → Type 0) (place : ℕ) : Type 0 wh
   pub entered : E tree
   pub pointer : IsPointer image tree depth index place
 
--- E are the trees that were entered, D the slots of directories whose entries were gone through, from a set of all
--- blocks to the blocks that are left.
+-- The state of a scan: `E` is the trees that were entered, and `D` the entries that were processed, by directory and
+-- slot. `all` is the set of blocks at the start, and `left` the blocks that are left.
 pub record IsScanned (image : Image) (E : ℕ → Type 0) (D : ℕ → ℕ → Type 0) (all left : Set) : Type 0 where
   pub found : (t : ℕ) → E t → IsFound image t
   pub checked : (t : ℕ) → E t → IsChecked image t
@@ -45,7 +45,7 @@ pub record IsScanned (image : Image) (E : ℕ → Type 0) (D : ℕ → ℕ → T
   pub names_once : (i s r j k : ℕ) → D i s → D i r → EntryNames image i s j → EntryNames image i r k
       → name_at image i s ≡ name_at image i r → s ≡ r
 
--- nothing is left to do
+-- Everything was entered and processed.
 pub record IsAll (image : Image) (E : ℕ → Type 0) (D : ℕ → ℕ → Type 0) : Type 0 where
   pub blocks : size_of image 0 % block_size ≡ 0
   pub some : block_size ≤ size_of image 0
@@ -54,19 +54,19 @@ pub record IsAll (image : Image) (E : ℕ → Type 0) (D : ℕ → ℕ → Type 
   pub directory : IsDirectory image root_inumber
   pub slots : (i s j : ℕ) → E i → EntryNames image i s j → D i s
 
--- all blocks but the first
+-- The set has all blocks except the first.
 pub record HasAllBlocks (image : Image) (set : Set) : Type 0 where
   pub room : length set ≡ block_count image
   pub all : (b : ℕ) → 1 ≤ b → b < block_count image → has set b ≡ true
   pub not_first : has set 0 ≡ false
 
--- the set has the inodes that were not entered
+-- The set has the inodes that were not entered.
 pub record HasRest (image : Image) (E : ℕ → Type 0) (set : Set) : Type 0 where
   pub low : (i : ℕ) → has set i ≡ true → 2 ≤ i
   pub high : (i : ℕ) → has set i ≡ true → i < inode_count image
   pub out : (i : ℕ) → E i → has set i ≡ false
   pub entered : (i : ℕ) → 2 ≤ i → i < inode_count image → has set i ≡ false → E i
 
--- each block is live that a set lacks, but the first one
+-- Each block that the set lacks is live, except the first.
 abbrev pub AreOthersLive : Image → (ℕ → Bool) → Type 0
 AreOthersLive image set = (b : ℕ) → 1 ≤ b → b < block_count image → set b ≡ false → IsLiveBlock image b

@@ -1,4 +1,4 @@
--- What an image holds in all.
+-- The totals of an image: its files, directories, bytes and live blocks.
 use Rattle.std.specs.Prelude.{◌≡◌, ℕ, ◌+◌, ◌≤◌, List, ◌==◌, if◌then◌else◌}
 use Rattle.std.specs.List.{Contains, sum_by}
 use Rattle.std.specs.List.Sorted.{IsStrictlyIncreasing}
@@ -11,38 +11,38 @@ use Rattle.bp_layout.specs.Whole.{HasSpace}
 use Rattle.bp_scan.specs.declared.totals.Totals.{Totals}
 use Rattle.bp_layout.specs.Thaw.{none_kept}
 
--- the inodes that the root directory reaches, itself among them, rising
+-- The inodes that are reachable from the root directory, including itself, in ascending order.
 pub record AreReached (image : Image) (inodes : List ℕ) : Type 0 where
   pub rising : IsStrictlyIncreasing inodes
   pub reached : (i : ℕ) → Contains inodes i → IsReached image i × (1 ≤ i)
   pub all : (i : ℕ) → IsReached image i → 1 ≤ i → Contains inodes i
 
--- 1 where a kind is the wanted one
+-- 1 if the kind is the wanted one, else 0.
 abbrev pub one_if : ℕ → ℕ → ℕ
 one_if kind wanted = if kind == wanted then 1 else 0
 
--- an inode of this kind counts
+-- 1 if the inode is of this kind, else 0.
 abbrev pub of_kind : Image → ℕ → ℕ → ℕ
 of_kind image kind i = one_if (kind_of image i) kind
 
--- the size, where the kind is that of a file
+-- The size if the kind is that of a file, else 0.
 abbrev pub bytes_if : ℕ → ℕ → ℕ
 bytes_if kind size = if kind == file_kind then size else 0
 
--- the size of a file
+-- The size of a file in bytes, and 0 for a directory.
 abbrev pub file_bytes : Image → ℕ → ℕ
 file_bytes image i = bytes_if (kind_of image i) (size_of image i)
 
--- so many blocks are in one of both trees: all but the first and those that are in neither
+-- The number of blocks that are in one of the trees or in both: all except the first and those that are in neither.
 abbrev pub HasLive : Image → ℕ → Type 0
 HasLive image live = (space : ℕ) → HasSpace image space → live + space + 1 ≡ block_count image
 
--- so many are in the first tree
+-- The number of blocks that are in the first tree.
 abbrev pub HasTreeLive : Image → ℕ → Type 0
 HasTreeLive image live = (free : ℕ) → HasFree image none_kept free → live + free + 1 ≡ block_count image
 
--- How many files and directories the first tree has, the root directory among them, and the bytes of all its files; and a
--- number of live blocks that is one of these.
+-- The totals are the numbers of files and of directories of the first tree, including the root directory, and the
+-- bytes of all its files; and the number of live blocks satisfies `Live`.
 pub record HasTotalsWith (image : Image) (Live : ℕ → Type 0) (totals : Totals) : Type 0 where
   pub inodes : List ℕ
   pub are : AreReached image inodes
@@ -51,10 +51,10 @@ pub record HasTotalsWith (image : Image) (Live : ℕ → Type 0) (totals : Total
   pub bytes : totals.bytes ≡ sum_by (file_bytes image) inodes
   pub live : Live totals.live
 
--- with the live blocks of both trees
+-- The totals of an image, with the live blocks of both trees.
 abbrev pub HasTotals : Image → Totals → Type 0
 HasTotals image = HasTotalsWith image (HasLive image)
 
--- with those of the first tree alone
+-- The totals of an image, with the live blocks of the first tree only.
 abbrev pub HasTreeTotals : Image → Totals → Type 0
 HasTreeTotals image = HasTotalsWith image (HasTreeLive image)

@@ -27,22 +27,22 @@ use pm_region::Region;
 /// A directory, and its tree.
 #[derive(Clone, Copy)]
 pub(crate) struct Directory {
-    /// Its inode.
+    /// The number of the directory's inode.
     pub inode: u32,
-    /// What the inode says of its tree.
+    /// The root word and the size of its tree.
     pub tree: Tree,
 }
 
-/// An entry of a directory: its slot, and what it names.
+/// An entry of a directory: its slot, and the inode to which it refers.
 #[derive(Clone, Copy)]
 pub(crate) struct Slot {
-    /// The slot's number.
+    /// The number of the slot.
     pub number: u64,
-    /// The number of the inode that it names.
+    /// The number of the inode to which the entry refers.
     pub named: u32,
 }
 
-/// A check that fails at an entry of a directory, told at the entry's first word.
+/// Returns a check that fails at an entry of a directory. The place is that of the entry's first word.
 fn entry_fault<R: Region>(region: &R, directory: Directory, slot: u64, check: Check) -> CheckFault
     requires sound { IsSound (current_words (R.memory region.now)) directory.tree.root directory.tree.size }
     requires full { IsFull (current_words (R.memory region.now)) directory.tree.root directory.tree.size }
@@ -56,7 +56,7 @@ fn entry_fault<R: Region>(region: &R, directory: Directory, slot: u64, check: Ch
     }
 }
 
-/// Reads an entry that names an inode which was entered before: a file may have more names than one.
+/// Reads an entry that refers to an inode which was entered before: a file may have more than one link.
 fn read_again<R: Region>(
     region: &R,
     directory: Directory,
@@ -84,7 +84,7 @@ fn read_again<R: Region>(
     }
 }
 
-/// Reads an entry that names an inode, and enters the inode where no entry named it before.
+/// Reads an entry that refers to an inode, and enters the inode if no entry before referred to it.
 fn read_named<R: Region>(
     region: &R,
     directory: Directory,
@@ -109,7 +109,7 @@ fn read_named<R: Region>(
     enter(region, slot.named, work)
 }
 
-/// Reads the entry in a slot of a directory, by the number that was written down of it.
+/// Reads the entry in a slot of a directory, by its recorded inode number.
 fn read_entry<R: Region>(
     region: &R,
     directory: Directory,
@@ -152,8 +152,8 @@ fn read_entries<R: Region>(
     Ok(())
 }
 
-/// Checks the names of a directory, and puts the number of the inode that each entry names into `numbers`. Both vectors have
-/// memory reserved for as many entries as the directory has.
+/// Checks the names of a directory, and records the inode number of each entry in `numbers`. Both vectors have memory
+/// reserved for as many entries as the directory has.
 fn read_names<R: Region>(
     region: &R,
     tree: Tree,
@@ -188,7 +188,7 @@ fn read_names<R: Region>(
     }
 }
 
-/// Reads the directory at hand.
+/// Reads the current directory.
 pub(crate) fn read_directory<R: Region>(
     region: &R,
     inode: u32,

@@ -1,31 +1,31 @@
-//! Why an image is no file system.
+//! Why an image is not a file system.
 
 use bp_layout::Check;
 use thiserror::Error;
 
-/// Why no volume is made of an image.
+/// The reason why an image cannot be mounted.
 #[derive(Clone, Copy, Debug, PartialEq, Eq, Error)]
 pub enum MountFault {
-    /// The image doesn't begin with the mark of a format.
+    /// The image does not begin with a magic number of the format.
     #[error("not formatted")]
     NotFormatted,
-    /// The image was formatted for another number of blocks, or its file has no image's length.
+    /// The image was formatted for another number of blocks, or its file does not have the length of an image.
     #[error("bad size: {found} bytes in place of {wanted}")]
     BadSize {
-        /// The bytes that there are.
+        /// The actual number of bytes.
         found: u64,
-        /// The bytes that are wanted, at most `u64::MAX`.
+        /// The expected number of bytes, at most `u64::MAX`.
         wanted: u64,
     },
     /// A check of the format fails.
     #[error("damaged: check {} fails at word {place}", .check.number())]
     Damaged {
-        /// Which one it is.
+        /// The check that fails.
         check: Check,
-        /// The word of the region at which it fails.
+        /// The number of the word of the region at which it fails.
         place: u32,
     },
-    /// There is no memory for the volume.
+    /// Allocation failed.
     #[error("out of memory")]
     Memory,
 }

@@ -1,4 +1,4 @@
-//! Laws of a scan. Each is the contract of a function that does nothing.
+//! Properties of a scan. Each is the contract of a function with an empty body.
 
 ghost use Rattle.std.specs.Prelude.{◌≡◌, ℕ, ◌%◌, ◌<◌, ◌≤◌, false, true};
 ghost use Rattle.bp_free.specs.Set.{has};
@@ -15,8 +15,8 @@ ghost use Rattle.bp_layout.specs.Thaw.{none_kept};
 
 use bp_free::{Blocks, Inodes};
 
-/// Where no directory is left to be read the image is well formed, and the two sets have just the free blocks and the
-/// free inodes.
+/// States that when no directory is left to be read, the image is well formed, and the two sets have exactly the free
+/// blocks and the free inodes.
 pub fn nothing_is_left(image: &[u64], blocks: &Blocks, inodes: &Inodes, todo: &Inodes)
     requires formatted { IsFormatted image.now }
     requires inode_blocks { size_of image.now 0 % block_size ≡ 0 }
@@ -30,7 +30,8 @@ pub fn nothing_is_left(image: &[u64], blocks: &Blocks, inodes: &Inodes, todo: &I
     ensures inodes { AreFreeInodes image.now (has inodes.now) }
 {}
 
-/// A check that fails in the tree of an inode that no entry named before fails in the image, at that place.
+/// States that a check that fails in the tree of an inode to which no entry before referred fails in the image, at
+/// that place.
 pub fn fault_of_a_tree(
     image: &[u64],
     blocks: &Blocks,

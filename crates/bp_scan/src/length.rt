@@ -8,12 +8,12 @@ ghost use Rattle.bp_scan.specs.declared.fault.MountFault.TheVariants.{BadSize};
 use crate::fault::MountFault;
 use bp_limits::{BLOCK_SIZE, MAX_BLOCKS, MIN_BLOCKS};
 
-/// The lengths of the least and of the greatest image, in bytes.
+/// The lengths of the smallest and of the largest image, in bytes.
 const LEAST: u64 = MIN_BLOCKS as u64 * BLOCK_SIZE;
 
 const MOST: u64 = MAX_BLOCKS as u64 * BLOCK_SIZE;
 
-/// The length of an image, in bytes, that a length is nearest to.
+/// Returns the image length in bytes that is nearest to a length.
 fn nearest_length(len: u64) -> u64
     ensures { result ≡ wanted_length len }
 {
@@ -26,11 +26,11 @@ fn nearest_length(len: u64) -> u64
     }
 }
 
-/// How many blocks of 4,096 bytes an image of that length in bytes has.
+/// Returns the number of blocks of 4,096 bytes of an image with this length in bytes.
 ///
 /// # Errors
 ///
-/// `BadSize` exactly where no image has that length.
+/// - `BadSize`: no image has this length. It is returned in exactly this case.
 pub fn image_length(len: u64) -> Result<u32, MountFault>
     ensures blocks { IfOk result
         (λ blocks. (len ≡ block_size * blocks) × (min_blocks ≤ blocks) × (blocks ≤ max_blocks)) }

@@ -1,12 +1,13 @@
-//! The scan of an image at mount: whether it is a file system, what is wrong where it is none, which blocks and inodes
-//! are free, and how many names each inode has.
+//! The scan of an image at mount. It determines whether the image is a file system, what is wrong if it is not, which
+//! blocks and inodes are free, and the number of links of each inode.
 //!
-//! A scan starts with the set of all blocks but the first and of all inodes from 2 on. It takes the blocks of each tree
-//! that it enters out of the first set, each inode that an entry names out of the second, and keeps the directories
-//! that are still to be read in a third. With each entry it counts one name more of the inode that the entry names.
+//! A scan starts with the set of all blocks except the first and of all inodes from 2 on. It takes the blocks of each
+//! tree that it enters out of the first set, and each inode to which an entry refers out of the second. It keeps the
+//! directories that are still to be read in a third set. With each entry it counts one more link of the inode to which
+//! the entry refers.
 //!
-//! An image may have a second tree. It is scanned by the same functions, in a region that shows it as the first one, and
-//! before that one, so that one set of each kind does for both.
+//! An image may have a second tree. The same functions scan it, in a region that shows it as the first tree. They do
+//! so before they scan the first tree, so that one set of each kind suffices for both.
 #![tactic(auto)]
 
 mod directories;

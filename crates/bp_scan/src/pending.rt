@@ -8,11 +8,12 @@ use bp_free::{Blocks, Counts, Inodes};
 use std::alloc::{AllocError, Global};
 use std::marker::Model;
 
-/// Memory for scans: the directories that are still to be read, and the entries of the one at hand. Contracts see it as
-/// the number of inodes that it was made for.
+/// The working memory of scans: the directories that are still to be read, and the entries of the current one.
+/// Contracts describe it by the number of inodes for which it was made.
 #[derive(Drop)]
 pub struct Pending {
-    /// Its sets of blocks and inodes and its counts have no room of their own: a scan lends it those that it fills.
+    /// The memory of a scan. Its sets of blocks and inodes and its counts are empty between scans: a scan borrows
+    /// those that it fills.
     pub(crate) work: Scan,
     inodes: u32,
 }
@@ -29,7 +30,11 @@ impl Model for Pending {
 }
 
 impl Pending {
-    /// Memory for images of so many inodes at most, which is 64 for each block. Fails where memory is out.
+    /// Allocates memory for images of at most `inodes` inodes, which is 64 for each block.
+    ///
+    /// # Errors
+    ///
+    /// - `AllocError`: allocation fails.
     pub fn new(alloc: Global, inodes: u32) -> Result<Pending, AllocError>
         ensures { IfOk result (λ pending. pending ≡ inodes) }
     {
@@ -45,7 +50,7 @@ impl Pending {
         Ok(Pending { work, inodes })
     }
 
-    /// The number of inodes that it was made for.
+    /// Returns the number of inodes for which it was made.
     pub fn room(&self) -> usize
         ensures { result ≡ self.now }
     {

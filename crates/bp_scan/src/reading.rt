@@ -23,7 +23,7 @@ use bp_limits::INODE_SIZE;
 use bp_walk::CheckFault;
 use pm_region::Region;
 
-/// Enters the inode file and the root directory, which is then to do.
+/// Enters the inode file and the root directory, which is then to be read.
 fn start<R: Region>(region: &R, work: &mut Scan) -> Result<(), CheckFault>
     requires formatted { IsFormatted (current_words (R.memory region.now)) }
     requires unread { IsUnread (current_words (R.memory region.now)) work.old }
@@ -39,7 +39,7 @@ fn start<R: Region>(region: &R, work: &mut Scan) -> Result<(), CheckFault>
     enter(region, 1, work)
 }
 
-/// Reads the directories that are to do, and those that they lead to.
+/// Reads the directories that are to be read, and those that they lead to.
 fn read_directories<R: Region>(region: &R, work: &mut Scan) -> Result<(), CheckFault>
     requires { IsReading (current_words (R.memory region.now)) work.old 0 0 }
     ensures reading { OnOk result (IsReading (current_words (R.memory region.now)) work.new 0 0) }
@@ -53,9 +53,9 @@ fn read_directories<R: Region>(region: &R, work: &mut Scan) -> Result<(), CheckF
     Ok(())
 }
 
-/// Reads the inode file of an image that is formatted, and all trees that it leads to: puts the free blocks and inodes into the
-/// two sets, counts the names of the inodes, and tells what they hold in all. The answer is an error exactly where a check
-/// fails; sets and counts are then of no use.
+/// Reads the inode file of a formatted image, and all trees that it leads to. It puts the free blocks and inodes into
+/// the two sets, counts the links of the inodes, and returns the totals. It returns an error exactly if a check fails;
+/// sets and counts have no defined contents then.
 pub(crate) fn read_trees<R: Region>(region: &R, work: &mut Scan) -> Result<Totals, CheckFault>
     requires formatted { IsFormatted (current_words (R.memory region.now)) }
     requires unread { IsUnread (current_words (R.memory region.now)) work.old }

@@ -28,7 +28,7 @@ use bp_limits::{
 use pm_region::Region;
 use std::mem;
 
-/// What the superblock of an image says.
+/// Returns the fields of the superblock of an image.
 fn read_superblock<R: Region>(region: &R) -> Super
     requires { block_words ≤ length (current_words (R.memory region.now)) }
     ensures magic { result.magic ≡ word (current_words (R.memory region.now)) super_magic }
@@ -44,12 +44,13 @@ fn read_superblock<R: Region>(region: &R) -> Super
     ])
 }
 
-/// Whether an image begins with the mark of a version, and was formatted for the blocks that it has.
+/// Checks that an image begins with the magic number of a version, and was formatted for the number of blocks that it
+/// has.
 ///
 /// # Errors
 ///
-/// `NotFormatted` exactly where word 0 is the mark of none; `BadSize` exactly where it is, and word 1 is not the number
-/// of blocks.
+/// - `NotFormatted`: word 0 is the magic number of no version. It is returned in exactly this case.
+/// - `BadSize`: word 0 is right, and word 1 is not the number of blocks. It is returned in exactly this case.
 fn check_superblock<R: Region>(region: &R) -> Result<(), MountFault>
     requires sized { IsSized (current_words (R.memory region.now)) }
     ensures formatted { OnOk result (IsFormatted (current_words (R.memory region.now))) }
@@ -100,16 +101,21 @@ fn scan_with<R: Region>(region: &R, work: &mut Scan) -> Result<Totals, MountFaul
     }
 }
 
-/// Reads the first tree of the image in a region of 8 to 65,536 blocks of 512 words: puts the blocks and the inodes that it
-/// lacks into the sets and the number of names of each inode into the counts, whatever they had, and tells what it holds in
-/// all. It takes time linear in the words that are in use and in the room of sets and counts, but for a directory whose
-/// names' hashes meet, which are sorted. [`scan_whole`](crate::scan_whole) reads a second tree too.
+/// Reads the first tree of the image in a region of 8 to 65,536 blocks of 512 words, and returns the totals. It puts
+/// the blocks and the inodes that the tree lacks into the sets and the number of links of each inode into the counts,
+/// whatever they had.
+///
+/// Its time is linear in the words that are in use and in the room of sets and counts, except for a directory in which
+/// hashes of names collide: its names are sorted. [`scan_whole`](crate::scan_whole) reads a second tree too.
 ///
 /// # Errors
 ///
-/// `NotFormatted` exactly where word 0 is the mark of no version; `BadSize` exactly where it is, and word 1 is not the
-/// number of blocks; `Damaged` exactly where both are right and a check of the format fails of that tree, with one that fails
-/// and where. The sets are then empty, and each count is 0. It is never `Memory`.
+/// The sets are empty and each count is 0 then. Each error is returned in exactly the stated case, and `Memory` never.
+///
+/// - `NotFormatted`: word 0 is the magic number of no version.
+/// - `BadSize`: word 0 is right, and word 1 is not the number of blocks.
+/// - `Damaged`: both are right, and a check of the format fails for that tree. The error has one check that fails, and
+///   its place.
 pub fn scan<R: Region>(
     region: &R,
     blocks: &mut Blocks,
@@ -137,7 +143,8 @@ pub fn scan<R: Region>(
     ensures count_room { length counts.new ≡ length counts.old }
     ensures pending { pending.new ≡ pending.old }
 {
-    // The sets and counts of a volume stand behind a reference, so they are lent: the work's own have no room.
+    // The caller has the sets and counts of a volume by reference, so they are swapped in: those of the work have no
+    // room.
     mem::swap(blocks, &mut pending.work.blocks);
     mem::swap(inodes, &mut pending.work.inodes);
     mem::swap(counts, &mut pending.work.counts);

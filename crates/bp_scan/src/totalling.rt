@@ -6,7 +6,7 @@ ghost use Rattle.bp_scan.specs.Counted.{CountsOne, IsCountable};
 use crate::totals::Totals;
 use bp_limits::DIRECTORY_KIND;
 
-/// The totals with an inode of a kind and a size among them.
+/// Returns the totals with one more inode of a kind and a size.
 pub(crate) fn count_inode(totals: Totals, kind: u64, size: u64) -> Totals
     requires least { 1 ≤ kind }
     requires most { kind ≤ 2 }

@@ -1,23 +1,23 @@
-//! What an image holds in all.
+//! The totals of an image.
 
 ghost use Rattle.std.specs.Prelude.{◌≡◌};
 ghost use Rattle.bp_scan.specs.Counted.{no_totals};
 
-/// What an image holds in all.
+/// The totals of an image.
 #[derive(Clone, Copy, Debug, PartialEq, Eq)]
 pub struct Totals {
-    /// The files.
+    /// The number of files.
     pub files: u64,
-    /// The directories, the root directory among them.
+    /// The number of directories, including the root directory.
     pub dirs: u64,
     /// The bytes of all files.
     pub bytes: u128,
-    /// The blocks in use, the superblock not among them.
+    /// The number of blocks in use, without the superblock.
     pub live: u32,
 }
 
 impl Totals {
-    /// Nothing was counted yet.
+    /// Returns the totals when nothing was counted yet.
     pub(crate) fn none() -> Totals
         ensures { result ≡ no_totals }
     {

@@ -1,4 +1,4 @@
-//! What is entered: the inode file, and the trees of inodes.
+//! The trees that a scan enters: the inode file, and the trees of inodes.
 
 ghost use Rattle.std.specs.Prelude.{◌≡◌, ◌+◌, ◌<◌, ◌≤◌, false, length, OnOk, IfErr};
 ghost use Rattle.bp_free.specs.Set.{has};
@@ -28,15 +28,15 @@ use pm_region::Region;
 /// The words of an inode that are in use.
 #[derive(Clone, Copy)]
 struct InodeWords {
-    /// The word of the region at which the first stands.
+    /// The number of the word of the region that is the inode's first one.
     place: u32,
-    /// `FILE_KIND` or `DIRECTORY_KIND`, where it is right.
+    /// `FILE_KIND` or `DIRECTORY_KIND`, if it is right.
     kind: u64,
     /// Its root word and its size in bytes.
     tree: Tree,
 }
 
-/// Enters the inode file: takes its blocks out of the set of all blocks but the first.
+/// Enters the inode file: takes its blocks out of the set of all blocks except the first.
 pub(crate) fn enter_inode_file<R: Region>(region: &R, blocks: &mut Blocks) -> Result<(), CheckFault>
     requires formatted { IsFormatted (current_words (R.memory region.now)) }
     requires all { HasAllBlocks (current_words (R.memory region.now)) blocks.old }
@@ -97,8 +97,8 @@ fn check_words(inode: u32, words: InodeWords) -> Result<(), CheckFault>
     }
 }
 
-/// Enters the tree of an inode: takes its blocks out of the set, counts the inode, and puts it among those to do where it is
-/// a directory.
+/// Enters the tree of an inode: takes its blocks out of the set, counts the inode, and, if it is a directory, adds it
+/// to those to be read.
 pub(crate) fn enter<R: Region>(region: &R, inode: u32, work: &mut Scan) -> Result<(), CheckFault>
     requires formatted { IsFormatted (current_words (R.memory region.now)) }
     requires sound { let words = current_words (R.memory region.now) in

@@ -25,7 +25,7 @@ use bp_second::Shown;
 use bp_tree::version;
 use pm_region::Region;
 
-/// Whether an image has a second tree.
+/// Returns whether an image has a second tree.
 pub fn has_second<R: Region>(region: &R) -> bool
     requires { IsSized (current_words (R.memory region.now)) }
     ensures { result ≡ has_snapshot (current_words (R.memory region.now)) }
@@ -36,7 +36,7 @@ pub fn has_second<R: Region>(region: &R) -> bool
     }
 }
 
-/// Puts all blocks but the first that a set lacks into another one, whatever it had.
+/// Puts all blocks that a set lacks, except the first, into another set, whatever it had.
 pub fn fill_others(set: &Blocks, others: &mut Blocks)
     requires some { 0 < length set.now }
     requires room { length others.old ≡ length set.now }
@@ -64,7 +64,7 @@ fn take_out(lost: &Blocks, blocks: &mut Blocks)
     }
 }
 
-/// Where the word of an image stands that is at a place where its second tree is shown as the first.
+/// Returns the place in an image of the word that is at `place` when the second tree is read as the first.
 fn place_of_second(place: u32) -> u32
     ensures { result ≡ second_place place }
 {
@@ -75,7 +75,7 @@ fn place_of_second(place: u32) -> u32
     }
 }
 
-/// The fault of an image whose second tree, shown as the first, has that fault.
+/// Returns the fault of an image whose second tree, read as the first, has this fault.
 fn fault_of_second(fault: MountFault) -> MountFault
     ensures { result ≡ of_second fault }
 {
@@ -88,8 +88,8 @@ fn fault_of_second(fault: MountFault) -> MountFault
     }
 }
 
-/// Scans the second tree of an image, and puts its blocks into `frozen`. What comes into the other sets and the counts is of
-/// no use.
+/// Scans the second tree of an image, and puts its blocks into `frozen`. The other sets and the counts have no defined
+/// contents then.
 fn scan_second<R: Region>(
     region: &R,
     blocks: &mut Blocks,
@@ -131,7 +131,7 @@ fn scan_second<R: Region>(
     }
 }
 
-/// Does what `scan_second` does where an image has a second tree, and else empties `frozen`.
+/// Does what `scan_second` does if an image has a second tree, and else empties `frozen`.
 fn find_frozen<R: Region>(
     region: &R,
     blocks: &mut Blocks,
@@ -167,15 +167,19 @@ fn find_frozen<R: Region>(
     Ok(())
 }
 
-/// Reads both trees of the image in a region of 8 to 65,536 blocks of 512 words: puts the blocks of the second one into
-/// `frozen`, the blocks that are in neither into `blocks`, the inodes that the first one lacks into `inodes` and the number of
-/// names that each inode has in it into the counts, whatever they had, and tells what the first one holds in all, with the live
-/// blocks of both. It takes the time of [`scan`] for each tree that is there.
+/// Reads both trees of the image in a region of 8 to 65,536 blocks of 512 words, and returns the totals of the first
+/// tree, with the live blocks of both.
+///
+/// It puts the blocks of the second tree into `frozen`, and the blocks that are in neither into `blocks`. It puts the
+/// inodes that the first tree lacks into `inodes`, and the number of links that each inode has in it into the counts.
+/// Their old contents do not matter. It takes the time of [`scan`] for each tree that is there.
 ///
 /// # Errors
 ///
-/// Those of [`scan`], by the checks of both trees. The place of a check of the second one is told in the image itself. All sets
-/// are then empty, and each count is 0.
+/// All sets are empty and each count is 0 then.
+///
+/// - Those of [`scan`], by the checks of both trees. The place of a check of the second tree is a place in the image
+///   itself.
 pub fn scan_whole<R: Region>(
     region: &R,
     blocks: &mut Blocks,
@@ -208,7 +212,7 @@ pub fn scan_whole<R: Region>(
     ensures count_room { length counts.new ≡ length counts.old }
     ensures pending { pending.new ≡ pending.old }
 {
-    // The second tree comes first, so that one set of each kind does for both.
+    // The second tree comes first, so that one set of each kind suffices for both.
     find_frozen(region, blocks, inodes, frozen, pending, counts)?;
     match scan(region, blocks, inodes, pending, counts) {
         Ok(totals) => {

@@ -1,4 +1,4 @@
-//! What a scan works with.
+//! The working memory of a scan.
 
 ghost use Rattle.std.specs.Prelude.{◌≡◌, ◌+◌, ◌<◌, ◌≤◌, length, replicate, vec_capacity, vec_len};
 ghost use Rattle.bp_free.specs.Set.{empty, members};
@@ -8,26 +8,26 @@ use crate::totals::Totals;
 use bp_free::{Blocks, Counts, Inodes};
 use bp_spelling::Spelled;
 
-/// How many cells are left over where the entries of the greatest directory have three each.
+/// The number of cells that are left over if the entries of the largest directory have three each.
 pub(crate) const SPARE: usize = 256;
 
-/// What a scan works with. At its end the sets of blocks and of inodes have just those that are free, and the counts
-/// tell how many names each inode has.
+/// The working memory of a scan. At the end of a scan its sets of blocks and of inodes have exactly the free ones, and
+/// the counts are the numbers of links of the inodes.
 #[derive(Drop)]
 pub(crate) struct Scan {
     /// The blocks of no tree that was entered.
     pub blocks: Blocks,
-    /// The inodes that no entry named so far.
+    /// The inodes to which no entry referred so far.
     pub inodes: Inodes,
     /// The directories that are still to be read.
     pub todo: Inodes,
-    /// How many of the entries that were read name each inode.
+    /// For each inode, the number of entries read so far that refer to it.
     pub counts: Counts,
-    /// Memory for the entries of the directory at hand.
+    /// Memory for the entries of the current directory.
     pub entries: Vec<Spelled>,
-    /// The numbers of the inodes that the entries of the directory at hand name, slot by slot.
+    /// The inode numbers of the entries of the current directory, slot by slot.
     pub numbers: Vec<u32>,
-    /// What the inodes that were entered hold in all. Their live blocks are not counted.
+    /// The totals of the inodes that were entered. Their live blocks are not counted.
     pub totals: Totals,
 }
 
@@ -49,7 +49,8 @@ impl Scan {
         self.totals = Totals::none();
     }
 
-    /// What the inodes that were entered hold in all, and how many blocks left the set of all but the first.
+    /// Returns the totals of the inodes that were entered, with the number of blocks that were taken out of the set of
+    /// all blocks except the first.
     pub fn all_totals(&self) -> Totals
         requires { length (members self.now.blocks) < length self.now.blocks }
         ensures files { result.files ≡ self.now.totals.files }
@@ -64,8 +65,8 @@ impl Scan {
     }
 }
 
-/// Makes memory for the check of so many names out of what is reserved: three cells for each and some more, as far as
-/// they go. Memory that no directory needs is never written.
+/// Makes memory for the check of `names` names, out of the reserved memory: three cells for each name and some more,
+/// as far as it suffices. Memory that no directory needs is never written.
 pub(crate) fn make_room(entries: &mut Vec<Spelled>, names: usize)
     requires { names ≤ vec_capacity entries.old }
     ensures room { names ≤ vec_len entries.new }
@@ -81,8 +82,8 @@ pub(crate) fn make_room(entries: &mut Vec<Spelled>, names: usize)
     }
 }
 
-/// Makes memory for the numbers of so many entries out of what is reserved. Here too memory that no directory needs is never
-/// written.
+/// Makes memory for the inode numbers of `count` entries, out of the reserved memory. Here too memory that no
+/// directory needs is never written.
 pub(crate) fn make_numbers(numbers: &mut Vec<u32>, count: usize)
     requires { count ≤ vec_capacity numbers.old }
     ensures room { count ≤ vec_len numbers.new }

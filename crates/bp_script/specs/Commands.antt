@@ -1,4 +1,4 @@
--- The lines of a script: what each asks for.
+-- The lines of a script, and the command that each asks for.
 use Rattle.std.specs.Prelude.{ℕ, List, [], ◌∷◌, length, map, Bool, ◌==◌, ◌&&◌, nat_le, nat_lt, bytes_eq, codes, Option, None, Some, if◌then◌else◌}
 use Rattle.std.specs.List.{slice_split, join_by, list_all, list_any}
 use Rattle.std.specs.Char.{is_ascii_digit}
@@ -16,59 +16,59 @@ use Rattle.bp_replay.specs.Wanted.Wanted.{all, nothing, at}
 pub data Command : Type 0 where
   file_call : Call → Command
   sync : Command
-  -- asks how many blocks are free and live
+  -- Asks for the numbers of free and of live blocks.
   space : Command
-  -- a crash that keeps what is wanted
+  -- A crash at a given point, with the given stores surviving.
   crash : Wanted → Command
-  -- a crash that keeps what is drawn from a seed
+  -- A crash whose point and surviving stores are drawn from a seed.
   storm : ℕ → Command
-  -- a crash that keeps what caches wrote back, in a run that is drawn from a seed
+  -- A crash that keeps the stores that simulated caches wrote back, in a run drawn from a seed.
   cache : ℕ → Command
-  -- asks how many events, barriers and calls the log has
+  -- Asks for the numbers of events, barriers and calls of the log.
   log : Command
-  -- a line outside the table of commands
+  -- A line that is not in the table of commands.
   bad_syntax : Command
-  -- a line with too many bytes
+  -- A line with too many bytes.
   too_long : Command
 
--- the words of a line: the parts round each single space
+-- The fields of a line: the parts between single spaces.
 abbrev pub words_of : List ℕ → List (List ℕ)
 words_of line = slice_split (λ b. b == 32) line
 
--- What a part of a path stands for. A `/` that an escape gave becomes byte 0, which no name may hold.
+-- A decoded byte of a path part. A `/` that an escape gave becomes byte 0, which no name may contain.
 abbrev pub unslashed : ℕ → ℕ
 unslashed b = if b == 47 then 0 else b
 
 abbrev pub part_bytes : List ℕ → List ℕ
 part_bytes part = map unslashed (percent_decode part)
 
--- The path of a word: its parts round each `/` are decoded one by one.
+-- The path that a field spells: its parts between each `/` are decoded one by one.
 abbrev pub path_bytes : List ℕ → List ℕ
 path_bytes word = join_by part_bytes (47 ∷ []) (slice_split (λ b. b == 47) word)
 
 -- ---- numbers
 
--- one to twenty decimal digits, of which the first may be zeros
+-- Whether a field has one to twenty decimal digits. The first digits may be zeros.
 abbrev pub is_numeral : List ℕ → Bool
 is_numeral word = nat_le 1 (length word) && nat_le (length word) 20 && list_all is_ascii_digit word
 
--- the number that a word of digits stands for, where it is below 2 ^ 64
+-- The number that a field of digits spells, if it is below 2 ^ 64.
 abbrev pub number_spelled : List ℕ → Option ℕ
 number_spelled word =
     if is_numeral word && nat_lt (digits_value 10 word) 18446744073709551616 then Some (digits_value 10 word) else None
 
--- a length that one call reads
+-- A length, if one call can read as much.
 abbrev pub short_length : Option ℕ → Option ℕ
 short_length (Some len) = if nat_le len max_read then Some len else None
 short_length None = None
 
--- the length of a read that a word stands for
+-- The length of a read that a field spells.
 abbrev pub length_spelled : List ℕ → Option ℕ
 length_spelled word = short_length (number_spelled word)
 
 -- ---- bytes
 
--- the bytes that a word of hexadecimal digits stands for, two digits of either case each; `-` stands for none
+-- The bytes that a field of hexadecimal digits spells, two digits of either case for each byte; `-` spells none.
 abbrev pub bytes_spelled : List ℕ → Option (List ℕ)
 bytes_spelled word = if bytes_eq word (codes "-") then Some [] else result_ok (decode_of word)
 
@@ -78,12 +78,12 @@ abbrev pub read_command : List ℕ → Option ℕ → Option ℕ → Command
 read_command path (Some off) (Some len) = file_call (read path off len)
 read_command path off len = bad_syntax
 
--- of the snapshot
+-- A read of a file of the snapshot.
 abbrev pub snap_read_command : List ℕ → Option ℕ → Option ℕ → Command
 snap_read_command path (Some off) (Some len) = file_call (snap_read path off len)
 snap_read_command path off len = bad_syntax
 
--- a call refuses what is too long for it
+-- A write. The call itself refuses an offset or bytes that are too large.
 abbrev pub write_command : List ℕ → Option ℕ → Option (List ℕ) → Command
 write_command path (Some off) (Some new) = file_call (write path off new)
 write_command path off new = bad_syntax
@@ -92,19 +92,19 @@ abbrev pub truncate_command : List ℕ → Option ℕ → Command
 truncate_command path (Some size) = file_call (truncate path size)
 truncate_command path None = bad_syntax
 
--- a crash that keeps all that can be kept, or no more than is certain
+-- A crash that keeps all stores, or only the durable ones.
 abbrev pub whole_crash : List ℕ → Command
 whole_crash word =
     if bytes_eq word (codes "all") then crash all
     else if bytes_eq word (codes "none") then crash nothing
     else bad_syntax
 
--- a crash at a moment, with an epoch and a mask of it
+-- A crash after a given number of events, with an epoch and a mask of its stores.
 abbrev pub masked_crash : Option ℕ → Option ℕ → Option (List ℕ) → Command
 masked_crash (Some moment) (Some epoch) (Some mask) = crash (at moment epoch mask)
 masked_crash moment epoch mask = bad_syntax
 
--- a piece of a batch, where its offset is a number and its bytes are bytes
+-- A piece of a batch, if its offset is a number and its bytes are hexadecimal digits.
 abbrev pub piece_spelled : List ℕ → Option ℕ → Option (List ℕ) → Option Piece
 piece_spelled path (Some off) (Some bytes) = Some (record { path = path; off = off; bytes = bytes })
 piece_spelled path off bytes = None
@@ -113,14 +113,14 @@ abbrev pub and_pieces : Option Piece → Option (List Piece) → Option (List Pi
 and_pieces (Some piece) (Some pieces) = Some (piece ∷ pieces)
 and_pieces piece pieces = None
 
--- the pieces of words, three words each: a path, an offset and bytes
+-- The pieces that fields spell, three fields each: a path, an offset and bytes.
 abbrev pub piece_words : List (List ℕ) → Option (List Piece)
 piece_words [] = Some []
 piece_words (path ∷ off ∷ bytes ∷ words) =
     and_pieces (piece_spelled path (number_spelled off) (bytes_spelled bytes)) (piece_words words)
 piece_words words = None
 
--- as many pieces as a batch may have; it refuses what is too long for it
+-- A batch of 1 to `max_pieces` pieces. The call itself refuses pieces that are too large.
 abbrev pub batch_of : Option (List Piece) → Command
 batch_of (Some pieces) =
     if nat_le 1 (length pieces) && nat_le (length pieces) max_pieces then file_call (batch pieces) else bad_syntax
@@ -134,7 +134,7 @@ abbrev pub cache_command : Option ℕ → Command
 cache_command (Some seed) = cache seed
 cache_command None = bad_syntax
 
--- lines of one word, of two, of three and of four
+-- Lines of one, of two, of three and of four fields.
 abbrev pub bare_call : List ℕ → Command
 bare_call verb =
     if bytes_eq verb (codes "upgrade") then file_call upgrade
@@ -162,7 +162,7 @@ path_command verb path =
     else if bytes_eq verb (codes "sstat") then file_call (snap_stat path)
     else bad_syntax
 
--- a second word that is a path, but behind `crash`, `storm` and `cache`
+-- A line of two fields. The second is a path, except after `crash`, `storm` and `cache`.
 abbrev pub word_command : List ℕ → List ℕ → Command
 word_command verb word =
     if bytes_eq verb (codes "crash") then whole_crash word
@@ -186,7 +186,7 @@ long_command verb first second third =
     else if bytes_eq verb (codes "sread") then snap_read_command first (number_spelled second) (length_spelled third)
     else bad_syntax
 
--- a verb and the words behind it, by how many there are
+-- The command of a verb and the fields after it, by their number.
 abbrev pub row_command : List ℕ → List (List ℕ) → Command
 row_command verb [] = bare_command verb
 row_command verb (word ∷ []) = word_command verb word
@@ -194,7 +194,7 @@ row_command verb (first ∷ second ∷ []) = pair_command verb first second
 row_command verb (first ∷ second ∷ third ∷ []) = long_command verb first second third
 row_command verb words = bad_syntax
 
--- The table of commands, by the words of a line.
+-- The table of commands, by the fields of a line.
 --     sync      space      log
 --     create PATH      mkdir PATH      unlink PATH      rmdir PATH      list PATH      stat PATH
 --     read PATH OFF LEN      write PATH OFF HEX      truncate PATH SIZE
@@ -207,9 +207,9 @@ command_by_words (verb ∷ words) =
     if bytes_eq verb (codes "batch") then batch_of (piece_words words) else row_command verb words
 command_by_words [] = bad_syntax
 
--- ---- what a line asks for
+-- ---- the command of a line
 
--- the mask that a command gives
+-- The mask of a command; empty for a command without one.
 abbrev pub mask_in : Command → List ℕ
 mask_in (crash (at moment epoch mask)) = mask
 mask_in command = []
@@ -217,19 +217,19 @@ mask_in command = []
 abbrev pub is_empty_word : List ℕ → Bool
 is_empty_word word = length word == 0
 
--- what words ask for: a row of the table, where none of them is empty
+-- The command of fields: a row of the table, if none of them is empty.
 abbrev pub asked_by : List (List ℕ) → Command
 asked_by words = if list_any is_empty_word words then bad_syntax else command_by_words words
 
--- what a line of the table asks for, with paths as they are written
+-- The command of a line in the table, with paths as they are written.
 abbrev pub written_command : List ℕ → Command
 written_command line = asked_by (words_of line)
 
--- a piece with what its path stands for
+-- A piece with its path decoded.
 abbrev pub decoded_piece : Piece → Piece
 decoded_piece piece = record piece { path = path_bytes piece.path }
 
--- a call with what its paths stand for
+-- A call with its paths decoded.
 abbrev pub decoded_call : Call → Call
 decoded_call (create path) = create (path_bytes path)
 decoded_call (mkdir path) = mkdir (path_bytes path)
@@ -247,26 +247,26 @@ decoded_call (snap_list path) = snap_list (path_bytes path)
 decoded_call (snap_stat path) = snap_stat (path_bytes path)
 decoded_call (snap_read path off len) = snap_read (path_bytes path) off len
 decoded_call (batch pieces) = batch (map decoded_piece pieces)
--- the others have no path
+-- The other calls have no path.
 decoded_call call = call
 
 abbrev pub decoded : Command → Command
 decoded (file_call call) = file_call (decoded_call call)
 decoded command = command
 
--- what a batch of these words asks for
+-- The command of a batch with these fields.
 abbrev pub asked_batch : List (List ℕ) → Command
 asked_batch words = decoded (asked_by (codes "batch" ∷ words))
 
--- what a line of the table asks for
+-- The command of a line in the table, with paths decoded.
 abbrev pub in_grammar : List ℕ → Command
 in_grammar line = decoded (written_command line)
 
--- that a volume carries out the call of a command, where it has one
+-- A volume carries out the call of a command, if the command has one.
 abbrev pub IsServedCommand : Command → Type 0
 IsServedCommand (file_call call) = IsServed call
 IsServedCommand command = Unit {0}
 
--- what any line asks for
+-- The command of any line.
 abbrev pub command_of : List ℕ → Command
 command_of line = if nat_lt max_line (length line) then too_long else in_grammar line

@@ -1,4 +1,4 @@
--- The lines of calls, and the script that makes a plain file tree.
+-- The lines of calls, and the script that makes an abstract tree.
 use Rattle.std.specs.Prelude.{◌≡◌, ◌≤◌, ◌<◌, ◌^◌, ◌==◌, ◌&&◌, ℕ, List, [], ◌∷◌, ◌++◌, length, map, flat_map, not, true, codes, decimal, if◌then◌else◌}
 use Rattle.std.specs.List.{list_all}
 use Rattle.percent_encoding.specs.Percent.{percent_encode_byte}
@@ -11,11 +11,11 @@ use Rattle.bp_script.specs.Commands.{command_of}
 use Rattle.bp_script.specs.Commands.Command.{file_call}
 use Rattle.bp_script.specs.Texts.{digits_or_dash, is_escaped}
 
--- the word of a path: each byte but `/` as the text of a name has it
+-- The field of a path: each byte except `/` is written as in the text of a name.
 abbrev pub path_word : List ℕ → List ℕ
 path_word text = flat_map (λ b. if is_escaped b && not (b == 47) then percent_encode_byte b else b ∷ []) text
 
--- the line that asks for a call
+-- The line that asks for a call.
 abbrev pub call_line : Call → List ℕ
 call_line (create text) = codes "create " ++ path_word text
 call_line (mkdir text) = codes "mkdir " ++ path_word text
@@ -37,17 +37,18 @@ call_line (snap_list text) = codes "slist " ++ path_word text
 call_line (snap_stat text) = codes "sstat " ++ path_word text
 call_line (snap_read text off len) =
     codes "sread " ++ path_word text ++ codes " " ++ decimal off ++ codes " " ++ decimal len
--- nothing is told of the line of a batch
+-- The line of a batch is not defined.
 call_line (batch pieces) = []
 
 -- ---- the calls that can be spelled
 
--- what a word can spell: some bytes
+-- A text that a field can spell: one or more bytes.
 pub record IsWord (text : List ℕ) : Type 0 where
   pub some : 1 ≤ length text
   pub bytes : are_bytes text ≡ true
 
--- A call that has such a line: its paths are some bytes, its numbers below 2 ^ 64, and a read is of as much as one call reads.
+-- A call that a line can spell: its paths are not empty and consist of bytes, its numbers are below 2 ^ 64, and a
+-- read is of at most `max_read` bytes. A batch is none.
 abbrev pub IsSpelled : Call → Type 0
 IsSpelled (create text) = IsWord text
 IsSpelled (mkdir text) = IsWord text
@@ -69,11 +70,11 @@ IsSpelled (snap_stat text) = IsWord text
 IsSpelled (snap_read text off len) = IsWord text × (off < 2 ^ 64) × (len ≤ max_read)
 IsSpelled (batch pieces) = ⊥
 
--- its line is no longer than a line may be
+-- The line of the call is at most as long as a line may be.
 abbrev pub FitsLine : Call → Type 0
 FitsLine call = length (call_line call) ≤ max_line
 
--- a call that an export makes, whose line with its newline has room where a reply has
+-- A call of an export whose line, with its newline, fits into the room of a reply.
 abbrev pub FitsText : Call → Type 0
 FitsText (create text) = length (call_line (create text)) < max_text
 FitsText (mkdir text) = length (call_line (mkdir text)) < max_text
@@ -82,18 +83,18 @@ FitsText (truncate text size) = length (call_line (truncate text size)) < max_te
 FitsText (link from to) = length (call_line (link from to)) < max_text
 FitsText call = ⊥
 
--- no byte of it, 10, would end the line
+-- No byte of the line is a newline, byte 10.
 abbrev pub IsOneLine : List ℕ → Type 0
 IsOneLine line = list_all (λ b. not (b == 10)) line ≡ true
 
--- each of these calls is what its line asks for
+-- Each of these calls is the command of its line.
 abbrev pub AreRead : List Call → Type 0
 AreRead calls = map (λ call. command_of (call_line call)) calls ≡ map file_call calls
 
--- the lines of calls, each with its newline
+-- The lines of calls, each with its newline.
 abbrev pub call_lines : List Call → List ℕ
 call_lines calls = flat_map (λ call. call_line call ++ codes "\n") calls
 
--- the script that makes the tree
+-- The script that makes the tree.
 abbrev pub export_text : FileTree → List ℕ
 export_text tree = call_lines (export_calls tree)

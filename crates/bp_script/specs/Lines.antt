@@ -1,4 +1,4 @@
--- What a line that was read asks for.
+-- The command of a line that was decoded.
 use Rattle.std.specs.Prelude.{ℕ, ◌≤◌, ◌+◌, ◌||◌, if◌then◌else◌, List, [], ◌∷◌, get_or, length, map, min, Option, None, Some, option_map, Result, Ok, Err}
 use Rattle.std.specs.Borrow.{Bor, Fml, MutBor}
 use Rattle.std.specs.List.{All}
@@ -27,26 +27,26 @@ use Rattle.bp_script.specs.contracts.decoded.Decoded.{the_row}
 use Rattle.bp_script.specs.Commands.{Command, bytes_spelled, cache_command, decoded_piece, is_empty_word, number_spelled, piece_spelled, storm_command, truncate_command, whole_crash, words_of}
 use Rattle.bp_script.specs.Commands.Command.{file_call, sync, space, crash, storm, cache, log, bad_syntax}
 
--- the most bytes of a line, so that a place in it has 32 bits
+-- The greatest number of bytes of a line, so that an offset in it has 32 bits.
 abbrev pub most_room : ℕ
 most_room = MOST_ROOM
 
--- the bytes of the longest line that can be decoded
+-- The length in bytes of the longest line that can be decoded.
 abbrev pub decoded_room : Decoded → ℕ
 decoded_room decoded = min (min (vec_capacity decoded.first) (vec_capacity decoded.second)) most_room
 
--- once what was borrowed of it is given back, it has no less room
+-- The decoded memory has at least as much room when the borrow of its contents ends.
 abbrev pub KeepsRoom : MutBor Decoded → Fml
 KeepsRoom decoded = Rests the_row decoded (λ after. decoded_room decoded.now ≤ decoded_room after)
 
--- what its two memories hold
+-- The contents of the two memories.
 abbrev pub first_held : Decoded → List ℕ
 first_held decoded = decoded.first.items
 
 abbrev pub second_held : Decoded → List ℕ
 second_held decoded = decoded.second.items
 
--- the pieces that it holds, of which the first memory has the parts
+-- The decoded pieces. Their paths and bytes are parts of the first memory.
 abbrev pub pieces_held : Decoded → List Piece
 pieces_held decoded = map (piece_in decoded.first.items) decoded.pieces.items
 
@@ -63,55 +63,55 @@ line_asks (Ok (asks.Cache seed)) = cache seed
 line_asks (Ok asks.Log) = log
 line_asks (Err fault) = bad_syntax
 
--- the parts of each piece of a batch lie in its text
+-- The parts of each piece of a batch lie in its text.
 abbrev pub HasItsParts : Result Line Syntax → Type 0
 HasItsParts (Ok (asks.Call (given.Batch text pieces))) = All (LiesIn text.now) pieces.now
 HasItsParts asked = Unit {0}
 
--- the call of a line can be asked for
+-- The call of a line satisfies the requirements of a call.
 abbrev pub CanBeAsked : Result Line Syntax → Type 0
 CanBeAsked (Ok (asks.Call call)) = CanAsk call
 CanBeAsked asked = Unit {0}
 
--- ---- the words of pieces
+-- ---- the fields of pieces
 
--- those of a piece and of all behind it, and how many bytes they have
+-- The fields of a piece and of all pieces after it, and the number of their bytes.
 abbrev pub words_at : PieceWords → List (List ℕ)
 words_at words = words.path.now ∷ words.off.now ∷ words_of words.rest.now
 
 abbrev pub words_len : PieceWords → ℕ
 words_len words = length words.path.now + length words.off.now + length words.rest.now
 
--- the first of a text
+-- The first field of a text.
 abbrev pub first_word : List ℕ → List ℕ
 first_word text = get_or (words_of text) 0 []
 
--- those of a text, or none where there is no text, and how many bytes that has
+-- The fields of a text, none if there is no text; and the number of its bytes.
 abbrev pub words_behind : Option (Bor (List ℕ)) → List (List ℕ)
 words_behind text = option_map_or (λ t. words_of t.now) text []
 
 abbrev pub len_behind : Option (Bor (List ℕ)) → ℕ
 len_behind text = option_map_or (λ t. length t.now) text 0
 
--- the batch of pieces whose paths and bytes are parts of a text
+-- The batch of pieces whose paths and bytes are parts of a text.
 abbrev pub batch_in : List ℕ → List GivenPiece → Call
 batch_in text pieces = batch (map (piece_in text) pieces)
 
--- the bytes of a word that is not empty
+-- The bytes of a field that is not empty.
 abbrev pub bytes_in_word : List ℕ → Option (List ℕ)
 bytes_in_word word = if is_empty_word word then None else bytes_spelled word
 
--- a piece decoded from its three words, of which none is empty
+-- A piece decoded from its three fields, if none of them is empty.
 abbrev pub piece_decoded : List ℕ → List ℕ → List ℕ → Option Piece
 piece_decoded path off bytes =
     if is_empty_word path || is_empty_word bytes then None
     else option_map decoded_piece (piece_spelled path (number_spelled off) (bytes_spelled bytes))
 
--- the first of these words
+-- The first piece that these fields spell.
 abbrev pub first_piece : PieceWords → Option Piece
 first_piece words = piece_decoded words.path.now words.off.now (first_word words.rest.now)
 
--- what a verb and a path ask for
+-- The command of a verb and a path.
 abbrev pub path_row : PathVerb → List ℕ → Command
 path_row verb.Create path = file_call (create path)
 path_row verb.Mkdir path = file_call (mkdir path)
@@ -123,7 +123,7 @@ path_row verb.Links path = file_call (links path)
 path_row verb.SnapList path = file_call (snap_list path)
 path_row verb.SnapStat path = file_call (snap_stat path)
 
--- what a verb and another word ask for
+-- The command of a verb and one other field.
 abbrev pub word_row : Option WordVerb → List ℕ → Command
 word_row (Some on.Crash) word = whole_crash word
 word_row (Some on.Storm) word = storm_command (number_spelled word)
@@ -131,7 +131,7 @@ word_row (Some on.Cache) word = cache_command (number_spelled word)
 word_row (Some (on.Path verb)) word = path_row verb word
 word_row None word = bad_syntax
 
--- what a verb, a path and a last word ask for
+-- The command of a verb, a path and a last field.
 abbrev pub pair_row : Option PairVerb → List ℕ → List ℕ → Command
 pair_row (Some pair.Truncate) path last = truncate_command path (number_spelled last)
 pair_row (Some pair.Rename) path last = file_call (rename path last)

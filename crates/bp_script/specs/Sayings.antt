@@ -25,19 +25,20 @@ said_text said.LongLine = long_line_text
 said_text said.BadChoice = choice_text
 said_text (said.Call call) = call_line (call_of call) ++ codes "\n"
 
--- an answer of one line, with no more bytes than one call reads
+-- An answer of one line, with no more bytes than one call reads.
 abbrev pub IsLine : Answer → Type 0
 IsLine (answer.Names listing) = ⊥
 IsLine given = IsShortAnswer given
 
--- an answer is one line, a name is no longer than names are, and a call is one of an export
+-- The line fits into the room of a reply: an answer has one line, a name has at most `max_name` bytes, and a call is
+-- one of an export.
 abbrev pub FitsReply : Said → Type 0
 FitsReply (said.Answer given) = IsLine given
 FitsReply (said.Name kind name) = length name.now ≤ max_name
 FitsReply (said.Call call) = FitsText (call_of call)
 FitsReply _ = Unit {0}
 
--- the line of a clean image, of the digits of its numbers
+-- The line of a clean image, from the digits of its numbers.
 abbrev pub clean_line : List ℕ → List ℕ → List ℕ → List ℕ → List ℕ → List ℕ
 clean_line files dirs bytes live free = codes "clean " ++ files ++ codes " " ++ dirs ++ codes " " ++ bytes ++ codes " "
     ++ live ++ codes " " ++ free ++ codes "\n"

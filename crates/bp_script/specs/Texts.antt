@@ -12,11 +12,11 @@ use Rattle.bp_plain.specs.Refusals.{refusal_number, refusal_word}
 
 -- ---- names
 
--- Control bytes, the space, `%`, `/` and all bytes outside ASCII are escaped.
+-- Whether a byte is escaped: control bytes, the space, `%`, `/` and all bytes outside ASCII are.
 abbrev pub is_escaped : ℕ → Bool
 is_escaped b = nat_le b 32 || b == 37 || b == 47 || nat_le 127 b
 
--- a name, each escaped byte of it as `%` and two upper-case digits
+-- The text of a name: each escaped byte is written as `%` and two upper-case digits.
 abbrev pub name_text : Name → List ℕ
 name_text name = flat_map (λ b. if is_escaped b then percent_encode_byte b else b ∷ []) name
 
@@ -29,7 +29,7 @@ kind_letter Dir = codes "d"
 abbrev pub done_text : List ℕ
 done_text = codes "ok\n"
 
--- `-` stands for no bytes
+-- The hexadecimal digits of bytes; `-` for no bytes.
 abbrev pub digits_or_dash : List ℕ → List ℕ
 digits_or_dash [] = codes "-"
 digits_or_dash (b ∷ content) = encode_lower (b ∷ content)
@@ -52,24 +52,24 @@ dir_text count = codes "dir " ++ decimal count ++ codes "\n"
 abbrev pub links_text : ℕ → List ℕ
 links_text count = codes "links " ++ decimal count ++ codes "\n"
 
--- a line of two numbers
+-- A line of two numbers.
 abbrev pub pair_text : List ℕ → ℕ → ℕ → List ℕ
 pair_text front first second = front ++ decimal first ++ codes " " ++ decimal second ++ codes "\n"
 
--- how many blocks are free, and how many are live
+-- The line with the numbers of free and of live blocks.
 abbrev pub space_text : ℕ → ℕ → List ℕ
 space_text free live = pair_text (codes "space ") free live
 
--- how many calls a crash kept, of how many
+-- The line with the number of calls that survived a crash, and the number of calls before it.
 abbrev pub kept_text : ℕ → ℕ → List ℕ
 kept_text count total = codes "kept " ++ decimal count ++ codes " of " ++ decimal total ++ codes "\n"
 
--- how many events, barriers and calls the log has
+-- The line with the numbers of events, barriers and calls of the log.
 abbrev pub log_text : ℕ → ℕ → ℕ → List ℕ
 log_text events barriers calls =
     codes "log " ++ decimal events ++ codes " " ++ decimal barriers ++ codes " " ++ decimal calls ++ codes "\n"
 
--- the numbers that stand behind a refusal's word
+-- The numbers after the word of a refusal.
 abbrev pub details : Refusal → List ℕ
 details (no_space need free) = codes " " ++ decimal need ++ codes " " ++ decimal free
 details _ = []
@@ -92,15 +92,15 @@ choice_text = codes "err 23 choice\n"
 pub data LineReply : Type 0 where
   answered : Answer → LineReply
   synced : LineReply
-  -- the free blocks, and the live ones
+  -- The numbers of free and of live blocks.
   space_of : ℕ → ℕ → LineReply
-  -- how many calls a crash kept, and how many there were
+  -- The number of calls that survived a crash, and the number of calls before it.
   kept_of : ℕ → ℕ → LineReply
-  -- the events of the log, its barriers and its calls
+  -- The numbers of events, barriers and calls of the log.
   log_of : ℕ → ℕ → ℕ → LineReply
   syntax : LineReply
   long : LineReply
-  -- the log allows no such crash
+  -- The log does not allow such a crash.
   bad_choice : LineReply
 
 abbrev pub listing_text : List (Kind × Name) → List ℕ

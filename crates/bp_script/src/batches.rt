@@ -16,23 +16,24 @@ use arrayvec::ArrayVec;
 use bp_limits::MAX_PIECES;
 use bp_plain::{Piece, Span};
 
-/// The words of a piece, of which the last is the first of a text.
+/// The fields of a piece. The last is the first field of a text.
 #[derive(Clone, Copy)]
 pub(crate) struct PieceWords<'a> {
-    /// The word of the path.
+    /// The field of the path.
     pub(crate) path: &'a [u8],
-    /// The word of the offset.
+    /// The field of the offset.
     pub(crate) off: &'a [u8],
-    /// The word of the bytes, with what stands behind it.
+    /// The field of the bytes, with the text after it.
     pub(crate) rest: &'a [u8],
 }
 
-/// Decodes the pieces of a batch, from the words of the first one on: paths and bytes into a text, one behind the other, in
-/// room that is there. They are written over what the text has, so that only what it lacks has to be filled.
+/// Decodes the pieces of a batch, from the fields of the first one on: paths and bytes go into a text, one after the
+/// other, in memory that is allocated. They overwrite the contents of the text, so that only missing bytes have to be
+/// filled.
 ///
 /// # Errors
 ///
-/// `Syntax` where the words are not those of 1 to 16 pieces.
+/// * `Syntax`: the fields are not those of 1 to 16 pieces.
 pub(crate) fn decode_pieces(
     first: PieceWords<'_>,
     text: &mut Vec<u8>,
@@ -60,11 +61,11 @@ pub(crate) fn decode_pieces(
     Ok(())
 }
 
-/// The words of the piece that a text begins with, or none where there is no text.
+/// Splits off the fields of the piece that a text begins with; none if there is no text.
 ///
 /// # Errors
 ///
-/// `Syntax` where the text has fewer words.
+/// * `Syntax`: the text has fewer than three fields.
 fn next_words(text: Option<&[u8]>) -> Result<Option<PieceWords<'_>>, Syntax>
     ensures split { IfOk result (λ next. option_map_or words_at next [] ≡ words_behind text.entry) }
     ensures few { OnErr result ((1 ≤ length (words_behind text.entry)) × (length (words_behind text.entry) ≤ 2)) }
@@ -79,12 +80,12 @@ fn next_words(text: Option<&[u8]>) -> Result<Option<PieceWords<'_>>, Syntax>
     Ok(Some(PieceWords { path, off, rest }))
 }
 
-/// Decodes the words of a piece: its path and its bytes go into a text, from a place on, in room that is there. Tells the piece,
-/// and the text behind its words.
+/// Decodes the fields of a piece: its path and its bytes go into a text, from an offset on, in memory that is
+/// allocated. Returns the piece, and the text after its fields.
 ///
 /// # Errors
 ///
-/// `Syntax` exactly where a word is empty, the offset is no number or the bytes are none.
+/// * `Syntax`: exactly if a field is empty, the offset is no number or the bytes are no hexadecimal digits.
 fn add_piece<'a>(
     words: PieceWords<'a>,
     text: &mut Vec<u8>,
@@ -115,7 +116,7 @@ fn add_piece<'a>(
     Ok((Piece { path, off, bytes }, behind))
 }
 
-/// Where a part of a text ends.
+/// Returns the end of a part of a text.
 fn end_of(part: Span) -> usize
     requires { part.at + part.len ≤ most_room }
     ensures { result ≡ part.at + part.len }
@@ -123,7 +124,7 @@ fn end_of(part: Span) -> usize
     (part.at + part.len) as usize
 }
 
-/// Writes the path of a word into a text from a place on, and tells which part of it that is.
+/// Writes the path that a field spells into a text from an offset on, and returns its part of the text.
 fn add_path_part(word: &[u8], text: &mut Vec<u8>, at: usize) -> Span
     requires within { at ≤ length text.old.items }
     requires room { at + length word.now ≤ vec_capacity text.old }
@@ -142,12 +143,12 @@ fn add_path_part(word: &[u8], text: &mut Vec<u8>, at: usize) -> Span
     }
 }
 
-/// Writes the bytes of the word that a rest begins with into a text from a place on, and tells which part of it they are, and
-/// what stands behind the word.
+/// Writes the bytes that the first field of `rest` spells into a text from an offset on. Returns their part of the
+/// text, and the text after the field.
 ///
 /// # Errors
 ///
-/// `Syntax` exactly where the word is empty or is none of bytes.
+/// * `Syntax`: exactly if the field is empty or spells no bytes.
 fn add_bytes_part<'a>(
     rest: &'a [u8],
     text: &mut Vec<u8>,
@@ -164,7 +165,7 @@ fn add_bytes_part<'a>(
     ensures len { IfOk result (λ added. added.0.len + option_map_or (λ more. length more.now + 1) added.1 0 ≤ length rest.now) }
     ensures room { vec_capacity text.old ≤ vec_capacity text.new }
 {
-    // Long enough for the bytes of all words that are left: mostly only the first piece of a line fills what lacks.
+    // Long enough for the bytes of all remaining fields: mostly only the first piece of a line fills missing bytes.
     lengthen(at + rest.len() / 2, text);
     let (len, behind) = decode_word(rest, &mut text[at..])?;
     let part = Span {

@@ -11,10 +11,11 @@ use crate::pieces::{put, put_digits, put_escaped};
 use bp_plain::Call;
 use percent_encoding::{AsciiSet, CONTROLS, ascii_set};
 
-/// The bytes of ASCII that the word of a path escapes: those that the text of a name does, but for `/`.
+/// The bytes of ASCII that the field of a path escapes: those that the text of a name escapes, except `/`.
 const PATH_ESCAPED: AsciiSet = ascii_set!(CONTROLS.add(b' ').add(b'%'));
 
-/// Writes the line that asks for a call of an export with its newline to the front of `into`, and tells how many bytes it is.
+/// Writes the line that asks for a call of an export, with its newline, to the beginning of `into`, and returns its
+/// length in bytes.
 pub fn say_call(call: &Call<'_>, into: &mut [u8]) -> usize
     requires room { max_text ≤ length into.old }
     requires short { FitsText (call_of call.now) }
@@ -25,7 +26,7 @@ pub fn say_call(call: &Call<'_>, into: &mut [u8]) -> usize
     put(into, end, b"\n")
 }
 
-/// The same without the newline.
+/// Writes the line that asks for a call of an export, without its newline, and returns its length in bytes.
 fn say_line(call: &Call<'_>, into: &mut [u8]) -> usize
     requires room { max_text ≤ length into.old }
     requires short { FitsText (call_of call.now) }
@@ -74,7 +75,7 @@ fn say_link(from: &[u8], to: &[u8], into: &mut [u8]) -> usize
     put_second(into, end, to)
 }
 
-/// Writes a verb with the space behind it, and the word of a path.
+/// Writes a verb with the space after it, and the field of a path.
 fn say_verb(verb: &[u8], path: &[u8], into: &mut [u8]) -> usize
     requires { length verb.now + length (path_word path.now) ≤ length into.old }
     ensures text { into.new ≡ verb.now ++ path_word path.now ++ drop result into.old }
@@ -84,7 +85,7 @@ fn say_verb(verb: &[u8], path: &[u8], into: &mut [u8]) -> usize
     put_path(into, end, path)
 }
 
-/// Writes a space and the word of a path at a place of a buffer, and tells where they end.
+/// Writes a space and the field of a path at an offset of a buffer, and returns their end.
 fn put_second(into: &mut [u8], at: usize, path: &[u8]) -> usize
     requires { at + 1 + length (path_word path.now) ≤ length into.old }
     ensures text { into.new ≡
@@ -95,7 +96,7 @@ fn put_second(into: &mut [u8], at: usize, path: &[u8]) -> usize
     put_path(into, end, path)
 }
 
-/// Writes the word of a path at a place of a buffer, and tells where it ends.
+/// Writes the field of a path at an offset of a buffer, and returns its end.
 fn put_path(into: &mut [u8], at: usize, path: &[u8]) -> usize
     requires { at + length (path_word path.now) ≤ length into.old }
     ensures text { into.new ≡
@@ -105,7 +106,7 @@ fn put_path(into: &mut [u8], at: usize, path: &[u8]) -> usize
     put_escaped(into, at, path, PATH_ESCAPED)
 }
 
-/// Writes a space and a number at a place of a buffer, and tells where they end.
+/// Writes a space and a number at an offset of a buffer, and returns their end.
 fn put_number(into: &mut [u8], at: usize, number: u64) -> usize
     requires { at + 1 + length (decimal number) ≤ length into.old }
     ensures text { into.new ≡
@@ -117,7 +118,7 @@ fn put_number(into: &mut [u8], at: usize, number: u64) -> usize
     put(into, end, digits.format(number).as_bytes())
 }
 
-/// Writes a space and the digits of bytes at a place of a buffer, and tells where they end.
+/// Writes a space and the digits of bytes at an offset of a buffer, and returns their end.
 fn put_bytes(into: &mut [u8], at: usize, bytes: &[u8]) -> usize
     requires { at + 1 + length (digits_or_dash bytes.now) ≤ length into.old }
     ensures text { into.new ≡
@@ -129,7 +130,7 @@ fn put_bytes(into: &mut [u8], at: usize, bytes: &[u8]) -> usize
     put_content(into, end, bytes)
 }
 
-/// Writes the digits of bytes, or a dash for none, at a place of a buffer, and tells where they end.
+/// Writes the digits of bytes, or a dash for none, at an offset of a buffer, and returns their end.
 fn put_content(into: &mut [u8], at: usize, bytes: &[u8]) -> usize
     requires { at + length (digits_or_dash bytes.now) ≤ length into.old }
     ensures text { into.new ≡

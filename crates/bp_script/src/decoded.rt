@@ -1,4 +1,4 @@
-//! Memory for the words of a line, and what the line asks for.
+//! Memory for the decoded fields of a line, and the decoding of lines.
 
 ghost use Rattle.bp_plain.specs.Calls.Call.{batch, link, rename};
 ghost use Rattle.bp_replay.specs.Wanted.Wanted.{at};
@@ -23,11 +23,11 @@ use bp_plain::{Call, Piece};
 use bp_replay::Cut;
 use std::alloc::{AllocError, Global};
 
-/// The most bytes of a line, so that a place in it has 32 bits.
+/// The greatest number of bytes of a line, so that an offset in it has 32 bits.
 const MOST_ROOM: usize = 4_294_967_295;
 
-/// Memory for what the words of a line stand for, decoded. Both texts have the room of a line, and the pieces of a batch
-/// are parts of the first.
+/// Memory for the decoded fields of a line. Both texts have the room of a line, and the pieces of a batch are parts
+/// of the first.
 #[derive(Drop)]
 pub struct Decoded {
     first: Vec<u8>,
@@ -36,7 +36,7 @@ pub struct Decoded {
 }
 
 impl Decoded {
-    /// Memory for lines of at most `room` bytes, and of less than 4 GiB. Fails only for want of memory.
+    /// Allocates memory for lines of at most `room` bytes, and of less than 4 GiB. Fails only if memory lacks.
     pub fn new(alloc: Global, room: usize) -> Result<Decoded, AllocError>
         ensures { IfOk result (λ decoded. decoded_room decoded ≡ min room most_room) }
     {
@@ -49,7 +49,7 @@ impl Decoded {
         })
     }
 
-    /// The bytes of the longest line that it has memory for.
+    /// Returns the length in bytes of the longest line for which there is memory.
     pub fn room(&self) -> usize
         ensures { result ≡ decoded_room self.now }
     {
@@ -59,13 +59,13 @@ impl Decoded {
             .min(MOST_ROOM)
     }
 
-    /// What a line of a script asks for. Its paths, its bytes and its mask are decoded, and lie in this memory, but a path with
-    /// no escape is lent from the line. A mask has at most half as many bytes as the line. A call is one that a volume carries
-    /// out: the parts of a batch lie in its text.
+    /// Decodes a line of a script. Its paths, its bytes and its mask are decoded into this memory, except that a path
+    /// without escapes is borrowed from the line. A mask has at most half as many bytes as the line. A call is one
+    /// that a volume carries out: the parts of a batch lie in its text.
     ///
     /// # Errors
     ///
-    /// `Syntax` exactly where the line is none of the table of commands.
+    /// * `Syntax`: exactly if the line is not in the table of commands.
     pub fn line<'a>(&'a mut self, bytes: &'a [u8]) -> Result<Line<'a>, Syntax>
         requires room { length bytes.now ≤ decoded_room self.old }
         ensures* keeps_room { sem 𝓛 (KeepsRoom self.entry) }
@@ -81,7 +81,7 @@ impl Decoded {
         }
     }
 
-    /// What a word and the text behind its space ask for.
+    /// Decodes a line from its verb and the text after the space of the verb.
     fn behind_verb<'a>(&'a mut self, verb: &[u8], rest: &'a [u8]) -> Result<Line<'a>, Syntax>
         requires { length rest.now ≤ decoded_room self.old }
         ensures* keeps_room { sem 𝓛 (KeepsRoom self.entry) }
@@ -98,7 +98,7 @@ impl Decoded {
         }
     }
 
-    /// What two words and the text behind the second one's space ask for.
+    /// Decodes a line from two fields and the text after the space of the second.
     fn behind_pair<'a>(
         &'a mut self,
         verb: &[u8],
@@ -121,7 +121,7 @@ impl Decoded {
         }
     }
 
-    /// What a line of two words asks for.
+    /// Decodes a line of two fields.
     fn on_word<'a>(&'a mut self, verb: &[u8], word: &'a [u8]) -> Result<Line<'a>, Syntax>
         requires { length word.now ≤ decoded_room self.old }
         ensures* keeps_room { sem 𝓛 (KeepsRoom self.entry) }
@@ -136,7 +136,7 @@ impl Decoded {
         }
     }
 
-    /// The line of a verb and a path.
+    /// Makes the line of a verb and a path.
     fn on_path<'a>(&'a mut self, verb: PathVerb, path: &'a [u8]) -> Line<'a>
         requires { length path.now ≤ decoded_room self.old }
         ensures* keeps_room { sem 𝓛 (KeepsRoom self.entry) }
@@ -145,7 +145,7 @@ impl Decoded {
         path_line(verb, self.path_of(path))
     }
 
-    /// What a line of a word, a path and a last word asks for.
+    /// Decodes a line of a verb, a path and a last field.
     fn on_pair<'a>(
         &'a mut self,
         verb: &[u8],
@@ -165,7 +165,7 @@ impl Decoded {
         }
     }
 
-    /// The line of a rename.
+    /// Makes the line of a rename.
     fn rename<'a>(&'a mut self, from: &'a [u8], to: &'a [u8]) -> Line<'a>
         requires from { length from.now ≤ decoded_room self.old }
         requires to { length to.now ≤ decoded_room self.old }
@@ -176,7 +176,7 @@ impl Decoded {
         Line::Call(Call::Rename { from, to })
     }
 
-    /// The line of one more name.
+    /// Makes the line of a link.
     fn link<'a>(&'a mut self, from: &'a [u8], to: &'a [u8]) -> Line<'a>
         requires from { length from.now ≤ decoded_room self.old }
         requires to { length to.now ≤ decoded_room self.old }
@@ -187,8 +187,9 @@ impl Decoded {
         Line::Call(Call::Link { from, to })
     }
 
-    /// What three words and the text behind the third one's space ask for. But for a batch, a space in that text is no digit
-    /// of any kind, so where there is one the line is none of the table, as it must be: it has more words than four.
+    /// Decodes a line from three fields and the text after the space of the third. Except in a batch, a space in that
+    /// text is no digit of any kind. So a line with one is not in the table, as it must be: it has more than four
+    /// fields.
     fn long<'a>(
         &'a mut self,
         verb: &[u8],
@@ -214,7 +215,7 @@ impl Decoded {
         }
     }
 
-    /// The line of a batch: the first two words of its first piece, and the text behind them.
+    /// Decodes the line of a batch from the first two fields of its first piece, and the text after them.
     fn batch(&mut self, path: &[u8], off: &[u8], rest: &[u8]) -> Result<Line<'_>, Syntax>
         requires { length path.now + length off.now + length rest.now ≤ decoded_room self.old }
         ensures* keeps_room { sem 𝓛 (KeepsRoom self.entry) }
@@ -238,7 +239,7 @@ impl Decoded {
         decode_pieces(PieceWords { path, off, rest }, first, pieces)
     }
 
-    /// The line of a batch with the pieces that are held.
+    /// Makes the line of a batch from the decoded pieces.
     fn batch_held(&self) -> Line<'_>
         requires { HoldsParts self.now }
         ensures meaning { line_asks (Ok result) ≡ file_call (batch (pieces_held self.now)) }
@@ -250,7 +251,7 @@ impl Decoded {
         })
     }
 
-    /// What a line of four words asks for, where the last may hold spaces.
+    /// Decodes a line of four fields. The last may contain spaces.
     fn on_long<'a>(
         &'a mut self,
         verb: &[u8],
@@ -272,7 +273,7 @@ impl Decoded {
         }
     }
 
-    /// The line of a write.
+    /// Decodes the line of a write.
     fn write<'a>(
         &'a mut self,
         path: &'a [u8],
@@ -293,7 +294,7 @@ impl Decoded {
         }
     }
 
-    /// The line of a crash at a moment.
+    /// Decodes the line of a crash at a given point.
     fn crash(
         &mut self,
         moment: Option<u64>,
@@ -313,7 +314,7 @@ impl Decoded {
         }
     }
 
-    /// The line of a crash with the mask that is held.
+    /// Makes the line of a crash with the decoded mask.
     fn crash_held(&self, moment: u64, epoch: u64) -> Line<'_>
         ensures { line_asks (Ok result) ≡ crash (at moment epoch (second_held self.now)) }
     {
@@ -324,7 +325,7 @@ impl Decoded {
         })
     }
 
-    /// Decodes hexadecimal digits as bytes, into the second memory.
+    /// Decodes hexadecimal digits to bytes, into the second memory.
     fn decode_digits(&mut self, digits: &[u8]) -> Result<(), Syntax>
         requires { length digits.now ≤ decoded_room self.old }
         ensures bytes { result_ok (decode_of digits.now) ≡
@@ -334,7 +335,7 @@ impl Decoded {
         decode_bytes(digits, &mut self.second)
     }
 
-    /// The path of a word.
+    /// Decodes the path that a field spells.
     fn path_of<'a>(&'a mut self, word: &'a [u8]) -> &'a [u8]
         requires { length word.now ≤ decoded_room self.old }
         ensures* keeps_room { sem 𝓛 (KeepsRoom self.entry) }
@@ -344,7 +345,7 @@ impl Decoded {
         decoded_or(is_decoded, self.first.as_slice(), word)
     }
 
-    /// The paths of two words.
+    /// Decodes the paths that two fields spell.
     pub fn pair<'a>(&'a mut self, one: &'a [u8], other: &'a [u8]) -> (&'a [u8], &'a [u8])
         requires one { length one.now ≤ decoded_room self.old }
         requires other { length other.now ≤ decoded_room self.old }
@@ -356,7 +357,7 @@ impl Decoded {
         self.pair_held(are_decoded, one, other)
     }
 
-    /// Decodes two words as paths, where they have an escape: which of them it did.
+    /// Decodes two fields as paths, each if it has an escape, and returns which of them it decoded.
     fn decode_pair(&mut self, one: &[u8], other: &[u8]) -> (bool, bool)
         requires one { length one.now ≤ decoded_room self.old }
         requires other { length other.now ≤ decoded_room self.old }
@@ -368,7 +369,7 @@ impl Decoded {
         (decode_escaped(one, first), decode_escaped(other, second))
     }
 
-    /// What is held of two paths, each of them or its word.
+    /// Returns two paths, each from its memory or from its field.
     fn pair_held<'a>(
         &'a self,
         are_decoded: (bool, bool),
@@ -384,11 +385,11 @@ impl Decoded {
         )
     }
 
-    /// The path of a word, and the bytes that hexadecimal digits stand for.
+    /// Decodes the path that a field spells, and the bytes that hexadecimal digits spell.
     ///
     /// # Errors
     ///
-    /// `Syntax` exactly where the digits are none of bytes.
+    /// * `Syntax`: exactly if the digits spell no bytes.
     pub fn path_and_bytes<'a>(
         &'a mut self,
         path: &'a [u8],
@@ -405,7 +406,7 @@ impl Decoded {
         Ok(self.path_and_bytes_held(is_decoded, path))
     }
 
-    /// Decodes a word as a path, where it has an escape: whether it did.
+    /// Decodes a field as a path if it has an escape, and returns whether it did.
     fn decode_path(&mut self, word: &[u8]) -> bool
         requires { length word.now ≤ decoded_room self.old }
         ensures first { (if result then first_held self.new else word.now) ≡ path_bytes word.now }
@@ -415,7 +416,7 @@ impl Decoded {
         decode_escaped(word, &mut self.first)
     }
 
-    /// What is held of a path, or its word, and the bytes that are held.
+    /// Returns a path, from its memory or from its field, and the decoded bytes.
     fn path_and_bytes_held<'a>(&'a self, is_decoded: bool, path: &'a [u8]) -> (&'a [u8], &'a [u8])
         ensures path { result.0.now ≡ (if is_decoded then first_held self.now else path.now) }
         ensures bytes { result.1.now ≡ second_held self.now }

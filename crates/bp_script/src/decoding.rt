@@ -1,4 +1,4 @@
-//! The words of a line, and the bytes and the paths that they stand for.
+//! The fields of a line, and the bytes and the paths that they spell.
 
 ghost use Rattle.bp_script.specs.Commands.{bytes_spelled, part_bytes, path_bytes, unslashed, words_of};
 ghost use Rattle.bp_script.specs.Lines.{first_word, bytes_in_word, words_behind};
@@ -13,7 +13,7 @@ use crate::lines::Syntax;
 use bp_text::first_of;
 use percent_encoding::percent_decode;
 
-/// The text before the first byte of this kind, and what stands after it.
+/// Splits a text at the first byte of this value: the text before and the text after it.
 pub(crate) fn split_once(text: &[u8], at: u8) -> (&[u8], Option<&[u8]>)
     ensures split { slice_split (λ b. b == at) text.now ≡
         result.0.now ∷ option_map_or (λ rest. slice_split (λ b. b == at) rest.now) result.1 [] }
@@ -25,7 +25,7 @@ pub(crate) fn split_once(text: &[u8], at: u8) -> (&[u8], Option<&[u8]>)
     }
 }
 
-/// The hexadecimal digits of a word, of which `-` stands for none.
+/// Returns the hexadecimal digits of a field; for `-` there are none.
 pub(crate) fn digits_of(word: &[u8]) -> &[u8]
     ensures bytes { result_ok (decode_of result.now) ≡ bytes_spelled word.now }
     ensures len { length result.now ≤ length word.now }
@@ -36,13 +36,13 @@ pub(crate) fn digits_of(word: &[u8]) -> &[u8]
     }
 }
 
-/// Decodes hexadecimal digits as bytes, in room that is there.
+/// Decodes hexadecimal digits to bytes, in memory that is allocated.
 pub(crate) fn decode_bytes(digits: &[u8], into: &mut Vec<u8>) -> Result<(), Syntax>
     requires { length digits.now ≤ vec_capacity into.old }
     ensures bytes { result_ok (decode_of digits.now) ≡ (if is_ok result then Some into.new.items else None) }
     ensures room { vec_capacity into.old ≤ vec_capacity into.new }
 {
-    // Not cleared before: what it held is written over, and only what it lacks has to be filled.
+    // Not cleared before: old contents are overwritten, and only missing bytes have to be filled.
     match into.resize(digits.len() / 2, 0) {
         Ok(()) => {}
         Err(_) => unreachable!(),
@@ -50,7 +50,7 @@ pub(crate) fn decode_bytes(digits: &[u8], into: &mut Vec<u8>) -> Result<(), Synt
     decode_into(digits, into.as_mut_slice())
 }
 
-/// The same into memory with half as many bytes.
+/// Decodes hexadecimal digits to bytes, into memory with half as many bytes.
 pub(crate) fn decode_into(digits: &[u8], into: &mut [u8]) -> Result<(), Syntax>
     requires { length into.old ≡ length digits.now / 2 }
     ensures { result_ok (decode_of digits.now) ≡ (if is_ok result then Some into.new else None) }
@@ -62,12 +62,12 @@ pub(crate) fn decode_into(digits: &[u8], into: &mut [u8]) -> Result<(), Syntax>
     }
 }
 
-/// Decodes the word of bytes that a text begins with, and tells how many bytes they are, and the text behind the word. Its
-/// digits are gone through once: the end of the word is searched only behind the runs that are all digits.
+/// Decodes the field of bytes that a text begins with. Returns the number of bytes, and the text after the field. The
+/// digits are read once: the end of the field is searched only after the runs that are all digits.
 ///
 /// # Errors
 ///
-/// `Syntax` exactly where the word is empty or is none of bytes.
+/// * `Syntax`: exactly if the field is empty or spells no bytes.
 pub(crate) fn decode_word<'a>(
     text: &'a [u8],
     into: &mut [u8],
@@ -89,7 +89,7 @@ pub(crate) fn decode_word<'a>(
     Ok((len, behind))
 }
 
-/// The digits of what is left of a word. Where this is the whole word, `-` stands for none.
+/// Returns the digits of the rest of a field. If this is the whole field, `-` spells none.
 fn left_digits(left: &[u8], is_whole: bool) -> &[u8]
     ensures bytes { result_ok (decode_of result.now) ≡ (if is_whole then bytes_spelled left.now else result_ok (decode_of left.now)) }
     ensures len { length result.now ≤ length left.now }
@@ -97,8 +97,8 @@ fn left_digits(left: &[u8], is_whole: bool) -> &[u8]
     if is_whole { digits_of(left) } else { left }
 }
 
-/// Decodes a word as a path, in room that is there, where it has an escape. False says that the word is its own path, and
-/// that nothing is written.
+/// Decodes a field as a path, in memory that is allocated, if it has an escape. False if the field is its own path;
+/// nothing is written then.
 pub(crate) fn decode_escaped(word: &[u8], into: &mut Vec<u8>) -> bool
     requires { length word.now ≤ vec_capacity into.old }
     ensures path { (if result then into.new.items else word.now) ≡ path_bytes word.now }
@@ -114,15 +114,15 @@ pub(crate) fn decode_escaped(word: &[u8], into: &mut Vec<u8>) -> bool
     }
 }
 
-/// What was decoded, or the word that is its own path.
+/// Returns the decoded path, or the field that is its own path.
 pub(crate) fn decoded_or<'a>(is_decoded: bool, decoded: &'a [u8], word: &'a [u8]) -> &'a [u8]
     ensures { result.now ≡ (if is_decoded then decoded.now else word.now) }
 {
     if is_decoded { decoded } else { word }
 }
 
-/// Writes the path of a word into a text from a place on, over what the text has there and in room that is there, and tells
-/// where the path ends.
+/// Writes the path that a field spells into a text from an offset on, over its old contents and in memory that is
+/// allocated. Returns the end of the path.
 pub(crate) fn put_path(word: &[u8], text: &mut Vec<u8>, at: usize) -> usize
     requires within { at ≤ length text.old.items }
     requires room { at + length word.now ≤ vec_capacity text.old }
@@ -141,7 +141,7 @@ pub(crate) fn put_path(word: &[u8], text: &mut Vec<u8>, at: usize) -> usize
     }
 }
 
-/// The same part by part.
+/// Writes the path that a field spells part by part, as `put_path` does.
 fn put_parts(word: &[u8], text: &mut Vec<u8>, at: usize) -> usize
     requires within { at ≤ length text.old.items }
     requires room { at + length word.now ≤ vec_capacity text.old }
@@ -162,7 +162,7 @@ fn put_parts(word: &[u8], text: &mut Vec<u8>, at: usize) -> usize
     end
 }
 
-/// Writes what a part of a path stands for into a text from a place on, and tells where it ends.
+/// Writes the bytes that a part of a path spells into a text from an offset on, and returns their end.
 fn put_part(part: &[u8], text: &mut Vec<u8>, at: usize) -> usize
     requires within { at ≤ length text.old.items }
     requires room { at + length part.now ≤ vec_capacity text.old }
@@ -180,7 +180,7 @@ fn put_part(part: &[u8], text: &mut Vec<u8>, at: usize) -> usize
     end
 }
 
-/// Writes bytes into a text from a place on, over what the text has there and in room that is there.
+/// Writes bytes into a text from an offset on, over its old contents and in memory that is allocated.
 fn put(bytes: &[u8], text: &mut Vec<u8>, at: usize)
     requires within { at ≤ length text.old.items }
     requires room { at + length bytes.now ≤ vec_capacity text.old }
@@ -192,13 +192,13 @@ fn put(bytes: &[u8], text: &mut Vec<u8>, at: usize)
     if end <= text.len() {
         text[at..end].copy_from_slice(bytes);
     } else {
-        // Added as they are, with nothing filled before.
+        // Appended directly, with nothing filled before.
         text.truncate(at);
         add(bytes, text);
     }
 }
 
-/// The same of one byte.
+/// Writes one byte into a text at an offset, as `put` does.
 fn put_byte(byte: u8, text: &mut Vec<u8>, at: usize)
     requires within { at ≤ length text.old.items }
     requires room { at < vec_capacity text.old }
@@ -213,7 +213,7 @@ fn put_byte(byte: u8, text: &mut Vec<u8>, at: usize)
     }
 }
 
-/// Gives a text at least so many bytes, in room that is there: only what it lacks has to be filled.
+/// Makes a text at least this long, in memory that is allocated: only missing bytes have to be filled.
 pub(crate) fn lengthen(len: usize, text: &mut Vec<u8>)
     requires { len ≤ vec_capacity text.old }
     ensures front { take (length text.old.items) text.new.items ≡ text.old.items }
@@ -230,7 +230,7 @@ pub(crate) fn lengthen(len: usize, text: &mut Vec<u8>)
     }
 }
 
-/// Adds bytes, in room that is there.
+/// Appends bytes, in memory that is allocated.
 fn add(bytes: &[u8], into: &mut Vec<u8>)
     requires { vec_len into.old + length bytes.now ≤ vec_capacity into.old }
     ensures items { into.new.items ≡ into.old.items ++ bytes.now }
@@ -243,14 +243,14 @@ fn add(bytes: &[u8], into: &mut Vec<u8>)
     }
 }
 
-/// The byte, or one that no name may hold in place of `/`.
+/// Returns the byte, or for `/` one that no name may contain.
 fn without_slash(byte: u8) -> u8
     ensures { result ≡ unslashed byte }
 {
     if byte == b'/' { 0 } else { byte }
 }
 
-/// Adds a byte, in room that is there.
+/// Appends a byte, in memory that is allocated.
 fn add_byte(byte: u8, path: &mut Vec<u8>)
     requires { vec_len path.old < vec_capacity path.old }
     ensures items { path.new.items ≡ path.old.items ++ byte ∷ [] }

@@ -1,4 +1,4 @@
-//! Bytes as hexadecimal digits: sixteen bytes at a time, and then those that are left.
+//! Conversion between bytes and hexadecimal digits: sixteen bytes at a time, and then the remaining ones.
 
 ghost use Rattle.hex.specs.Hex.{decode_of, encode_lower, hex_digit_value, lower_digits};
 ghost use Rattle.std.specs.Option.{unwrap_or};
@@ -8,28 +8,29 @@ ghost use Rattle.std.specs.Simd.Lanes.{Each1};
 
 use std::simd::prelude::*;
 
-/// How many bytes are done at a time.
+/// The number of bytes converted at a time.
 const LANES: usize = 16;
 
-/// How many bytes are done at a time where there are fewer.
+/// The number of bytes converted at a time if there are fewer.
 const FEW_LANES: usize = 8;
 
-/// What stands for a byte that is no digit: more than the value of any digit.
+/// The value given to a byte that is no digit: greater than that of any digit.
 const NO_DIGIT: u8 = 16;
 
-/// The bit that tells a letter of lower case from the same one of upper case.
+/// The bit in which a lower-case letter differs from the same upper-case letter.
 const LOWER_CASE: u8 = 32;
 
 /// The digits in the order of their values.
 const LOWER_DIGITS: [u8; 16] = *b"0123456789abcdef";
 
-/// What is added to the value of each digit while digits and other bytes are told apart: the greatest byte is then the value 15.
+/// The number added to the value of each digit while digits and other bytes are distinguished: the greatest byte then
+/// means the value 15.
 const RAISED: u8 = 240;
 
-/// How many of the digits are letters.
+/// The number of digits that are letters.
 const LETTERS: u8 = 6;
 
-/// The value of each digit of either case, and `NO_DIGIT` at each other byte: eight bytes in a row.
+/// The value of each digit of either case, and `NO_DIGIT` for each other byte: eight bytes in a row.
 const DIGIT_VALUES: [[u8; 8]; 32] = [
     [16, 16, 16, 16, 16, 16, 16, 16],
     [16, 16, 16, 16, 16, 16, 16, 16],
@@ -65,21 +66,21 @@ const DIGIT_VALUES: [[u8; 8]; 32] = [
     [16, 16, 16, 16, 16, 16, 16, 16],
 ];
 
-/// Decodes pairs of digits of either case, and tells whether all of them are digits.
+/// Decodes pairs of digits of either case, and returns whether all of them are digits.
 pub(crate) fn decode_digits(digits: &[u8], into: &mut [u8]) -> bool
     requires { length digits.now ≡ 2 * length into.old }
     ensures { result_ok (decode_of digits.now) ≡ (if result then Some into.new else None) }
 {
     let front = decode_front(digits, into);
     if front + LANES <= into.len() {
-        // The run that comes next has a byte that is no digit.
+        // The next run has a byte that is no digit.
         return false;
     }
     decode_few(&digits[2 * front..], &mut into[front..])
 }
 
-/// Decodes the digits that a text begins with, run by run, up to the first run that has another byte, and tells how many bytes
-/// they are.
+/// Decodes the digits that a text begins with, run by run, up to the first run that has another byte. Returns the
+/// number of decoded bytes.
 pub(crate) fn decode_front(text: &[u8], into: &mut [u8]) -> usize
     requires { length text.now / 2 ≤ length into.old }
     ensures front { result_ok (decode_of (take (2 * result) text.now)) ≡ Some (take result into.new) }
@@ -88,7 +89,7 @@ pub(crate) fn decode_front(text: &[u8], into: &mut [u8]) -> usize
 {
     let pairs = text.len() / (4 * LANES);
     for i in 0..pairs {
-        // Two runs a turn, since each turn loads the constants anew.
+        // Two runs an iteration, since each iteration loads the constants again.
         let run = 2 * i;
         let (first, is_first) = decode_run(&text[2 * LANES * run..]);
         let (second, is_second) = decode_run(&text[2 * LANES * (run + 1)..]);
@@ -113,7 +114,7 @@ pub(crate) fn decode_front(text: &[u8], into: &mut [u8]) -> usize
     LANES * (run + 1)
 }
 
-/// The bytes of the run of digits that a text begins with, and whether all of them are digits.
+/// Decodes the run of digits that a text begins with, and returns whether all of them are digits.
 fn decode_run(digits: &[u8]) -> (u8x16, bool)
     requires { 2 * LANES ≤ length digits.now }
     ensures bytes { result_ok (decode_of (take (2 * LANES) digits.now)) ≡ (if result.1 then Some result.0 else None) }
@@ -129,20 +130,21 @@ fn decode_run(digits: &[u8]) -> (u8x16, bool)
     (high * u8x16::splat(16) + low, foreign.to_bitmask() == 0)
 }
 
-/// The values of digits of either case, or `NO_DIGIT`.
+/// Returns the values of digits of either case, or `NO_DIGIT`.
 fn values_of<const N: usize>(digits: Simd<u8, N>) -> Simd<u8, N>
     ensures { result ≡ map (λ digit. unwrap_or (hex_digit_value digit) NO_DIGIT) digits.entry }
 {
-    // Each part makes `RAISED` and the value of a digit of its own, and something less of any other byte. So the greater part tells, with
-    // no comparison and no choice, which take more instructions. Numbers become the ten greatest bytes, and then less by six.
+    // Each part makes `RAISED` plus the value of its own digits, and a smaller number of any other byte. So the
+    // greater part is the result, without a comparison and a choice, which take more instructions. Numbers become the
+    // ten greatest bytes, and then six less.
     let number = (digits + Simd::splat(u8::MAX - b'9')).saturating_sub(Simd::splat(LETTERS));
-    // Less by one, letters begin a block of 32 bytes, which no byte before them is in.
+    // After subtracting one, letters begin a block of 32 bytes, which contains no byte before them.
     let letter = ((digits - Simd::splat(1)) | Simd::splat(LOWER_CASE))
         + Simd::splat(u8::MAX - (b'f' - 1));
     (number.simd_max(letter) - Simd::splat(RAISED)).simd_min(Simd::splat(NO_DIGIT))
 }
 
-/// The same as `decode_digits` for few digits.
+/// Decodes pairs of digits as `decode_digits` does, for few digits.
 fn decode_few(digits: &[u8], into: &mut [u8]) -> bool
     requires { length digits.now ≡ 2 * length into.old }
     ensures { result_ok (decode_of digits.now) ≡ (if result then Some into.new else None) }
@@ -155,7 +157,7 @@ fn decode_few(digits: &[u8], into: &mut [u8]) -> bool
     decode_short_run(first, front) && decode_pairs(rest, back)
 }
 
-/// The same for a short run of digits.
+/// Decodes a short run of digits, as `decode_digits` does.
 fn decode_short_run(digits: &[u8], into: &mut [u8]) -> bool
     requires digits { length digits.now ≡ 2 * FEW_LANES }
     requires into { length into.old ≡ FEW_LANES }
@@ -172,7 +174,7 @@ fn decode_short_run(digits: &[u8], into: &mut [u8]) -> bool
     foreign.to_bitmask() == 0
 }
 
-/// The same pair by pair.
+/// Decodes digits pair by pair, as `decode_digits` does.
 fn decode_pairs(digits: &[u8], into: &mut [u8]) -> bool
     requires { length digits.now ≡ 2 * length into.old }
     ensures { result_ok (decode_of digits.now) ≡ (if result then Some into.new else None) }
@@ -181,28 +183,28 @@ fn decode_pairs(digits: &[u8], into: &mut [u8]) -> bool
     for i in 0..into.len() {
         let high = value_of(digits[2 * i]);
         let low = value_of(digits[2 * i + 1]);
-        // Of a byte that is no digit anything may be written: `most` tells.
+        // For a byte that is no digit anything may be written: `most` records it.
         into[i] = high % 16 * 16 + low % 16;
         most = greatest(most, high, low);
     }
     most < NO_DIGIT
 }
 
-/// The greatest of three numbers.
+/// Returns the greatest of three numbers.
 fn greatest(first: u8, second: u8, third: u8) -> u8
     ensures { result ≡ max (max first second) third }
 {
     first.max(second).max(third)
 }
 
-/// The value of a digit of either case, or `NO_DIGIT`.
+/// Returns the value of a digit of either case, or `NO_DIGIT`.
 fn value_of(digit: u8) -> u8
     ensures { result ≡ unwrap_or (hex_digit_value digit) NO_DIGIT }
 {
     DIGIT_VALUES[digit as usize / 8][digit as usize % 8]
 }
 
-/// Writes each byte as two digits of lower case.
+/// Writes each byte as two lower-case digits.
 pub(crate) fn encode_digits(content: &[u8], into: &mut [u8])
     requires { length into.old ≡ 2 * length content.now }
     ensures { into.new ≡ encode_lower content.now }
@@ -214,7 +216,7 @@ pub(crate) fn encode_digits(content: &[u8], into: &mut [u8])
     encode_bytes(short, back);
 }
 
-/// The same for whole runs of bytes.
+/// Writes whole runs of bytes as lower-case digits.
 fn encode_runs(content: &[u8], into: &mut [u8])
     requires pairs { length into.old ≡ 2 * length content.now }
     requires whole { length content.now % LANES ≡ 0 }
@@ -227,7 +229,7 @@ fn encode_runs(content: &[u8], into: &mut [u8])
     }
 }
 
-/// The digits of the run of bytes that a content begins with.
+/// Returns the digits of the run of bytes that a content begins with.
 fn encode_run(content: &[u8]) -> (u8x16, u8x16)
     requires { LANES ≤ length content.now }
     ensures digits { result.0 ++ result.1 ≡ encode_lower (take LANES content.now) }
@@ -240,7 +242,7 @@ fn encode_run(content: &[u8]) -> (u8x16, u8x16)
     high.interleave(low)
 }
 
-/// The digits of values, in lower case.
+/// Returns the lower-case digits of values.
 fn digits_of(values: u8x16) -> u8x16
     requires { Each1 (λ value. value < 16) values }
     ensures { result ≡ map (λ value. slice_index lower_digits value) values }
@@ -249,7 +251,7 @@ fn digits_of(values: u8x16) -> u8x16
     u8x16::from_array(LOWER_DIGITS).swizzle_dyn(values)
 }
 
-/// The same for few bytes.
+/// Writes few bytes as lower-case digits.
 fn encode_bytes(content: &[u8], into: &mut [u8])
     requires { length into.old ≡ 2 * length content.now }
     ensures { into.new ≡ encode_lower content.now }
@@ -261,7 +263,7 @@ fn encode_bytes(content: &[u8], into: &mut [u8])
     }
 }
 
-/// The digit of a value, in lower case.
+/// Returns the lower-case digit of a value.
 fn digit_of(value: u8) -> u8
     requires { value < 16 }
     ensures { result ≡ slice_index lower_digits value }

@@ -1,4 +1,4 @@
-//! The lines of a script, and those that decoded words make.
+//! The lines of a script, and their construction from decoded fields.
 
 ghost use Rattle.bp_script.specs.Commands.{bare_call, bare_command, cache_command, read_command, snap_read_command, storm_command, truncate_command, whole_crash};
 ghost use Rattle.bp_script.specs.Lines.{line_asks, path_row};
@@ -9,31 +9,31 @@ use bp_plain::Call;
 use bp_replay::Cut;
 use thiserror::Error;
 
-/// What a line of a script asks for.
+/// The command of a line of a script.
 #[derive(Clone, Copy, Debug, PartialEq, Eq)]
 pub enum Line<'a> {
     /// A call on files.
     Call(Call<'a>),
-    /// That all calls so far are made durable.
+    /// Makes all calls so far durable.
     Sync,
-    /// How many blocks are free, and how many are live.
+    /// Asks for the numbers of free and of live blocks.
     Space,
-    /// A crash that keeps what this says.
+    /// A crash at a given point, with the given stores surviving.
     Crash(Cut<'a>),
-    /// A crash that keeps what is drawn from this seed.
+    /// A crash whose point and surviving stores are drawn from this seed.
     Storm(u64),
-    /// A crash that keeps what the caches of two cores wrote back, in a run that is drawn from this seed.
+    /// A crash that keeps the stores that the caches of two cores wrote back, in a run drawn from this seed.
     Cache(u64),
-    /// How many events, barriers and calls the log has.
+    /// Asks for the numbers of events, barriers and calls of the log.
     Log,
 }
 
-/// The line is none of a script.
+/// The line is not in the table of commands.
 #[derive(Clone, Copy, Debug, PartialEq, Eq, Error)]
 #[error("not a line of a script")]
 pub struct Syntax;
 
-/// What a line of one word asks for.
+/// Decodes a line of one field.
 pub(crate) fn bare(verb: &[u8]) -> Result<Line<'static>, Syntax>
     ensures { line_asks result ≡ bare_command verb.now }
 {
@@ -45,7 +45,7 @@ pub(crate) fn bare(verb: &[u8]) -> Result<Line<'static>, Syntax>
     }
 }
 
-/// The line of a call that names no path.
+/// Decodes the line of a call that has no path.
 fn bare_call(verb: &[u8]) -> Result<Line<'static>, Syntax>
     ensures { line_asks result ≡ bare_call verb.now }
 {
@@ -57,7 +57,7 @@ fn bare_call(verb: &[u8]) -> Result<Line<'static>, Syntax>
     }
 }
 
-/// The line of a crash that keeps all that can be kept, or no more than is certain.
+/// Decodes the line of a crash that keeps all stores, or only the durable ones.
 pub(crate) fn whole_crash(word: &[u8]) -> Result<Line<'static>, Syntax>
     ensures { line_asks result ≡ whole_crash word.now }
 {
@@ -68,7 +68,7 @@ pub(crate) fn whole_crash(word: &[u8]) -> Result<Line<'static>, Syntax>
     }
 }
 
-/// The line of a storm.
+/// Makes the line of a storm.
 pub(crate) fn storm(seed: Option<u64>) -> Result<Line<'static>, Syntax>
     ensures { line_asks result ≡ storm_command seed }
 {
@@ -78,7 +78,7 @@ pub(crate) fn storm(seed: Option<u64>) -> Result<Line<'static>, Syntax>
     }
 }
 
-/// The line of a run of caches.
+/// Makes the line of a crash by simulated caches.
 pub(crate) fn cache(seed: Option<u64>) -> Result<Line<'static>, Syntax>
     ensures { line_asks result ≡ cache_command seed }
 {
@@ -88,7 +88,7 @@ pub(crate) fn cache(seed: Option<u64>) -> Result<Line<'static>, Syntax>
     }
 }
 
-/// The line of a verb and a decoded path.
+/// Makes the line of a verb and a decoded path.
 pub(crate) fn path_line(verb: PathVerb, path: &[u8]) -> Line<'_>
     ensures { line_asks (Ok result) ≡ path_row verb path.now }
 {
@@ -105,7 +105,7 @@ pub(crate) fn path_line(verb: PathVerb, path: &[u8]) -> Line<'_>
     })
 }
 
-/// The line of another size of a file.
+/// Makes the line of a truncate.
 pub(crate) fn truncate(path: &[u8], size: Option<u64>) -> Result<Line<'_>, Syntax>
     ensures { line_asks result ≡ truncate_command path.now size }
 {
@@ -115,7 +115,7 @@ pub(crate) fn truncate(path: &[u8], size: Option<u64>) -> Result<Line<'_>, Synta
     }
 }
 
-/// The line of a read.
+/// Makes the line of a read.
 pub(crate) fn read(path: &[u8], off: Option<u64>, len: Option<usize>) -> Result<Line<'_>, Syntax>
     ensures { line_asks result ≡ read_command path.now off len }
 {
@@ -125,7 +125,7 @@ pub(crate) fn read(path: &[u8], off: Option<u64>, len: Option<usize>) -> Result<
     }
 }
 
-/// The line of a read of the snapshot.
+/// Makes the line of a read of the snapshot.
 pub(crate) fn snap_read(
     path: &[u8],
     off: Option<u64>,

@@ -1,61 +1,61 @@
-//! What the program tells besides replies.
+//! The lines that the program prints, other than replies.
 
 ghost use Rattle.bp_script.specs.Sayings.{clean_line, clean_text, notice_text};
 ghost use Rattle.std.specs.Prelude.{drop, length, take, ◌+◌, ◌++◌, ◌≡◌, ◌≤◌};
 
 use crate::pieces::{write_pair, write_pieces};
 
-/// The room in bytes that serves every notice: five lines, each below 256 bytes.
+/// The room in bytes that suffices for every notice: five lines, each below 256 bytes.
 pub const MAX_NOTICE: usize = 1_280;
 
-/// What the program tells besides replies.
+/// A line that the program prints, other than replies.
 #[derive(Clone, Copy, Debug, PartialEq, Eq)]
 pub enum Notice {
     /// A file was formatted.
     Formatted {
-        /// All its blocks.
+        /// The number of its blocks.
         blocks: u32,
-        /// Those of them that are free.
+        /// The number of its free blocks.
         free: u32,
     },
-    /// The file does not begin with the mark of a file system.
+    /// The file does not begin with the magic number of a file system.
     NotFormatted,
-    /// The file has a size that none of its kind has.
+    /// No image has the size of the file.
     BadSize {
         /// The size in bytes.
         found: u64,
-        /// The size in bytes that was wanted.
+        /// The wanted size in bytes.
         wanted: u64,
     },
     /// The file is no well-formed image.
     Damaged {
         /// The number of a check that fails.
         check: u8,
-        /// The word of the image at which it fails.
+        /// The index of the word of the image at which it fails.
         place: u32,
     },
     /// The file is a well-formed image.
     Clean {
-        /// Its files.
+        /// The number of its files.
         files: u64,
-        /// Its directories, the root among them.
+        /// The number of its directories, with the root directory.
         dirs: u64,
-        /// The bytes of all its files.
+        /// The number of bytes of all its files.
         bytes: u128,
-        /// The blocks that are in use, the first of the file not among them.
+        /// The number of blocks in use, without the first.
         live: u32,
-        /// The blocks that are free.
+        /// The number of free blocks.
         free: u32,
     },
-    /// The file is not there.
+    /// The file does not exist.
     NoFile,
-    /// A file or a directory has a path that is longer than a call takes.
+    /// A file or a directory has a path that is longer than a call accepts.
     Deep,
-    /// The words of the command line mean nothing.
+    /// The arguments are no command.
     Usage,
 }
 
-/// Writes a notice, one line with its newline, to the front of `into`, and tells how many bytes it is.
+/// Writes a notice, one line with its newline, to the beginning of `into`, and returns its length in bytes.
 pub fn announce(notice: &Notice, into: &mut [u8]) -> usize
     requires { MAX_NOTICE ≤ length into.old }
     ensures front { take result into.new ≡ notice_text notice.now }
@@ -90,7 +90,7 @@ pub fn announce(notice: &Notice, into: &mut [u8]) -> usize
     }
 }
 
-/// Writes what a clean image has in it.
+/// Writes the line with the totals of a clean image.
 fn announce_clean(
     files: u64,
     dirs: u64,
@@ -118,7 +118,7 @@ fn announce_clean(
     )
 }
 
-/// The same from the digits of each number.
+/// Writes the line with the totals of a clean image, from the digits of each number.
 fn write_clean(
     into: &mut [u8],
     files: &[u8],

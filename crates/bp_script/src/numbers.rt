@@ -5,10 +5,10 @@ ghost use Rattle.std.specs.Prelude.{length, ◌<◌, ◌≡◌, ◌≤◌};
 
 use bp_limits::MAX_READ;
 
-/// The most digits of a number.
+/// The greatest number of digits of a number.
 const MOST_DIGITS: usize = 20;
 
-/// The number that a word stands for: one to twenty decimal digits, with a value below 2^64.
+/// Decodes the number that a field spells: one to twenty decimal digits, with a value below 2^64.
 pub(crate) fn number(word: &[u8]) -> Option<u64>
     ensures { result ≡ number_spelled word.now }
 {
@@ -21,7 +21,7 @@ pub(crate) fn number(word: &[u8]) -> Option<u64>
     }
 }
 
-/// The same for so few digits that any of them are a number below 2^64.
+/// Decodes a number with so few digits that its value is always below 2^64.
 fn short_number(word: &[u8]) -> Option<u64>
     requires some { 1 ≤ length word.now }
     requires short { length word.now < MOST_DIGITS }
@@ -37,7 +37,7 @@ fn short_number(word: &[u8]) -> Option<u64>
     Some(value)
 }
 
-/// The same for as many digits as there may be.
+/// Decodes a number with the greatest number of digits.
 fn long_number(word: &[u8]) -> Option<u64>
     requires { length word.now ≡ MOST_DIGITS }
     ensures { result ≡ number_spelled word.now }
@@ -53,7 +53,7 @@ fn long_number(word: &[u8]) -> Option<u64>
     Some(value)
 }
 
-/// The length of a read that a word stands for: a number, of no more bytes than one call reads.
+/// Decodes the length of a read that a field spells: a number of at most the bytes that one call reads.
 pub(crate) fn read_len(word: &[u8]) -> Option<usize>
     ensures { result ≡ length_spelled word.now }
 {

@@ -1,4 +1,4 @@
-//! Texts put together from pieces.
+//! Texts concatenated from pieces.
 
 ghost use Rattle.bp_script.specs.Texts.{pair_text};
 ghost use Rattle.hex.specs.Hex.{encode_lower};
@@ -8,10 +8,10 @@ ghost use Rattle.std.specs.Prelude.{drop, flat_map, length, take, ◌*◌, ◌+�
 use crate::digits::encode_digits;
 use percent_encoding::AsciiSet;
 
-/// The room in bytes that serves two numbers with a space between them and a newline behind them.
+/// The room in bytes that suffices for two numbers, a space between them and a newline after them.
 const PAIR_ROOM: usize = 82;
 
-/// Writes pieces one after the other to the front of a buffer, and tells how many bytes they are.
+/// Writes pieces one after the other to the beginning of a buffer, and returns their length in bytes.
 pub(crate) fn write_pieces(into: &mut [u8], pieces: &[&[u8]]) -> usize
     requires { length (flat_map (λ piece. piece.now) pieces.now) ≤ length into.old }
     ensures text { into.new ≡ flat_map (λ piece. piece.now) pieces.now ++ drop result into.old }
@@ -24,7 +24,7 @@ pub(crate) fn write_pieces(into: &mut [u8], pieces: &[&[u8]]) -> usize
     end
 }
 
-/// Writes a line of two numbers behind a front, and tells how many bytes it is.
+/// Writes a line of two numbers after `front`, and returns its length in bytes.
 pub(crate) fn write_pair(into: &mut [u8], front: &[u8], first: u64, second: u64) -> usize
     requires { length front.now + PAIR_ROOM ≤ length into.old }
     ensures whole { into.new ≡ pair_text front.now first second ++ drop result into.old }
@@ -44,7 +44,7 @@ pub(crate) fn write_pair(into: &mut [u8], front: &[u8], first: u64, second: u64)
     )
 }
 
-/// Writes a piece at a place of a buffer, and tells where it ends.
+/// Writes a piece at an offset of a buffer, and returns its end.
 pub(crate) fn put(into: &mut [u8], at: usize, piece: &[u8]) -> usize
     requires { at + length piece.now ≤ length into.old }
     ensures text { into.new ≡ take at into.old ++ piece.now ++ drop (at + length piece.now) into.old }
@@ -55,7 +55,7 @@ pub(crate) fn put(into: &mut [u8], at: usize, piece: &[u8]) -> usize
     end
 }
 
-/// Writes the hexadecimal digits of bytes at a place of a buffer, and tells where they end.
+/// Writes the hexadecimal digits of bytes at an offset of a buffer, and returns their end.
 pub(crate) fn put_digits(into: &mut [u8], at: usize, content: &[u8]) -> usize
     requires { at + 2 * length content.now ≤ length into.old }
     ensures text { into.new ≡
@@ -67,8 +67,8 @@ pub(crate) fn put_digits(into: &mut [u8], at: usize, content: &[u8]) -> usize
     end
 }
 
-/// Writes bytes at a place of a buffer, run by run, with an escape for each byte of a set and each outside ASCII, and tells where
-/// they end.
+/// Writes bytes at an offset of a buffer, run by run, with an escape for each byte of a set and each byte outside
+/// ASCII. Returns their end.
 pub(crate) fn put_escaped(into: &mut [u8], at: usize, bytes: &[u8], escaped: AsciiSet) -> usize
     requires { at + length (percent_encode escaped bytes.now) ≤ length into.old }
     ensures text { into.new ≡ take at into.old ++ percent_encode escaped bytes.now

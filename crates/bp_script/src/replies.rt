@@ -14,59 +14,59 @@ use bp_layout::Kind;
 use bp_plain::{Answer, Call, FsError};
 use percent_encoding::{AsciiSet, CONTROLS, ascii_set};
 
-/// The bytes of ASCII that a name's text escapes: control bytes, the space, `%` and `/`.
+/// The bytes of ASCII that the text of a name escapes: control bytes, the space, `%` and `/`.
 const ESCAPED: AsciiSet = ascii_set!(CONTROLS.add(b' ').add(b'%').add(b'/'));
 
-/// A line that is told: of a reply, or one that asks for a call.
+/// A line that the program writes: of a reply, or one that asks for a call.
 #[derive(Clone, Copy)]
 pub enum Said<'a> {
-    /// The answer of a call. One of names is none of these: each name is a line of its own.
+    /// The answer of a call, except a listing, which has a line for each name.
     Answer(Answer<'a>),
-    /// A name of a directory.
+    /// An entry of a directory.
     Name {
-        /// What the name stands for.
+        /// The kind of the file or directory that the entry refers to.
         kind: Kind,
-        /// Its bytes.
+        /// The bytes of the name.
         name: &'a [u8],
     },
-    /// The end of the names of a directory.
+    /// The end of a listing.
     End,
     /// All calls so far are durable.
     Synced,
-    /// How full the volume is.
+    /// The numbers of free and of live blocks.
     Space {
-        /// The blocks that are free.
+        /// The number of free blocks.
         free: u32,
-        /// The blocks that are in use, the first of the file not among them.
+        /// The number of blocks in use, without the first.
         live: u32,
     },
-    /// A crash kept some of the calls that were not certain.
+    /// A crash kept some of the calls that were not durable.
     Kept {
-        /// How many it kept.
+        /// The number of calls that it kept.
         c: usize,
-        /// How many there were.
+        /// The number of calls that were not durable.
         n: usize,
     },
-    /// How long the log is.
+    /// The length of the log.
     Log {
-        /// Its events.
+        /// The number of its events.
         events: usize,
-        /// The barriers among them.
+        /// The number of its barriers.
         barriers: usize,
-        /// The calls that are not certain.
+        /// The number of calls that are not durable.
         calls: usize,
     },
-    /// The line was none of a script.
+    /// The line is not in the table of commands.
     Syntax,
     /// The line had too many bytes.
     LongLine,
-    /// The log allows no such crash.
+    /// The log does not allow such a crash.
     BadChoice,
     /// The line that asks for a call of an export.
     Call(Call<'a>),
 }
 
-/// Writes a line with its newline to the front of `into`, and tells how many bytes it is.
+/// Writes a line with its newline to the beginning of `into`, and returns its length in bytes.
 pub fn say(said: &Said<'_>, into: &mut [u8]) -> usize
     requires room { max_text ≤ length into.old }
     requires short { FitsReply said.now }
@@ -114,7 +114,7 @@ fn say_kept(count: usize, total: usize, into: &mut [u8]) -> usize
     )
 }
 
-/// Writes the line of how long the log is.
+/// Writes the line with the length of the log.
 fn say_log(events: usize, barriers: usize, calls: usize, into: &mut [u8]) -> usize
     requires { max_text ≤ length into.old }
     ensures whole { into.new ≡ log_text events barriers calls ++ drop result into.old }
@@ -196,7 +196,7 @@ fn say_refused(error: FsError, into: &mut [u8]) -> usize
     }
 }
 
-/// Writes the line of a name.
+/// Writes the line of an entry.
 #[tactic(auto, using(crate::proofs::NameText::name_text_fits))]
 fn say_name(kind: Kind, name: &[u8], into: &mut [u8]) -> usize
     requires room { max_text ≤ length into.old }
@@ -209,7 +209,7 @@ fn say_name(kind: Kind, name: &[u8], into: &mut [u8]) -> usize
     put(into, end, b"\n")
 }
 
-/// What stands before a name in its line.
+/// Returns the text before the name in the line of an entry.
 fn name_front(kind: Kind) -> &'static str
     ensures { result.now ≡ codes "entry " ++ kind_letter kind ++ codes " " }
 {
@@ -219,14 +219,14 @@ fn name_front(kind: Kind) -> &'static str
     }
 }
 
-/// Writes the text of a name at a place of a buffer, and tells where it ends.
+/// Writes the text of a name at an offset of a buffer, and returns its end.
 fn put_name(into: &mut [u8], at: usize, name: &[u8]) -> usize
     requires { at + length (name_text name.now) ≤ length into.old }
     ensures text { into.new ≡
         take at into.old ++ name_text name.now ++ drop (at + length (name_text name.now)) into.old }
     ensures end { result ≡ at + length (name_text name.now) }
 {
-    // Few names have a byte to escape, and the others are copied in one go.
+    // Few names have a byte to escape, and the others are copied at once.
     if is_plain(name) {
         put(into, at, name)
     } else {
@@ -234,7 +234,7 @@ fn put_name(into: &mut [u8], at: usize, name: &[u8]) -> usize
     }
 }
 
-/// Whether a name has no byte to escape. It looks at all bytes, so that it can look at many at once.
+/// Whether a name has no byte to escape. All bytes are examined, so that many can be examined at once.
 fn is_plain(name: &[u8]) -> bool
     ensures { IsTrue result → name_text name.now ≡ name.now }
 {
@@ -252,7 +252,7 @@ fn is_escaped(byte: u8) -> bool
     (byte <= b' ') | (byte >= 127) | (byte == b'%') | (byte == b'/')
 }
 
-/// Writes the line of bytes of a file.
+/// Writes the line with bytes of a file.
 fn say_bytes(content: &[u8], into: &mut [u8]) -> usize
     requires room { max_text ≤ length into.old }
     requires short { length content.now ≤ max_read }

@@ -1,20 +1,20 @@
-//! The first words of lines.
+//! The verbs of lines: their first fields.
 
 ghost use Rattle.bp_script.specs.Commands.{pair_command, word_command};
 ghost use Rattle.bp_script.specs.Lines.{pair_row, word_row};
 ghost use Rattle.std.specs.Prelude.{List, bytes_eq, codes, ◌≡◌, ℕ};
 
-/// The first word of a line that has one more.
+/// The verb of a line that has one more field.
 #[derive(Clone, Copy)]
 pub(crate) enum WordVerb {
     Crash,
     Storm,
     Cache,
-    /// The other word is a path.
+    /// The other field is a path.
     Path(PathVerb),
 }
 
-/// The verb that a word spells.
+/// Finds the verb of a line of two fields.
 pub(crate) fn word_verb(verb: &[u8]) -> Option<WordVerb>
     ensures { (word : List ℕ) → word_command verb.now word ≡ word_row result word }
 {
@@ -35,7 +35,7 @@ pub(crate) fn word_verb(verb: &[u8]) -> Option<WordVerb>
     }
 }
 
-/// The first word of a line that has a path besides.
+/// The verb of a line whose other field is a path.
 #[derive(Clone, Copy)]
 pub(crate) enum PathVerb {
     Create,
@@ -49,7 +49,7 @@ pub(crate) enum PathVerb {
     SnapStat,
 }
 
-/// The first word of a line that has a path and one word more.
+/// The verb of a line that has a path and one more field.
 #[derive(Clone, Copy)]
 pub(crate) enum PairVerb {
     Truncate,
@@ -57,7 +57,7 @@ pub(crate) enum PairVerb {
     Link,
 }
 
-/// The verb of a path and a last word that a word spells.
+/// Finds the verb of a line of a path and a last field.
 pub(crate) fn pair_verb(verb: &[u8]) -> Option<PairVerb>
     ensures { (path last : List ℕ) → pair_command verb.now path last ≡ pair_row result path last }
 {
@@ -69,7 +69,7 @@ pub(crate) fn pair_verb(verb: &[u8]) -> Option<PairVerb>
     }
 }
 
-/// Whether a word spells the verb of a batch.
+/// Whether a field is the verb of a batch.
 pub(crate) fn is_batch(verb: &[u8]) -> bool
     ensures { result ≡ bytes_eq verb.now (codes "batch") }
 {

@@ -1,4 +1,5 @@
-//! A region with one of its two trees in the first one's place, so that each reader of the first tree reads the second.
+//! A region with one of its two trees in place of the first one, so that each reader of the first tree reads the
+//! second.
 #![tactic(auto)]
 
 pub mod shown;

@@ -1,4 +1,4 @@
-//! A region as one of its trees has it.
+//! A region with one of its two trees shown as the first.
 
 ghost use Rattle.std.specs.Prelude.{◌≡◌, ◌<◌, ◌≤◌, length, slice_index};
 ghost use Rattle.bp_layout.specs.Trees.{snapshot_of};
@@ -8,8 +8,8 @@ use bp_limits::{SUPER_ROOT, SUPER_SECOND_ROOT, SUPER_SECOND_SIZE, SUPER_SIZE};
 use pm_epochs::{BadChoice, Choice, Event, EventKind, Kept, kept_calls};
 use pm_region::Region;
 
-/// A region that is lent to read its second tree: the root word and the size of that tree stand in the place of those of the
-/// first.
+/// A region that is lent to read its second tree: the root word and the size of that tree are in the places of those
+/// of the first one.
 #[derive(Drop)]
 pub struct SecondTree<'a, R: Region> {
     region: &'a R,
@@ -18,7 +18,7 @@ pub struct SecondTree<'a, R: Region> {
 }
 
 impl<'a, R: Region> SecondTree<'a, R> {
-    /// A word as the processor sees it.
+    /// Returns a word as the processor sees it.
     fn load(&self, word: u32) -> u64
         requires { word < length (R.memory self.now.region.now).base }
         ensures { result ≡ slice_index (snapshot_of (current_words (R.memory self.now.region.now))) word }
@@ -31,22 +31,23 @@ impl<'a, R: Region> SecondTree<'a, R> {
     }
 }
 
-/// A region as one of its two trees has it. Whoever reads the first tree of any region reads either by it.
+/// A region with one of its two trees shown as the first. Code that reads the first tree of any region reads either
+/// tree by it.
 ///
-/// The first tree is read and changed in the region itself. The second one can be read alone: its log has no room, so that
-/// nothing can be stored, and it is as if the words now were those at the last drain.
+/// The first tree is read and changed in the region itself. The second one can only be read: its log has no room, so
+/// that nothing can be stored, and the current words count as those at the last drain.
 #[derive(Drop)]
 pub enum Shown<'a, R: Region> {
     /// The region as it is.
     First(&'a mut R),
-    /// With the second tree in the first one's place.
+    /// The region with the second tree in place of the first one.
     Second(SecondTree<'a, R>),
 }
 
 impl<'a, R: Region> Shown<'a, R> {
     ghost use Rattle.bp_second.specs.Shown.{shown_memory, second_memory};
 
-    /// The region with its second tree in the first one's place. It counts drains of its own, from 0 on.
+    /// Shows the region with its second tree in place of the first one. It has its own count of drains, from 0 on.
     pub fn second(region: &'a R) -> Shown<'a, R>
         requires { 6 ≤ length (R.memory region.now).base }
         ensures { shown_memory R.memory result ≡ second_memory (R.memory region.now) 0 }

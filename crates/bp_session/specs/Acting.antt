@@ -1,4 +1,4 @@
--- What a line came to.
+-- The outcomes of a line, and the effect of a command on a region.
 use Rattle.std.specs.Prelude.{◌≡◌, ◌⊎◌, ℕ, Bool, List, ⊤, false, length, true}
 use Rattle.bp_limits.specs.Limits.{call_room}
 use Rattle.pm_epochs.specs.Log.{marks}
@@ -17,7 +17,7 @@ use Rattle.bp_session.specs.Session.{SessionLine, State, caches_cut}
 use Rattle.bp_session.specs.declared.outcome.Outcome.{Outcome}
 use Rattle.bp_session.specs.declared.outcome.Outcome.TheVariants.{Answered, Synced, Counted, Kept, Logged, BadChoice, NoMemory, BadSyntax, TooLong}
 
--- as a reply
+-- The reply for an outcome. For a call it is the call's answer.
 abbrev pub reply_of : Outcome → Answer → LineReply
 reply_of Answered answer = answered answer
 reply_of Synced answer = synced
@@ -29,15 +29,15 @@ reply_of NoMemory answer = answered (refused no_memory)
 reply_of BadSyntax answer = syntax
 reply_of TooLong answer = long
 
--- the text of that reply
+-- The text of the reply for an outcome.
 abbrev pub outcome_text : Outcome → Answer → List ℕ
 outcome_text outcome answer = reply_text (reply_of outcome answer)
 
--- the region, and what the attached file holds
+-- The state of a session: the region, and the words that the attached file holds.
 abbrev pub state : Memory → Image → State
 state memory saved = record { memory = memory; saved = saved }
 
--- whether a command may come to this
+-- Whether a command may have this outcome.
 abbrev pub may_come_to : Command → Outcome → Bool
 may_come_to (file_call call) Answered = true
 may_come_to sync Synced = true
@@ -52,7 +52,7 @@ may_come_to bad_syntax BadSyntax = true
 may_come_to too_long TooLong = true
 may_come_to command outcome = false
 
--- what the file is to hold after a command: a sync saves the words
+-- The words that the file shall hold after a command: a sync saves the current words, other commands change nothing.
 abbrev pub to_save : Command → Memory → Image → Image
 to_save (file_call call) memory saved = saved
 to_save sync memory saved = current_words memory
@@ -64,33 +64,33 @@ to_save log memory saved = saved
 to_save bad_syntax memory saved = saved
 to_save too_long memory saved = saved
 
--- the words of the last drain behind a line that came to this: a call may drain first; of a sync and a crash this says
--- nothing
+-- The words of the last drain after a line with this outcome. A call may drain first. For a sync or a crash nothing
+-- is stated.
 abbrev pub KeepsBase : Outcome → Memory → Memory → Type 0
 KeepsBase Answered old new = new.base ≡ (with_room call_room old).base
 KeepsBase Synced old new = ⊤
 KeepsBase (Kept c n) old new = ⊤
 KeepsBase outcome old new = new.base ≡ old.base
 
--- the marks behind a line that came to this, while a sync is left to be done and a crash to be told: a call's drain adds
--- to them
+-- The dirty-block marks after a line with this outcome, before a sync or a crash updates them: the drain of a call
+-- adds marks.
 abbrev pub NotesDrain : Outcome → Memory → List Bool → List Bool → Type 0
 NotesDrain Answered memory before after = MarksDrain memory before after
 NotesDrain outcome memory before after = after ≡ before
 
--- a line that came to a crash
+-- Whether the outcome is that of a crash.
 abbrev pub is_crash : Outcome → Bool
 is_crash (Kept c n) = true
 is_crash outcome = false
 
--- The marks behind a line that came to this: all behind a crash, none behind a sync, and else as before, but that a call's
--- drain adds to them.
+-- The dirty-block marks after a line with this outcome: all after a crash, none after a sync, and else those before
+-- it, together with those that a call's drain adds.
 pub record LeavesStale (outcome : Outcome) (memory : Memory) (before after : List Bool) : Type 0 where
   pub crashed : is_crash outcome ≡ true → AreMarked after
   pub synced : outcome ≡ Synced → AreUnmarked after
   pub others : is_crash outcome ≡ false → ¬ (outcome ≡ Synced) → NotesDrain outcome memory before after
 
--- A command was done and replied to, but for the file, which is to be saved where the outcome is a sync.
+-- A command was carried out and has its reply. Only the file is left to be saved, if the outcome is a sync.
 pub record Does (old : Memory) (command : Command) (outcome : Outcome) (answer : Answer) (new : Memory) : Type 0 where
   pub line : (saved : Image)
       → SessionLine (state old saved) command (reply_of outcome answer) (state new (to_save command old saved))
@@ -99,27 +99,27 @@ pub record Does (old : Memory) (command : Command) (outcome : Outcome) (answer :
   pub comes : may_come_to command outcome ≡ true
   pub base : KeepsBase outcome old new
 
--- A crash to this cut: the calls that are kept are counted, and the memory is what it leaves.
+-- A crash at this crash point: the surviving calls are counted, and the memory is the one that the crash leaves.
 pub record HasCrashed (old : Memory) (cut : PowerCut) (outcome : Outcome) (new : Memory) : Type 0 where
   pub right : IsRight old.events cut
   pub told : outcome ≡ Kept (kept_calls old.events cut) (marks old.events)
   pub left : new ≡ crashed old cut
 
--- the log does not allow the cut, and nothing is done
+-- The crash point is not valid for the log, and nothing is done.
 pub record HasRefused (old : Memory) (cut : PowerCut) (outcome : Outcome) (new : Memory) : Type 0 where
   pub wrong : ¬ IsRight old.events cut
   pub told : outcome ≡ BadChoice
   pub same : new ≡ old
 
--- what a crash to a cut comes to
+-- The result of a crash at a crash point: done, or refused.
 abbrev pub CrashesTo : Memory → PowerCut → Outcome → Memory → Type 0
 CrashesTo old cut outcome new = HasCrashed old cut outcome new ⊎ HasRefused old cut outcome new
 
--- there was no memory for what a command takes, and nothing is done
+-- Allocation of the memory that a command needs failed, and nothing is done.
 pub record LacksMemory (old : Memory) (outcome : Outcome) (new : Memory) : Type 0 where
   pub told : outcome ≡ NoMemory
   pub same : new ≡ old
 
--- what a crash to what caches leave comes to
+-- The result of a crash by simulated caches: done, or refused for lack of memory.
 abbrev pub CrashesByCaches : Memory → ℕ → Outcome → Memory → Type 0
 CrashesByCaches old seed outcome new = HasCrashed old (caches_cut old seed) outcome new ⊎ LacksMemory old outcome new

@@ -17,8 +17,8 @@ SinkFailed before after = Rose before.faults.sink after.faults.sink
 abbrev pub FilesFailed : Outside → Outside → Type 0
 FilesFailed before after = Rose before.faults.files after.faults.files
 
--- The first fault ends what is done, and its end tells it: the source failed where it is the cause alone, the files too, and
--- the sink where it is the cause, or as the line of another end was told.
+-- The first fault ends the program, and the end records it. Source and files failed exactly if they are the cause;
+-- the sink failed if it is the cause, and otherwise at most while the line of another end was printed.
 pub record IsFirstFault (ended : Option Broken) (tells_line : Bool) (before after : Faults) : Type 0 where
   pub source : ended ≡ Some cause.Source → Rose before.source after.source
   pub sink : ended ≡ Some cause.Sink → Rose before.sink after.sink
@@ -27,17 +27,17 @@ pub record IsFirstFault (ended : Option Broken) (tells_line : Bool) (before afte
   pub no_sink : tells_line ≡ false → ¬ (ended ≡ Some cause.Sink) → after.sink ≡ before.sink
   pub no_files : ¬ (ended ≡ Some cause.Files) → after.files ≡ before.files
 
--- No byte was read, and FILE is as it was.
+-- No byte was read, and FILE is unchanged.
 pub record IsUntouched (before after : Outside) : Type 0 where
   pub left : after.left ≡ before.left
   pub file : after.file ≡ before.file
 
--- Nothing was told either.
+-- No byte was read, FILE is unchanged, and nothing was printed.
 pub record IsIdle (before after : Outside) : Type 0 where
   pub untouched : IsUntouched before after
   pub taken : after.taken ≡ before.taken
 
--- A sink took a text: a front of it, and all of it where the count of faults didn't rise.
+-- A sink took a prefix of a text, and all of it if the sink did not fail.
 pub record Prints (text : List ℕ) (taken taken_now : Option (List ℕ)) (faults faults_now : ℕ) : Type 0 where
   pub some : (count : ℕ) × Appends taken taken_now (take count text)
   pub all : ¬ Rose faults faults_now → Appends taken taken_now text

@@ -1,4 +1,4 @@
--- Which words a file holds.
+-- The words that a file holds.
 use Rattle.std.specs.Prelude.{◌≡◌, ℕ, List, None, Some, ⊤, Bool, true, false, is_some, length, take, ◌*◌, ◌<◌, ◌^◌}
 use Rattle.bp_limits.specs.Limits.{block_size, block_words}
 use Rattle.bp_io.specs.Files.{IsMixed, TellsFile, block_bytes}
@@ -7,71 +7,71 @@ use Rattle.bp_layout.specs.Words.{Image, word}
 use Rattle.bp_layout.specs.Bytes.{image_bytes}
 use Rattle.bp_session.specs.Changed.{is_marked}
 
--- where it is told, the file of a name is there and has so many bytes
+-- If its contents are known, the file exists and has this number of bytes.
 abbrev pub HasLength : Known → ℕ → Type 0
 HasLength None count = ⊤
 HasLength (Some None) count = ⊥
 HasLength (Some (Some found)) count = length found ≡ count
 
--- no file of the name is told of
+-- No file of the name is known to exist.
 abbrev pub IsAbsent : Known → Type 0
 IsAbsent None = ⊤
 IsAbsent (Some None) = ⊤
 IsAbsent (Some (Some bytes)) = ⊥
 
--- words of 64 bits
+-- Each word has 64 bits.
 abbrev pub AreWordsOf64Bits : Image → Type 0
 AreWordsOf64Bits image = (place : ℕ) → word image place < 2 ^ 64
 
--- The file has the bytes of an image, of which there is one.
+-- The file has the bytes of an image of 64-bit words. At most one image has these bytes.
 pub record HasImage (known : Known) (image : Image) : Type 0 where
   pub bytes : HasBytes known (image_bytes image)
   pub words : AreWordsOf64Bits image
 
--- where it is told, the file of a name is there and each of its blocks is that of one list of bytes or of the other
+-- If its contents are known, the file exists, and each of its blocks is that of one or of the other list of bytes.
 abbrev pub HasBlocksOf : Known → List ℕ → List ℕ → Type 0
 HasBlocksOf None first second = ⊤
 HasBlocksOf (Some None) first second = ⊥
 HasBlocksOf (Some (Some found)) first second = IsMixed found first second
 
--- The file of this name is attached, has these blocks and holds these bytes.
+-- The file of this name is attached, has this number of blocks and holds these bytes.
 pub record HoldsBytes (files : View) (name bytes : List ℕ) : Type 0 where
   pub attached : files.is_attached name ≡ true
   pub size : length bytes ≡ block_size * files.blocks
   pub has : HasBytes (files.contents name) bytes
 
--- Where its bytes are told they stay told, and where they are not they stay untold.
+-- The bytes of the attached file are known afterwards exactly if they were known before.
 abbrev pub StaysTold : View → View → Type 0
 StaysTold old new = (name was : List ℕ) → HoldsBytes old name was
     → is_some (new.contents name) ≡ is_some (old.contents name)
 
--- The file of this name is attached, has these blocks and holds these words.
+-- The file of this name is attached, has this number of blocks and holds these words.
 pub record Holds (files : View) (name : List ℕ) (image : Image) : Type 0 where
   pub attached : files.is_attached name ≡ true
   pub size : length image ≡ block_words * files.blocks
   pub bytes : HasBytes (files.contents name) (image_bytes image)
 
--- each block that is not marked is the image's
+-- Each block that is not marked is the image's.
 abbrev pub HasUnmarked : List Bool → Image → List ℕ → Type 0
 HasUnmarked marks image bytes = (i : ℕ) → block_size * i < length bytes → is_marked marks i ≡ false →
     block_bytes bytes i ≡ block_bytes (image_bytes image) i
 
--- It holds these words, and in each block that is not stale, where its bytes are told, those of the last drain.
+-- The file holds these words; if its bytes are known, each block that is not stale has those of the last drain.
 pub record HoldsAs (stale : List Bool) (files : View) (base : Image) (name : List ℕ) (image : Image) : Type 0 where
   pub file : Holds files name image
   pub fresh : TellsFile (files.contents name) (HasUnmarked stale base)
 
--- It is attached, and each of its blocks is that of the first words or of the second.
+-- The file is attached, and each of its blocks is that of the first or of the second words.
 pub record HoldsPartly (files : View) (name : List ℕ) (first second : Image) : Type 0 where
   pub attached : files.is_attached name ≡ true
   pub bytes : HasBlocksOf (files.contents name) (image_bytes first) (image_bytes second)
 
--- The words are those of the first blocks of the attached file, where its bytes are told.
+-- The words are those of the first blocks of the attached file, if its bytes are known.
 abbrev pub HoldsFirstBlocks : View → ℕ → Image → Type 0
 HoldsFirstBlocks files count words = (name : List ℕ) → files.is_attached name ≡ true →
     TellsFile (files.contents name) (λ bytes. image_bytes words ≡ take (block_size * count) bytes)
 
--- A file is attached that has the words' blocks, and may be written.
+-- A file is attached that has the blocks of the words, and may be written.
 pub record CanSave (base : Image) (files : View) : Type 0 where
   pub size : length base ≡ block_words * files.blocks
   pub attached : (name : List ℕ) × (files.is_attached name ≡ true)

@@ -1,4 +1,4 @@
--- How the words of a region follow an abstract tree: now, after each call, and after a power failure at any moment.
+-- How the words of a region follow an abstract tree: now, after each call, and after a crash at any point.
 use Rattle.std.specs.Prelude.{◌≡◌, ℕ, List, length}
 use Rattle.pm_epochs.specs.Log.{marks}
 use Rattle.pm_epochs.specs.Replay.{PowerCut, IsRight, replay, kept_calls, after_calls}
@@ -9,8 +9,8 @@ use Rattle.bp_script.specs.Commands.{Command}
 use Rattle.bp_script.specs.Texts.{LineReply}
 use Rattle.bp_session.specs.PlainSession.{PlainSession, PlainState, after_crash, fresh, tree_now}
 
--- The words now stand for the tree now, and after a crash at any moment they stand for the tree after the calls that it
--- keeps.
+-- The words represent the current tree, and after a crash at any point they represent the tree after the calls that
+-- the crash keeps.
 pub record FollowsPlainState (memory : Memory) (p : PlainState) : Type 0 where
   pub now : Stands (current_words memory) (tree_now p)
   pub calls : marks memory.events ≡ length p.since
@@ -18,7 +18,7 @@ pub record FollowsPlainState (memory : Memory) (p : PlainState) : Type 0 where
   pub crash : (cut : PowerCut) → IsRight memory.events cut
       → Stands (replay memory.base memory.events cut) (after_crash p (kept_calls memory.events cut))
 
--- These are a plain tree's replies to these commands, and the words then follow it.
+-- These are the replies of an abstract tree to these commands, and the words follow the tree afterwards.
 pub record IsPlainly (tree : FileTree) (commands : List Command) (replies : List LineReply)
     (memory : Memory) : Type 0 where
   pub plain : PlainState

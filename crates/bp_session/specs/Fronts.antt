@@ -6,8 +6,8 @@ use Rattle.bp_script.specs.Texts.{LineReply}
 use Rattle.bp_session.specs.Following.{IsPlainly}
 use Rattle.bp_session.specs.Session.{Session, State}
 
--- The first of a session's commands lead to a state of its own, which the rest goes on from, and are a plain tree's
--- too.
+-- The first commands of a session lead to a state of their own, from which the rest continues, and they are also a
+-- session of the abstract tree.
 pub record IsFront (tree : FileTree) (old : State) (first rest : List Command) (replies : List LineReply)
     (new : State) : Type 0 where
   pub middle : State
@@ -18,7 +18,7 @@ pub record IsFront (tree : FileTree) (old : State) (first rest : List Command) (
   pub later : Session middle rest behind new
   pub plainly : IsPlainly tree first front middle.memory
 
--- A session is a plain tree's, at its end and behind each of its lines.
+-- A session is one of the abstract tree, at its end and after each of its lines.
 pub record FollowsTree (tree : FileTree) (old : State) (commands : List Command) (replies : List LineReply)
     (new : State) : Type 0 where
   pub whole : IsPlainly tree commands replies new.memory

@@ -1,4 +1,4 @@
--- What serving does while replies wait for a sink.
+-- Serving while replies wait for a sink.
 use Rattle.std.specs.Prelude.{◌≡◌, ◌⊎◌, ℕ, List, [], ◌++◌, Option, None, Some, false}
 use Rattle.std.specs.Io.KnownBytes.{Appends}
 use Rattle.bp_io.specs.Views.{View}
@@ -13,13 +13,14 @@ use Rattle.bp_session.specs.declared.broken.Broken.TheVariants as cause
 use Rattle.bp_replies.specs.Gathering.{PassesOn}
 use Rattle.bp_replies.specs.Taking.{TakesPart}
 
--- behind a command that is no sync, what waited may still wait, and no file has changed; else a sink took it all
+-- After a command that is no sync, the waiting replies may still wait, and no file has changed; else a sink took them
+-- all.
 abbrev pub Clears : Command → List ℕ → List ℕ → Option (List ℕ) → Option (List ℕ) → View → View → Type 0
 Clears command before after taken now files files_now =
     (¬ (command ≡ sync) × (after ≡ before) × (now ≡ taken) × (files_now ≡ files))
     ⊎ ((after ≡ []) × Appends taken now before)
 
--- A line was done whose reply is still to be told, behind what waits.
+-- A line was carried out, and its reply is still to be added to the waiting replies.
 pub record AwaitsReply (command : Command) (before : List ℕ) (old new : Moment) : Type 0 where
   pub reply : LineReply
   pub does : DoesLine old command reply new
@@ -27,28 +28,28 @@ pub record AwaitsReply (command : Command) (before : List ℕ) (old new : Moment
   pub taken : Option (List ℕ)
   pub clears : Clears command before waits old.taken taken old.files new.files
 
--- .. and its reply was added.
+-- A line was carried out, and its reply was added.
 pub record IsAnswered (command : Command) (before after : List ℕ) (old new : Moment) : Type 0 where
   pub done : AwaitsReply command before old new
   pub passes : PassesOn (reply_text done.reply) done.waits after done.taken new.taken
 
--- .. and the sink failed as its reply was added.
+-- A line was carried out, and the sink failed as its reply was added.
 pub record IsUntold (command : Command) (before : List ℕ) (old new : Moment) : Type 0 where
   pub done : AwaitsReply command before old new
   pub part : TakesPart (done.waits ++ reply_text done.reply) done.taken new.taken
 
--- The sink failed before a sync: it took a proper front of what waited, and nothing else was done.
+-- The sink failed before a sync: it took a proper prefix of the waiting replies, and nothing else was done.
 pub record IsUnheard (before : List ℕ) (old new : Moment) : Type 0 where
   pub part : TakesPart before old.taken new.taken
   pub same : new ≡ record old { taken = new.taken; faults = new.faults }
 
--- A sync couldn't save, behind all that waited.
+-- A sync could not save, after the sink had taken all waiting replies.
 pub record IsUnsaved (command : Command) (before : List ℕ) (old new : Moment) : Type 0 where
   pub fails : FailsLine old command new
   pub taken : Appends old.taken new.taken before
 
--- What a line does over what waits before and after it, by how it ends: its reply was added, or the sink failed, or a sync
--- couldn't save.
+-- The effect of a line and of the replies that wait before and after it, by how it ends: its reply was added, or the
+-- sink failed, or a sync could not save.
 pub record LineGathers (ended : Option Broken) (command : Command) (before after : List ℕ) (old new : Moment) : Type 0 where
   pub whole : ended ≡ None → IsAnswered command before after old new
   pub broken : ended ≡ Some cause.Sink → IsUntold command before old new ⊎ IsUnheard before old new

@@ -1,8 +1,8 @@
--- What is known of the outside of a program: its source, its sink and its files.
+-- The known state of the source, the sink and the files of a program.
 use Rattle.std.specs.Prelude.{ℕ, Bool, List, Option}
 use Rattle.bp_io.specs.Views.{Known, SinkView, SourceView, View}
 
--- How often the source, the sink and the files have failed.
+-- The number of failures of the source, the sink and the files.
 pub record Faults : Type 0 where
   pub source : ℕ
   pub sink : ℕ
@@ -11,8 +11,8 @@ pub record Faults : Type 0 where
 abbrev pub counts : ℕ → ℕ → View → Faults
 counts source sink files = record { source = source; sink = sink; files = files.faults }
 
--- What is told of the outside at a moment: what the source has left, what the sink took, what is known of FILE, whether
--- all that was written is known to be flushed, and how often each of the three has failed.
+-- The known state of the outside of a program: the bytes left in the source, the bytes that the sink took, the
+-- contents of FILE, whether all written data is known to be flushed, and the number of failures of each device.
 pub record Outside : Type 0 where
   pub left : Option (List ℕ)
   pub taken : Option (List ℕ)

@@ -1,4 +1,4 @@
--- What a script does to a plain file tree of which each call is kept until it is certain.
+-- The effect of a script on an abstract tree that keeps the tree after each call until the call is durable.
 use Rattle.std.specs.Prelude.{◌≡◌, ◌≤◌, ℕ, ◌⊎◌, List, [], ◌∷◌, ◌++◌, length, take, true, None}
 use Rattle.bp_plain.specs.PlainTree.{FileTree}
 use Rattle.bp_plain.specs.Calls.{Call, Answer}
@@ -13,8 +13,8 @@ use Rattle.bp_script.specs.Commands.Command.{file_call, sync, space, crash, stor
 use Rattle.bp_script.specs.Texts.{LineReply}
 use Rattle.bp_script.specs.Texts.LineReply.{answered, synced, space_of, kept_of, log_of, bad_choice, syntax, long}
 
--- A call on a plain tree. Besides the tree's own answer there are two: a call that changes the tree may find no room,
--- and a listing, of the tree or its snapshot, may find no memory; neither does anything.
+-- A call on an abstract tree. Besides the tree's own answer two others are possible: a call that changes the tree may
+-- find no space, and a listing, of the tree or of its snapshot, may find no memory. Neither changes anything.
 pub data PlainCall (tree : FileTree) : Call → Answer → FileTree → Type 0 where
   plainly : {call : Call} → PlainCall tree call (plain tree call).0 (plain tree call).1
   no_room : {call : Call} {needed free : ℕ} → is_changing tree call ≡ true
@@ -23,17 +23,17 @@ pub data PlainCall (tree : FileTree) : Call → Answer → FileTree → Type 0 w
   no_snap_listing : {text : List ℕ} → refusal tree (snap_list text) ≡ None
       → PlainCall tree (snap_list text) (refused no_memory) tree
 
--- The tree that is certain, and the trees after each call since, the last one last.
+-- The durable tree, and the trees after each call since, in order.
 pub record PlainState : Type 0 where
   pub certain : FileTree
   pub since : List FileTree
 
--- the tree now
+-- The current tree: the last of the trees since, or the durable one.
 abbrev pub latest : FileTree → List FileTree → FileTree
 latest certain [] = certain
 latest certain (tree ∷ since) = latest tree since
 
--- the tree after so many of the calls
+-- The tree after the first `count` calls since the durable tree.
 abbrev pub tree_at : FileTree → List FileTree → ℕ → FileTree
 tree_at certain since count = latest certain (take count since)
 
@@ -43,7 +43,7 @@ fresh tree = record { certain = tree; since = [] }
 abbrev pub tree_now : PlainState → FileTree
 tree_now p = latest p.certain p.since
 
--- the tree that a crash leaves which keeps so many calls
+-- The tree that a crash leaves which keeps the first `count` calls.
 abbrev pub after_crash : PlainState → ℕ → FileTree
 after_crash p count = tree_at p.certain p.since count
 
@@ -52,7 +52,7 @@ with_call p tree = record { certain = p.certain; since = p.since ++ tree ∷ [] 
 
 -- ---- one line
 
--- A call may first make all earlier calls certain.
+-- A call on the current tree. It may first make all earlier calls durable.
 pub record PlainCalls (old : PlainState) (call : Call) (reply : LineReply) (new : PlainState) : Type 0 where
   pub answer : Answer
   pub tree : FileTree
@@ -64,20 +64,21 @@ pub record PlainTells (old : PlainState) (wanted reply : LineReply) (new : Plain
   pub told : reply ≡ wanted
   pub same : new ≡ old
 
--- two numbers of blocks are told, of which a plain tree knows nothing
+-- Two block counts are replied, which the abstract tree does not determine.
 pub record PlainSpace (old : PlainState) (reply : LineReply) (new : PlainState) : Type 0 where
   pub free : ℕ
   pub live : ℕ
   pub told : reply ≡ space_of free live
   pub same : new ≡ old
 
--- A crash keeps the first calls since, so many, and all that it keeps is certain. It tells how many of how many.
+-- A crash keeps the first `count` calls since the durable tree, and makes them durable. The reply has `count` and the
+-- number of calls since.
 pub record PlainCrashes (old : PlainState) (count : ℕ) (reply : LineReply) (new : PlainState) : Type 0 where
   pub few : count ≤ length old.since
   pub told : reply ≡ kept_of count (length old.since)
   pub leaves : new ≡ fresh (after_crash old count)
 
--- Only the certain tree is left: the calls that are counted as kept, the first ones, changed nothing.
+-- A crash leaves only the durable tree: the calls that count as kept, the first `count`, changed nothing.
 pub record PlainCrashesToNothing (old : PlainState) (reply : LineReply) (new : PlainState) : Type 0 where
   pub count : ℕ
   pub few : count ≤ length old.since
@@ -85,19 +86,20 @@ pub record PlainCrashesToNothing (old : PlainState) (reply : LineReply) (new : P
   pub told : reply ≡ kept_of count (length old.since)
   pub leaves : new ≡ fresh old.certain
 
--- some of the calls are kept, the first ones; a plain tree doesn't know how many
+-- A crash keeps the first calls; the abstract tree does not determine how many.
 pub record PlainCrashesSomewhere (old : PlainState) (reply : LineReply) (new : PlainState) : Type 0 where
   pub count : ℕ
   pub crashes : PlainCrashes old count reply new
 
--- Three numbers of a log are told. A plain tree knows the last: how many calls are not certain.
+-- Three numbers of the log are replied. The abstract tree determines the last: the number of calls that are not
+-- durable.
 pub record PlainLog (old : PlainState) (reply : LineReply) (new : PlainState) : Type 0 where
   pub events : ℕ
   pub barriers : ℕ
   pub told : reply ≡ log_of events barriers (length old.since)
   pub same : new ≡ old
 
--- what each crash that a line spells does: that of a moment may be refused
+-- The effect of each crash that a line can spell. A crash at a given point may be refused.
 abbrev pub PlainCrash : PlainState → Wanted → LineReply → PlainState → Type 0
 PlainCrash old all reply new = PlainCrashes old (length old.since) reply new
 PlainCrash old nothing reply new = PlainCrashesToNothing old reply new
@@ -123,6 +125,6 @@ PlainSession old (command ∷ commands) [] new = ⊥
 PlainSession old (command ∷ commands) (reply ∷ replies) new =
     (middle : PlainState) × PlainLine old command reply middle × PlainSession middle commands replies new
 
--- the reply that there is no space
+-- The reply reports lack of space.
 abbrev pub TellsNoSpace : LineReply → Type 0
 TellsNoSpace reply = (needed : ℕ) × (free : ℕ) × (reply ≡ answered (refused (no_space needed free)))

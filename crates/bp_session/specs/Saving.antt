@@ -1,4 +1,4 @@
--- What a save leaves of the attached file, from the files before it to those behind it.
+-- The effect of a save on the attached file.
 use Rattle.std.specs.Prelude.{◌≡◌, ◌≤◌, ◌*◌, ℕ, List, [], Bool, length}
 use Rattle.bp_io.specs.Files.{KeepsFiles}
 use Rattle.bp_io.specs.Views.{View}
@@ -10,26 +10,27 @@ use Rattle.bp_session.specs.Files.{HasBlocksOf, Holds, HoldsAs, HoldsBytes, Hold
 use Rattle.pm_epochs.specs.Log.{stores}
 use Rattle.pm_region.specs.Memory.{Memory, current_words}
 
--- whatever bytes it held: the blocks that are marked are these words', and all others are as they were
+-- Whatever bytes the file held, its marked blocks are those of these words, and all others are unchanged.
 abbrev pub SavesMarked : List Bool → Image → View → View → Type 0
 SavesMarked marks words old new =
     (name was : List ℕ) → HoldsBytes old name was → HoldsChanged marks new name was (image_bytes words)
 
--- .. each of its blocks is as it was, or these words'
+-- Whatever bytes the file held, each of its blocks is unchanged, or that of these words.
 abbrev pub SavesPartly : Image → View → View → Type 0
 SavesPartly words old new =
     (name was : List ℕ) → HoldsBytes old name was → HasBlocksOf (new.contents name) was (image_bytes words)
 
--- whatever words it held, with those of the last drain in each block that is not stale: it holds the words as they are
+-- Whatever words the file held, with those of the last drain in each block that is not stale, it holds the current
+-- words.
 abbrev pub SavesWords : List Bool → Memory → View → View → Type 0
 SavesWords stale memory old new =
     (name : List ℕ) (was : Image) → HoldsAs stale old memory.base name was → Holds new name (current_words memory)
 
--- whatever words it held: each of its blocks is that of these or of the words as they are
+-- Whatever words the file held, each of its blocks is that of those words or of the current ones.
 abbrev pub SavesWordsPartly : Image → View → View → Type 0
 SavesWordsPartly words old new = (name : List ℕ) (was : Image) → Holds old name was → HoldsPartly new name was words
 
--- where the marks tell of each block, none is stale and the log has no store, no file changes
+-- If the marks cover every block, none is stale and the log has no store, no file changes.
 abbrev pub KeepsUnmarked : List Bool → Memory → View → View → Type 0
 KeepsUnmarked stale memory old new =
     AreUnmarked stale → length memory.base ≤ block_words * length stale → stores memory.events ≡ [] → KeepsFiles old new

@@ -1,4 +1,4 @@
--- What serving some of an input does, from one moment to another.
+-- The effect of serving a part of an input.
 use Rattle.std.specs.Prelude.{All, ◌≡◌, ◌≤◌, ◌⊎◌, ℕ, ◌<◌, List, [], ◌∷◌, ◌++◌, None, Some, Bool, true, false, length, take, Option}
 use Rattle.std.specs.Io.KnownBytes.{Appends, Consumes, IsAtEnd}
 use Rattle.bp_io.specs.Causes.{Rose}
@@ -21,14 +21,14 @@ use Rattle.bp_session.specs.Pieces.{piece_size}
 use Rattle.bp_session.specs.declared.broken.Broken.{Broken}
 use Rattle.bp_session.specs.declared.broken.Broken.TheVariants as cause
 
--- A command was done, with this reply.
+-- A command was carried out, with this reply.
 pub record Acts (old : State) (memory : Memory) (holds : Image → Type 0) (command : Command)
     (reply : LineReply) : Type 0 where
   pub after : Image
   pub line : SessionLine old command reply (state memory after)
   pub file : holds after
 
--- A sync drained, and couldn't save.
+-- A sync drained the log, and could not save.
 pub record SyncFails (old : State) (memory : Memory) (holds_partly : Image → Image → Type 0)
     (command : Command) : Type 0 where
   pub is : command ≡ sync
@@ -41,7 +41,8 @@ pub record Told (old new : State) (commands : List Command) (before now : Option
   pub session : Session old commands replies new
   pub taken : Appends before now (text_of replies)
 
--- The lines that this input ends were answered. What is held of a line before and after says where lines begin and end.
+-- The lines that this input ends were answered. The bytes held of a line before and after the input define where
+-- lines begin and end.
 pub record Serves (old : State) (memory : Memory) (holds : Image → Type 0) (held input keeps : List ℕ)
     (before now : Option (List ℕ)) : Type 0 where
   pub commands : List Command
@@ -57,9 +58,9 @@ pub record ServesAll (old : State) (memory : Memory) (holds : Image → Type 0) 
   pub file : holds after
   pub told : Told old (state memory after) commands before now
 
--- The first of these commands were answered, and then one more was done whose reply was taken in part: less than all of
--- it. The memory may be ahead of it by commands behind it, none of which is a sync, whose replies nobody took; but not
--- where no byte of replies may wait while more is served.
+-- The first of these commands were answered. Then one more was carried out, whose reply the sink took only in part: a
+-- proper prefix. The memory may be ahead of it by later commands, none of which is a sync, whose replies no sink
+-- took; but not where no byte of replies may wait while more is served.
 pub record BreaksOff (most : ℕ) (old : State) (memory : Memory) (holds : Image → Type 0) (commands : List Command)
     (before now : Option (List ℕ)) : Type 0 where
   pub front : List Command
@@ -83,7 +84,7 @@ pub record BreaksOff (most : ℕ) (old : State) (memory : Memory) (holds : Image
   pub proper : count < length (reply_text reply)
   pub taken : Appends before now (text_of replies ++ take count (reply_text reply))
 
--- The first of these commands were answered, and then a sync drained and couldn't save.
+-- The first of these commands were answered, and then a sync drained the log and could not save.
 pub record StopsAtSave (old : State) (memory : Memory) (holds_partly : Image → Image → Type 0) (commands : List Command)
     (before now : Option (List ℕ)) : Type 0 where
   pub front : List Command
@@ -94,10 +95,10 @@ pub record StopsAtSave (old : State) (memory : Memory) (holds_partly : Image →
   pub told : Told old middle front before now
   pub fails : SyncFails middle memory holds_partly last
 
--- ---- what is told from one moment to another
+-- ---- from one state of serving to another
 
--- The region, the files and the sink, as they are told at a moment, and the blocks of the attached file that may lack
--- words of the last drain.
+-- The state of serving: the region, the known state of the files and the sink, and the blocks of the attached file
+-- that may lack words of the last drain.
 pub record Moment : Type 0 where
   pub memory : Memory
   pub files : View
@@ -105,36 +106,37 @@ pub record Moment : Type 0 where
   pub faults : ℕ
   pub stale : List Bool
 
--- .. where any block may
+-- The state of serving in which any block may lack words of the last drain.
 abbrev pub moment : Memory → View → SinkView → Moment
 moment memory files sink =
     record { memory = memory; files = files; taken = sink.taken; faults = sink.faults; stale = [] }
 
--- the same moment, where these blocks may
+-- The same state of serving with these stale blocks.
 abbrev pub with_stale : List Bool → Moment → Moment
 with_stale stale now = record now { stale = stale }
 
--- the file of this name holds these words, and in each block that is not stale those of the last drain
+-- The file of this name holds these words; each of its blocks that is not stale has those of the last drain.
 abbrev pub HoldsAt : Moment → List ℕ → Image → Type 0
 HoldsAt now name image = HoldsAs now.stale now.files now.memory.base name image
 
--- whatever name's file holds the first words at one moment holds the second at the other
+-- A file that holds the words `saved` in the first state of serving holds the words `after` in the second.
 abbrev pub Carries : Moment → Moment → Image → Image → Type 0
 Carries old new saved after = (name : List ℕ) → HoldsAt old name saved → HoldsAt new name after
 
--- .. is there, and each of its blocks is that of the second words or of the third
+-- A file that holds the words `saved` in the first state of serving exists in the second, and each of its blocks is
+-- that of the words `first` or `second`.
 abbrev pub CarriesPartly : Moment → Moment → Image → Image → Image → Type 0
 CarriesPartly old new saved first second =
     (name : List ℕ) → HoldsAt old name saved → HoldsPartly new.files name first second
 
--- ---- what is done, whatever the attached file holds
+-- ---- effects, whatever the attached file holds
 
--- The command was done.
+-- The command was carried out.
 abbrev pub DoesLine : Moment → Command → LineReply → Moment → Type 0
 DoesLine old command reply new =
     (saved : Image) → Acts (state old.memory saved) new.memory (Carries old new saved) command reply
 
--- A sync couldn't save, and any block of the file may lack words.
+-- A sync could not save, and any block of the file may lack words.
 pub record FailsLine (old : Moment) (command : Command) (new : Moment) : Type 0 where
   pub fails : (saved : Image) → SyncFails (state old.memory saved) new.memory (CarriesPartly old new saved) command
   pub lost : AreMarked new.stale
@@ -149,19 +151,20 @@ abbrev pub DoesAll : Moment → Moment → List Command → Type 0
 DoesAll old new commands = (saved : Image) →
     ServesAll (state old.memory saved) new.memory (Carries old new saved) commands old.taken new.taken
 
--- .. or the reply to one of them broke off, where so many bytes of replies may wait while more is served.
+-- The reply to one of these commands was broken off, where replies of at most `most` bytes may wait while more is
+-- served.
 abbrev pub DoesBreakOff : ℕ → Moment → Moment → List Command → Type 0
 DoesBreakOff most old new commands = (saved : Image) →
     BreaksOff most (state old.memory saved) new.memory (Carries old new saved) commands old.taken new.taken
 
--- .. or a sync among them couldn't save, and any block of the file may lack words.
+-- A sync among these commands could not save, and any block of the file may lack words.
 pub record DoesStop (old new : Moment) (commands : List Command) : Type 0 where
   pub stops : (saved : Image) →
       StopsAtSave (state old.memory saved) new.memory (CarriesPartly old new saved) commands old.taken new.taken
   pub lost : AreMarked new.stale
 
--- The region keeps its size and the room of its log, the same file is attached, no other one changes, and what was
--- flushed before is flushed where no sync failed.
+-- The region keeps its size and the capacity of its log, the same file is attached, and no other file changes. If all
+-- data was flushed before, it is flushed unless a sync failed.
 pub record Keeps (ended : Option Broken) (old new : Moment) : Type 0 where
   pub size : length new.memory.base ≡ length old.memory.base
   pub capacity : new.memory.capacity ≡ old.memory.capacity
@@ -169,18 +172,19 @@ pub record Keeps (ended : Option Broken) (old new : Moment) : Type 0 where
   pub others : KeepsOthers old.files new.files
   pub flushed : ¬ (ended ≡ Some cause.Files) → old.files.is_flushed ≡ true → new.files.is_flushed ≡ true
 
--- What serving asks of a volume and of the files: a file is attached that has the volume's blocks and may be written,
--- and the volume's log has no more room than the memory of the work.
+-- The requirements of serving: a file is attached that has the volume's blocks and may be written, and the capacity
+-- of the volume's log is at most that of the memory of the work.
 pub record CanServe (volume : Memory) (files : View) : Type 0 where
   pub ready : CanSave volume.base files
   pub roomy : volume.capacity ≤ log_events
 
--- What it leaves of both: the file is still ready for the volume, whose log keeps its room. So more can be served.
+-- After serving, the file is still ready for the volume, whose log keeps its capacity, so that more can be served.
 pub record ServesAgain (old new : Memory) (files : View) : Type 0 where
   pub ready : CanSave new.base files
   pub capacity : new.capacity ≡ old.capacity
 
--- What serving commands does, by how it ends: all were answered, or a reply broke off, or a sync couldn't save.
+-- The effect of serving commands, by how it ends: all were answered, a reply was broken off, or a sync could not
+-- save.
 pub record LineOutcome (ended : Option Broken) (commands : List Command) (old new : Moment) : Type 0 where
   pub whole : ended ≡ None → DoesAll old new commands
   pub broken : ended ≡ Some cause.Sink → DoesBreakOff 0 old new commands
@@ -189,8 +193,8 @@ pub record LineOutcome (ended : Option Broken) (commands : List Command) (old ne
   pub first : IsFirstFault ended false (counts 0 old.faults old.files) (counts 0 new.faults new.files)
   pub one_of : (ended ≡ None) ⊎ (ended ≡ Some cause.Sink) ⊎ (ended ≡ Some cause.Files)
 
--- What serving a piece of an input does, after what was held of a line, where so many bytes of replies may wait: a
--- line that a fault ends is whole, whatever follows.
+-- The effect of serving a piece of an input, after the bytes held of a line, where replies of at most `most` bytes
+-- may wait. A line at which a fault comes is whole, whatever follows.
 pub record PieceOutcome (ended : Option Broken) (most : ℕ) (held input keeps : List ℕ) (old new : Moment) : Type 0 where
   pub whole : ended ≡ None → DoesPart held input keeps old new
   pub broken : ended ≡ Some cause.Sink → (rest : List ℕ) → DoesBreakOff most old new (commands_from held (input ++ rest))
@@ -199,14 +203,14 @@ pub record PieceOutcome (ended : Option Broken) (most : ℕ) (held input keeps :
   pub first : IsFirstFault ended false (counts 0 old.faults old.files) (counts 0 new.faults new.files)
   pub one_of : (ended ≡ None) ⊎ (ended ≡ Some cause.Sink) ⊎ (ended ≡ Some cause.Files)
 
--- P holds of the commands of lines that were read whole: of what every input asks for that begins with this one, or the
--- source is at its end and P holds of what this input asks for.
+-- P holds of the commands of lines that were read whole: of those of every input that begins with this one; or the
+-- source is at its end, and P holds of those of this input.
 abbrev pub OfLines : Option (List ℕ) → List ℕ → (List Command → Type 0) → Type 0
 OfLines left input P =
     ((rest : List ℕ) → P (commands_from [] (input ++ rest))) ⊎ (IsAtEnd left × P (commands_from [] input))
 
--- What serving a source does, by how it ends: as above, or the source failed, or the most bytes were taken and one read gave
--- more.
+-- The effect of serving a source, by how it ends: as for a piece, or the source failed, or the greatest number of
+-- bytes was served and the last read gave more.
 pub record ServeOutcome (ended : Option Broken) (most : ℕ) (before after : SourceView) (old new : Moment) : Type 0 where
   pub whole : ended ≡ None → (input : List ℕ) × Consumes before.left after.left input × IsAtEnd after.left
       × (length input ≤ max_input) × DoesAll old new (commands_from [] input)

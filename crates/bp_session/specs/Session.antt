@@ -1,4 +1,4 @@
--- What a run of a script does, and what it answers.
+-- The effect of a script on a region and a file, and its replies.
 use Rattle.std.specs.Prelude.{◌≡◌, ◌⊎◌, ◌*◌, ℕ, List, [], ◌∷◌, length}
 use Rattle.pm_epochs.specs.Log.{barriers, marks}
 use Rattle.pm_epochs.specs.Replay.{PowerCut, IsRight, kept_calls}
@@ -20,16 +20,17 @@ use Rattle.bp_script.specs.Commands.Command.{file_call, sync, space, crash, stor
 use Rattle.bp_script.specs.Texts.{LineReply}
 use Rattle.bp_script.specs.Texts.LineReply.{answered, synced, space_of, kept_of, log_of, bad_choice, syntax, long}
 
--- the region, and the words that the file holds
+-- The state of a session: the region, and the words that the file holds.
 pub record State : Type 0 where
   pub memory : Memory
   pub saved : Image
 
--- all is written back, and the file holds it
+-- The state after a sync: all is written back, and the file holds the current words.
 abbrev pub synced_state : State → State
 synced_state s = record { memory = drained s.memory; saved = current_words s.memory }
 
--- the words are those that the cut leaves, with an empty log, and the file is as before
+-- The state after a crash: the words are those that the crash leaves, the log is empty, and the file is
+-- unchanged.
 abbrev pub crashed_state : State → PowerCut → State
 crashed_state s cut = record { memory = crashed s.memory cut; saved = s.saved }
 
@@ -41,7 +42,7 @@ pub record AnswersCall (old : State) (call : Call) (reply : LineReply) (new : St
   pub does : FileCall old.memory call answer new.memory
   pub saved : new.saved ≡ old.saved
 
--- nothing is done
+-- This reply is given, and nothing is done.
 pub record TellsReply (old : State) (wanted reply : LineReply) (new : State) : Type 0 where
   pub told : reply ≡ wanted
   pub same : new ≡ old
@@ -50,7 +51,7 @@ pub record Syncs (old : State) (reply : LineReply) (new : State) : Type 0 where
   pub told : reply ≡ synced
   pub done : new ≡ synced_state old
 
--- the blocks of the words now are told
+-- The reply has the numbers of free and of live blocks of the current words.
 pub record TellsSpace (old : State) (reply : LineReply) (new : State) : Type 0 where
   pub free : ℕ
   pub live : ℕ
@@ -59,28 +60,28 @@ pub record TellsSpace (old : State) (reply : LineReply) (new : State) : Type 0 w
   pub has_live : HasLive (current_words old.memory) live
   pub same : new ≡ old
 
--- A crash: the calls that the cut keeps are told, and how many the log had.
+-- A crash: the reply has the number of calls that survive, and the number of calls of the log.
 pub record Crashes (old : State) (cut : PowerCut) (reply : LineReply) (new : State) : Type 0 where
   pub right : IsRight old.memory.events cut
   pub told : reply ≡ kept_of (kept_calls old.memory.events cut) (marks old.memory.events)
   pub done : new ≡ crashed_state old cut
 
--- the log does not allow the cut, and nothing is done
+-- The crash point is not valid for the log, and nothing is done.
 pub record RefusesCut (old : State) (cut : PowerCut) (reply : LineReply) (new : State) : Type 0 where
   pub wrong : ¬ IsRight old.memory.events cut
   pub told : reply ≡ bad_choice
   pub same : new ≡ old
 
--- the caches of two cores over so many words, before they did anything, with room for each event of a log and a load
--- behind it
+-- The caches of two cores over this number of words, before they did anything, with room for each event of a log and
+-- a load after it.
 abbrev pub two_caches : ℕ → Caches
 two_caches words = caches_over 2 words (2 * log_events)
 
--- what they leave over the log
+-- The crash point that these caches leave of the log, in a run drawn from the seed.
 abbrev pub caches_cut : Memory → ℕ → PowerCut
 caches_cut memory seed = cache_cut (two_caches (length memory.base)) memory.events seed
 
--- how many events, barriers and calls the log has
+-- The reply with the numbers of events, barriers and calls of the log.
 abbrev pub log_reply : State → LineReply
 log_reply s = log_of (length s.memory.events) (barriers s.memory.events) (marks s.memory.events)
 

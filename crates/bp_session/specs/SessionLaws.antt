@@ -1,4 +1,4 @@
--- What holds of whole sessions, in words of a plain file tree.
+-- Properties of whole sessions, in terms of an abstract tree.
 use Rattle.std.specs.Prelude.{All, ◌≡◌, List, [], ◌++◌}
 use Rattle.bp_plain.specs.Export.{without_snapshot}
 use Rattle.bp_plain.specs.PlainTree.{FileTree, empty_tree}
@@ -13,38 +13,41 @@ use Rattle.bp_session.specs.Session.{Session, State}
 use Rattle.pm_epochs.specs.Replay.{IsRight, PowerCut, kept_calls, replay}
 use Rattle.pm_region.specs.Memory.{Memory, current_words}
 
--- a session over words that stand for the tree, from an empty log, is one of the plain tree, which its words then follow
+-- A session over words that represent the tree, from an empty log, is one of the abstract tree, and its words follow
+-- that tree afterwards.
 abbrev pub IsOfTree : FileTree → State → List Command → List LineReply → State → Type 0
 IsOfTree tree old commands replies new =
     old.memory.events ≡ [] → Stands old.memory.base tree → Session old commands replies new →
     (plain : PlainState) × PlainSession (fresh tree) commands replies plain × FollowsPlainState new.memory plain
 
--- so is one whose words follow a plain tree as it begins
+-- A session whose words follow an abstract tree at its beginning is one of that tree, and its words follow the tree
+-- afterwards.
 abbrev pub StaysPlain : PlainState → State → List Command → List LineReply → State → Type 0
 StaysPlain plain old commands replies new =
     FollowsPlainState old.memory plain → Session old commands replies new →
     (after : PlainState) × PlainSession plain commands replies after × FollowsPlainState new.memory after
 
--- what any right cut of the log leaves stands for the tree after the calls that the cut keeps
+-- A crash at any point of the log leaves words that represent the tree after the calls that the crash keeps.
 abbrev pub LeavesTrees : Memory → PlainState → Type 0
 LeavesTrees memory plain = (cut : PowerCut) → IsRight memory.events cut →
     Stands (replay memory.base memory.events cut) (after_crash plain (kept_calls memory.events cut))
 
--- a session over words that stand for the tree, from an empty log, is one of the plain tree, of whose trees any crash at its
--- end leaves one
+-- A session over words that represent the tree, from an empty log, is one of the abstract tree, and any crash at its
+-- end leaves one of that tree's trees.
 abbrev pub KeepsCalls : FileTree → State → List Command → List LineReply → State → Type 0
 KeepsCalls tree old commands replies new =
     old.memory.events ≡ [] → Stands old.memory.base tree → Session old commands replies new →
     (plain : PlainState) × PlainSession (fresh tree) commands replies plain × LeavesTrees new.memory plain
 
--- where a session does commands behind others, one over the first leads to a state from which one over the rest goes on
+-- A session over two lists of commands splits: one over the first list leads to a state from which one over the
+-- second continues.
 abbrev pub SplitsAt : State → List Command → List Command → List LineReply → State → Type 0
 SplitsAt old first rest replies new = Session old (first ++ rest) replies new →
     (middle : State) × (front : List LineReply) × (behind : List LineReply) × (replies ≡ front ++ behind)
     × Session old first front middle × Session middle rest behind new
 
--- a session over the tree's export, from an empty file system and an empty log, in which no reply is that there is no
--- space, ends in the tree without its snapshot
+-- A session over the tree's export, from an empty file system and an empty log, in which no reply reports lack of
+-- space, ends in the tree without its snapshot.
 abbrev pub ExportMakesTree : FileTree → State → List LineReply → State → Type 0
 ExportMakesTree tree old replies new =
     old.memory.events ≡ [] → Stands old.memory.base (empty_tree tree.version) →

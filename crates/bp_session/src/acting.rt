@@ -1,4 +1,4 @@
-//! What one line does.
+//! Carrying out one line.
 
 ghost use Rattle.std.specs.Prelude.{◌≡◌, ◌≤◌, [], IfErr, IfOk, OnOk, false, length, true};
 ghost use Rattle.pm_epochs.specs.Log.{barriers, marks};
@@ -32,7 +32,7 @@ use pm_region::Region;
 use pm_steps::Backs;
 use std::alloc::Global;
 
-/// Crashes a volume to a choice.
+/// Crashes a volume at the crash point of a choice.
 pub(crate) fn crash_to<R: Region>(volume: &mut Volume<R>, choice: &Choice) -> Outcome
     ensures { CrashesTo volume.old choice.now.cut result volume.new }
 {
@@ -45,7 +45,7 @@ pub(crate) fn crash_to<R: Region>(volume: &mut Volume<R>, choice: &Choice) -> Ou
     }
 }
 
-/// Crashes a volume to what a line asks to keep.
+/// Crashes a volume as a `crash` line asks.
 fn crash<R: Region>(volume: &mut Volume<R>, asked: &Cut<'_>, choice: &mut Choice) -> Outcome
     requires roomy { volume.old.capacity ≤ log_events }
     requires mask { mask_places asked.now ≤ max_mask }
@@ -53,7 +53,7 @@ fn crash<R: Region>(volume: &mut Volume<R>, asked: &Cut<'_>, choice: &mut Choice
     ensures crashes { CrashesTo volume.old (cut_for volume.old.events (wanted_by asked.now)) result volume.new }
     ensures room { choice.new.room ≡ choice.old.room }
 {
-    // The log is no longer than its room.
+    // The log is no longer than its capacity.
     let _events = volume.region().event_count();
     match choice_of(volume.region(), asked, choice) {
         Ok(()) => crash_to(volume, choice),
@@ -61,7 +61,7 @@ fn crash<R: Region>(volume: &mut Volume<R>, asked: &Cut<'_>, choice: &mut Choice
     }
 }
 
-/// Crashes a volume to what a storm leaves.
+/// Crashes a volume at a random point, drawn from the seed of a storm.
 fn crash_by_storm<R: Region>(
     volume: &mut Volume<R>,
     seed: u64,
@@ -75,13 +75,13 @@ fn crash_by_storm<R: Region>(
     ensures flags { backs.new.room ≡ backs.old.room }
     ensures room { choice.new.room ≡ choice.old.room }
 {
-    // The log is no longer than its room.
+    // The log is no longer than its capacity.
     let _events = volume.region().event_count();
     storm(volume.region(), seed, backs, choice);
     crash_to(volume, choice)
 }
 
-/// Counts what the log of a region has.
+/// Counts the events, barriers and calls of the log of a region.
 fn count_log<R: Region>(region: &R) -> Outcome
     ensures { result ≡ Logged (length (R.memory region.now).events) (barriers (R.memory region.now).events)
         (marks (R.memory region.now).events) }
@@ -103,10 +103,10 @@ fn count_log<R: Region>(region: &R) -> Outcome
     }
 }
 
-/// Does what the line of the buffers asks for, as `act` does, but leaves a sync to be done: at `Outcome::Synced`
-/// nothing is written back yet. The blocks are marked to which a log stored that a call drained.
-// Where it stands in its callers an outcome need not go by way of memory, from which it would be read in wider pieces than it
-// was written: the processor waits then.
+/// Carries out the line of the buffers, as `act` does, except that a sync is left to be done: at `Outcome::Synced`
+/// nothing is written back yet. The blocks to which a drained log stored are marked.
+// Inlined into its callers, so that an outcome need not go through memory, where it would be read in wider pieces
+// than it was written: the processor stalls then.
 #[inline(always)]
 fn act_but_sync<R: Region>(
     alloc: Global,
@@ -156,9 +156,9 @@ fn act_but_sync<R: Region>(
     }
 }
 
-/// Does what the line of the buffers asks for, over a volume alone. The answer of a call stands in the buffers' reply.
-/// At `Outcome::Synced` all is written back, and a file that is to hold it is to be saved. The volume's log is to have
-/// no more room than the memory of the buffers.
+/// Carries out the line of the buffers, over a volume only. The answer of a call is in the reply of the buffers. At
+/// `Outcome::Synced` all is written back, and a file that shall hold it has to be saved. The capacity of the volume's
+/// log is at most that of the memory of the buffers.
 pub fn act<R: Region>(alloc: Global, volume: &mut Volume<R>, buffers: &mut LineBuffers) -> Outcome
     requires { volume.old.capacity ≤ log_events }
     ensures does { Does volume.old (command_of (line_in buffers.old)) result (answer_in buffers.new) volume.new }
@@ -175,7 +175,7 @@ pub fn act<R: Region>(alloc: Global, volume: &mut Volume<R>, buffers: &mut LineB
     }
 }
 
-/// Whether a line came to a crash.
+/// Whether an outcome is that of a crash.
 fn is_crash(outcome: Outcome) -> bool
     ensures { result ≡ is_crash outcome }
 {
@@ -185,7 +185,7 @@ fn is_crash(outcome: Outcome) -> bool
     }
 }
 
-/// Marks each block where the region crashed: the words that a crash leaves are told by no log.
+/// Marks each block if the region crashed: no log records the words that a crash leaves.
 fn mark_crash(outcome: Outcome, stale: &mut [bool])
     ensures crashed { is_crash outcome ≡ true → AreMarked stale.new }
     ensures others { is_crash outcome ≡ false → stale.new ≡ stale.old }
@@ -195,9 +195,9 @@ fn mark_crash(outcome: Outcome, stale: &mut [bool])
     }
 }
 
-/// Does what the line asks for. A sync is done behind the replies that wait, and saves to the attached file the blocks
-/// that are stale and those to which a store went since the last drain. It is broken off by the sink, before a sync is
-/// done, or by the files, as it saves.
+/// Carries out the line of the buffers. For a sync, the waiting replies go to the sink first. The sync then saves to
+/// the attached file the stale blocks and those to which a store went since the last drain. The sink breaks it off
+/// before a sync is done, or the files as it saves.
 #[inline(always)]
 pub(crate) fn act_and_save<R: Region, K: Sink, F: Files>(
     alloc: Global,

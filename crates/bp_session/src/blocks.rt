@@ -1,4 +1,4 @@
-//! The words of a region as the blocks of a file.
+//! Conversion of the words of a region to the blocks of a file.
 
 ghost use Rattle.std.specs.Prelude.{◌≡◌, ◌≤◌, ◌<◌, ◌^◌, ◌+◌, ◌*◌, ◌/◌, ◌%◌, length, take};
 ghost use Rattle.bp_io.specs.Files.{blocks_of};
@@ -10,13 +10,13 @@ use bp_limits::BLOCK_WORDS;
 use pm_region::{HEAD_WORDS, Region};
 use pm_words::write_word;
 
-/// The most blocks that a load or a save hands over in one call. More would save no time.
+/// The greatest number of blocks that a load or a save passes in one call. More would save no time.
 pub const RUN_BLOCKS: u32 = 16;
 
-/// The words that are read one by one, as a length.
+/// The number of words of the head, which are read one by one.
 const HEAD: usize = HEAD_WORDS as usize;
 
-/// The bytes that spell the words.
+/// Writes the bytes of words.
 fn encode(words: &[u64], into: &mut [u8])
     requires { length into.old ≡ 8 * length words.now }
     ensures { into.new ≡ image_bytes words.now }
@@ -26,7 +26,7 @@ fn encode(words: &[u64], into: &mut [u8])
     }
 }
 
-/// The words that a region gives one by one.
+/// Reads the words of a region's head one by one.
 fn head_words<R: Region>(region: &R) -> [u64; HEAD]
     requires { HEAD ≤ length (R.memory region.now).base }
     ensures { result ≡ take HEAD (current_words (R.memory region.now)) }
@@ -38,7 +38,7 @@ fn head_words<R: Region>(region: &R) -> [u64; HEAD]
     words
 }
 
-/// The bytes of the first words as they are now, as many as `into` has room for.
+/// Reads the bytes of the first words as they are now, as many as `into` has room for.
 fn read_front<R: Region>(region: &R, into: &mut [u8])
     requires some { 8 * HEAD ≤ length into.old }
     requires whole { length into.old % 8 ≡ 0 }
@@ -52,7 +52,7 @@ fn read_front<R: Region>(region: &R, into: &mut [u8])
     encode(region.load_words(HEAD_WORDS, count - HEAD_WORDS), rest);
 }
 
-/// The bytes of the words as they are now, of as many blocks as `into` has room for, from the block `first` on.
+/// Reads the bytes of the words as they are now, of as many blocks as `into` has room for, from block `first` on.
 pub fn read_blocks<R: Region>(region: &R, first: u32, into: &mut [u8])
     requires whole { length into.old % block_size ≡ 0 }
     requires inside { block_words * first + length into.old / 8 ≤ length (R.memory region.now).base }

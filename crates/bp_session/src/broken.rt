@@ -1,11 +1,11 @@
 //! Why serving ends before all is served.
 
-/// Why serving ends before all is served.
+/// The cause that ends serving before all is served.
 #[derive(Clone, Copy, Debug, PartialEq, Eq)]
 pub enum Broken {
     /// The source failed.
     Source,
-    /// The sink failed: a reply was not taken whole.
+    /// The sink failed: it did not take a reply whole.
     Sink,
     /// The files failed: a sync could not save.
     Files,

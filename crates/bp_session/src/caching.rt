@@ -1,4 +1,4 @@
-//! The caches that a crash asks for.
+//! The caches for a `cache` line.
 
 ghost use Rattle.std.specs.Prelude.{◌≡◌, ◌≤◌, IfOk};
 ghost use Rattle.bp_limits.specs.Limits.{log_events, max_mask};
@@ -15,10 +15,10 @@ use pm_epochs::Choice;
 use pm_region::Region;
 use std::alloc::{AllocError, Global};
 
-/// One core does what the log tells, and another one reads.
+/// The number of cores: one does what the log records, the other reads.
 const CORES: u32 = 2;
 
-/// The caches of two cores over so many words, with room for each event of a log and a load behind it.
+/// The caches of two cores over a number of words, with room for each event of a log and a load after it.
 #[derive(Drop)]
 pub(crate) struct TwoCaches {
     words: u32,
@@ -27,7 +27,7 @@ pub(crate) struct TwoCaches {
 }
 
 impl TwoCaches {
-    /// Caches that have done nothing. It fails for want of memory alone.
+    /// Makes caches that have done nothing. Fails only if memory lacks.
     fn new(alloc: Global, words: u32) -> Result<Self, AllocError>
         requires { AreLines words }
         ensures { IfOk result (λ caches. caches.words ≡ words) }
@@ -39,7 +39,8 @@ impl TwoCaches {
     }
 }
 
-/// The caches for so many words: those that are held, or new ones where those are for other words, or there are none.
+/// Takes the caches for this number of words: those held from the last use, or new ones if there are none or they are
+/// for another number.
 fn take_caches(
     alloc: Global,
     words: u32,
@@ -56,8 +57,8 @@ fn take_caches(
     TwoCaches::new(alloc, words)
 }
 
-/// Crashes a volume to what the caches of two cores leave, in a run that is drawn from the seed. They are held for the next
-/// such line.
+/// Crashes a volume to the words that the caches of two cores leave, in a run drawn from the seed. The caches are
+/// held for the next such line.
 pub(crate) fn crash_by_caches<R: Region>(
     alloc: Global,
     volume: &mut Volume<R>,
@@ -70,7 +71,7 @@ pub(crate) fn crash_by_caches<R: Region>(
     ensures crashes { CrashesByCaches volume.old seed result volume.new }
     ensures room { choice.new.room ≡ choice.old.room }
 {
-    // The log is no longer than its room, and its stores went to the words.
+    // The log is no longer than its capacity, and its stores are within the words.
     let _events = volume.region().event_count();
     let mut caches = match take_caches(alloc, volume.region().words(), held) {
         Ok(caches) => caches,

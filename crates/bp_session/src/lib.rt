@@ -1,4 +1,4 @@
-//! Sessions: a script's lines, served over a volume, each with its reply to a sink.
+//! Sessions: the lines of a script, served over a volume, each with its reply to a sink.
 #![tactic(auto)]
 
 mod acting;

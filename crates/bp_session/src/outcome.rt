@@ -1,9 +1,9 @@
-//! What a line came to.
+//! The outcomes of a line.
 
-/// What a line came to.
+/// The outcome of a line.
 #[derive(Clone, Copy, Debug, PartialEq, Eq)]
 pub enum Outcome {
-    /// A call was answered; the answer stands in the reply.
+    /// A call was answered; the answer is in the reply of the buffers.
     Answered,
     /// All is written back.
     Synced,
@@ -14,11 +14,11 @@ pub enum Outcome {
         /// The number of live blocks.
         live: u32,
     },
-    /// The region crashed, and goes on with what was kept.
+    /// The region crashed, and continues with the words that survived.
     Kept {
-        /// The number of calls that were kept.
+        /// The number of calls that survived.
         c: usize,
-        /// The number of calls that the log had.
+        /// The number of calls of the log.
         n: usize,
     },
     /// The log was counted.
@@ -32,9 +32,9 @@ pub enum Outcome {
     },
     /// The log does not allow such a crash, and nothing was done.
     BadChoice,
-    /// There is no memory for the caches that the line asks for, and nothing was done.
+    /// Allocation of the caches that the line asks for failed, and nothing was done.
     NoMemory,
-    /// The line is none of the grammar.
+    /// The line is not in the grammar.
     BadSyntax,
     /// The line is too long.
     TooLong,

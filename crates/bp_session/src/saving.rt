@@ -1,4 +1,4 @@
-//! A file takes the words of a region.
+//! Saving the words of a region to a file.
 
 ghost use Rattle.std.specs.Prelude.{[], ◌≡◌, ◌≢◌, ◌↔◌, ◌≤◌, ◌+◌, ◌*◌, ◌/◌, ◌<◌, ◌^◌, List, ℕ, OnOk, OnErr, false, length, min, true};
 ghost use Rattle.bp_io.specs.Causes.{HasCause};
@@ -17,12 +17,12 @@ use bp_volume::Volume;
 use pm_epochs::EventKind;
 use pm_region::{Region, Row};
 
-/// How many rows of stores a log may have for each block of the image and still be looked through for the blocks to which they
-/// went. Where it has more, writing all blocks costs little more than looking on.
+/// The greatest number of rows (stores to consecutive words) of a log, for each block of the image, that are searched
+/// for the blocks to which they went. If there are more, writing all blocks costs little more than the search.
 const MOST_ROWS_A_BLOCK: usize = 4;
 
-/// The blocks of a file that may lack words of the last drain: of the first ones, so many, those that are marked, and each
-/// behind them. It is large: make one for a run.
+/// The blocks of a file that may lack words of the last drain: those of the first `count` that are marked, and each
+/// block past them. It is large: make one for a run.
 #[derive(Drop)]
 pub struct Stale {
     pub(crate) marks: [bool; MAX_BLOCKS as usize],
@@ -30,7 +30,8 @@ pub struct Stale {
 }
 
 impl Stale {
-    /// None of so many blocks may, as of a file of that size that was just read. None has more than `MAX_BLOCKS`.
+    /// Marks none of this number of blocks, as for a file of that size that was just read. At most `MAX_BLOCKS` are
+    /// kept.
     pub fn none(blocks: u32) -> Self
         ensures none { AreUnmarked (stale_in result) }
         ensures count { length (stale_in result) ≡ min blocks max_blocks }
@@ -42,7 +43,7 @@ impl Stale {
     }
 }
 
-/// Whether a block is marked. Each behind the marks is.
+/// Whether a block is marked. Each block past the marks is.
 fn is_marked(marks: &[bool], block: u32) -> bool
     ensures { result ≡ is_marked marks.now block }
 {
@@ -65,7 +66,7 @@ fn are_marked(marks: &[bool]) -> bool
     !marks.contains(&false)
 }
 
-/// Marks a block, where it is one of those that are told apart.
+/// Marks a block, if it is in the list of marks.
 fn mark_block(marks: &mut [bool], block: usize)
     ensures marked { is_marked marks.new block ≡ true }
     ensures more { (i : ℕ) → is_marked marks.old i ≡ true → is_marked marks.new i ≡ true }
@@ -76,7 +77,7 @@ fn mark_block(marks: &mut [bool], block: usize)
     }
 }
 
-/// Marks the blocks that hold so many words in a row.
+/// Marks the blocks of `count` consecutive words.
 fn mark_words(marks: &mut [bool], first: u32, count: usize)
     requires some { 0 < count }
     requires fits { first + count ≤ 2 ^ 32 }
@@ -94,7 +95,8 @@ fn mark_words(marks: &mut [bool], first: u32, count: usize)
     }
 }
 
-/// Marks the blocks to which a store of the log went, by rows of stores, so many of them. False where the log has more.
+/// Marks the blocks to which a store of the log went, from at most `most` rows of stores. Returns false if the log
+/// has more.
 fn mark_rows<R: Region>(region: &R, marks: &mut [bool], most: usize) -> bool
     ensures marks { result ≡ true → MarksChanges marks.new (R.memory region.now).base (current_words (R.memory region.now)) }
     ensures more { (i : ℕ) → is_marked marks.old i ≡ true → is_marked marks.new i ≡ true }
@@ -102,7 +104,7 @@ fn mark_rows<R: Region>(region: &R, marks: &mut [bool], most: usize) -> bool
     ensures none { stores (R.memory region.now).events ≡ [] → marks.new ≡ marks.old }
     ensures size { length marks.new ≡ length marks.old }
 {
-    // The number of a word fits its type.
+    // The index of a word fits its type.
     let _words = region.words();
     let count = region.event_count();
     let mut left = most;
@@ -125,9 +127,9 @@ fn mark_rows<R: Region>(region: &R, marks: &mut [bool], most: usize) -> bool
     true
 }
 
-/// Marks the blocks to which a store of the log went, or all blocks where the log has more rows of stores a block than are
-/// looked at. A log without a store marks none. Where each block is marked already, the log is not looked through. It stands
-/// by itself, so that a line which drains nothing does no more than ask for the log's room.
+/// Marks the blocks to which a store of the log went, or all blocks if the log has more rows of stores than are
+/// searched. A log without a store marks none. If each block is marked already, the log is not searched. This is a
+/// function of its own, so that a line that drains nothing only asks for the log's room.
 #[inline(never)]
 fn mark_stored<R: Region>(region: &R, marks: &mut [bool])
     ensures marks { MarksChanges marks.new (R.memory region.now).base (current_words (R.memory region.now)) }
@@ -144,7 +146,8 @@ fn mark_stored<R: Region>(region: &R, marks: &mut [bool])
     }
 }
 
-/// Marks the blocks as `mark_stored` does, where the next call drains the log: it drains one that lacks room for a call.
+/// Marks the blocks as `mark_stored` does, if the next call drains the log: a call drains a log that lacks room for
+/// it.
 pub(crate) fn mark_drain<R: Region>(region: &R, marks: &mut [bool])
     ensures { MarksDrain (R.memory region.now) marks.old marks.new }
 {
@@ -153,7 +156,7 @@ pub(crate) fn mark_drain<R: Region>(region: &R, marks: &mut [bool])
     }
 }
 
-/// How many blocks in a row are marked from one on, up to as many as are written in one call.
+/// Counts the consecutive marked blocks from `first` on, up to the number that one call writes.
 fn marked_run(marks: &[bool], first: u32, count: u32) -> u32
     requires { first < count }
     ensures marked { (k : ℕ) → k < result → is_marked marks.now (first + k) ≡ true }
@@ -169,7 +172,7 @@ fn marked_run(marks: &[bool], first: u32, count: u32) -> u32
     run
 }
 
-/// Writes each block that is marked to the attached file, in order.
+/// Writes each marked block to the attached file, in order.
 fn write_changed<R: Region, F: Files>(
     region: &R,
     marks: &[bool],
@@ -214,7 +217,7 @@ fn flush<F: Files>(files: &mut F) -> Result<(), Failed>
     files.flush()
 }
 
-/// Writes each block that is marked to the attached file, in order, and flushes it.
+/// Writes each marked block to the attached file, in order, and flushes the file.
 fn save<R: Region, F: Files>(region: &R, marks: &[bool], files: &mut F) -> Result<(), Failed>
     requires { CanSave (R.memory region.now).base (F.view files.old) }
     ensures saved { OnOk result (SavesMarked marks.now (current_words (R.memory region.now)) (F.view files.old) (F.view files.new)) }
@@ -231,8 +234,8 @@ fn save<R: Region, F: Files>(region: &R, marks: &[bool], files: &mut F) -> Resul
     flush(files)
 }
 
-/// Syncs and saves, as `sync_and_save` does, by the marks of the blocks. Where they tell of fewer than the file has, those
-/// behind are written too.
+/// Syncs and saves, as `sync_and_save` does, by the marks of the blocks. If there are fewer marks than blocks of the
+/// file, the blocks past them are written too.
 pub(crate) fn sync_marked<R: Region, F: Files>(
     volume: &mut Volume<R>,
     stale: &mut [bool],
@@ -266,9 +269,9 @@ pub(crate) fn sync_marked<R: Region, F: Files>(
 }
 
 /// Waits until all that the calls so far have done is written back, saves the words to the attached file, and flushes
-/// it. Only the blocks are written that are stale or to which a store went since the last drain; or all blocks, where the
-/// log has more than four rows of stores a block. Behind a save none is marked of the blocks of which the marks tell; behind
-/// one that failed each block counts as stale.
+/// it. Only the stale blocks and those to which a store went since the last drain are written; or all blocks, if the
+/// log has more than four rows of stores a block. After a save no block in the list of marks is marked; after a
+/// failed save each block counts as stale.
 pub fn sync_and_save<R: Region, F: Files>(
     volume: &mut Volume<R>,
     stale: &mut Stale,

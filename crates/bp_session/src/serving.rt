@@ -1,4 +1,4 @@
-//! Lines of a source in any pieces, each with its reply to a sink.
+//! Serving the lines of a source, in whatever pieces it is read, each with its reply to a sink.
 
 ghost use Rattle.memchr.specs.Find.{IsFirst, Nowhere, Passes, is_byte};
 ghost use Rattle.std.specs.Prelude.{◌≡◌, ◌≤◌, [], Err, OnOk, length, slice_range, true, vec_len};
@@ -28,7 +28,7 @@ use memchr::memchr;
 use pm_region::Region;
 use std::alloc::Global;
 
-/// Serves the line that is held. Where more replies than so many bytes then wait, they are handed over.
+/// Serves the line that is held. If more than `most` bytes of replies wait then, they go to the sink.
 fn answer_line<R: Region, K: Sink, F: Files>(
     alloc: Global,
     volume: &mut Volume<R>,
@@ -57,7 +57,7 @@ fn answer_line<R: Region, K: Sink, F: Files>(
     }
 }
 
-/// Serves the line that is held, and hands its reply over.
+/// Serves the line that is held, and passes its reply to the sink.
 fn answer_alone<R: Region, K: Sink, F: Files>(
     alloc: Global,
     volume: &mut Volume<R>,
@@ -79,9 +79,9 @@ fn answer_alone<R: Region, K: Sink, F: Files>(
     answer_line(alloc, volume, work, 0, stale, out, files)
 }
 
-/// Serves the line that the work holds, and hands its reply over. It is broken off by the sink, which did not take the
-/// reply whole, or by the files, where a sync could not save. A file is to be attached that has the volume's blocks and
-/// may be written. Nothing is taken of what it holds.
+/// Serves the line that the work holds, and passes its reply to the sink. The sink breaks it off if it does not take
+/// the reply whole, or the files if a sync cannot save. A file has to be attached that has the volume's blocks and
+/// may be written; its contents are not read.
 pub fn serve_line<R: Region, K: Sink, F: Files>(
     alloc: Global,
     volume: &mut Volume<R>,
@@ -101,8 +101,8 @@ pub fn serve_line<R: Region, K: Sink, F: Files>(
     answer_alone(alloc, volume, work, &mut [], out, files)
 }
 
-/// Serves the line that a newline ends, and begins the next. Where more replies than so many bytes then wait, they are
-/// handed over.
+/// Serves the line that a newline ends, and begins the next. If more than `most` bytes of replies wait then, they go
+/// to the sink.
 fn end_line<R: Region, K: Sink, F: Files>(
     alloc: Global,
     volume: &mut Volume<R>,
@@ -126,7 +126,7 @@ fn end_line<R: Region, K: Sink, F: Files>(
     served
 }
 
-/// Goes on by bytes of the piece that have no newline.
+/// Adds bytes of the piece that have no newline to the line.
 fn take_run(work: &mut Work, from: usize, to: usize)
     requires order { from ≤ to }
     requires inside { to ≤ piece_size }
@@ -139,7 +139,7 @@ fn take_run(work: &mut Work, from: usize, to: usize)
     buffers.add(&piece[from..to]);
 }
 
-/// Where the first newline stands from one place of the bytes up to another.
+/// Finds the first newline in the bytes from one index up to another.
 fn newline_in(bytes: &[u8], from: usize, to: usize) -> Option<usize>
     requires order { from ≤ to }
     requires inside { to ≤ length bytes.now }
@@ -151,7 +151,7 @@ fn newline_in(bytes: &[u8], from: usize, to: usize) -> Option<usize>
     }
 }
 
-/// Goes on by the first bytes of the piece that was read.
+/// Serves the lines of the first `count` bytes of the piece that was read.
 fn take_piece<R: Region, K: Sink, F: Files>(
     alloc: Global,
     volume: &mut Volume<R>,
@@ -213,7 +213,7 @@ fn fill<S: Source>(src: &mut S, piece: &mut Vec<u8>) -> Result<usize, Failed>
     src.read(piece)
 }
 
-/// Answers each line of a source. Replies of at most so many bytes wait while more lines of the same piece follow.
+/// Answers each line of a source. Replies of at most `most` bytes wait while more lines of the same piece follow.
 fn serve_by<R: Region, S: Source, K: Sink, F: Files>(
     alloc: Global,
     volume: &mut Volume<R>,
@@ -250,8 +250,8 @@ fn serve_by<R: Region, S: Source, K: Sink, F: Files>(
     finish(alloc, volume, work, stale, out, files)
 }
 
-/// Answers each line of a source, in whatever pieces it comes, up to its end, or to the first cause that breaks it off.
-/// No line that the work held before is served. Each reply is handed to the sink before the next line is served.
+/// Answers each line of a source, in whatever pieces it is read, up to its end, or to the first cause that breaks it
+/// off. A line that the work held before is not served. Each reply goes to the sink before the next line is served.
 pub fn serve<R: Region, S: Source, K: Sink, F: Files>(
     alloc: Global,
     volume: &mut Volume<R>,
@@ -269,13 +269,13 @@ pub fn serve<R: Region, S: Source, K: Sink, F: Files>(
     serve_by(alloc, volume, work, 0, &mut [], src, out, files)
 }
 
-/// Answers each line of a source, as `serve` does, but for when replies are handed to the sink: they are gathered while
-/// more lines of one read follow, and handed over before the next read, before a sync, and at the end. Where the sink
-/// failed, the volume may be ahead of the line whose reply broke off, by lines behind it of which none is a sync; no
-/// file is.
+/// Answers each line of a source, as `serve` does, but gathers replies while more lines of one read follow. They go
+/// to the sink before the next read, before a sync, and at the end. If the sink failed, the volume may be ahead of
+/// the line whose reply was broken off, by later lines of which none is a sync; no file is ahead.
 ///
-/// A sync writes the blocks that are stale, which may lack words of the last drain, and those to which a store went since,
-/// as `sync_and_save` does. Which are stale the caller says, as none where the file was just read, and is told at the end.
+/// A sync writes the stale blocks, which may lack words of the last drain, and those to which a store went since, as
+/// `sync_and_save` does. The caller passes the stale blocks (none, if the file was just read), and gets them at the
+/// end.
 pub fn serve_gathered<R: Region, S: Source, K: Sink, F: Files>(
     alloc: Global,
     volume: &mut Volume<R>,

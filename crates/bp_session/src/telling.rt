@@ -19,7 +19,7 @@ use bp_plain::{Answer, FsError, Reply};
 use bp_replies::Replies;
 use bp_script::Said;
 
-/// Tells a line for each name, and the line that ends a listing.
+/// Adds a line for each name, and the line that ends a listing.
 fn tell_names<K: Sink>(listing: &Listing, replies: &mut Replies, out: &mut K) -> Result<(), Failed>
     ensures all { OnOk result (PassesText (answer_text (names listing.now))
         replies.old (K.view out.old) replies.new (K.view out.new)) }
@@ -34,7 +34,7 @@ fn tell_names<K: Sink>(listing: &Listing, replies: &mut Replies, out: &mut K) ->
     replies.tell(&Said::End, out)
 }
 
-/// Tells the answer of a call.
+/// Adds the answer of a call.
 fn tell_answer<K: Sink>(reply: &Reply, replies: &mut Replies, out: &mut K) -> Result<(), Failed>
     ensures all { OnOk result (PassesText (answer_text reply.now.answer)
         replies.old (K.view out.old) replies.new (K.view out.new)) }
@@ -48,7 +48,8 @@ fn tell_answer<K: Sink>(reply: &Reply, replies: &mut Replies, out: &mut K) -> Re
     }
 }
 
-/// What is said of a line that is no call. It stands by itself so that a call, which most lines are, makes room for none of it.
+/// Returns the reply to a line that is no call. This is a function of its own, so that a call, which most lines are,
+/// reserves no stack space for it.
 #[inline(never)]
 fn said(outcome: Outcome) -> Said<'static>
     requires { ¬ (outcome ≡ Answered) }
@@ -76,7 +77,7 @@ fn said(outcome: Outcome) -> Said<'static>
     }
 }
 
-/// Tells what a line came to, behind the replies that wait. Where the sink failed, it took a proper front of them all.
+/// Adds the reply for an outcome to the waiting replies. If the sink failed, it took a proper prefix of them all.
 fn tell<K: Sink>(
     outcome: Outcome,
     reply: &Reply,
@@ -95,8 +96,8 @@ fn tell<K: Sink>(
     }
 }
 
-/// Tells what a line came to, behind the replies that wait, and hands over what then waits, where it is more than so
-/// many bytes. Where the sink failed, it took a proper front of them all.
+/// Adds the reply for an outcome to the waiting replies, and passes them to the sink if they have more than `most`
+/// bytes. If the sink failed, it took a proper prefix of them all.
 pub(crate) fn tell_by<K: Sink>(
     outcome: Outcome,
     reply: &Reply,

@@ -1,4 +1,4 @@
-//! The memory of a run, made once.
+//! The memory of a run, allocated once.
 
 ghost use Rattle.bp_script.specs.Lines.{decoded_room};
 ghost use Rattle.std.specs.Prelude.{◌+◌, ◌≡◌, ◌≤◌, IfOk, [], vec_capacity, vec_len};
@@ -14,10 +14,10 @@ use pm_epochs::Choice;
 use pm_steps::Backs;
 use std::alloc::{AllocError, Global};
 
-/// The bytes of a read.
+/// The greatest number of bytes of a read.
 const PIECE: usize = 65_536;
 
-/// A line, of which one byte more than the longest is kept, and what it takes to answer it.
+/// A line, of which at most one byte more than the longest allowed is kept, and the memory needed to answer it.
 #[derive(Drop)]
 pub struct LineBuffers {
     pub(crate) line: Vec<u8>,
@@ -26,7 +26,8 @@ pub struct LineBuffers {
     pub(crate) replies: Replies,
     pub(crate) choice: Choice,
     pub(crate) backs: Backs,
-    // Made at the first line that asks for them: 8 bytes for each word of the region, and some 32 MiB for their log.
+    // Allocated at the first line that asks for it: 8 bytes for each word of the region, and about 32 MiB for the log
+    // of the caches.
     pub(crate) caches: Option<TwoCaches>,
     ghost room: { max_line + 1 ≤ vec_capacity line },
     ghost fits: { vec_len line ≤ max_line + 1 },
@@ -39,7 +40,7 @@ impl LineBuffers {
     ghost use Rattle.bp_session.specs.Work.{answer_in, line_in, line_of, waiting_in};
     ghost use Rattle.std.specs.Prelude.{◌++◌, take, option_map};
 
-    /// Room for lines of 2,200,000 bytes, with the empty line in it. It fails for want of memory alone.
+    /// Allocates memory for lines of 2,200,000 bytes, with the empty line in it. Fails only if memory lacks.
     pub fn new(alloc: Global) -> Result<Self, AllocError>
         ensures { IfOk result (λ buffers. line_in buffers ≡ []) }
     {
@@ -54,7 +55,7 @@ impl LineBuffers {
         })
     }
 
-    /// Sets the line. Of one above the limit only that it is too long is kept.
+    /// Sets the line. Of a line above the limit only the fact that it is too long is kept.
     pub fn set_line(&mut self, bytes: &[u8])
         ensures line { line_in self.new ≡ take (max_line + 1) bytes.now }
         ensures answer { answer_in self.new ≡ answer_in self.old }
@@ -63,7 +64,7 @@ impl LineBuffers {
         self.add(bytes);
     }
 
-    /// Adds bytes to the line. Of one above the limit only that it is too long is kept.
+    /// Adds bytes to the line. Of a line above the limit only the fact that it is too long is kept.
     pub(crate) fn add(&mut self, bytes: &[u8])
         ensures line { line_in self.new ≡ take (max_line + 1) (line_in self.old ++ bytes.now) }
         ensures answer { answer_in self.new ≡ answer_in self.old }
@@ -76,7 +77,7 @@ impl LineBuffers {
         }
     }
 
-    /// The line, where it is not too long.
+    /// Returns the line, if it is not too long.
     pub fn line(&self) -> Option<&[u8]>
         ensures { option_map (λ bytes. bytes.now) result ≡ line_of (line_in self.now) }
     {
@@ -87,7 +88,7 @@ impl LineBuffers {
         }
     }
 
-    /// The answer of the last call.
+    /// Returns the answer of the last call.
     pub fn reply(&self) -> &Reply
         ensures { result.now.answer ≡ answer_in self.now }
     {
@@ -95,8 +96,8 @@ impl LineBuffers {
     }
 }
 
-/// A line as far as it was read, a piece of the source, and what it takes to answer a line. Serving takes no other
-/// memory, but for listings, and for the caches of the first line that asks for them.
+/// A line as far as it was read, a piece of the source, and the memory needed to answer a line. Serving allocates no
+/// other memory, except for listings, and for the caches of the first line that asks for them.
 #[derive(Drop)]
 pub struct Work {
     pub(crate) buffers: LineBuffers,
@@ -108,7 +109,7 @@ impl Work {
     ghost use Rattle.bp_session.specs.Work.{held_line, line_of};
     ghost use Rattle.std.specs.Prelude.{take, option_map};
 
-    /// Room for lines of 2,200,000 bytes, with the empty line in it. It fails for want of memory alone.
+    /// Allocates memory for lines of 2,200,000 bytes, with the empty line in it. Fails only if memory lacks.
     pub fn new(alloc: Global) -> Result<Self, AllocError>
         ensures { IfOk result (λ work. held_line work ≡ []) }
     {
@@ -118,14 +119,14 @@ impl Work {
         })
     }
 
-    /// Sets the line. Of one above the limit only that it is too long is kept.
+    /// Sets the line. Of a line above the limit only the fact that it is too long is kept.
     pub fn set_line(&mut self, bytes: &[u8])
         ensures { held_line self.new ≡ take (max_line + 1) bytes.now }
     {
         self.buffers.set_line(bytes);
     }
 
-    /// The line, where it is not too long.
+    /// Returns the line, if it is not too long.
     pub fn line(&self) -> Option<&[u8]>
         ensures { option_map (λ bytes. bytes.now) result ≡ line_of (held_line self.now) }
     {

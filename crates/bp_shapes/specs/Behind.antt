@@ -1,11 +1,11 @@
--- The words behind the size of a tree.
+-- The words past the size of a tree.
 use Rattle.std.specs.Prelude.{◌≡◌, ◌≢◌, ℕ, suc, ◌+◌, ◌*◌, ◌/◌, ◌%◌, ◌<◌}
 use Rattle.bp_limits.specs.Limits.{block_words}
 use Rattle.bp_layout.specs.Words.{Image, word, height_of, byte_of}
 use Rattle.bp_layout.specs.Tree.{node, IsLivePointer}
 
--- A word of a present node of a tree that is behind its size, or the word in which the size lies, whose live bytes the
--- value keeps.
+-- A place past the size of a tree: a word of an existing node that is no live pointer and lies past the size, or the
+-- word in which the size lies if the value keeps that word's live bytes.
 pub record IsBehind (image : Image) (root size place value : ℕ) : Type 0 where
   pub depth : ℕ
   pub index : ℕ

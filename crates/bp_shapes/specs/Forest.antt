@@ -1,4 +1,4 @@
--- The trees of an image on their trails.
+-- The trees of an image, by trails.
 use Rattle.std.specs.Prelude.{◌≡◌, ℕ, zero, suc, ◌+◌, ◌*◌, ◌/◌, ◌%◌, ◌<◌, ◌≤◌, [], ◌∷◌, Bool, true, false}
 use Rattle.bp_limits.specs.Limits.{block_words, greatest_height, inode_size, inode_words, root_field, super_root}
 use Rattle.bp_layout.specs.Formatted.{version_of}
@@ -8,12 +8,12 @@ use Rattle.bp_layout.specs.Inode.{root_of}
 use Rattle.bp_layout.specs.Reached.{IsReached}
 use Rattle.bp_shapes.specs.Trail.{Trail, LeadsTo}
 
--- the trail of a word of a tree, behind that of its root word
+-- the trail of a word of a tree, below that of its root word
 abbrev pub along : Trail → ℕ → ℕ → Trail
 along base zero index = base
 along base (suc depth) index = (index % block_words) ∷ along base depth (index / block_words)
 
--- where the inode file has this height
+-- the trail of the root word of a tree, if the inode file has this height
 abbrev pub root_trail : ℕ → ℕ → Trail
 root_trail height zero = []
 root_trail height (suc i) = along [] (suc height) (inode_words * suc i + root_field)
@@ -21,7 +21,7 @@ root_trail height (suc i) = along [] (suc height) (inode_words * suc i + root_fi
 abbrev pub tree_trail : ℕ → ℕ → ℕ → ℕ → Trail
 tree_trail height t depth index = along (root_trail height t) depth index
 
--- the reached trees under other sizes: each is sound and not too high, and no block is in two
+-- the reachable trees are sound with other sizes (`bound`) too, they are not too high, and no block is in two of them
 pub record IsForest (image : Image) (bound : ℕ → ℕ) : Type 0 where
   pub some : 0 < bound 0
   pub in_file : (i : ℕ) → IsReached image (suc i) → inode_size * suc i + inode_size ≤ bound 0
@@ -31,7 +31,7 @@ pub record IsForest (image : Image) (bound : ℕ → ℕ) : Type 0 where
   pub apart : (t u b : ℕ) → IsReached image t → IsReached image u →
       HasBlock image (root_of image t) (bound t) b → HasBlock image (root_of image u) (bound u) b → t ≡ u
 
--- a pointer of a reached tree that is live under these sizes
+-- a pointer of a reachable tree that is live with these sizes
 pub record IsTreePointer (image : Image) (bound : ℕ → ℕ) (p : Trail) : Type 0 where
   pub tree : ℕ
   pub depth : ℕ
@@ -40,7 +40,7 @@ pub record IsTreePointer (image : Image) (bound : ℕ → ℕ) (p : Trail) : Typ
   pub live : IsLivePointer (root_of image tree) (bound tree) depth index
   pub named : tree_trail (height_of (word image super_root)) tree depth index ≡ p
 
--- the set has just the blocks to which no pointer of these trails leads and that are not kept
+-- the set has exactly the blocks to which no pointer of these trails leads and that are not kept
 pub record IsExactSet (image : Image) (Pointer : Trail → Type 0) (kept free : ℕ → Bool) : Type 0 where
   pub live : (b : ℕ) → LeadsTo image Pointer b → free b ≡ false
   pub dead : (b : ℕ) → 1 ≤ b → b < block_count image → (LeadsTo image Pointer b → ⊥) → kept b ≡ false → free b ≡ true

@@ -1,13 +1,13 @@
--- The pointers of an image, and other shapes of its trees. To be read in this order.
+-- The pointers of an image, and its trees in other shapes. Read the modules in this order.
 
--- what lies behind a size
+-- the words past a size
 pub mod Behind
--- which blocks come back
+-- which blocks become free
 pub mod Freed
--- the ways to words, and all trees on them
+-- the trails of words, and all trees by trails
 pub mod Trail
 pub mod Forest
--- a pointer that comes in, a root word that rises
+-- a pointer that is linked in, a tree that gets higher
 pub mod Links
 -- the free numbers
 pub mod Sets

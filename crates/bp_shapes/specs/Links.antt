@@ -1,4 +1,4 @@
--- The two links of a preparation: a root word that reads as the old one, and a subtree in place of a null.
+-- The two links of a preparation: a root word with the same content as the old one, and a subtree for a null pointer.
 use Rattle.std.specs.Prelude.{◌≡◌, ◌≢◌, ℕ, suc, ◌+◌, ◌*◌, ◌/◌, ◌%◌, ◌<◌, ◌≤◌, List, [], ◌∷◌, length}
 use Rattle.bp_layout.specs.Formatted.{version_of}
 use Rattle.bp_layout.specs.Words.{Image, block_count, block_of, height_of, slot_word, byte_of}
@@ -8,13 +8,13 @@ use Rattle.bp_layout.specs.Reached.{IsReached, IsLiveBlock}
 use Rattle.bp_limits.specs.Limits.{block_size, block_words, greatest_height}
 use Rattle.bp_layout.specs.Members.{Each, AreApart}
 
--- word l at depth e stands at or under word k at depth d + 1, so many deeper
+-- word l at depth e is word k at depth d + 1, or below it by the given number of levels
 pub data IsUnder (d k : ℕ) : ℕ → ℕ → ℕ → Type 0 where
   here : {e l : ℕ} → e ≡ suc d → l ≡ k → IsUnder d k e l 0
   under : {e l r : ℕ} → IsUnder d k e (l / block_words) r → IsUnder d k (suc e) l (suc r)
 
--- Pointer k at depth d + 1 of tree t is null and live. The block's tree, which is to stand there, is free, sound, and
--- zero below the size.
+-- The condition to link a subtree: pointer k at depth d + 1 of tree t is null and live, and the tree of the block is
+-- free, sound, and zero below the size.
 pub record CanHang (image : Image) (t d k place block : ℕ) : Type 0 where
   pub reached : IsReached image t
   pub live : IsLivePointer (root_of image t) (size_of image t) (suc d) k
@@ -34,16 +34,16 @@ pub record CanHang (image : Image) (t d k place block : ℕ) : Type 0 where
   pub zero_bytes : (o r : ℕ) → IsUnder d k (height_of (root_of image t)) (o / 8 / block_words) r → o < size_of image t →
       byte_of (tree_word image (block_size * block) (suc r) (o / 8)) (o % 8) ≡ 0
 
--- a root word one higher, with this block on top
+-- the root word of a tree one level higher, with this block at the top
 abbrev pub raised : ℕ → ℕ → ℕ
 raised root block = block_size * block + suc (height_of root)
 
--- the root word over these blocks, the lowest first
+-- the root word of a tree with these blocks above it, the lowest first
 abbrev pub raised_by : ℕ → List ℕ → ℕ
 raised_by root [] = root
 raised_by root (block ∷ blocks) = raised_by (raised root block) blocks
 
--- each block's first slot points to the one below it
+-- the first slot of each block points to the block below it
 abbrev pub LeadDown : Image → ℕ → List ℕ → Type 0
 LeadDown image root [] = Unit {0}
 LeadDown image root (block ∷ blocks) =

@@ -1,4 +1,4 @@
--- What `check FILE` answers, and when.
+-- The result of `check FILE`, and its conditions.
 use Rattle.std.specs.Prelude.{◌≡◌, ℕ, List}
 use Rattle.bp_io.specs.Views.{Known}
 use Rattle.bp_layout.specs.Whole.{HasSpace}
@@ -13,7 +13,7 @@ use Rattle.bp_shell.specs.Opening.{HoldsFileSystem}
 use Rattle.bp_shell.specs.declared.status.Status.{Status}
 use Rattle.bp_session.specs.Outside.{Outside}
 
--- The line tells what this image holds in all, and how many of its blocks are free.
+-- The line has the totals of this image, and the number of its free blocks.
 pub record IsClean (image : Image) (notice : Notice) : Type 0 where
   pub totals : Totals
   pub free : ℕ
@@ -21,18 +21,18 @@ pub record IsClean (image : Image) (notice : Notice) : Type 0 where
   pub leaves : HasSpace image free
   pub line : notice ≡ Clean totals.files totals.dirs totals.bytes totals.live free
 
--- FILE holds a file system, of which this line tells.
+-- FILE holds a file system, and the line has its totals.
 pub record Checks (known : Known) (notice : Notice) : Type 0 where
   pub image : Image
   pub found : HoldsFileSystem known image
   pub clean : IsClean image notice
 
--- .. and the text is that line.
+-- FILE holds a file system, and the text is the line with its totals.
 pub record ChecksBy (known : Known) (text : List ℕ) : Type 0 where
   pub notice : Notice
   pub checks : Checks known notice
   pub told : text ≡ notice_text notice
 
--- What `check FILE` answers, and when.
+-- The result of `check FILE`, and its conditions.
 abbrev pub CheckOutcome : Status → Outside → Outside → Type 0
 CheckOutcome answer before after = ReadOutcome (ChecksBy before.file) answer before after

@@ -1,4 +1,4 @@
--- How a program ends before it serves or tells of its file, and what one answers that reads its file alone.
+-- How a program ends before it serves or reports on its file, and the result of a program that only reads its file.
 use Rattle.std.specs.Prelude.{Some, ◌≡◌, ◌⊎◌, ℕ, List, Option}
 use Rattle.std.specs.Io.KnownBytes.{Appends}
 use Rattle.bp_layout.specs.Bytes.{image_bytes}
@@ -20,11 +20,11 @@ use Rattle.bp_shell.specs.declared.stop.Stop.TheVariants as stop
 
 -- ---- at a `Stop`
 
--- nothing is told
+-- Nothing is printed, and the sink does not fail.
 abbrev pub TellsNothing : Option (List ℕ) → Option (List ℕ) → ℕ → ℕ → Type 0
 TellsNothing taken taken_now faults faults_now = (taken_now ≡ taken) × (faults_now ≡ faults)
 
--- how a program ends that ends for this reason, and what it tells
+-- The status and the line of a program that ends for this reason.
 abbrev pub TellsStop : Stop → Status → Option (List ℕ) → Option (List ℕ) → ℕ → ℕ → Type 0
 TellsStop stop.Missing answer taken taken_now faults faults_now =
     (answer ≡ status.Missing) × Prints (notice_text NoFile) taken taken_now faults faults_now
@@ -35,8 +35,8 @@ TellsStop (stop.Refused notice) answer taken taken_now faults faults_now =
 TellsStop stop.Memory answer taken taken_now faults faults_now =
     (answer ≡ status.Memory) × TellsNothing taken taken_now faults faults_now
 
--- What `run`, `check` and `play` answer alike: FILE is not there, is refused, or memory is wanting, before a byte is
--- read; and the first fault ends them.
+-- The common results of `run`, `check` and `play` before the source is read: FILE does not exist (`Missing`), is
+-- refused (`Refused`), or memory is lacking (`Memory`). The first fault ends the program.
 pub record StopOutcome (answer : Status) (before after : Outside) : Type 0 where
   pub missing : answer ≡ status.Missing → IsAbsent before.file × IsUntouched before after × TellsLine NoFile before after
   pub refused : answer ≡ status.Refused → (notice : Notice) × RefusesFile before.file notice × IsUntouched before after
@@ -44,16 +44,18 @@ pub record StopOutcome (answer : Status) (before after : Outside) : Type 0 where
   pub memory : answer ≡ status.Memory → IsIdle before after
   pub first : IsFirstFault (broken_by answer) (tells_line answer) before.faults after.faults
 
--- ---- a program that reads FILE alone
+-- ---- a program that only reads FILE
 
--- Where FILE is told to have the bytes of a file system, and nothing fails, all is done, or memory is wanting.
+-- If FILE is known to have the bytes of a file system, and neither sink nor files fail, the result is `Done` or
+-- `Memory`.
 abbrev pub IsReadComplete : Status → Outside → Outside → Type 0
 IsReadComplete answer before after =
     (image : Image) → before.file ≡ Some (Some (image_bytes image)) → AreWordsOf64Bits image
     → IsFileSystem image → ¬ SinkFailed before after → ¬ FilesFailed before after
     → (answer ≡ status.Done) ⊎ (answer ≡ status.Memory)
 
--- What `check` and `play` answer, and when: they tell a text of this kind. They read no input, and FILE stays as it is.
+-- The results of `check` and `play`, and their conditions. They print a text of this kind, read no input, and leave
+-- FILE unchanged.
 pub record ReadOutcome (Tells : List ℕ → Type 0) (answer : Status) (before after : Outside) : Type 0 where
   pub whole : answer ≡ status.Done → (text : List ℕ) × Tells text × Appends before.taken after.taken text
   pub sink : answer ≡ status.SinkFailed → (text : List ℕ) × Tells text × TakesPart text before.taken after.taken

@@ -1,4 +1,4 @@
--- What `export FILE` answers, and when.
+-- The result of `export FILE`, and its conditions.
 use Rattle.std.specs.Prelude.{Some, ◌≡◌, ◌⊎◌, ℕ, List, Option}
 use Rattle.std.specs.Io.KnownBytes.{Appends}
 use Rattle.bp_export.specs.Exports.{TakesFront}
@@ -25,8 +25,8 @@ use Rattle.bp_shell.specs.declared.status.Status.TheVariants as status
 
 -- ---- a tree
 
--- What is told of a tree, by how that ends: its script; a front of it for want of memory, or a proper front where the sink
--- failed; and where some path is longer than a call can spell, nothing but the line that says so.
+-- The text printed for a tree, by the status: the whole script; a prefix of it if memory lacks, or a proper prefix if
+-- the sink failed; and if some path is longer than a call can spell, only the line that reports this.
 abbrev pub TellsTree : FileTree → Status → Option (List ℕ) → Option (List ℕ) → ℕ → ℕ → Type 0
 TellsTree tree status.Done taken taken_now faults faults_now =
     HasShortPaths tree × Appends taken taken_now (export_text tree) × (faults_now ≡ faults)
@@ -38,47 +38,47 @@ TellsTree tree status.Deep taken taken_now faults faults_now =
     (¬ HasShortPaths tree) × Prints (notice_text Deep) taken taken_now faults faults_now
 TellsTree tree _ taken taken_now faults faults_now = ⊥
 
--- the tree for which an image stands is told so to a sink
+-- The tree that an image represents is printed so to a sink.
 abbrev pub TellsTreeOf : Image → Status → SinkView → SinkView → Type 0
 TellsTreeOf image answer sink sink_now = (tree : FileTree) → Stands image tree
     → TellsTree tree answer sink.taken sink_now.taken sink.faults sink_now.faults
 
 -- ---- a file
 
--- FILE holds a file system, which stands for this tree.
+-- FILE holds a file system, which represents this tree.
 pub record HoldsTree (known : Known) (tree : FileTree) : Type 0 where
   pub image : Image
   pub found : HoldsFileSystem known image
   pub stands : Stands image tree
 
--- .. each of whose paths a call can spell: this is the script that makes it.
+-- FILE holds a file system, a call can spell each path of its tree, and the text is the script that makes this tree.
 pub record Exports (known : Known) (text : List ℕ) : Type 0 where
   pub tree : FileTree
   pub holds : HoldsTree known tree
   pub short : HasShortPaths tree
   pub told : text ≡ export_text tree
 
--- .. or not.
+-- FILE holds a file system, and some path of its tree is longer than a call can spell.
 pub record HoldsDeep (known : Known) : Type 0 where
   pub tree : FileTree
   pub holds : HoldsTree known tree
   pub deep : ¬ HasShortPaths tree
 
--- A front of that script was taken, which may be all of it.
+-- The sink took a prefix of the script of FILE, which may be all of it.
 pub record ExportsFront (before after : Outside) : Type 0 where
   pub text : List ℕ
   pub exports : Exports before.file text
   pub takes : TakesFront text before.taken after.taken
 
--- Where FILE is told to have the bytes of a file system, and nothing fails, all is done, or memory is wanting, or a path is
--- too long, by its cause.
+-- If FILE is known to have the bytes of a file system, and neither sink nor files fail, the result is `Done`,
+-- `Memory`, or, if a path is too long, `Deep`.
 abbrev pub IsExportComplete : Status → Outside → Outside → Type 0
 IsExportComplete answer before after =
     (image : Image) → before.file ≡ Some (Some (image_bytes image)) → AreWordsOf64Bits image
     → IsFileSystem image → ¬ SinkFailed before after → ¬ FilesFailed before after
     → (answer ≡ status.Done) ⊎ (answer ≡ status.Memory) ⊎ (answer ≡ status.Deep)
 
--- What `export FILE` answers, and when. It reads no input, and FILE stays as it is.
+-- The result of `export FILE`, and its conditions. It reads no input, and FILE stays unchanged.
 pub record ExportOutcome (answer : Status) (before after : Outside) : Type 0 where
   pub whole : answer ≡ status.Done → (text : List ℕ) × Exports before.file text × Appends before.taken after.taken text
   pub missing : answer ≡ status.Missing → IsAbsent before.file × TellsLine NoFile before after

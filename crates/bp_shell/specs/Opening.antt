@@ -29,7 +29,7 @@ pub record HasSized (known : Known) (image : Image) : Type 0 where
   pub has : HasImage known image
   pub sized : IsSized image
 
--- The file of this name, of which so much was known, is attached, and has so many blocks of an image.
+-- The file of this name, of which this much was known before, is attached, and has this number of blocks of an image.
 pub record FindsImage (was : Known) (name : List ℕ) (count : ℕ) (files : View) : Type 0 where
   pub attached : files.is_attached name ≡ true
   pub blocks : files.blocks ≡ count
@@ -37,25 +37,26 @@ pub record FindsImage (was : Known) (name : List ℕ) (count : ℕ) (files : Vie
   pub at_least : min_blocks ≤ count
   pub at_most : count ≤ max_blocks
 
--- FILE is attached and may be written as was asked, or what was attached before still is.
+-- FILE is attached with the access that was asked for, or the files attached before still are.
 abbrev pub AttachesAs : Access → List ℕ → View → View → Type 0
 AttachesAs access name old new =
     (new.is_attached name ≡ true) × (new.may_write ≡ may_change access) ⊎ StaysAttached old new
 
--- What a program leaves that reads FILE alone: no file changes, and FILE may not be written.
+-- What a program leaves that only reads FILE: no file changes, and FILE cannot be written.
 pub record OnlyReads (name : List ℕ) (old new : View) : Type 0 where
   pub kept : KeepsFiles old new
   pub attached : AttachesAs Read name old new
 
--- The words of the first blocks of the attached file are there, and there is room for those of the others.
+-- The words of the first blocks of the attached file are loaded, and there is room for those of the others.
 pub record HasLoaded (files : View) (count : ℕ) (part : Part) : Type 0 where
   pub image : HoldsFirstBlocks files count part.words
   pub words : AreWordsOf64Bits part.words
   pub long : length part.words ≡ block_words * count
   pub size : part.size ≡ block_words * files.blocks
 
--- Why a file is refused, by the line that says so: it has no image's length; or it has one, and word 0 is the mark of no
--- version, word 1 is not its number of blocks, or both are right and the check with this number fails at this word.
+-- Why a file is refused, with the line that reports it. Its length is no image's; or it is, and word 0 is the magic
+-- number of no version, word 1 is not its number of blocks, or both are right and the check with this number fails at
+-- this word.
 pub data RefusesFile (known : Known) : Notice → Type 0 where
   by_length : {len : ℕ} → HasLength known len → len ≢ wanted_length len
       → RefusesFile known (BadSize len (wanted_length len))
@@ -69,19 +70,20 @@ pub data RefusesFile (known : Known) : Notice → Type 0 where
       → word image super_magic ≡ magic (version_of image) → word image super_blocks ≡ block_count image →
       FailsWhole image check place → RefusesFile known (Damaged (number_of check) place)
 
--- the state with which a run begins
+-- The state in which a run begins.
 abbrev pub start : Image → State
 start image = record { memory = record { base = image; events = []; capacity = log_events; drains = 0 }; saved = image }
 
--- the memory with which a run over an image begins
+-- The memory with which a run over an image begins.
 abbrev pub IsStart : Image → Memory → Type 0
 IsStart image memory = memory ≡ (start image).memory
 
--- from whichever file the memory was mounted, this holds of what is known of it
+-- From whichever file the memory was mounted, the fact holds of the known contents of that file.
 abbrev pub FromAnyFile : Memory → (Known → Type 0) → Type 0
 FromAnyFile memory Fact = (known : Known) (image : Image) → HoldsFileSystem known image → IsStart image memory → Fact known
 
--- The file of this name was mounted: it held an image, a file system, with which the memory begins, and holds it now.
+-- The file of this name was mounted: it held an image, a file system, with which the memory begins, and still holds
+-- it.
 abbrev pub Mounts : View → List ℕ → View → Memory → Type 0
 Mounts old name new memory =
     (image : Image) × HoldsFileSystem (old.contents name) image × IsStart image memory × Holds new name image

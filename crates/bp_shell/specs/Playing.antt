@@ -1,4 +1,4 @@
--- What `play FILE --seed S --count C` answers, and when.
+-- The result of `play FILE --seed S --count C`, and its conditions.
 use Rattle.std.specs.Prelude.{◌≡◌, ◌++◌, ℕ, List, codes, decimal, flat_map}
 use Rattle.pm_region.specs.Memory.{Memory, current_words}
 use Rattle.bp_io.specs.Views.{Known}
@@ -20,7 +20,7 @@ use Rattle.bp_shell.specs.declared.status.Status.{Status}
 
 -- ---- the five lines
 
--- each number behind a space
+-- Decimal numbers, each after a space.
 abbrev pub spaced : List ℕ → List ℕ
 spaced numbers = flat_map (λ number. codes " " ++ decimal number) numbers
 
@@ -32,7 +32,7 @@ crashes_text crashes kept total =
     codes "\ncrashes " ++ decimal crashes ++ codes " kept " ++ decimal kept ++ codes " of " ++ decimal total
     ++ codes "\n"
 
--- the lines of a summary
+-- The lines of a summary.
 abbrev pub summary_text : ℕ → Summary → List ℕ
 summary_text count summary =
     turns_text count summary.ok ++ spaced summary.refused ++ crashes_text summary.crashes summary.kept summary.of
@@ -42,20 +42,22 @@ tree_text totals free =
     codes "tree " ++ decimal totals.files ++ codes " " ++ decimal totals.dirs ++ codes " " ++ decimal totals.bytes
     ++ codes " space " ++ decimal free ++ codes " " ++ decimal totals.live ++ codes "\n"
 
--- the turns, those that were carried out, those that were refused, the storms, and what is held at the end
+-- The five lines of a play: the operations, those carried out, those refused, the crashes, and the totals at the
+-- end.
 abbrev pub play_text : ℕ → Summary → Totals → ℕ → List ℕ
 play_text count summary totals free = summary_text count summary ++ tree_text totals free
 
 -- ---- a play
 
--- A play came to this summary, and to a memory that holds so much in all.
+-- A play ended with this summary, and with a memory of these totals and this number of free blocks.
 pub record EndsPlay (old : Memory) (seed count : ℕ) (summary : Summary) (totals : Totals) (free : ℕ) : Type 0 where
   pub new : Memory
   pub plays : Plays old new seed count summary
   pub holds : HasTotals (current_words new) totals
   pub leaves : HasSpace (current_words new) free
 
--- FILE holds a file system, a play over a region of its words came to this text, and its replies are a plain tree's.
+-- FILE holds a file system, a play over a region of its words ended with this text, and its replies are those of an
+-- abstract tree.
 pub record PlaysFile (known : Known) (seed count : ℕ) (text : List ℕ) : Type 0 where
   pub image : Image
   pub found : HoldsFileSystem known image
@@ -67,6 +69,6 @@ pub record PlaysFile (known : Known) (seed count : ℕ) (text : List ℕ) : Type
   pub plainly : (tree : FileTree) → Stands image tree
       → FollowsTree tree (start image) (turns seed count) ends.plays.replies (state ends.new image)
 
--- What `play FILE --seed S --count C` answers, and when.
+-- The result of `play FILE --seed S --count C`, and its conditions.
 abbrev pub PlayOutcome : Status → ℕ → ℕ → Outside → Outside → Type 0
 PlayOutcome answer seed count before after = ReadOutcome (PlaysFile before.file seed count) answer before after

@@ -1,4 +1,4 @@
--- What a program answers, and when.
+-- The results of programs, and their conditions.
 use Rattle.std.specs.Prelude.{Some, true, false, ◌≡◌, ◌⊎◌, ◌≤◌, ℕ, ◌-◌, List, [], ◌∷◌, ◌++◌, length}
 use Rattle.std.specs.Io.KnownBytes.{Appends, Consumes, IsAtEnd}
 use Rattle.pm_region.specs.Memory.{Memory, current_words}
@@ -40,11 +40,11 @@ use Rattle.bp_replies.specs.Taking.{TakesPart}
 
 -- ---- `run FILE`
 
--- FILE then holds this image.
+-- FILE holds this image afterwards.
 abbrev pub Saves : Outside → Image → Type 0
 Saves after image = HasBytes after.file (image_bytes image)
 
--- Each of its blocks is then that of the first image or of the second.
+-- Each block of FILE is that of the first or of the second image afterwards.
 abbrev pub SavesSomeBlocks : Outside → Image → Image → Type 0
 SavesSomeBlocks after first second = HasBlocksOf after.file (image_bytes first) (image_bytes second)
 
@@ -57,7 +57,7 @@ pub record IsMountedFrom (name : List ℕ) (image : Image) (before now : View) (
   pub calm : now.faults ≡ before.faults
   pub kept : KeepsFiles before now
 
--- A run began: FILE holds a file system, which stands for a tree, and this input was read.
+-- A run began: FILE holds a file system, which represents a tree, and this input was read.
 pub record BeginsRun (before after : Outside) : Type 0 where
   pub image : Image
   pub found : HoldsFileSystem before.file image
@@ -66,7 +66,7 @@ pub record BeginsRun (before after : Outside) : Type 0 where
   pub input : List ℕ
   pub read : Consumes before.left after.left input
 
--- Every line was answered, as a plain file tree answers it, and FILE holds the words at the end.
+-- Every line was answered, with the replies of an abstract tree, and FILE holds the words at the end.
 pub record Runs (before after : Outside) : Type 0 where
   pub begins : BeginsRun before after
   pub all : IsAtEnd after.left
@@ -86,7 +86,7 @@ pub record RunsPart (before after : Outside) : Type 0 where
   pub plainly : FollowsTree begins.tree (start begins.image) serves.commands serves.told.replies
       (state memory serves.after)
 
--- The most bytes were taken, and the read that ended there gave more.
+-- The greatest number of bytes was served, and the last read gave more.
 pub record RunsLong (before after : Outside) : Type 0 where
   pub begins : BeginsRun before after
   pub served : List ℕ
@@ -101,33 +101,34 @@ pub record RunsLong (before after : Outside) : Type 0 where
   pub plainly : FollowsTree begins.tree (start begins.image) serves.commands serves.told.replies
       (state memory serves.after)
 
--- The reply to one of these commands broke off, and FILE is as at the last sync up to it: none was done behind it.
+-- The reply to one of these commands was broken off. FILE is as at the last sync up to that command, and no sync came
+-- after it.
 pub record BreaksOffPlainly (image : Image) (tree : FileTree) (memory : Memory) (before after : Outside)
     (commands : List Command) : Type 0 where
   pub breaks : BreaksOff gathered_size (start image) memory (Saves after) commands before.taken after.taken
   pub plainly : FollowsTree tree (start image) (breaks.front ++ breaks.last ∷ breaks.ahead)
       (breaks.replies ++ breaks.reply ∷ breaks.unheard) (state memory breaks.after)
 
--- A reply was not taken whole. Its line was read whole, or ended the input.
+-- The sink did not take a reply whole. Its line was read whole, or ended the input.
 pub record RunsBroken (before after : Outside) : Type 0 where
   pub begins : BeginsRun before after
   pub memory : Memory
   pub breaks : OfLines after.left begins.input (BreaksOffPlainly begins.image begins.tree memory before after)
 
--- One of these commands, a sync, drained and couldn't save: each block of FILE is the one that was saved before, or the
--- one now.
+-- One of these commands, a sync, drained the log and could not save: each block of FILE is the one saved before or
+-- the one at the sync.
 pub record StopsPlainly (image : Image) (tree : FileTree) (memory : Memory) (before after : Outside)
     (commands : List Command) : Type 0 where
   pub stops : StopsAtSave (start image) memory (SavesSomeBlocks after) commands before.taken after.taken
   pub plainly : FollowsTree tree (start image) stops.front stops.told.replies stops.middle
 
--- A sync couldn't save. Its line was read whole, or ended the input.
+-- A sync could not save. Its line was read whole, or ended the input.
 pub record RunsStopped (before after : Outside) : Type 0 where
   pub begins : BeginsRun before after
   pub memory : Memory
   pub stops : OfLines after.left begins.input (StopsPlainly begins.image begins.tree memory before after)
 
--- Every line was answered, and the sync at the input's end couldn't save.
+-- Every line was answered, and the sync at the end of the input could not save.
 pub record RunsUnsaved (before after : Outside) : Type 0 where
   pub begins : BeginsRun before after
   pub all : IsAtEnd after.left
@@ -138,8 +139,8 @@ pub record RunsUnsaved (before after : Outside) : Type 0 where
   pub fails : SyncFails middle memory (SavesSomeBlocks after) sync
   pub plainly : FollowsTree begins.tree (start begins.image) (commands_from [] begins.input) told.replies middle
 
--- Where FILE is told to have the bytes of a file system, the source has no more than the most bytes, and nothing
--- fails, all is done, or memory is wanting.
+-- If FILE is known to have the bytes of a file system, the known source has at most `max_input` bytes, and nothing
+-- fails, the result is `Done` or `Memory`.
 abbrev pub IsComplete : Status → Outside → Outside → Type 0
 IsComplete answer before after =
     (image : Image) (input : List ℕ) → before.file ≡ Some (Some (image_bytes image)) → AreWordsOf64Bits image
@@ -147,7 +148,7 @@ IsComplete answer before after =
     → ¬ SourceFailed before after → ¬ SinkFailed before after → ¬ FilesFailed before after
     → (answer ≡ status.Done) ⊎ (answer ≡ status.Memory)
 
--- What `run FILE` answers, and when.
+-- The result of `run FILE`, and its conditions.
 pub record RunOutcome (answer : Status) (before after : Outside) : Type 0 where
   pub whole : answer ≡ status.Done → Runs before after
   pub source : answer ≡ status.SourceFailed → RunsPart before after
@@ -165,17 +166,17 @@ pub record ChangesAlone (name : List ℕ) (old new : View) : Type 0 where
   pub may_write : new.may_write ≡ true
   pub others : (other : List ℕ) → new.is_attached other ≡ false → Stays (old.contents other) (new.contents other)
 
--- What a run leaves of the files: FILE alone may change; or what was attached before still is, and no file changes.
+-- What a run leaves of the files: only FILE may change; or the files attached before still are, and no file changes.
 abbrev pub OnlyWrites : List ℕ → View → View → Type 0
 OnlyWrites name old new = ChangesAlone name old new ⊎ StaysAttached old new × KeepsFiles old new
 
 -- ---- `format FILE --blocks N --version V`
 
--- the line that tells of a new file system
+-- The line that reports a new file system of this number of blocks. All except two are free.
 abbrev pub format_text : ℕ → List ℕ
 format_text blocks = notice_text (Formatted blocks (blocks - 2))
 
--- What `format FILE --blocks N --version V` answers, and when. It reads no input.
+-- The result of `format FILE --blocks N --version V`, and its conditions. It reads no input.
 pub record FormatOutcome (answer : Status) (version : Version) (blocks : ℕ) (before after : Outside) : Type 0 where
   pub whole : answer ≡ status.Done → Saves after (new_image version blocks) × Appends before.taken after.taken (format_text blocks)
   pub sink : answer ≡ status.SinkFailed → Saves after (new_image version blocks) × TakesPart (format_text blocks) before.taken after.taken
@@ -189,7 +190,7 @@ pub record FormatOutcome (answer : Status) (version : Version) (blocks : ℕ) (b
 
 -- ---- any program
 
--- the name of FILE
+-- The name of FILE of a program.
 abbrev pub file_name : Program → List ℕ
 file_name (formats name blocks version) = name
 file_name (runs name) = name
@@ -197,7 +198,7 @@ file_name (checks name) = name
 file_name (plays name seed count) = name
 file_name (exports name) = name
 
--- What a program answers, and when.
+-- The result of a program, and its conditions.
 abbrev pub ProgramOutcome : Program → Status → Outside → Outside → Type 0
 ProgramOutcome (formats name blocks version) answer before after = FormatOutcome answer version blocks before after
 ProgramOutcome (runs name) answer before after = RunOutcome answer before after
@@ -205,7 +206,7 @@ ProgramOutcome (checks name) answer before after = CheckOutcome answer before af
 ProgramOutcome (plays name seed count) answer before after = PlayOutcome answer seed count before after
 ProgramOutcome (exports name) answer before after = ExportOutcome answer before after
 
--- What a program leaves of the files, FILE and others, by what is told of them before and after.
+-- What a program leaves of the files, FILE and others, by their known contents before and after.
 abbrev pub LeavesFiles : Program → View → View → Type 0
 LeavesFiles (formats name blocks version) old new = OnlyMakes name old new
 LeavesFiles (runs name) old new = OnlyWrites name old new
@@ -213,7 +214,7 @@ LeavesFiles (checks name) old new = OnlyReads name old new
 LeavesFiles (plays name seed count) old new = OnlyReads name old new
 LeavesFiles (exports name) old new = OnlyReads name old new
 
--- The words ask for a program, and this is its outcome. What is known of a file is told for each name.
+-- The arguments ask for a program, and this is its result. The views before and after are stated for each file name.
 pub record RunsProgram (words : List (List ℕ)) (answer : Status) (before after : List ℕ → Outside) : Type 0 where
   pub program : Program
   pub asked : Requests words program

@@ -10,8 +10,8 @@ use Rattle.bp_limits.specs.Limits.{block_inodes}
 use Rattle.bp_scan.specs.Totals.{HasTotals}
 use Rattle.bp_scan.specs.declared.totals.Totals.{Totals}
 
--- The image is a file system, of which a scan found the blocks of the snapshot, those that are in neither tree, how many names
--- each inode has in the first tree, and what it holds in all.
+-- The image is a file system. A scan found the blocks of its snapshot, the blocks that are in neither tree, the
+-- number of links of each inode in the first tree, and the totals.
 pub record ScanFinds (image : Image) (kept blocks : Set) (counts : List ℕ) (totals : Totals) : Type 0 where
   pub whole : IsFileSystem image
   pub frozen : AreFrozen image (has kept)

@@ -1,4 +1,4 @@
--- How a program ends: the number of each way, the causes that lead to some, and which ways a program has.
+-- The statuses of programs: the exit status of each, the causes of some, and the statuses that each program can have.
 use Rattle.std.specs.Prelude.{◌≡◌, ◌⊎◌, ℕ, Bool, true, false, Option, None, Some}
 use Rattle.bp_session.specs.declared.broken.Broken.{Broken}
 use Rattle.bp_session.specs.declared.broken.Broken.TheVariants as cause
@@ -6,7 +6,7 @@ use Rattle.bp_shell.specs.declared.status.Status.{Status}
 use Rattle.bp_shell.specs.declared.status.Status.TheVariants.{Done, Missing, Usage, SourceFailed, SinkFailed}
 use Rattle.bp_shell.specs.declared.status.Status.TheVariants.{FilesFailed, LongInput, Refused, Memory, Deep}
 
--- the exit status
+-- The exit status.
 abbrev pub code_of : Status → ℕ
 code_of Done = 0
 code_of Missing = 1
@@ -19,14 +19,14 @@ code_of Refused = 7
 code_of Memory = 8
 code_of Deep = 9
 
--- how a run ends where this breaks serving off
+-- The status of a run that this cause breaks off.
 abbrev pub status_by : Broken → Status
 status_by cause.Source = SourceFailed
 status_by cause.Sink = SinkFailed
 status_by cause.Files = FilesFailed
 status_by cause.LongInput = LongInput
 
--- .. and the other way round: which of its devices failed
+-- The cause of a status that comes from a failing device or a long input, the inverse of `status_by`.
 abbrev pub broken_by : Status → Option Broken
 broken_by SourceFailed = Some cause.Source
 broken_by SinkFailed = Some cause.Sink
@@ -34,7 +34,7 @@ broken_by FilesFailed = Some cause.Files
 broken_by LongInput = Some cause.LongInput
 broken_by other = None
 
--- a line is told at the end, which says why
+-- Whether a program with this status prints a line at its end that says why.
 abbrev pub tells_line : Status → Bool
 tells_line Missing = true
 tells_line Usage = true
@@ -42,12 +42,12 @@ tells_line Refused = true
 tells_line Deep = true
 tells_line other = false
 
--- no byte of the source is read where a program ends so
+-- No byte of the source is read with this status.
 abbrev pub ReadsNothing : Status → Type 0
 ReadsNothing answer =
     (answer ≡ Missing) ⊎ (answer ≡ Usage) ⊎ (answer ≡ Refused) ⊎ (answer ≡ Memory) ⊎ (answer ≡ Deep)
 
--- ---- how each program ends
+-- ---- the statuses of each program
 
 abbrev pub IsFormatStatus : Status → Type 0
 IsFormatStatus answer = (answer ≡ Done) ⊎ (answer ≡ SinkFailed) ⊎ (answer ≡ FilesFailed) ⊎ (answer ≡ Memory)
@@ -57,7 +57,7 @@ IsRunStatus answer =
     (answer ≡ Done) ⊎ (answer ≡ Missing) ⊎ (answer ≡ SourceFailed) ⊎ (answer ≡ SinkFailed) ⊎ (answer ≡ FilesFailed)
     ⊎ (answer ≡ LongInput) ⊎ (answer ≡ Refused) ⊎ (answer ≡ Memory)
 
--- `check` and `play`
+-- The statuses of `check` and `play`.
 abbrev pub IsReadStatus : Status → Type 0
 IsReadStatus answer =
     (answer ≡ Done) ⊎ (answer ≡ Missing) ⊎ (answer ≡ SinkFailed) ⊎ (answer ≡ FilesFailed) ⊎ (answer ≡ Refused)

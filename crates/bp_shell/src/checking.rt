@@ -22,7 +22,7 @@ use bp_script::Notice;
 use pm_raw::RawRegion;
 use std::alloc::Global;
 
-/// Scans an image, and tells what it holds.
+/// Scans an image, and returns the line with its totals.
 fn survey(alloc: Global, region: &RawRegion) -> Result<Notice, Stop>
     requires fresh { region.now.events ≡ [] }
     requires sized { IsSized region.now.base }
@@ -42,7 +42,7 @@ fn survey(alloc: Global, region: &RawRegion) -> Result<Notice, Stop>
     })
 }
 
-/// Reads the file of a name, and tells what it holds.
+/// Reads the file of a name, and returns the line with its totals.
 fn examine<F: Files>(alloc: Global, name: &str, files: &mut F) -> Result<Notice, Stop>
     ensures checks { IfOk result (Checks ((F.view files.old).contents name.now)) }
     ensures reason { IfErr result (IsReason ((F.view files.old).contents name.now)) }
@@ -54,15 +54,15 @@ fn examine<F: Files>(alloc: Global, name: &str, files: &mut F) -> Result<Notice,
     survey(alloc, &region)
 }
 
-/// Says whether the file of a name is a file system, and what it holds. It answers how that ended: `Done` where it is
-/// one, `Missing` where it is not there, `SinkFailed`, `FilesFailed`, `Refused`, or `Memory`.
+/// Checks whether the file of a name is a file system, and prints its totals. The status is `Done` if it is one,
+/// `Missing` if the file does not exist, else `SinkFailed`, `FilesFailed`, `Refused` or `Memory`.
 pub(crate) fn check_file<K: Sink, F: Files>(
     alloc: Global,
     name: &str,
     out: &mut K,
     files: &mut F,
 ) -> Status
-    // Whatever a source has left.
+    // Whatever bytes a source has left.
     ensures outcome { EndsUnread (CheckOutcome result) name.now
         (K.view out.old) (F.view files.old) (K.view out.new) (F.view files.new) }
     ensures reads { OnlyReads name.now (F.view files.old) (F.view files.new) }

@@ -1,4 +1,4 @@
-//! The program `export`. It tells of the first tree alone: a script makes no snapshot's old bytes.
+//! The program `export`. It exports the first tree only: no script makes the old bytes of a snapshot.
 
 ghost use Rattle.bp_layout.specs.Names.{AreCounts};
 ghost use Rattle.bp_layout.specs.Whole.{IsFileSystem};
@@ -23,8 +23,8 @@ use bp_script::Notice;
 use pm_raw::RawRegion;
 use std::alloc::Global;
 
-/// Tells the script that makes the tree of a file system, where calls can spell its paths. `counts` says how many names each
-/// inode has.
+/// Prints the script that makes the tree of a file system, if calls can spell its paths. `counts` has the number of
+/// links of each inode.
 fn tell_tree<K: Sink>(alloc: Global, region: &RawRegion, counts: &Counts, out: &mut K) -> Status
     requires fresh { region.now.events ≡ [] }
     requires whole { IsFileSystem region.now.base }
@@ -59,16 +59,16 @@ fn examine<F: Files>(alloc: Global, name: &str, files: &mut F) -> Result<(RawReg
     Ok((region, scanned))
 }
 
-/// Writes the script that makes the tree of the file of a name, which is read alone. It answers how that ended: `Done` where
-/// the whole script was taken, `Missing` where the file is not there, `SinkFailed`, `FilesFailed`, `Refused`, `Memory`, which
-/// may come behind a front of the script, or `Deep`, before any of it, where calls can't spell some path.
+/// Prints the script that makes the tree of the file of a name, which is only read. The status is `Done` if the whole
+/// script was taken, `Missing` if the file does not exist, else `SinkFailed`, `FilesFailed`, `Refused`, `Memory`,
+/// which may come after a prefix of the script, or `Deep`, before any of it, if calls cannot spell some path.
 pub(crate) fn export_file<K: Sink, F: Files>(
     alloc: Global,
     name: &str,
     out: &mut K,
     files: &mut F,
 ) -> Status
-    // Whatever a source has left.
+    // Whatever bytes a source has left.
     ensures outcome { EndsUnread (ExportOutcome result) name.now
         (K.view out.old) (F.view files.old) (K.view out.new) (F.view files.new) }
     ensures reads { OnlyReads name.now (F.view files.old) (F.view files.new) }

@@ -21,13 +21,13 @@ use bp_volume::lay_front;
 use pm_region::{ListRegion, Region};
 use std::alloc::{AllocError, Global};
 
-/// The blocks of a new file system that are not zeros, the superblock and the first one of inodes.
+/// The number of blocks of a new file system that are not zeros: the superblock and the first block of inodes.
 const FRONT_BLOCKS: u32 = 2;
 
-/// The events that the log of a format has to hold.
+/// The number of events for which the log of a format needs room.
 const FORMAT_ROOM: usize = 16;
 
-/// A region of the first blocks of a file system, whose words are 0.
+/// Makes a region of the first blocks of a file system, whose words are 0.
 fn empty_front(alloc: Global) -> Result<ListRegion, AllocError>
     ensures words { IfOk result (λ region. region.base ≡ replicate (block_words * FRONT_BLOCKS) 0) }
     ensures drained { IfOk result (λ region. region.events ≡ []) }
@@ -38,7 +38,7 @@ fn empty_front(alloc: Global) -> Result<ListRegion, AllocError>
     Ok(region)
 }
 
-/// The bytes of a region, as its words are now.
+/// Converts a region to its bytes, with its words as they are now.
 fn encode<R: Region>(alloc: Global, region: &R) -> Result<Vec<u8>, AllocError>
     requires whole { length (R.memory region.now).base % block_words ≡ 0 }
     requires most { length (R.memory region.now).base ≤ block_words * MAX_BLOCKS }
@@ -49,7 +49,8 @@ fn encode<R: Region>(alloc: Global, region: &R) -> Result<Vec<u8>, AllocError>
     Ok(bytes)
 }
 
-/// The first blocks of a new file system of so many blocks and of a version. Behind them it has zeros alone.
+/// Makes the first blocks of a new file system of this number of blocks and this version. All blocks after them are
+/// zeros.
 fn new_front(alloc: Global, blocks: u32, version: Version) -> Result<Vec<u8>, AllocError>
     requires { FRONT_BLOCKS ≤ blocks }
     ensures size { IfOk result (λ front. length front.items ≡ block_size * FRONT_BLOCKS) }
@@ -62,7 +63,7 @@ fn new_front(alloc: Global, blocks: u32, version: Version) -> Result<Vec<u8>, Al
     Ok(front)
 }
 
-/// Makes the file of a name so many blocks: these bytes, and zeros behind them.
+/// Replaces the file of a name by this number of blocks: these bytes, and zeros after them.
 fn write_image<F: Files>(front: &[u8], name: &str, blocks: u32, files: &mut F) -> Result<(), Failed>
     requires whole { length front.now % BLOCK_SIZE ≡ 0 }
     requires inside { length front.now / BLOCK_SIZE ≤ blocks }
@@ -84,8 +85,8 @@ fn write_image<F: Files>(front: &[u8], name: &str, blocks: u32, files: &mut F) -
     Ok(())
 }
 
-/// Makes the file of a name a file system of so many blocks and of a version, and says so. It answers how that ended:
-/// `Done`, `SinkFailed`, `FilesFailed` or `Memory`.
+/// Formats the file of a name as a file system of this number of blocks and this version, and prints a line. The
+/// status is `Done`, `SinkFailed`, `FilesFailed` or `Memory`.
 pub(crate) fn format_file<K: Sink, F: Files>(
     alloc: Global,
     name: &str,
@@ -96,7 +97,7 @@ pub(crate) fn format_file<K: Sink, F: Files>(
 ) -> Status
     requires least { MIN_BLOCKS ≤ blocks }
     requires most { blocks ≤ MAX_BLOCKS }
-    // Whatever a source has left.
+    // Whatever bytes a source has left.
     ensures outcome { EndsUnread (FormatOutcome result version blocks) name.now
         (K.view out.old) (F.view files.old) (K.view out.new) (F.view files.new) }
     ensures makes { OnlyMakes name.now (F.view files.old) (F.view files.new) }

@@ -24,7 +24,7 @@ use bp_volume::Volume;
 use pm_raw::{Filling, RawRegion};
 use std::alloc::Global;
 
-/// Puts the words that a run of bytes spells behind those that are there.
+/// Appends the words that a run of bytes spells.
 fn push_run(filling: &mut Filling, run: &[u8])
     requires whole { length run.now % 8 ≡ 0 }
     requires room { length filling.old.words + length run.now / 8 ≤ filling.old.size }
@@ -37,7 +37,7 @@ fn push_run(filling: &mut Filling, run: &[u8])
     filling.push_bytes(run);
 }
 
-/// Reads as many blocks of the attached file as `into` has room for, behind those whose words are there.
+/// Reads as many blocks of the attached file as `into` has room for, from block `first` on, and appends their words.
 fn load_run<F: Files>(
     filling: &mut Filling,
     first: u32,
@@ -63,7 +63,7 @@ fn load_run<F: Files>(
     }
 }
 
-/// Reads the attached file, as the words of a region in the making of its size.
+/// Reads the attached file of `count` blocks into the words of a new region.
 fn load<F: Files>(filling: &mut Filling, count: u32, files: &mut F) -> Result<(), Stop>
     requires count { count ≡ (F.view files.old).blocks }
     requires size { filling.old ≡ record { words = []; size = block_words * count } }
@@ -86,7 +86,7 @@ fn load<F: Files>(filling: &mut Filling, count: u32, files: &mut F) -> Result<()
     Ok(())
 }
 
-/// Why a program ends at a fault of its image.
+/// Converts a mount fault to the reason for which a program ends.
 pub(crate) fn stop_of(fault: MountFault) -> Stop
     ensures { result ≡ stop_by fault }
 {
@@ -101,7 +101,7 @@ pub(crate) fn stop_of(fault: MountFault) -> Stop
     }
 }
 
-/// Attaches the file of a name, and answers how many blocks its image has. No file is made.
+/// Attaches the file of a name, and returns the number of blocks of its image. No file is created.
 fn find_image<F: Files>(name: &str, access: Access, files: &mut F) -> Result<u32, Stop>
     requires { makes access ≡ false }
     ensures found { IfOk result
@@ -124,7 +124,7 @@ fn find_image<F: Files>(name: &str, access: Access, files: &mut F) -> Result<u32
     }
 }
 
-/// The words of the file of a name, which is then attached, as a region. No file is made.
+/// Reads the file of a name, which is attached then, into a region. No file is created.
 pub(crate) fn load_file<F: Files>(
     alloc: Global,
     name: &str,
@@ -172,12 +172,15 @@ fn mount(alloc: Global, region: RawRegion) -> Result<Volume<RawRegion>, Stop>
     }
 }
 
-/// Mounts the file of a name, which is then attached to be written: scripts can be served over both. No file is made.
+/// Mounts the file of a name, which is attached for writing then: scripts can be served over both. No file is
+/// created.
 ///
 /// # Errors
 ///
-/// `Missing` where the file is not there; `Outside` where the files failed; `Refused` where it is no file system;
-/// `Memory` where there is no memory for the volume.
+/// * `Missing`: the file does not exist.
+/// * `Outside`: the files failed.
+/// * `Refused`: the file is no file system.
+/// * `Memory`: allocation of memory for the volume failed.
 pub fn open<F: Files>(alloc: Global, name: &str, files: &mut F) -> Result<Volume<RawRegion>, Stop>
     ensures opened { IfOk result (λ volume. Mounts (F.view files.old) name.now (F.view files.new) volume) }
     ensures ready { IfOk result (λ volume. CanSave volume.base (F.view files.new)) }
@@ -192,7 +195,7 @@ pub fn open<F: Files>(alloc: Global, name: &str, files: &mut F) -> Result<Volume
     mount(alloc, region)
 }
 
-/// Mounts the file of a name, which is then attached to be read alone. No file is made.
+/// Mounts the file of a name, which is attached for reading only then. No file is created.
 pub(crate) fn open_to_read<F: Files>(
     alloc: Global,
     name: &str,

@@ -20,7 +20,7 @@ use bp_volume::Volume;
 use pm_region::Region;
 use std::alloc::{AllocError, Global};
 
-/// What a play came to.
+/// The outcome of a play.
 #[derive(Clone, Copy)]
 struct Played {
     summary: Summary,
@@ -28,7 +28,7 @@ struct Played {
     free: u32,
 }
 
-/// Plays over a volume, and tells what it then holds.
+/// Plays over a volume, and counts its totals and free blocks at the end.
 fn play_over<R: Region>(
     alloc: Global,
     volume: &mut Volume<R>,
@@ -50,7 +50,7 @@ fn play_over<R: Region>(
     })
 }
 
-/// Writes numbers, each behind a space.
+/// Writes numbers, each after a space.
 fn write_spaced(text: &mut String, numbers: &[u64]) -> Result<(), AllocError>
     ensures { OnOk result (text.new.bytes.items ≡ text.old.bytes.items ++ spaced numbers.now) }
 {
@@ -73,7 +73,7 @@ fn write_summary(text: &mut String, count: u32, summary: &Summary) -> Result<(),
     )
 }
 
-/// Writes the line of what is held in all.
+/// Writes the line with the totals of the tree.
 fn write_tree(text: &mut String, totals: &Totals, free: u32) -> Result<(), AllocError>
     ensures { OnOk result (text.new.bytes.items ≡ text.old.bytes.items ++ tree_text totals.now free) }
 {
@@ -85,7 +85,7 @@ fn write_tree(text: &mut String, totals: &Totals, free: u32) -> Result<(), Alloc
     write!(text, " space {free} {}\n", totals.live)
 }
 
-/// The five lines of a play.
+/// Makes the five lines of a play.
 fn text_of(alloc: Global, count: u32, played: &Played) -> Result<String, AllocError>
     ensures { IfOk result (λ text. text.bytes.items ≡
         play_text count played.now.summary played.now.totals played.now.free) }
@@ -96,7 +96,7 @@ fn text_of(alloc: Global, count: u32, played: &Played) -> Result<String, AllocEr
     Ok(text)
 }
 
-/// Plays over a volume, and gives the five lines that tell of it.
+/// Plays over a volume, and returns the five lines that report it.
 fn tell_play<R: Region>(
     alloc: Global,
     volume: &mut Volume<R>,
@@ -120,7 +120,7 @@ fn tell_play<R: Region>(
     }
 }
 
-/// Plays over the file of a name, in memory alone, and tells what came of it.
+/// Plays over the file of a name, in memory only, and returns the five lines that report it.
 fn perform<F: Files>(
     alloc: Global,
     name: &str,
@@ -139,9 +139,9 @@ fn perform<F: Files>(
     tell_play(alloc, &mut volume, seed, count)
 }
 
-/// Plays so many turns over the file of a name, which is read alone: what they change is kept in memory, and forgotten.
-/// It answers how that ended: `Done` where its five lines were taken, `Missing` where the file is not there,
-/// `SinkFailed`, `FilesFailed`, `Refused`, or `Memory`.
+/// Plays `count` operations over the file of a name, which is only read: changes are made in memory, and dropped. The
+/// status is `Done` if the sink took the five lines, `Missing` if the file does not exist, else `SinkFailed`,
+/// `FilesFailed`, `Refused` or `Memory`.
 pub(crate) fn play_file<K: Sink, F: Files>(
     alloc: Global,
     name: &str,
@@ -151,7 +151,7 @@ pub(crate) fn play_file<K: Sink, F: Files>(
     files: &mut F,
 ) -> Status
     requires { count ≤ max_turns }
-    // Whatever a source has left.
+    // Whatever bytes a source has left.
     ensures outcome { EndsUnread (PlayOutcome result seed count) name.now
         (K.view out.old) (F.view files.old) (K.view out.new) (F.view files.new) }
     ensures reads { OnlyReads name.now (F.view files.old) (F.view files.new) }

@@ -1,4 +1,4 @@
-//! What the program tells besides replies.
+//! The lines that programs print, other than replies.
 
 ghost use Rattle.bp_io.specs.Causes.{HasCause};
 ghost use Rattle.bp_script.specs.Sayings.{notice_text};
@@ -14,7 +14,7 @@ use bp_io::{Failed, Sink};
 use bp_replies::sending::send;
 use bp_script::{MAX_NOTICE, Notice, announce};
 
-/// Prints a line. Where the sink failed, it took a proper front of it.
+/// Prints a line. If the sink failed, it took a proper prefix of the line.
 pub(crate) fn print<K: Sink>(notice: &Notice, out: &mut K) -> Result<(), Failed>
     ensures all { OnOk result (Appends (K.view out.old).taken (K.view out.new).taken (notice_text notice.now)) }
     ensures some { OnErr result (TakesPart (notice_text notice.now) (K.view out.old).taken (K.view out.new).taken) }
@@ -33,7 +33,7 @@ pub(crate) fn tell_notice<K: Sink>(notice: &Notice, out: &mut K)
     let _ = print(notice, out);
 }
 
-/// Tells the line of the reason, where it has one, and answers the status of that reason.
+/// Prints the line of a reason, if the reason has one, and returns the status of that reason.
 pub(crate) fn tell_stop<K: Sink>(stop: Stop, out: &mut K) -> Status
     ensures { TellsStop stop result (K.view out.old).taken (K.view out.new).taken (K.view out.old).faults (K.view out.new).faults }
 {

@@ -29,7 +29,8 @@ use bp_volume::Volume;
 use pm_region::Region;
 use std::alloc::Global;
 
-/// Serves the script of a source over a volume whose file was just read, and saves what the volume then holds.
+/// Serves the script of a source over a volume whose file was just read, and saves the words of the volume at the
+/// end.
 fn serve_and_save<R: Region, S: Source, K: Sink, F: Files>(
     alloc: Global,
     volume: &mut Volume<R>,
@@ -39,7 +40,7 @@ fn serve_and_save<R: Region, S: Source, K: Sink, F: Files>(
     files: &mut F,
 ) -> Status
     requires { CanServe volume.old (F.view files.old) }
-    // From whichever file it was mounted.
+    // From whichever file the volume was mounted.
     ensures outcome { RunsMounted result S.view K.view F.view
         source.old out.old files.old volume.old source.new out.new files.new }
     ensures unread { ReadsNothing result → source.new ≡ source.old }
@@ -56,7 +57,7 @@ fn serve_and_save<R: Region, S: Source, K: Sink, F: Files>(
     }
 }
 
-/// Takes the memory of a run, and serves the script of a source over a volume whose file was just read.
+/// Allocates the memory of a run, and serves the script of a source over a volume whose file was just read.
 fn run_over<R: Region, S: Source, K: Sink, F: Files>(
     alloc: Global,
     volume: &mut Volume<R>,
@@ -65,7 +66,7 @@ fn run_over<R: Region, S: Source, K: Sink, F: Files>(
     files: &mut F,
 ) -> Status
     requires { CanServe volume.old (F.view files.old) }
-    // From whichever file it was mounted.
+    // From whichever file the volume was mounted.
     ensures outcome { RunsMounted result S.view K.view F.view
         source.old out.old files.old volume.old source.new out.new files.new }
     ensures unread { ReadsNothing result → source.new ≡ source.old }
@@ -125,8 +126,8 @@ fn run_program<S: Source, K: Sink, F: Files>(
     }
 }
 
-/// Does what the words ask for, the name under which the program was called first, and answers how that ends. `Status` tells when
-/// each way to end comes.
+/// Does what the arguments ask for, and returns how that ended. The first argument is the name under which the
+/// program was called. `Status` lists when each status comes.
 pub fn run<S: Source, K: Sink, F: Files>(
     alloc: Global,
     words: &[&str],
@@ -140,7 +141,7 @@ pub fn run<S: Source, K: Sink, F: Files>(
     ensures unread { ReadsNothing result → source.new ≡ source.old }
     ensures untouched { result ≡ Usage → files.new ≡ files.old }
 
-    // Words that ask for a program in the plain way.
+    // Arguments that ask for a program in the plain form.
     ensures plain { AnswersAsAsked (texts_of words.now) result S.view K.view F.view
         source.old out.old files.old source.new out.new files.new }
 
@@ -148,11 +149,11 @@ pub fn run<S: Source, K: Sink, F: Files>(
     ensures guarantee { Guarantees (texts_of words.now) result S.view K.view F.view
         source.old out.old files.old source.new out.new files.new }
 
-    // All other words that are taken. Want of memory may come before they are read.
+    // All other arguments that are accepted. Memory may lack before they are read.
     ensures others { AnswersIfTaken (texts_of words.now) result S.view K.view F.view
         source.old out.old files.old source.new out.new files.new }
 
-    // What whichever words leave of the files, FILE and others.
+    // What any arguments leave of the files, FILE and others.
     ensures files { (program : Asked) → Requests (texts_of words.now) program →
         LeavesFiles program (F.view files.old) (F.view files.new) }
 {

@@ -20,16 +20,16 @@ use pm_raw::RawRegion;
 use pm_region::Region;
 use std::alloc::Global;
 
-/// What a scan found of a file system.
+/// The results of the scan of a file system.
 #[derive(Drop)]
 pub(crate) struct Scanned {
-    /// Its free blocks and those of its snapshot, and how many names each inode has.
+    /// The free blocks, the blocks of the snapshot, and the number of links of each inode.
     pub(crate) sets: Sets,
-    /// What it holds in all.
+    /// The totals of the file system.
     pub(crate) totals: Totals,
 }
 
-/// Scans both trees of an image with these sets.
+/// Scans both trees of an image, in the memory of `sets`.
 fn scan_with(region: &RawRegion, sets: &mut Sets) -> Result<Totals, Stop>
     requires fresh { region.now.events ≡ [] }
     requires sized { IsSized region.now.base }
@@ -61,7 +61,8 @@ fn scan_with(region: &RawRegion, sets: &mut Sets) -> Result<Totals, Stop>
 ///
 /// # Errors
 ///
-/// `Refused` where it is no file system, and why; `Memory` where there is no memory for the scan.
+/// * `Refused`: the image is no file system; the line says why.
+/// * `Memory`: allocation of memory for the scan failed.
 pub(crate) fn scan_image(alloc: Global, region: &RawRegion) -> Result<Scanned, Stop>
     requires fresh { region.now.events ≡ [] }
     requires sized { IsSized region.now.base }

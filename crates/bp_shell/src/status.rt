@@ -1,37 +1,38 @@
-//! How a program ends.
+//! The statuses with which programs end.
 
 ghost use Rattle.bp_shell.specs.Statuses.{code_of, status_by};
 ghost use Rattle.std.specs.Prelude.{◌≡◌};
 
 use bp_session::Broken;
 
-/// How a program ends, by its cause. The number beside a cause is the exit status.
+/// The status with which a program ends. The number of a variant is the exit status.
 #[derive(Clone, Copy, Debug, PartialEq, Eq)]
 pub enum Status {
-    /// All was done, and the sink took all that was told.
+    /// All was done, and the sink took the whole output.
     Done = 0,
-    /// `run`, `check`, `play` or `export` finds no file of the name. The line `err 34 nofile` says so.
+    /// `run`, `check`, `play` or `export` finds no file of the name, and prints the line `err 34 nofile`.
     Missing = 1,
-    /// The words are no command, or ask for help. The line of usage says so, and no file is looked at.
+    /// The arguments are no command, or ask for help. The usage line is printed, and no file is opened.
     Usage = 2,
-    /// `run` can't read its source. The lines that were read before are answered.
+    /// `run` cannot read its source. The lines that were read before are answered.
     SourceFailed = 3,
-    /// The sink doesn't take what is told. What it took is a front of that.
+    /// The sink does not take the output. The bytes that it took are a prefix of the output.
     SinkFailed = 4,
-    /// FILE can't be attached, read, written or flushed. What it then holds is as the outcome of the program says.
+    /// FILE cannot be attached, read, written or flushed. The outcome of the program states the contents of FILE
+    /// then.
     FilesFailed = 5,
     /// The source of `run` has more than 1,073,741,824 bytes. The lines before are answered.
     LongInput = 6,
-    /// FILE is there, but is no file system. The line that is told says why.
+    /// FILE exists, but is no file system. The printed line says why.
     Refused = 7,
-    /// Want of memory, before a line is read or told; but an `export` may have told a front of its script.
+    /// Allocation failed before a line was read or printed; but an `export` may have printed a prefix of its script.
     Memory = 8,
-    /// `export` meets a path that no call can spell. The line `err 40 deep` alone is told.
+    /// `export` finds a path that no call can spell. Only the line `err 40 deep` is printed.
     Deep = 9,
 }
 
 impl Status {
-    /// The exit status.
+    /// Returns the exit status.
     pub fn code(self) -> u8
         ensures { result ≡ code_of self }
     {

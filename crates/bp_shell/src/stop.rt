@@ -1,16 +1,16 @@
-//! Why a program ends before it serves or tells of its file.
+//! Why a program ends before it serves or reports on its file.
 
 use bp_script::Notice;
 
-/// Why a program ends before it serves or tells of its file.
+/// The reason for which a program ends before it serves or reports on its file.
 #[derive(Clone, Copy, Debug, PartialEq, Eq)]
 pub enum Stop {
-    /// The file is not there.
+    /// The file does not exist.
     Missing,
     /// The files failed.
     Outside,
     /// The file is refused, and this line says why.
     Refused(Notice),
-    /// Want of memory.
+    /// Allocation failed.
     Memory,
 }

@@ -1,4 +1,4 @@
--- Hashes of names, and the order by them.
+-- Hashes of names, and the order by hashes.
 use Rattle.std.specs.Prelude.{◌≡◌, ℕ, zero, suc, ◌+◌, ◌*◌, ◌/◌, ◌%◌, ◌^◌, min, List, ◌∷◌, map, Bool, bit_xor}
 use Rattle.std.specs.declared.cmp.Ordering.{Ordering}
 use Rattle.std.specs.Int.{div_ceil}
@@ -8,32 +8,32 @@ use Rattle.bp_layout.specs.Words.{Image, word}
 use Rattle.bp_spelling.specs.declared.entry.Spelled.{Spelled}
 use Rattle.bp_spelling.specs.Places.{key_word, name_key}
 
--- a word of 64 bits, its high half folded into its low half
+-- A 64-bit word, with its high half folded into its low half.
 abbrev pub folded : ℕ → ℕ
 folded value = bit_xor value (value / 2 ^ 32)
 
--- what a word makes of the hash of the words before it
+-- The hash after one more word, given the hash of the words before it.
 unfoldable pub mixed : ℕ → ℕ → ℕ
 mixed state value = folded ((11400714819323198485 * ((state + value) % 2 ^ 64)) % 2 ^ 64)
 
--- the hash of the length of a name and of so many words behind it
+-- The hash of the length of a name and of this number of words of the name.
 unfoldable pub hash_state : Image → ℕ → ℕ → ℕ
 hash_state image place zero = mixed 0 (key_word image place 0)
 hash_state image place (suc part) = mixed (hash_state image place part) (key_word image place (suc part))
 
--- the hash of a name, of whose words there are 30 at most
+-- The hash of a name, which has at most 30 words.
 unfoldable pub name_hash : Image → ℕ → ℕ
 name_hash image place = hash_state image place (min 30 (div_ceil (word image (place + 1)) 8)) / 2 ^ 32
 
--- the hash is that of the entry's name
+-- The recorded hash is that of the entry's name.
 abbrev pub IsSpelled : Image → Spelled → Type 0
 IsSpelled image entry = entry.hash ≡ name_hash image entry.place
 
--- where the entries stand
+-- The places of the entries.
 abbrev pub places_of : List Spelled → List ℕ
 places_of entries = map (λ (entry : Spelled). entry.place) entries
 
--- the order of entries: by their hashes, and by their names where these are the same
+-- The sort key of an entry: its hash, and then its name.
 abbrev pub spelled_key : Image → Spelled → List ℕ
 spelled_key image entry = entry.hash ∷ name_key image entry.place
 

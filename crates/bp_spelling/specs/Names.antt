@@ -1,4 +1,4 @@
--- Whether the names of a directory's entries are right.
+-- When the names of a directory's entries are right.
 use Rattle.std.specs.Prelude.{◌≡◌, ◌≢◌, ℕ, ◌+◌, ◌-◌, ◌*◌, ◌/◌, ◌%◌, ◌^◌, ◌<◌, min, List, slice_index}
 use Rattle.bp_limits.specs.Limits.{block_words, entry_size, entry_words}
 use Rattle.bp_layout.specs.Words.{Image, height_of}
@@ -8,32 +8,33 @@ use Rattle.bp_layout.specs.Paths.{IsName}
 use Rattle.bp_spelling.specs.declared.fault.NameFault.{NameFault}
 use Rattle.bp_spelling.specs.declared.fault.NameFault.TheVariants.{Form, Twice}
 
--- the entry lies below the size and names an inode
+-- The entry lies below the size and refers to an inode.
 pub record IsUsed (image : Image) (root size slot : ℕ) : Type 0 where
   pub live : slot < size / entry_size
   pub some : inumber_in image root slot ≢ 0
 
--- the word of the region at which the first word of an entry stands
+-- The place of the first word of an entry in the region.
 abbrev pub entry_place_in : Image → ℕ → ℕ → ℕ
 entry_place_in image root slot =
     block_words * node image root (height_of root) ((entry_words * slot + 0) / block_words)
     + (entry_words * slot + 0) % block_words
 
--- an inode's number in 32 bits, of which the greatest stands for all that do not fit
+-- The number of an inode in 32 bits; the greatest value represents all numbers that do not fit.
 abbrev pub in_32_bits : ℕ → ℕ
 in_32_bits number = min number (2 ^ 32 - 1)
 
--- the numbers of the inodes that the entries before a slot name
+-- The list has the inode numbers of the entries before slot `to`, in 32 bits.
 abbrev pub AreNumbers : Image → ℕ → ℕ → List ℕ → Type 0
 AreNumbers image root to numbers = (slot : ℕ) → slot < to → slice_index numbers slot ≡ in_32_bits (inumber_in image root slot)
 
--- each name has the form of one, and no two are equal
+-- Each name is a valid name, and no two are equal.
 pub record AreNames (image : Image) (root size : ℕ) : Type 0 where
   pub forms : (slot : ℕ) → IsUsed image root size slot → IsName (name_in image root slot)
   pub differ : (slot other : ℕ) → IsUsed image root size slot → IsUsed image root size other
       → name_in image root slot ≡ name_in image root other → slot ≡ other
 
--- A name has not the form of one, told at its length; or an entry has the name of another.
+-- The fault of a directory's names: a name is not valid (the place is that of its length), or an entry has the name of
+-- another one (the place is that of the entry).
 pub data AreWrong (image : Image) (root size : ℕ) : NameFault → Type 0 where
   form : {slot : ℕ} → IsUsed image root size slot → ¬ IsName (name_in image root slot)
       → AreWrong image root size (Form (entry_place_in image root slot + 1))

@@ -1,5 +1,4 @@
--- Tables of names: cells, each empty or with an entry. A name stands in the first empty cell from the one of its hash
--- on.
+-- Tables of names: cells, each empty or with an entry. A name is in the first empty cell from the one of its hash on.
 use Rattle.std.specs.Prelude.{◌≡◌, ◌≢◌, ◌⊎◌, ℕ, ◌-◌, ◌%◌, ◌<◌, ◌≤◌, List, length, slice_index_or}
 use Rattle.bp_layout.specs.Words.{Image}
 use Rattle.bp_spelling.specs.Hashes.{spelled_key}
@@ -10,26 +9,26 @@ use Rattle.bp_spelling.specs.declared.table.Clash.TheVariants.{Double, Full}
 use Rattle.bp_spelling.specs.declared.table.TableError.{TableError}
 use Rattle.bp_spelling.specs.declared.table.TableError.TheVariants.{Repeated, Crowded}
 
--- the first cell that may hold a hash, of so many cells
+-- The first cell that may hold a hash, in a table of `cells` cells.
 abbrev pub home : ℕ → ℕ → ℕ
 home cells hash = hash % (cells - 128)
 
--- the entry of a cell that is not empty
+-- The entry is that of a cell that is not empty.
 abbrev pub IsPresent : Spelled → Type 0
 IsPresent entry = entry.place ≢ 0
 
--- what a cell holds: place 0 where it is empty
+-- The contents of a cell, with place 0 if it is empty.
 abbrev pub cell_at : List Spelled → ℕ → Spelled
 cell_at table cell = slice_index_or table cell (record { hash = 0; place = 0 })
 
--- the entry stands in a cell that may hold it, and no cell before that is empty
+-- The entry is in a cell that may hold it, and no cell before that is empty.
 pub record IsKept (table : List Spelled) (entry : Spelled) : Type 0 where
   pub cell : ℕ
   pub from : home (length table) entry.hash ≤ cell
   pub there : cell_at table cell ≡ entry
   pub taken : (before : ℕ) → home (length table) entry.hash ≤ before → before < cell → (cell_at table before).place ≢ 0
 
--- an entry joins: no other one has its name, and each one that was kept still is
+-- An entry is added: no other one has its name, and each one that was in the table still is.
 pub record Puts (image : Image) (old new : List Spelled) (entry : Spelled) : Type 0 where
   pub here : IsKept new entry
   pub keeps : (other : Spelled) → other.place ≢ 0 → IsKept old other → IsKept new other
@@ -37,13 +36,13 @@ pub record Puts (image : Image) (old new : List Spelled) (entry : Spelled) : Typ
       → ⊥
   pub cells : (cell : ℕ) → (cell_at new cell ≡ cell_at old cell) ⊎ (cell_at new cell ≡ entry)
 
--- a cell has an entry with the same name, or nothing is known
+-- Why an entry is not added: a cell has an entry with the same name, or the table is full and nothing is known.
 pub data IsClash (image : Image) (old : List Spelled) (entry : Spelled) : Clash → Type 0 where
   double : (cell : ℕ) → (cell_at old cell).place ≢ 0 → spelled_key image (cell_at old cell) ≡ spelled_key image entry
       → IsClash image old entry Double
   full : IsClash image old entry Full
 
--- one of the entries at these places has the name of another, or nothing is known
+-- The error of a table: one of the entries at these places has the name of another one, or nothing is known.
 pub data IsTableError (image : Image) (places : List ℕ) : TableError → Type 0 where
   repeated : (place : ℕ) → IsDouble image places place → IsTableError image places (Repeated place)
   untold : IsTableError image places (Crowded)

@@ -17,8 +17,8 @@ use crate::table::{REACH, TableError, check_by_table};
 use bp_tree::Tree;
 use pm_region::Region;
 
-/// What [`check_by_table`] tells of the first entries, so many, by a table in the memory behind them that is at most
-/// half full, where there is room for one.
+/// Returns what [`check_by_table`] returns for the first `count` entries. The table is in the memory after them and at
+/// most half full. If there is no room for it, the result is `Crowded`.
 fn try_table<R: Region>(region: &R, entries: &mut [Spelled], count: usize) -> Result<(), TableError>
     requires count { count ≤ length entries.old }
     requires spelled { All (IsSpelled (current_words (R.memory region.now))) (take count entries.old) }
@@ -37,14 +37,18 @@ fn try_table<R: Region>(region: &R, entries: &mut [Spelled], count: usize) -> Re
     check_by_table(region, found, &mut table[..2 * count + REACH + 1])
 }
 
-/// Checks the names of a directory's entries that name an inode, and puts the number of that inode into `numbers`, at
-/// the entry's slot: 0 where it names none, and `u32::MAX` where the number is no less. `entries` and `numbers` are
-/// memory for as many as the directory has. It takes time linear in them where that has room for three times as many
-/// and some more, and few hashes fall together; else it sorts them.
+/// Checks the names of a directory's entries that refer to an inode, and puts the number of that inode into `numbers`,
+/// at the entry's slot. The number is 0 for an empty entry, and `u32::MAX` if it does not fit below that.
+///
+/// `entries` and `numbers` have room for as many entries as the directory has. The time is linear in them if `entries`
+/// has room for three times as many and some more, and few hashes collide; else the entries are sorted.
 ///
 /// # Errors
 ///
-/// A name that has not the form of one, or one that two entries have. Which of several faults is told is open.
+/// Which of several faults is returned is not determined.
+///
+/// - `Form`: a name is not valid.
+/// - `Twice`: two entries have the same name.
 pub fn check_names<R: Region>(
     region: &R,
     tree: Tree,

@@ -1,4 +1,4 @@
-//! Whether two entries of a directory have one name.
+//! Search for two entries of a directory with the same name.
 
 ghost use Rattle.std.specs.Prelude.{◌≡◌, ◌+◌, All, IsPermutation};
 ghost use Rattle.std.specs.List.Sorted.{IsSortedBy};
@@ -12,7 +12,7 @@ use crate::name_words::{compare_words, word_at};
 use pm_region::Region;
 use std::cmp::Ordering;
 
-/// Compares the bytes of the names of the entries at two places, which have as many.
+/// Compares the bytes of the names of the entries at two places, which have equal lengths.
 fn compare_bytes<R: Region>(region: &R, a: u32, b: u32, count: u64) -> Ordering
     requires first { word (current_words (R.memory region.now)) (a + 1) ≡ count }
     requires second { word (current_words (R.memory region.now)) (b + 1) ≡ count }
@@ -44,7 +44,7 @@ fn compare_names<R: Region>(region: &R, a: u32, b: u32) -> Ordering
     compare_bytes(region, a, b, count)
 }
 
-/// Compares two entries by the hashes of their names, and by the names alone where these are the same.
+/// Compares two entries by the hashes of their names, and by the names only if these are equal.
 pub(crate) fn compare_entries<R: Region>(region: &R, a: Spelled, b: Spelled) -> Ordering
     ensures { result ≡ spelled_cmp (current_words (R.memory region.now)) a b }
 {
@@ -61,7 +61,8 @@ fn sort_by_name<R: Region>(region: &R, entries: &mut [Spelled])
     entries.sort_unstable_by(|a, b| compare_entries(region, *a, *b));
 }
 
-/// The place of an entry whose name another one has too. Sorts the entries by their hashes, then by their names.
+/// Returns the place of an entry that has the name of another one. It sorts the entries by their hashes, then by their
+/// names.
 pub(crate) fn find_double<R: Region>(region: &R, entries: &mut [Spelled]) -> Option<u32>
     requires { All (IsSpelled (current_words (R.memory region.now))) entries.old }
     ensures same { IsPermutation entries.old entries.new }

@@ -1,16 +1,16 @@
-//! What is wrong with the names of a directory.
+//! The faults of the names of a directory.
 
 /// What is wrong with a name.
 #[derive(Clone, Copy, Debug, PartialEq, Eq)]
 pub enum NameFault {
-    /// It has not the form of a name. Its length stands at this word of the region.
+    /// The name is not valid. The place is that of its length.
     Form {
-        /// The word.
+        /// The number of the word of the region.
         place: u32,
     },
-    /// Another entry has it too. Its entry begins at this word of the region.
+    /// Another entry has the same name. The place is that of the entry.
     Twice {
-        /// The word.
+        /// The number of the word of the region.
         place: u32,
     },
 }

@@ -1,4 +1,4 @@
-//! Whether a name has the form of one.
+//! The check that a name is valid.
 
 ghost use Rattle.std.specs.Prelude.{◌≡◌, ◌≢◌, ℕ, ◌+◌, ◌/◌, ◌%◌, ◌≤◌, ◌<◌, ◌↔◌, IsTrue, length, slice_index};
 ghost use Rattle.bp_layout.specs.Paths.{IsName};
@@ -12,30 +12,31 @@ use bp_limits::MAX_NAME;
 use pm_region::{HEAD_WORDS, Region};
 use pm_words::low_bytes;
 
-/// A word whose bytes are 0, except where a byte of the given word is 0.
+/// Returns a word whose bytes are 0, except where a byte of the given word is 0.
 fn zero_marks(word: u64) -> u64
     ensures { (o : ℕ) → o < 8 → (byte_of result o ≡ 0) ↔ (byte_of word o ≢ 0) }
 {
-    // A byte's highest bit is set in the sums where one of its lower seven bits was. No sum carries into the next byte.
+    // A byte's highest bit is set in the sums if one of its lower seven bits was. No sum carries into the next byte.
     let sums = (word & 0x7f7f_7f7f_7f7f_7f7f) + 0x7f7f_7f7f_7f7f_7f7f;
     ((sums | word) & 0x8080_8080_8080_8080) ^ 0x8080_8080_8080_8080
 }
 
-/// A word whose bytes are 0, except where a byte of the given word is 0 or `/`.
+/// Returns a word whose bytes are 0, except where a byte of the given word is 0 or `/`.
 fn forbidden_marks(word: u64) -> u64
     ensures { (o : ℕ) → o < 8 → (byte_of result o ≡ 0) ↔ IsPlain (byte_of word o) }
 {
     zero_marks(word) | zero_marks(word ^ 0x2f2f_2f2f_2f2f_2f2f)
 }
 
-/// Whether none of the lowest bytes of a word is 0 or `/`.
+/// Returns whether none of the lowest `count` bytes of a word is 0 or `/`.
 fn is_plain(word: u64, count: u64) -> bool
     ensures { IsTrue result ↔ ArePlainBytes word count }
 {
     low_bytes(forbidden_marks(word), count) == 0
 }
 
-/// Whether no byte of these words is 0 or `/`. It looks at each, which takes less time than to stop at the first.
+/// Returns whether no byte of these words is 0 or `/`. It looks at each, which takes less time than to stop at the
+/// first.
 fn are_plain_words(words: &[u64]) -> bool
     ensures { IsTrue result ↔ ((i : ℕ) → i < length words.now → ArePlainBytes (slice_index words.now i) 8) }
 {
@@ -46,7 +47,7 @@ fn are_plain_words(words: &[u64]) -> bool
     found == 0
 }
 
-/// Whether none of so many bytes is 0 or `/`. The first word of them stands at a place.
+/// Returns whether none of `count` bytes is 0 or `/`, of which the first word is at a place.
 fn are_plain<R: Region>(region: &R, first: u32, count: u64) -> bool
     requires short { count ≤ max_name }
     requires behind_head { HEAD_WORDS ≤ first }
@@ -62,7 +63,7 @@ fn are_plain<R: Region>(region: &R, first: u32, count: u64) -> bool
     count % 8 == 0 || is_plain(words[whole], count % 8)
 }
 
-/// Whether a name of so many bytes, the first of which are in this word, is `.` or `..`.
+/// Returns whether a name of `count` bytes, the first of which are in this word, is `.` or `..`.
 fn is_dots(word: u64, count: u64) -> bool
     ensures { IsTrue result ↔ IsDots word count }
 {
@@ -73,7 +74,8 @@ fn is_dots(word: u64, count: u64) -> bool
     }
 }
 
-/// Whether the entry at a place has a name of the right form: 1 to 240 bytes, no byte 0 and no `/`, and neither `.` nor `..`.
+/// Returns whether the entry at a place has a valid name: 1 to 240 bytes, no byte 0 and no `/`, and neither `.` nor
+/// `..`.
 pub(crate) fn is_name<R: Region>(region: &R, place: u32) -> bool
     requires behind_head { HEAD_WORDS ≤ place }
     requires within { place + entry_words ≤ length (current_words (R.memory region.now)) }

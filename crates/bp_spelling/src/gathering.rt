@@ -20,8 +20,13 @@ use bp_limits::{BLOCK_ENTRIES, ENTRY_SIZE, ENTRY_WORDS};
 use bp_tree::Tree;
 use pm_region::Region;
 
-/// Writes down the entries of a leaf, those from a slot on, behind so many that were written down before, and says how
-/// many there are then. The numbers of the inodes that the leaf's entries name are written down behind those of the slots before.
+/// Records the entries of a leaf, from slot `first` on, after the `before` entries that were recorded before, and
+/// returns how many there are then. The inode numbers of the leaf's entries are recorded after those of the slots
+/// before.
+///
+/// # Errors
+///
+/// The place of the length of a name that is not valid.
 fn gather_leaf<R: Region>(
     region: &R,
     tree: Tree,
@@ -69,12 +74,12 @@ fn gather_leaf<R: Region>(
     Ok(count)
 }
 
-/// Writes down the entries that name an inode, with the hashes of their names, and says how many there are; and for each
-/// slot the number of the inode that its entry names.
+/// Records the entries that refer to an inode, with the hashes of their names, and returns their number. It also
+/// records the inode number of the entry in each slot.
 ///
 /// # Errors
 ///
-/// The word with the length of a name that has not the form of one.
+/// The place of the length of a name that is not valid.
 pub(crate) fn gather<R: Region>(
     region: &R,
     tree: Tree,

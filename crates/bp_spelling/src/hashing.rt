@@ -1,4 +1,4 @@
-//! Hashes of names: names that are equal have equal ones.
+//! Hashes of names. Equal names have equal hashes.
 
 ghost use Rattle.std.specs.Prelude.{◌≡◌, ◌+◌, ◌≤◌, length};
 ghost use Rattle.bp_layout.specs.Words.{word};
@@ -12,9 +12,9 @@ use pm_words::low_bytes;
 
 const FACTOR: u64 = 0x9e37_79b9_7f4a_7c15;
 
-/// What a word makes of the hash of the words before it. A product carries upwards alone, so names that differ in the
-/// highest bytes of their words would have but few hashes: its high half is folded into its low half, which the next
-/// product spreads.
+/// Returns the hash after one more word, given the hash of the words before it. A product carries only upwards, so
+/// names that differ only in the highest bytes of their words would have few different hashes. Therefore the high half
+/// is folded into the low half, which the next product spreads.
 fn mix(state: u64, word: u64) -> u64
     ensures { result ≡ mixed state word }
 {
@@ -22,7 +22,8 @@ fn mix(state: u64, word: u64) -> u64
     product ^ (product >> 32)
 }
 
-/// The hash of the name of the entry at a place: of its length, and of its words without the dead bytes.
+/// Returns the hash of the name of the entry at a place: of its length, and of its words without the bytes past its
+/// end.
 pub(crate) fn hash_name<R: Region>(region: &R, place: u32) -> u32
     requires short { word (current_words (R.memory region.now)) (place + 1) ≤ max_name }
     requires behind_head { HEAD_WORDS ≤ place }

@@ -1,4 +1,4 @@
-//! The names of a directory: whether each has the form of a name, and no two are equal.
+//! The names of a directory: the check that each is a valid name, and that no two are equal.
 #![tactic(auto)]
 
 mod checking;

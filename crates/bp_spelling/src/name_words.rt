@@ -9,7 +9,7 @@ use pm_region::Region;
 use pm_words::low_bytes;
 use std::cmp::Ordering;
 
-/// The word at a place, 0 past the end.
+/// Returns the word at a place; 0 past the end of the region.
 pub(crate) fn word_at<R: Region>(region: &R, place: u64) -> u64
     ensures { result ≡ word (current_words (R.memory region.now)) place }
 {
@@ -20,7 +20,7 @@ pub(crate) fn word_at<R: Region>(region: &R, place: u64) -> u64
     }
 }
 
-/// Compares the lowest bytes of two words, as many as are asked for.
+/// Compares the lowest `count` bytes of two words.
 pub(crate) fn compare_words(x: u64, y: u64, count: u64) -> Ordering
     ensures { result ≡ nat_cmp (x % 256 ^ min 8 count) (y % 256 ^ min 8 count) }
 {

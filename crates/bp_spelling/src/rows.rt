@@ -1,4 +1,4 @@
-//! What the entries of a leaf name.
+//! The inode numbers of the entries of a leaf.
 
 ghost use Rattle.std.specs.Prelude.{◌≡◌, ℕ, ◌+◌, ◌*◌, ◌<◌, ◌≤◌, length, slice_index};
 ghost use Rattle.bp_spelling.specs.Names.{in_32_bits};
@@ -9,8 +9,9 @@ ghost use Rattle.pm_region.specs.Memory.{current_words};
 use bp_limits::{BLOCK_ENTRIES, ENTRY_WORDS};
 use pm_region::Region;
 
-/// The numbers of the inodes that entries in a row name, 0 where one is empty: of so many, sixteen at most, from the one
-/// on that begins at a word of the region. They are read in one go, so the processor waits for all of them at once.
+/// Returns the inode numbers of `count` consecutive entries, at most sixteen, from the one that begins at word `place`
+/// of the region on. The number of an empty entry is 0. They are read together, so the processor waits for all of them
+/// at once.
 pub fn named_in_row<R: Region>(region: &R, place: u32, count: u32) -> [u64; BLOCK_ENTRIES as usize]
     requires few { count ≤ block_entries }
     requires within { place + entry_words * count ≤ length (current_words (R.memory region.now)) }
@@ -25,8 +26,8 @@ pub fn named_in_row<R: Region>(region: &R, place: u32, count: u32) -> [u64; BLOC
     named
 }
 
-/// Puts the first numbers of a row, so many, into `numbers` from one place on, in 32 bits each. `u32::MAX` stands for all
-/// that do not fit: no inode has it.
+/// Puts the first `count` numbers of a row into `numbers` from index `first` on, in 32 bits each. `u32::MAX`
+/// represents all numbers that do not fit: no inode has it.
 pub(crate) fn keep_numbers(
     named: &[u64; BLOCK_ENTRIES as usize],
     count: usize,

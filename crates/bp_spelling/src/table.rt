@@ -1,4 +1,4 @@
-//! Names told apart by their hashes alone, where these are few in a row.
+//! Comparison of names by their hashes, with a table, as long as few hashes collide.
 
 ghost use Rattle.std.specs.Prelude.{◌≡◌, ◌<◌, length, All, OnOk, IfErr};
 ghost use Rattle.bp_spelling.specs.Hashes.{IsSpelled, places_of};
@@ -11,7 +11,7 @@ use crate::entry::Spelled;
 use pm_region::Region;
 use std::cmp::Ordering;
 
-/// How many cells of a table may hold a name: that of its hash, and those behind it.
+/// The number of cells of a table that may hold a name: the cell of its hash, and those after it.
 pub(crate) const REACH: usize = 128;
 
 /// Why a name is not put into a table.
@@ -22,15 +22,15 @@ enum Clash {
     Full,
 }
 
-/// Why a table does not tell that no two entries have one name.
+/// Why a table does not show that no two entries have the same name.
 pub(crate) enum TableError {
-    /// The entry at this place has the name of another.
+    /// The entry at this place has the name of another one.
     Repeated(u32),
-    /// Too many hashes fall together, or there is no memory for a table.
+    /// Too many hashes collide, or there is no memory for a table.
     Crowded,
 }
 
-/// The first cell that may hold a name with a hash, in a table of so many cells.
+/// Returns the first cell that may hold a name with a hash, in a table of `cells` cells.
 fn home_of(cells: usize, hash: u32) -> usize
     requires { 128 < cells }
     ensures { result ≡ home cells hash }
@@ -38,7 +38,7 @@ fn home_of(cells: usize, hash: u32) -> usize
     hash as usize % (cells - REACH)
 }
 
-/// Puts an entry into the first empty cell that may hold it. A cell is empty where its place is 0.
+/// Puts an entry into the first empty cell that may hold it. A cell is empty if its place is 0.
 fn put<R: Region>(region: &R, table: &mut [Spelled], entry: Spelled) -> Result<(), Clash>
     requires room { 128 < length table.old }
     requires some { IsPresent entry }
@@ -59,8 +59,12 @@ fn put<R: Region>(region: &R, table: &mut [Spelled], entry: Spelled) -> Result<(
     Err(Clash::Full)
 }
 
-/// Puts entries into a table, whatever stands in it: an error where one has the name of another, or where the table
-/// does not tell. It takes time linear in the entries and the cells.
+/// Puts entries into a table, whatever its contents. The time is linear in the entries and the cells.
+///
+/// # Errors
+///
+/// - `Repeated`: an entry has the name of another one.
+/// - `Crowded`: the table does not determine whether one has.
 pub(crate) fn check_by_table<R: Region>(
     region: &R,
     entries: &[Spelled],

@@ -7,11 +7,11 @@ use Rattle.bp_layout.specs.Words.{Image}
 use Rattle.bp_changes.specs.Overwrites.{Patch}
 use Rattle.bp_plain.specs.Calls.{Piece}
 
--- the bytes of a piece as a patch of the file that it is for
+-- the bytes of a piece as a patch of its file
 abbrev pub patch_of : Piece → ℕ → Patch
 patch_of piece i = record { inode = i; off = piece.off; bytes = piece.bytes }
 
--- the piece's path finds this file, and its bytes end at the file's size at most
+-- the piece's path leads to this file, and its bytes end within the file's size
 pub record PieceFinds (image : Image) (piece : Piece) (i : ℕ) : Type 0 where
   pub path : Path
   pub parsed : parse piece.path ≡ Some path

@@ -1,3 +1,3 @@
-//! The plain tree for which an image stands after a change: with a name more or fewer, a file's new bytes, a name
-//! moved. Definitions and lemmas alone.
+//! The abstract tree that an image represents after a change: a new or removed name, a file's new bytes, a moved name.
+//! Definitions and lemmas only.
 #![tactic(auto)]

@@ -1,5 +1,5 @@
-//! Where a byte first stands in a text, for texts that are mostly short or have it near:
-//! the words of a line, the names of a path.
+//! Finds the first position of a byte in a text. It is meant for texts that are mostly short or have the byte near:
+//! the fields of a line, the names of a path.
 #![tactic(auto)]
 
 ghost use Rattle.std.specs.Prelude.{◌≡◌, ◌≤◌, ◌==◌, ◌||◌, length, position};
@@ -8,13 +8,13 @@ ghost use Rattle.memchr.specs.Find.{IsFirst, Passes, is_byte2};
 use memchr::memchr;
 use std::simd::prelude::*;
 
-/// How many bytes are looked at together.
+/// Number of bytes that are compared at once.
 const LANES: usize = 16;
 
-/// How many bytes are looked at before it is no longer thought that the byte is near.
+/// Number of bytes that are searched before the byte counts as far.
 const NEAR: usize = 128;
 
-/// Where a text has the first byte of this kind.
+/// Returns the index of the first byte of this value in a text.
 pub fn first_of(byte: u8, text: &[u8]) -> Option<usize>
     ensures { result ≡ position (λ b. b == byte) text.now }
 {
@@ -32,7 +32,7 @@ pub fn first_of(byte: u8, text: &[u8]) -> Option<usize>
     }
 }
 
-/// Where a text has the first byte of either of two kinds.
+/// Returns the index of the first byte of either of two values in a text.
 pub fn first_of_either(one: u8, other: u8, text: &[u8]) -> Option<usize>
     ensures { result ≡ position (λ b. b == one || b == other) text.now }
 {
@@ -46,7 +46,7 @@ pub fn first_of_either(one: u8, other: u8, text: &[u8]) -> Option<usize>
     first_in_rest(one, other, text, at)
 }
 
-/// Where the block that a text begins with has the first byte of either kind.
+/// Returns the index of the first byte of either value in the first block of a text.
 fn first_in_block(one: u8, other: u8, text: &[u8]) -> Option<usize>
     requires { LANES ≤ length text.now }
     ensures { IsFirst (Passes (is_byte2 one other) text.now) 0 LANES result }
@@ -61,7 +61,7 @@ fn first_in_block(one: u8, other: u8, text: &[u8]) -> Option<usize>
     }
 }
 
-/// Where a text has the first byte of either kind from a place on.
+/// Returns the index of the first byte of either value in a text, from an index on.
 fn first_in_rest(one: u8, other: u8, text: &[u8], from: usize) -> Option<usize>
     requires { from ≤ length text.now }
     ensures { IsFirst (Passes (is_byte2 one other) text.now) from (length text.now) result }
@@ -74,7 +74,7 @@ fn first_in_rest(one: u8, other: u8, text: &[u8], from: usize) -> Option<usize>
     None
 }
 
-/// The same of one kind, where much of the text is left.
+/// Returns the index of the first byte of this value, from an index on, if much of the text is left.
 fn first_far(byte: u8, text: &[u8], from: usize) -> Option<usize>
     requires { from ≤ length text.now }
     ensures { IsFirst (Passes (is_byte2 byte byte) text.now) from (length text.now) result }

@@ -1,4 +1,4 @@
--- Copies of blocks, of which each pointer to one may lead to its copy.
+-- Copies of blocks, in which a pointer to a copied block may lead to the copy.
 use Rattle.std.specs.Prelude.{◌≡◌, ◌≢◌, ℕ, ◌+◌, ◌*◌, ◌/◌, ◌<◌, ◌==◌, List, [], ◌∷◌, length, map, Bool, Option, None, Some, bytes_eq, if◌then◌else◌, slice_index}
 use Rattle.std.specs.List.{list_any}
 use Rattle.bp_limits.specs.Limits.{block_words}
@@ -7,7 +7,7 @@ use Rattle.bp_layout.specs.Members.{Has}
 use Rattle.bp_shapes.specs.Trail.{Trail, block_on, place_on, LeadsTo}
 use Rattle.bp_cow.specs.Copies.{pointing_to}
 
--- of each the place of the pointer to its block, and its own number
+-- each copy: the place of the pointer to its block, and the number of the block with the copy
 abbrev pub Copies : Type 0
 Copies = List (ℕ × ℕ)
 
@@ -17,7 +17,7 @@ places_of copies = map (λ copy. copy.0) copies
 abbrev pub blocks_of : Copies → List ℕ
 blocks_of copies = map (λ copy. copy.1) copies
 
--- the copy to whose block the pointer at a place leads
+-- the copy of the block to which the pointer at a place leads
 abbrev pub copy_at : Copies → ℕ → Option ℕ
 copy_at [] place = None
 copy_at (copy ∷ copies) place = if copy.0 == place then Some copy.1 else copy_at copies place
@@ -26,11 +26,11 @@ abbrev pub turned_to : Option ℕ → ℕ → ℕ
 turned_to None pointer = pointer
 turned_to (Some block) pointer = pointing_to pointer block
 
--- the word at a place, turned to a copy where it is a pointer to a block that is copied
+-- the word at a place; if it is a pointer to a copied block, it points to the copy instead
 abbrev pub turned_word : Image → Copies → ℕ → ℕ
 turned_word image copies place = turned_to (copy_at copies place) (word image place)
 
--- the words of a block, with its pointers turned so
+-- the words of a block, with its pointers set to the copies
 abbrev pub AreTurned : Copies → ℕ → List ℕ → List ℕ → Type 0
 AreTurned copies block old words = (slot : ℕ) → slot < block_words →
     slice_index words slot ≡ turned_to (copy_at copies (block_words * block + slot)) (slice_index old slot)
@@ -39,20 +39,20 @@ AreTurned copies block old words = (slot : ℕ) → slot < block_words →
 abbrev pub source_of : Image → ℕ × ℕ → ℕ
 source_of image copy = block_of (word image copy.0)
 
--- there is a copy of the block
+-- the block is copied
 abbrev pub is_copied : Image → Copies → ℕ → Bool
 is_copied image copies block = list_any (λ copy. source_of image copy == block) copies
 
--- what is stored at the places of those pointers that stand in no block that is copied
+-- the stores that set those pointers to copies that are not themselves in a copied block
 abbrev pub links_among : Image → Copies → Copies → List (ℕ × ℕ)
 links_among image all [] = []
 links_among image all (copy ∷ copies) =
     if is_copied image all (copy.0 / block_words) then links_among image all copies
     else (copy.0, pointing_to (word image copy.0) copy.1) ∷ links_among image all copies
 
--- ---- the same by trails
+-- ---- copies by trails
 
--- of each copy the trail of the pointer to its block
+-- each copy: the trail of the pointer to its block, and the number of the block with the copy
 abbrev pub Marks : Type 0
 Marks = List (Trail × ℕ)
 
@@ -63,7 +63,7 @@ copy_on (mark ∷ marks) p = if bytes_eq mark.0 p then Some mark.1 else copy_on 
 abbrev pub placed_copies : Image → Marks → Copies
 placed_copies image marks = map (λ mark. (place_on image mark.0, mark.1)) marks
 
--- a pointer that is not null, and a block to which no pointer leads
+-- a pointer that is not null, and a block for the copy to which no pointer leads
 pub record IsMark (image : Image) (Pointer : Trail → Type 0) (mark : Trail × ℕ) : Type 0 where
   pub pointer : Pointer mark.0
   pub present : block_on image mark.0 ≢ 0
@@ -71,14 +71,13 @@ pub record IsMark (image : Image) (Pointer : Trail → Type 0) (mark : Trail × 
   pub in_range : mark.1 < block_count image
   pub unled : LeadsTo image Pointer mark.1 → ⊥
 
--- no two have one pointer or one block
+-- no two copies have one pointer or one block
 pub record AreMarks (image : Image) (Pointer : Trail → Type 0) (marks : Marks) : Type 0 where
   pub each : (m : Trail × ℕ) → Has marks m → IsMark image Pointer m
   pub trails : (m n : Trail × ℕ) → Has marks m → Has marks n → m.0 ≡ n.0 → m ≡ n
   pub blocks : (m n : Trail × ℕ) → Has marks m → Has marks n → m.1 ≡ n.1 → m ≡ n
 
--- Each copy has the words of its block, with the pointers turned to the other copies, and the other words are as
--- before.
+-- Each copy has the words of its block, with the pointers set to the other copies; all other words are unchanged.
 pub record HasCopies (old now : Image) (marks : Marks) : Type 0 where
   pub whole : length now ≡ length old
   pub copied : (m : Trail × ℕ) (slot : ℕ) → Has marks m → slot < block_words

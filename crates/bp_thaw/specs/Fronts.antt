@@ -1,4 +1,4 @@
--- The ways to some words, and how the kept blocks on them are found.
+-- The ways to some words (the paths of the pointers on the way to each), and the search for kept blocks on them.
 use Rattle.std.specs.Prelude.{◌≡◌, ℕ, zero, suc, ◌/◌, ◌≤◌, List, [], ◌∷◌, ◌++◌, length, map, take, Bool, not, ◌&&◌, ◌==◌, if◌then◌else◌}
 use Rattle.std.specs.List.{list_any}
 use Rattle.bp_limits.specs.Limits.{block_words, super_root}
@@ -9,12 +9,12 @@ use Rattle.bp_layout.specs.WordPaths.{WordPath, address, tree_path}
 use Rattle.bp_layout.specs.Words.{Image, height_of, word}
 use Rattle.bp_shapes.specs.Trail.{Trail, trail_of}
 
--- a number of at most so many digits
+-- a number of at most `depth` digits in base 512
 abbrev pub HasDigits : ℕ → ℕ → Type 0
 HasDigits zero index = index ≡ 0
 HasDigits (suc depth) index = HasDigits depth (index / block_words)
 
--- The path of a word of a tree that is reached, where the trees have the heights that they have.
+-- The path of a word of a reachable tree, at the present heights of the trees.
 pub record IsPathIn (image : Image) (most : ℕ → ℕ) (path : WordPath) : Type 0 where
   pub tree : ℕ
   pub depth : ℕ
@@ -24,7 +24,7 @@ pub record IsPathIn (image : Image) (most : ℕ → ℕ) (path : WordPath) : Typ
   pub few : HasDigits depth index
   pub is : path ≡ tree_path (height_of (word image super_root)) tree depth index
 
--- the way to a pointer or to a content word
+-- the path of a pointer or of a content word
 abbrev pub IsWayIn : Image → WordPath → Type 0
 IsWayIn image path = IsPathIn image suc path
 
@@ -35,13 +35,13 @@ IsPointerPath image path = IsPathIn image (λ height. height) path
 abbrev pub path_trail : WordPath → Trail
 path_trail path = trail_of path (length path)
 
--- ---- as they are found
+-- ---- the search
 
--- a path to the same place is among these
+-- a path to the same place is in the list
 abbrev pub is_found : Image → List WordPath → WordPath → Bool
 is_found image found path = list_any (λ other. address image other == address image path) found
 
--- with those of a path, up to a depth
+-- the list with the pointers of a path that lead to kept blocks, up to a depth
 abbrev pub found_on : Image → (ℕ → Bool) → List WordPath → WordPath → ℕ → List WordPath
 found_on image kept found path zero = found
 found_on image kept found path (suc depth) =
@@ -56,7 +56,7 @@ found_in image kept found (path ∷ paths) = found_in image kept (found_on image
 abbrev pub places_found : Image → (ℕ → Bool) → List WordPath → List ℕ
 places_found image kept paths = map (address image) (found_in image kept [] paths)
 
--- where the places were those of some paths, they are now with those that are found on a way besides
+-- the list of places gets those of the pointers to kept blocks on this way that it does not have yet
 abbrev pub FindsOn : Image → (ℕ → Bool) → WordPath → List ℕ → List ℕ → Type 0
 FindsOn image kept way before after = (found : List WordPath) → before ≡ map (address image) found →
     after ≡ map (address image) (found_on image kept found way (length way))

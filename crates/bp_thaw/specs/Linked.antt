@@ -1,11 +1,11 @@
--- Blocks that are copied, each to one copy, and pointers to the topmost copies of which any may be stored.
+-- A state with copies of blocks, one for each, in which any of the pointers to the topmost copies may be stored.
 use Rattle.std.specs.Prelude.{◌≡◌, ◌≢◌, ℕ, ◌+◌, ◌*◌, ◌<◌, [], ◌∷◌, length, Bool, true, false, ◌&&◌, Option, None, Some, is_some, if◌then◌else◌}
 use Rattle.bp_limits.specs.Limits.{block_words, super_root}
 use Rattle.bp_layout.specs.Words.{Image, word, block_count}
 use Rattle.bp_shapes.specs.Trail.{Trail, word_on, block_on, place_on, LeadsTo}
 use Rattle.bp_cow.specs.Copies.{pointing_to}
 
--- the pointers whose blocks are copied, and the copies: blocks to which no pointer leads, no two the same
+-- the pointers whose blocks are copied, and the copies: different blocks to which no pointer leads
 pub record AreCopies (old : Image) (Pointer : Trail → Type 0) (copy : Trail → Option ℕ) : Type 0 where
   pub pointer : (p : Trail) (c : ℕ) → copy p ≡ Some c → Pointer p
   pub present : (p : Trail) (c : ℕ) → copy p ≡ Some c → block_on old p ≢ 0
@@ -14,17 +14,17 @@ pub record AreCopies (old : Image) (Pointer : Trail → Type 0) (copy : Trail �
   pub unled : (p : Trail) (c : ℕ) → copy p ≡ Some c → LeadsTo old Pointer c → ⊥
   pub once : (p q : Trail) (c : ℕ) → copy p ≡ Some c → copy q ≡ Some c → p ≡ q
 
--- the word of a copy: a pointer to the next copy, or as it was
+-- a word of a copy: a pointer to the next copy, or the old word
 abbrev pub copied_word : Image → Option ℕ → Trail → ℕ
 copied_word old None q = word_on old q
 copied_word old (Some d) q = pointing_to (word_on old q) d
 
--- a pointer to a copy that lies in no block that is copied
+-- a pointer to a copied block that is not itself in a copied block
 abbrev pub is_top : (Trail → Option ℕ) → Trail → Bool
 is_top copy [] = is_some (copy [])
 is_top copy (slot ∷ p) = is_some (copy (slot ∷ p)) && (if is_some (copy p) then false else true)
 
--- the copies are made, and some of these pointers are stored
+-- the copies are made, and some of the pointers to topmost copies are stored
 pub record AreThawing (old now : Image) (Pointer : Trail → Type 0) (copy : Trail → Option ℕ) (stored : Trail → Bool)
     : Type 0 where
   pub whole : length now ≡ length old

@@ -1,4 +1,4 @@
--- The steps of a thaw: the kept blocks are found, blocks are taken for their copies, and these are filled.
+-- The steps of a thaw: finding the kept blocks, taking blocks for their copies, and filling these.
 use Rattle.std.specs.Prelude.{◌≡◌, ◌≢◌, ℕ, ◌+◌, ◌*◌, ◌/◌, ◌<◌, ◌≤◌, List, ◌∷◌, length, Bool, true, false}
 use Rattle.pm_epochs.specs.Log.{StoresTo}
 use Rattle.pm_epochs.specs.May.{AnyAt}
@@ -14,18 +14,18 @@ use Rattle.bp_shapes.specs.Trail.{Trail, block_on}
 use Rattle.bp_commit.specs.Performs.{InBlock}
 use Rattle.bp_thaw.specs.Copies.{Copies, blocks_of, places_of, source_of, turned_word}
 
--- The pointer is live and leads to a block that is kept.
+-- The pointer is live and leads to a kept block.
 pub record IsKept (image : Image) (kept : ℕ → Bool) (p : Trail) : Type 0 where
   pub pointer : IsTreePointer image (size_of image) p
   pub present : block_on image p ≢ 0
   pub is_kept : kept (block_on image p) ≡ true
 
--- Some of those pointers. Where the block that holds one is kept, the pointer to it is among them.
+-- A list of live pointers to kept blocks that has, with each pointer in a kept block, the pointer to that block.
 pub record AreKept (image : Image) (kept : ℕ → Bool) (trails : List Trail) : Type 0 where
   pub each : (p : Trail) → Has trails p → IsKept image kept p
   pub above : (slot : ℕ) (p : Trail) → Has trails (slot ∷ p) → kept (block_on image p) ≡ true → Has trails p
 
--- Just these numbers leave a set, each of which it had.
+-- Exactly these numbers leave a set, which had all of them.
 pub record TakesAll (before after : Set) (taken : List ℕ) : Type 0 where
   pub once : AreApart taken
   pub were : (b : ℕ) → Has taken b → has before b ≡ true
@@ -38,13 +38,13 @@ pub record TakesAll (before after : Set) (taken : List ℕ) : Type 0 where
 abbrev pub InBlocks : List ℕ → ℕ → Type 0
 InBlocks blocks place = Has blocks (place / block_words)
 
--- a copy has the words of a block now, with the pointers turned to the copies
+-- a copy has the words of a block, with the pointers set to the copies
 abbrev pub IsTurnedCopy : Copies → ℕ → ℕ → Memory → Memory → Type 0
 IsTurnedCopy copies block copy old new = (slot : ℕ) → slot < block_words →
     word (current_words new) (block_words * copy + slot) ≡ turned_word (current_words old) copies (block_words * block + slot)
 
--- Stores went to the copies alone, to each of them one at least. Each has the words of its block now, with the pointers
--- turned to the other copies.
+-- The stores go only to the copies, at least one to each. Each copy has the words of its block, with the pointers set
+-- to the other copies.
 pub record FillsCopies (copies : Copies) (old new : Memory) : Type 0 where
   pub part : AddsMay (AnyAt (InBlocks (blocks_of copies))) 0 (block_words * length copies) old new
   pub stored : Each (λ b. StoresTo (InBlock b) part.added) (blocks_of copies)
@@ -52,12 +52,12 @@ pub record FillsCopies (copies : Copies) (old new : Memory) : Type 0 where
       → word (current_words new) (block_words * copy.1 + slot)
       ≡ turned_word (current_words old) copies (block_words * source_of (current_words old) copy + slot)
 
--- Each pair has a place of the image first.
+-- The first number of each pair is a place of the image.
 abbrev pub ArePlacesOf : Image → List (ℕ × ℕ) → Type 0
 ArePlacesOf image pairs = (pair : ℕ × ℕ) → Has pairs pair → pair.0 < length image
 
--- The copies can be filled: they are blocks of the image, in which neither the blocks that are copied nor the pointers
--- to these lie, and the log has room.
+-- The condition to fill copies: they are blocks of the image that contain neither the copied blocks nor the pointers to
+-- these, and the log has room.
 pub record CanFillCopies (copies : Copies) (memory : Memory) : Type 0 where
   pub places : AreApart (places_of copies)
   pub blocks : AreApart (blocks_of copies)

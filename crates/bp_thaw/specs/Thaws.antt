@@ -1,4 +1,5 @@
--- The blocks that are kept on the ways to some words are copied, and the pointers to them lead to the copies.
+-- Thaw (copy-on-write for the snapshot): the kept blocks on the ways to some words are copied, and the pointers to them
+-- are set to the copies.
 use Rattle.std.specs.Prelude.{◌≡◌, ◌⊎◌, ℕ, ◌+◌, ◌*◌, ◌≤◌, List, [], map, length, Bool, true}
 use Rattle.arrayvec.specs.ArrayVec.{ArrayVec}
 use Rattle.bp_changes.specs.Thawed.{SameShape}
@@ -17,8 +18,8 @@ use Rattle.pm_region.specs.Memory.{Memory, current_words, room_in}
 abbrev pub paths_in : ArrayVec (ArrayVec ℕ) → List WordPath
 paths_in targets = map (λ path. path.items) targets.items
 
--- The image is well formed, and the paths are ways to its pointers and words. The set has just its free blocks, as many
--- as are copied, and the log has room.
+-- The condition of a thaw. The image is well formed, and the paths are those of its pointers and words. The set has
+-- exactly its free blocks, enough of them for the copies, and the log has room.
 pub record CanThaw (kept : ℕ → Bool) (paths : List WordPath) (memory : Memory) (blocks : Set) : Type 0 where
   pub well_formed : IsWellFormed (current_words memory)
   pub ways : (path : WordPath) → Has paths path → IsWayIn (current_words memory) path
@@ -26,8 +27,9 @@ pub record CanThaw (kept : ℕ → Bool) (paths : List WordPath) (memory : Memor
   pub enough : length (thawed_on (current_words memory) kept paths) ≤ length (members blocks)
   pub room : (block_words + 1) * length (thawed_on (current_words memory) kept paths) + 2 ≤ room_in memory
 
--- Nobody sees it at any moment of a crash. All means the same, in trees of the same shape, and no pointer on these ways
--- leads to a kept block any more. What is live then was live or is taken; what was live and is not any more is kept.
+-- The effect of a thaw. At each crash point the meaning of the image is unchanged, and the trees keep their shape. No
+-- pointer on these ways leads to a kept block afterwards. Each block that is live afterwards was live before or is one
+-- of the taken blocks; each block that was live and no longer is, is kept.
 pub record Thaws (kept : ℕ → Bool) (paths : List WordPath) (old new : Memory) (blocks after : Set) : Type 0 where
   pub taken : List ℕ
   pub adds : AddsTaking kept taken 2 ((block_words + 1) * length taken) old new

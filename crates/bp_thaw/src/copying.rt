@@ -1,4 +1,4 @@
-//! Copies of blocks that lead to one another.
+//! Copies of blocks that point to one another.
 
 ghost use Rattle.std.specs.Prelude.{◌≡◌, ◌+◌, ◌*◌, ◌/◌, ◌<◌, ◌≤◌, length};
 ghost use Rattle.bp_free.specs.Set.{members};
@@ -15,17 +15,17 @@ use bp_free::Blocks;
 use bp_limits::{BLOCK_SIZE, BLOCK_WORDS};
 use pm_region::Region;
 
-/// Copies of blocks: of each the place of the pointer to its block, and its number.
+/// Copies of blocks, each given by the place of the pointer to its block and the number of the copy.
 pub(crate) type Copies = ArrayVec<(u32, u32), 96>;
 
-/// A pointer to another block, with its other bits.
+/// Returns a pointer to another block, with the other bits unchanged.
 pub(crate) fn pointing_to(pointer: u64, block: u32) -> u64
     ensures { result ≡ pointing_to pointer block }
 {
     bp_layout::pointer_word(block as u64) + pointer % BLOCK_SIZE
 }
 
-/// A block is taken for the copy of each to which a pointer leads that stands at one of these places.
+/// Takes a block for the copy of each block to which a pointer at one of these places leads.
 pub(crate) fn take_all(blocks: &mut Blocks, places: &Places) -> Copies
     requires { length places.now.items ≤ length (members blocks.old) }
     ensures of { places_of result.items ≡ places.now.items }
@@ -38,7 +38,7 @@ pub(crate) fn take_all(blocks: &mut Blocks, places: &Places) -> Copies
     copies
 }
 
-/// Turns the pointers among the words of a block to the copies.
+/// Sets the pointers among the words of a block to the copies.
 fn turn_words(copies: &Copies, block: u32, words: &mut [u64; 512])
     requires { AreApart (places_of copies.now.items) }
     ensures { AreTurned copies.now.items block words.old words.new }
@@ -52,7 +52,7 @@ fn turn_words(copies: &Copies, block: u32, words: &mut [u64; 512])
     }
 }
 
-/// Stores the words of a copy: those of its block, with the pointers turned to the copies.
+/// Stores the words of a copy: those of its block, with the pointers set to the copies.
 fn fill_copy<R: Region>(region: &mut R, copies: &Copies, place: u32, copy: u32)
     requires apart { AreApart (places_of copies.now.items) }
     requires place { place < length (current_words (R.memory region.old)) }

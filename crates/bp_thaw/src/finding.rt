@@ -21,7 +21,7 @@ use pm_region::Region;
 /// Places of pointers: as many as eight ways of twelve slots can have.
 pub(crate) type Places = ArrayVec<u32, 96>;
 
-/// Whether a place is among these.
+/// Returns whether a place is in the list.
 fn has_place(places: &Places, place: u32) -> bool
     ensures { result ≡ list_any (λ other. other == place) places.now.items }
 {
@@ -33,7 +33,7 @@ fn has_place(places: &Places, place: u32) -> bool
     false
 }
 
-/// Adds a place, but where it is among these.
+/// Adds a place, unless it is in the list.
 fn add_place(places: &mut Places, place: u32)
     requires { length places.old.items < 96 }
     ensures old { list_any (λ other. other == place) places.old.items ≡ true → places.new.items ≡ places.old.items }
@@ -46,7 +46,7 @@ fn add_place(places: &mut Places, place: u32)
     }
 }
 
-/// Adds the places of the pointers on a way that lead to kept blocks, but for those that are among them.
+/// Adds the places of the pointers on a way that lead to kept blocks, unless they are in the list.
 fn find_on<R: Region>(region: &R, frozen: &Blocks, way: &Slots, places: &mut Places)
     requires well_formed { IsWellFormed (current_words (R.memory region.now)) }
     requires frozen { block_count (current_words (R.memory region.now)) ≤ length frozen.now }
@@ -70,7 +70,7 @@ fn find_on<R: Region>(region: &R, frozen: &Blocks, way: &Slots, places: &mut Pla
     }
 }
 
-/// The places of the pointers on the ways that lead to kept blocks, each once.
+/// Returns the places of the pointers on the ways that lead to kept blocks, each once.
 pub(crate) fn find<R: Region>(region: &R, frozen: &Blocks, ways: &ArrayVec<Slots, 8>) -> Places
     requires well_formed { IsWellFormed (current_words (R.memory region.now)) }
     requires frozen { block_count (current_words (R.memory region.now)) ≤ length frozen.now }

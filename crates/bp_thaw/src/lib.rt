@@ -1,5 +1,5 @@
-//! Thaw: the blocks that are kept on the ways to some words are copied into free blocks, and the pointers to them lead to
-//! the copies, so that what a call then stores goes to no block that is kept.
+//! Copy-on-write for the snapshot (*thaw*): copies the kept blocks (blocks of the snapshot) on the ways to some words
+//! into free blocks and sets the pointers to the copies. What a call then stores goes to no kept block.
 #![tactic(auto)]
 
 mod copying;

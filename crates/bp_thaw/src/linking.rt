@@ -1,4 +1,4 @@
-//! Pointers that are turned to copies in their places.
+//! Pointers that are set to copies in place.
 
 ghost use Rattle.std.specs.Prelude.{◌≡◌, ◌+◌, ◌/◌, ◌<◌, ◌≤◌, ◌++◌, ◌∷◌, [], length};
 ghost use Rattle.pm_epochs.specs.declared.event.Event.TheVariants.{Barrier};
@@ -12,10 +12,10 @@ use arrayvec::ArrayVec;
 use bp_limits::BLOCK_WORDS;
 use pm_region::Region;
 
-/// Places of pointers, and what is stored there.
+/// Places of pointers, and the values to store there.
 pub(crate) type Links = ArrayVec<(u32, u64), 96>;
 
-/// Whether a block is copied.
+/// Returns whether a block is copied.
 fn is_copied<R: Region>(region: &R, copies: &Copies, block: u32) -> bool
     requires { ArePlacesOf (current_words (R.memory region.now)) copies.now.items }
     ensures { result ≡ is_copied (current_words (R.memory region.now)) copies.now.items block }
@@ -29,7 +29,7 @@ fn is_copied<R: Region>(region: &R, copies: &Copies, block: u32) -> bool
     false
 }
 
-/// The pointers to copies that stand in blocks that are not copied.
+/// Returns the pointers to copies that are in blocks that are not copied.
 pub(crate) fn links_to<R: Region>(region: &R, copies: &Copies) -> Links
     requires { ArePlacesOf (current_words (R.memory region.now)) copies.now.items }
     ensures { result.items ≡ links_among (current_words (R.memory region.now)) copies.now.items copies.now.items }
@@ -44,7 +44,7 @@ pub(crate) fn links_to<R: Region>(region: &R, copies: &Copies) -> Links
     links
 }
 
-/// Stores them, in an epoch of their own.
+/// Stores these pointers, in an epoch of their own.
 pub(crate) fn store_links<R: Region>(region: &mut R, links: &Links)
     requires places { ArePlacesOf (current_words (R.memory region.old)) links.now.items }
     requires room { length links.now.items + 2 ≤ room_in (R.memory region.old) }
@@ -56,6 +56,6 @@ pub(crate) fn store_links<R: Region>(region: &mut R, links: &Links)
         let (place, value) = links[i];
         region.store(place, value);
     }
-    // What a call stores next is right where all pointers are turned: a crash could keep it and turn only some of them.
+    // The next store of the call is correct only if all pointers are set: a crash could keep it and only some of them.
     region.barrier();
 }

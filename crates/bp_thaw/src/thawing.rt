@@ -19,7 +19,7 @@ use bp_free::Parts;
 use bp_tree::Slots;
 use pm_region::Region;
 
-/// How many blocks a thaw of the ways to some words copies.
+/// Returns how many blocks a thaw of the ways to some words copies.
 pub fn thaw_need<R: Region>(parts: &Parts<R>, targets: &ArrayVec<Slots, 8>) -> u32
     requires well_formed { IsWellFormed (current_words (R.memory parts.now.region)) }
     requires frozen { block_count (current_words (R.memory parts.now.region)) ≤ length parts.now.frozen }
@@ -32,8 +32,8 @@ pub fn thaw_need<R: Region>(parts: &Parts<R>, targets: &ArrayVec<Slots, 8>) -> u
     find(&parts.region, &parts.frozen, targets).len() as u32
 }
 
-/// Copies the kept blocks on the ways to some words, and turns the pointers to them to the copies. Nobody sees it at any
-/// moment of a crash.
+/// Copies the kept blocks on the ways to some words, and sets the pointers to them to the copies. At each crash point
+/// the meaning of the image is unchanged.
 pub fn thaw<R: Region>(parts: &mut Parts<R>, targets: &ArrayVec<Slots, 8>)
     requires can { CanThaw (has parts.old.frozen) (paths_in targets.now) (R.memory parts.old.region) parts.old.blocks }
     requires frozen { block_count (current_words (R.memory parts.old.region)) ≤ length parts.old.frozen }

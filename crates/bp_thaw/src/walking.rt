@@ -13,7 +13,7 @@ use bp_limits::{BLOCK_WORDS, SUPER_ROOT};
 use bp_tree::Slots;
 use pm_region::Region;
 
-/// Whether no kept block is on a way that is there wholly.
+/// Returns whether no kept block is on a way, all of whose pointers exist.
 pub fn is_clear<R: Region>(parts: &Parts<R>, way: &Slots) -> bool
     requires well_formed { IsWellFormed (current_words (R.memory parts.now.region)) }
     requires frozen { block_count (current_words (R.memory parts.now.region)) ≤ length parts.now.frozen }

@@ -1,4 +1,4 @@
-//! How far a way to a word is there.
+//! How far the pointers of a way to a word exist.
 
 ghost use Rattle.std.specs.Prelude.{◌≡◌, ◌≢◌, ℕ, ◌+◌, ◌-◌, ◌*◌, ◌/◌, ◌^◌, ◌<◌, ◌≤◌, length, slice_index, take, drop};
 ghost use Rattle.bp_layout.specs.Inode.{root_of, size_of};
@@ -17,7 +17,7 @@ use bp_limits::{INODE_WORDS, SUPER_ROOT, SUPER_SIZE};
 use bp_tree::{Slots, Tree};
 use pm_region::Region;
 
-/// The number that the slots of a way from one on tell, in base 512. There are at most six of them.
+/// Returns the number whose base-512 digits are the slots of a way from `from` to `to`, at most six of them.
 fn number(way: &Slots, from: usize, to: usize) -> u64
     requires order { from ≤ to }
     requires in_range { to ≤ length way.now.items }
@@ -32,7 +32,7 @@ fn number(way: &Slots, from: usize, to: usize) -> u64
     number
 }
 
-/// Whether a node of a tree is live and neither it nor one above it is null.
+/// Returns whether a node of a tree is live and neither the node nor one above it is null.
 fn is_present<R: Region>(region: &R, tree: Tree, level: u32, index: u64) -> bool
     requires sound { IsSound (current_words (R.memory region.now)) tree.root tree.size }
     requires some { 0 < tree.size }
@@ -44,7 +44,7 @@ fn is_present<R: Region>(region: &R, tree: Tree, level: u32, index: u64) -> bool
         && bp_tree::node(region, tree, level, index) != 0
 }
 
-/// The inode file.
+/// Returns the tree of the inode file.
 fn inode_file<R: Region>(region: &R) -> Tree
     requires { IsWellFormed (current_words (R.memory region.now)) }
     ensures root { result.root ≡ root_of (current_words (R.memory region.now)) 0 }
@@ -56,7 +56,7 @@ fn inode_file<R: Region>(region: &R) -> Tree
     }
 }
 
-/// The tree of an inode.
+/// Returns the tree of an inode.
 fn tree_of<R: Region>(region: &R, file: Tree, inode: u64) -> Tree
     requires well_formed { IsWellFormed (current_words (R.memory region.now)) }
     requires file { (file.root ≡ root_of (current_words (R.memory region.now)) 0) ×
@@ -74,8 +74,8 @@ fn tree_of<R: Region>(region: &R, file: Tree, inode: u64) -> Tree
     }
 }
 
-/// Whether the pointer behind the first slots of a way is there: it is live, and no null stands on the way to the block
-/// to which it leads.
+/// Returns whether the pointer after the first `depth` slots of a way exists: it is live, and no pointer on the way to
+/// the block to which it leads is null.
 pub(crate) fn is_there<R: Region>(region: &R, way: &Slots, depth: usize) -> bool
     requires well_formed { IsWellFormed (current_words (R.memory region.now)) }
     requires way { IsWayIn (current_words (R.memory region.now)) way.now.items }

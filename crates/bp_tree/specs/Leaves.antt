@@ -1,4 +1,4 @@
--- The live leaves of a tree that are there: not null, and below no null.
+-- The existing live leaves of a tree: not null, and below no null pointer.
 use Rattle.std.specs.Prelude.{◌≡◌, ◌≢◌, ℕ, ◌+◌, ◌*◌, ◌/◌, ◌%◌, ◌<◌, ◌≤◌, List, slice_index}
 use Rattle.bp_limits.specs.Limits.{block_size, block_words}
 use Rattle.bp_layout.specs.Words.{Image, height_of}
@@ -9,7 +9,7 @@ abbrev pub HasNoLeafFrom : Image → ℕ → ℕ → ℕ → Type 0
 HasNoLeafFrom image root size from =
     (leaf : ℕ) → from ≤ leaf → block_size * leaf < size → node image root (height_of root) leaf ≡ 0
 
--- the leaf is live and not null, and those from that one on before it are null
+-- the leaf is live and not null, and the leaves from `from` on before it are null
 pub record IsNextLeaf (image : Image) (root size from leaf : ℕ) : Type 0 where
   pub behind : from ≤ leaf
   pub live : block_size * leaf < size
@@ -21,7 +21,7 @@ abbrev pub AreLeafWords : Image → ℕ → ℕ → List ℕ → Type 0
 AreLeafWords image root leaf words =
     (i : ℕ) → i < block_words → slice_index words i ≡ content_word image root (block_words * leaf + i)
 
--- the word of the region at which a content word stands
+-- the place in the region of a content word
 abbrev pub content_place : Image → ℕ → ℕ → ℕ
 content_place image root index =
     block_words * node image root (height_of root) (index / block_words) + index % block_words

@@ -1,4 +1,4 @@
--- The live leaves of a tree that are null. A leaf under a null pointer is null too.
+-- The null leaves among the live leaves of a tree. A leaf below a null pointer is null too.
 use Rattle.std.specs.Prelude.{◌≡◌, ◌≢◌, ℕ, ◌*◌, ◌<◌}
 use Rattle.bp_limits.specs.Limits.{block_size}
 use Rattle.bp_layout.specs.Words.{Image, height_of}
@@ -8,7 +8,7 @@ use Rattle.bp_layout.specs.Tree.{node}
 abbrev pub HasNoNullLeaf : Image → ℕ → ℕ → Type 0
 HasNoNullLeaf image root size = (leaf : ℕ) → block_size * leaf < size → node image root (height_of root) leaf ≢ 0
 
--- the leaf is the first that is live and null
+-- the leaf is the first one that is live and null
 abbrev pub IsFirstNullLeaf : Image → ℕ → ℕ → ℕ → Type 0
 IsFirstNullLeaf image root size leaf =
     (block_size * leaf < size) × (node image root (height_of root) leaf ≡ 0)

@@ -1,7 +1,7 @@
--- Words in a row.
+-- Consecutive words.
 use Rattle.std.specs.Prelude.{ℕ, ◌+◌, ◌<◌, ◌≤◌}
 
--- one of so many places from the first on
+-- one of `count` places from `first` on
 pub record IsWithin (first count place : ℕ) : Type 0 where
   pub low : first ≤ place
   pub high : place < first + count

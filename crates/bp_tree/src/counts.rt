@@ -1,4 +1,4 @@
-//! How many blocks a tree has.
+//! The number of blocks of a tree.
 
 ghost use Rattle.bp_layout.specs.Tree.{IsSound};
 ghost use Rattle.pm_region.specs.Memory.{current_words};
@@ -8,7 +8,8 @@ use crate::subtrees::{child, live_slots};
 use crate::tree::Tree;
 use pm_region::Region;
 
-/// How many blocks a tree has, which is how many of its nodes are present: live, and no null on the way to them.
+/// Returns the number of blocks of a tree, which is the number of its present nodes: live ones without a null pointer
+/// on the way to them.
 pub fn count_live<R: Region>(region: &R, tree: Tree) -> u32
     requires { IsSound (current_words (R.memory region.now)) tree.root tree.size }
     ensures { HasBlockCount (current_words (R.memory region.now)) tree.root tree.size result }

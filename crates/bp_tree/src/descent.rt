@@ -8,7 +8,7 @@ use crate::tree::{Tree, load_slot};
 use pm_region::Region;
 use pm_words::{block_of, digit};
 
-/// The word with a number among those at a depth, where the root word alone is at depth 0.
+/// Returns word number `index` at a depth of the tree. Only the root word is at depth 0.
 pub(crate) fn descend<R: Region>(region: &R, tree: Tree, depth: u32, index: u64) -> u64
     requires sound { IsSound (current_words (R.memory region.now)) tree.root tree.size }
     requires live { IsLiveWord tree.root tree.size depth index }

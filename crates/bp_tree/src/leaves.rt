@@ -1,4 +1,4 @@
-//! The next leaf of a tree that is there.
+//! The next existing leaf of a tree.
 
 ghost use Rattle.std.specs.Prelude.{◌≡◌, ◌-◌, ◌^◌, ◌<◌, ◌≤◌, IfSome, IfNone};
 ghost use Rattle.bp_layout.specs.Tree.{IsSound};
@@ -13,7 +13,7 @@ use bp_limits::BLOCK_SIZE;
 use pm_region::Region;
 use pm_words::span;
 
-/// How many leaves lie below one slot of a tree's topmost block.
+/// Returns how many leaves are below one slot of a tree's top block.
 fn leaves_below(tree: Tree) -> u64
     requires least { 1 ≤ height_of tree.root }
     requires most { height_of tree.root ≤ max_height }
@@ -24,8 +24,8 @@ fn leaves_below(tree: Tree) -> u64
     span(level) / BLOCK_SIZE
 }
 
-/// The number of the first live leaf from `from` on that is not null and stands below no null. None where there is none. It
-/// goes down through live pointers alone, and passes what is below a null in one step.
+/// Returns the number of the first live leaf from `from` on that is not null and below no null pointer, or `None` if
+/// there is none. Follows live pointers only, and skips everything below a null pointer in one step.
 pub fn next_leaf<R: Region>(region: &R, tree: Tree, from: u64) -> Option<u64>
     requires { IsSound (current_words (R.memory region.now)) tree.root tree.size }
     ensures some { IfSome result (IsNextLeaf (current_words (R.memory region.now)) tree.root tree.size from) }

@@ -1,7 +1,7 @@
-//! Trees of blocks: the words and bytes that stand under a root word.
+//! Trees of blocks: the words and bytes below a root word.
 //!
-//! A tree is a root word and a size in bytes. Below the root stand as many levels of pointer blocks as its height says,
-//! and below these the leaves: blocks of 512 content words. A null pointer stands for zeros.
+//! A tree is a root word and a size in bytes. Below the root word are as many levels of pointer blocks as its height,
+//! and below these the leaves, which are blocks of 512 content words. A null pointer represents zeros.
 #![tactic(auto)]
 
 pub mod counts;

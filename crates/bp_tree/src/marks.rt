@@ -7,7 +7,7 @@ ghost use Rattle.pm_region.specs.Memory.{current_words};
 use bp_limits::{SUPER_MAGIC, Version};
 use pm_region::Region;
 
-/// The version that the mark of an image tells.
+/// Returns the version of the image's magic number.
 pub fn version<R: Region>(region: &R) -> Version
     requires { 0 < length (current_words (R.memory region.now)) }
     ensures { result ≡ version_of (current_words (R.memory region.now)) }

@@ -1,4 +1,4 @@
-//! The first null of a tree.
+//! The first null leaf of a tree.
 
 ghost use Rattle.std.specs.Prelude.{IfSome, IfNone};
 ghost use Rattle.bp_layout.specs.Tree.{IsSound};
@@ -11,8 +11,8 @@ use bp_limits::BLOCK_SIZE;
 use pm_region::Region;
 use pm_words::span;
 
-/// The number of the first live leaf that is null, where each leaf under a null pointer is null too. None where no leaf is.
-/// It goes down through live pointers alone, and no further than the first null.
+/// Returns the number of the first live leaf that is null, or `None` if there is none. Each leaf below a null pointer
+/// is null too. Follows live pointers only, and stops at the first null pointer.
 pub fn first_null<R: Region>(region: &R, tree: Tree) -> Option<u64>
     requires { IsSound (current_words (R.memory region.now)) tree.root tree.size }
     ensures some { IfSome result (IsFirstNullLeaf (current_words (R.memory region.now)) tree.root tree.size) }

@@ -1,4 +1,4 @@
-//! Word paths: the slots through which one goes to a word from the root word of the inode file.
+//! Word paths: the slots on the way to a word from the root word of the inode file.
 
 ghost use Rattle.std.specs.Prelude.{◌≡◌, suc, ◌+◌, ◌*◌, ◌/◌, ◌<◌, length};
 ghost use Rattle.std.specs.List.{All};
@@ -13,11 +13,11 @@ use arrayvec::ArrayVec;
 use bp_limits::{BLOCK_WORDS, SUPER_ROOT};
 use pm_region::Region;
 
-/// A word path: slots below 512, from the top. The empty one names the root word of the inode file.
+/// A word path: slots below 512, from the top. The empty path names the root word of the inode file.
 pub type Slots = ArrayVec<u16, 12>;
 
-/// The path from a tree's root word to the content word that has a byte: the slots through which one goes to its leaf, as
-/// many as the tree is high, and then its slot there.
+/// Returns the path from a tree's root word to the content word that has the byte at `offset`: one slot for each level
+/// of the tree, and then the slot in the leaf.
 pub fn word_path(tree: Tree, offset: u64) -> Slots
     ensures { result.items ≡ digits (suc (height_of tree.root)) (offset / 8) }
 {
@@ -31,7 +31,7 @@ pub fn word_path(tree: Tree, offset: u64) -> Slots
     path
 }
 
-/// The word of the region that a path names.
+/// Returns the place in the region of the word that a path names.
 pub fn address<R: Region>(region: &R, path: &Slots) -> u32
     requires exists { Exists (current_words (R.memory region.now)) path.now.items }
     requires slots { All (λ slot. slot < block_words) path.now.items }

@@ -1,4 +1,4 @@
-//! Reading bytes: a walk for each leaf, and then eight words at a time.
+//! Reads bytes: one walk for each leaf, and then eight words at a time.
 
 ghost use Rattle.std.specs.Prelude.{◌≡◌, ℕ, ◌+◌, ◌-◌, ◌*◌, ◌/◌, ◌%◌, ◌<◌, ◌≤◌, IfNone, IfSome, length, take, drop, min};
 ghost use Rattle.bp_layout.specs.Tree.{IsSound, content_word};
@@ -11,8 +11,8 @@ use crate::tree::{Tree, leaf_block};
 use bp_limits::{BLOCK_SIZE, BLOCK_WORDS};
 use pm_region::{HEAD_WORDS, Region};
 
-/// Reads the bytes of a tree from `offset` on, as many as `into` has room for and lie below the size, and says how many
-/// these are. There are none from the size on. The rest of `into` stays.
+/// Reads the bytes of a tree from `offset` on, as many as fit into `into` and are below the size, and returns their
+/// number. It is 0 from the size on. The rest of `into` does not change.
 pub fn read<R: Region>(region: &R, tree: Tree, offset: u64, into: &mut [u8]) -> usize
     requires { IsSound (current_words (R.memory region.now)) tree.root tree.size }
     ensures count { result ≡ min (length into.old) (tree.size - offset) }
@@ -31,7 +31,7 @@ pub fn read<R: Region>(region: &R, tree: Tree, offset: u64, into: &mut [u8]) -> 
     count
 }
 
-/// Reads bytes that lie in one leaf.
+/// Reads bytes of one leaf.
 fn read_leaf<R: Region>(region: &R, tree: Tree, offset: u64, into: &mut [u8])
     requires sound { IsSound (current_words (R.memory region.now)) tree.root tree.size }
     requires some { 0 < length into.old }
@@ -48,7 +48,7 @@ fn read_leaf<R: Region>(region: &R, tree: Tree, offset: u64, into: &mut [u8])
     }
 }
 
-/// Reads bytes of the region from a place on, where word `w` has the places `8 * w` to `8 * w + 7`.
+/// Reads bytes of the region from a place on; word `w` has the places `8 * w` to `8 * w + 7`.
 fn read_bytes<R: Region>(region: &R, place: u64, into: &mut [u8])
     requires some { 0 < length into.old }
     requires behind_first { block_size ≤ place }
@@ -64,7 +64,7 @@ fn read_bytes<R: Region>(region: &R, place: u64, into: &mut [u8])
     read_words(region, word + 1, &mut into[head..end]);
 }
 
-/// Reads the bytes of the words from one on.
+/// Reads the bytes of the words from `word` on.
 fn read_words<R: Region>(region: &R, word: u32, into: &mut [u8])
     requires behind_head { HEAD_WORDS ≤ word }
     requires in_range { 8 * word + length into.old ≤ 8 * length (current_words (R.memory region.now)) }
@@ -74,10 +74,11 @@ fn read_words<R: Region>(region: &R, word: u32, into: &mut [u8])
     unpack(region.load_words(word, into.len().div_ceil(8) as u32), into);
 }
 
-/// How many words are turned to bytes at once: their number is known where it is done, so it takes a few wide moves.
+/// Words that are converted to bytes at once. The number is known at compile time, so the conversion takes a few wide
+/// moves.
 const LINE: usize = 8;
 
-/// The bytes of the words of a line.
+/// Converts the words of a line to bytes.
 fn unpack_line(words: &[u64], into: &mut [u8])
     requires words { length words.now ≡ 8 }
     requires into { length into.old ≡ 64 }
@@ -90,7 +91,7 @@ fn unpack_line(words: &[u64], into: &mut [u8])
     }
 }
 
-/// The bytes of fewer words than a line has, as many as `into` has room for.
+/// Converts fewer words than a line has to bytes, as many as fit into `into`.
 fn unpack_few(words: &[u64], into: &mut [u8])
     requires { length into.old ≤ 8 * length words.now }
     ensures { into.new ≡ stored_bytes words.now 0 (length into.old) }
@@ -106,7 +107,7 @@ fn unpack_few(words: &[u64], into: &mut [u8])
     }
 }
 
-/// The bytes of words, the lowest of each first, as many as `into` has room for.
+/// Converts words to bytes, the lowest byte of each word first, as many as fit into `into`.
 pub fn unpack(words: &[u64], into: &mut [u8])
     requires { length into.old ≤ 8 * length words.now }
     ensures { into.new ≡ stored_bytes words.now 0 (length into.old) }
@@ -135,7 +136,8 @@ fn read_part<R: Region>(region: &R, word: u32, first: usize, into: &mut [u8])
     into.copy_from_slice(&bytes[first..first + into.len()]);
 }
 
-/// The content words `512 * leaf` to `512 * leaf + 511` where they stand, None where the leaf is null, so that all are 0.
+/// Returns the content words `512 * leaf` to `512 * leaf + 511` in place, or `None` if the leaf is null, so that all
+/// are 0.
 pub fn leaf_words<R: Region>(region: &R, tree: Tree, leaf: u64) -> Option<&[u64]>
     requires sound { IsSound (current_words (R.memory region.now)) tree.root tree.size }
     requires live { block_size * leaf < tree.size }

@@ -1,4 +1,4 @@
-//! The trees below the slots of a tree's topmost block.
+//! The subtrees in the slots of a tree's top block.
 
 ghost use Rattle.std.specs.Prelude.{◌≡◌, ◌≢◌, ℕ, ◌+◌, ◌-◌, ◌*◌, ◌/◌, ◌<◌, ◌≤◌};
 ghost use Rattle.bp_layout.specs.Words.{block_of, height_of};
@@ -11,7 +11,7 @@ use crate::tree::{Tree, load_slot};
 use pm_region::Region;
 use pm_words::span;
 
-/// How many slots of a tree's topmost block are live: those of the first pointers.
+/// Returns how many slots of a tree's top block are live; they are the first ones.
 pub(crate) fn live_slots(tree: Tree) -> u64
     requires some { 0 < tree.size }
     requires least { 1 ≤ height_of tree.root }
@@ -23,7 +23,7 @@ pub(crate) fn live_slots(tree: Tree) -> u64
     (tree.size - 1) / span(level) + 1
 }
 
-/// The tree below a live slot of a tree's topmost block, one lower.
+/// Returns the subtree in a live slot of a tree's top block, one level lower.
 pub fn child<R: Region>(region: &R, tree: Tree, slot: u64) -> Tree
     requires sound { IsSound (current_words (R.memory region.now)) tree.root tree.size }
     requires least { 1 ≤ height_of tree.root }

@@ -1,4 +1,4 @@
-//! A tree, and the block and the content word that have a number in it.
+//! A tree, and its blocks and content words by their numbers.
 
 ghost use Rattle.std.specs.Prelude.{◌≡◌, ◌≢◌, ◌+◌, ◌-◌, ◌*◌, ◌/◌, ◌%◌, ◌<◌, ◌≤◌, suc, length};
 ghost use Rattle.bp_layout.specs.Words.{block_count, block_of, height_of, slot_word};
@@ -12,20 +12,21 @@ use bp_layout::Inode;
 use bp_limits::BLOCK_WORDS;
 use pm_region::Region;
 
-/// The content words of a leaf.
+/// Content words of a leaf.
 const LEAF_WORDS: u64 = BLOCK_WORDS as u64;
 
-/// A tree: its root word, which holds the height and the topmost block, and its size in bytes.
+/// A tree: its root word, which has the height and the top block, and its size in bytes.
 #[derive(Clone, Copy, Debug, PartialEq, Eq)]
 pub struct Tree {
-    /// Bits 0 to 2 are the height, bits 12 to 63 the number of the topmost block: [`Tree::height`], [`Tree::block`].
+    /// Root word: bits 0 to 2 are the height, bits 12 to 63 the number of the top block ([`Tree::height`],
+    /// [`Tree::block`]).
     pub root: u64,
-    /// How many bytes of content there are.
+    /// Size of the content in bytes.
     pub size: u64,
 }
 
 impl Tree {
-    /// The tree of an inode.
+    /// Returns the tree of an inode.
     pub fn of(inode: &Inode) -> Tree
         ensures root { result.root ≡ inode.now.root }
         ensures size { result.size ≡ inode.now.size }
@@ -36,14 +37,14 @@ impl Tree {
         }
     }
 
-    /// How many levels the topmost block stands above the leaves.
+    /// Returns the level of the top block above the leaves.
     pub fn height(self) -> u32
         ensures { result ≡ height_of self.root }
     {
         (self.root & 7) as u32
     }
 
-    /// The number of the topmost block, 0 where there is none.
+    /// Returns the number of the top block, 0 if there is none.
     pub fn block(self) -> u64
         ensures { result ≡ block_of self.root }
     {
@@ -51,13 +52,13 @@ impl Tree {
     }
 }
 
-/// The word in a slot of a block, 0 where the block is 0, which stands for no block.
+/// Returns the word in a slot of a block, and 0 for block 0, which represents no block.
 pub fn load_slot<R: Region>(region: &R, block: u64, slot: u64) -> u64
     requires block { block < block_count (current_words (R.memory region.now)) }
     requires slot { slot < block_words }
     ensures { result ≡ slot_word (current_words (R.memory region.now)) block slot }
 {
-    // Words are counted in 32 bits, so that the place of one fits.
+    // Word numbers have 32 bits, so the place of a word fits.
     let _words = region.words();
     if block == 0 {
         0
@@ -66,7 +67,7 @@ pub fn load_slot<R: Region>(region: &R, block: u64, slot: u64) -> u64
     }
 }
 
-/// The block with a number among those that stand `level` levels above the leaves, 0 where it is null.
+/// Returns block number `index` among those `level` levels above the leaves, 0 if it is null.
 pub fn node<R: Region>(region: &R, tree: Tree, level: u32, index: u64) -> u32
     requires sound { IsSound (current_words (R.memory region.now)) tree.root tree.size }
     requires level { level ≤ height_of tree.root }
@@ -79,7 +80,7 @@ pub fn node<R: Region>(region: &R, tree: Tree, level: u32, index: u64) -> u32
     pm_words::block_of(descend(region, tree, depth, index)) as u32
 }
 
-/// The block that holds the content words `512 * leaf` to `512 * leaf + 511`, 0 where it is null.
+/// Returns the block with the content words `512 * leaf` to `512 * leaf + 511`, 0 if it is null.
 pub fn leaf_block<R: Region>(region: &R, tree: Tree, leaf: u64) -> u64
     requires sound { IsSound (current_words (R.memory region.now)) tree.root tree.size }
     requires live { block_size * leaf < tree.size }
@@ -89,7 +90,7 @@ pub fn leaf_block<R: Region>(region: &R, tree: Tree, leaf: u64) -> u64
     pm_words::block_of(descend(region, tree, tree.height(), leaf))
 }
 
-/// The content word with a number, bytes `8 * index` to `8 * index + 7`, the lowest first.
+/// Returns content word number `index`: bytes `8 * index` to `8 * index + 7`, the lowest first.
 pub fn content_word<R: Region>(region: &R, tree: Tree, index: u64) -> u64
     requires sound { IsSound (current_words (R.memory region.now)) tree.root tree.size }
     requires live { 8 * index < tree.size }
@@ -98,7 +99,7 @@ pub fn content_word<R: Region>(region: &R, tree: Tree, index: u64) -> u64
     descend(region, tree, tree.height() + 1, index)
 }
 
-/// The word of the region at which the content word with a number stands.
+/// Returns the place in the region of content word number `index`.
 pub fn content_place<R: Region>(region: &R, tree: Tree, index: u64) -> u32
     requires sound { IsSound (current_words (R.memory region.now)) tree.root tree.size }
     requires live { 8 * index < tree.size }

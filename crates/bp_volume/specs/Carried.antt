@@ -1,4 +1,4 @@
--- What a call does to a region before its mark.
+-- What a call does to a region before its end-of-call marker.
 use Rattle.std.specs.Prelude.{◌≡◌, ℕ, ◌<◌, List, Bool, true}
 use Rattle.pm_region.specs.Memory.{Memory, current_words, room_in}
 use Rattle.bp_layout.specs.Need.{Change}
@@ -15,18 +15,18 @@ use Rattle.bp_volume.specs.Step.{StepFor, IsChange}
 use Rattle.bp_volume.specs.FileCall.{has_changed}
 use Rattle.bp_volume.specs.Told.{Tells}
 
--- the call that makes an empty file or directory
+-- The call that makes an empty file or an empty directory.
 abbrev pub making : Kind → List ℕ → Call
 making File text = create text
 making Dir text = mkdir text
 
--- the call with this answer changes the tree for which the first image stands, and is a step to the second
+-- The call with this answer changes each tree that the first image represents, and is a step to the second image.
 abbrev pub ChangesTree : Call → Answer → Image → Image → Type 0
 ChangesTree call answer image new = (tree : FileTree) → Stands image tree →
     (has_changed tree call answer ≡ true) × StepFor image tree call answer new
 
--- The call makes one change of the image, is that step by it, and leaves room for its mark. The blocks of the snapshot
--- are kept.
+-- The call makes one change to the image, that change is its step, and the log still has room for its end-of-call
+-- marker. `kept` is the blocks of the snapshot.
 pub record PerformsCall (old : Memory) (call : Call) (answer : Answer) (new : Memory) : Type 0 where
   pub change : Change
   pub is : IsChange (current_words old) call change
@@ -35,7 +35,8 @@ pub record PerformsCall (old : Memory) (call : Call) (answer : Answer) (new : Me
   pub performs : Performs kept old new change (ChangesTree call answer)
   pub room : 0 < room_in new
 
--- The call is carried out up to its mark: it changes the tree so, or it changes nothing and this may be its answer.
+-- The call is carried out except for its end-of-call marker: either it makes its change, or it changes nothing and
+-- `answer` is a possible answer.
 pub data CarriesOut (old : Memory) (call : Call) (answer : Answer) (new : Memory) : Type 0 where
   changed : PerformsCall old call answer new → CarriesOut old call answer new
   unchanged : new ≡ old → Tells (current_words old) call answer → CarriesOut old call answer new

@@ -1,4 +1,4 @@
--- What a call on a file does to a region, and what it answers.
+-- What a call on files does to a region, and its answer.
 use Rattle.std.specs.Prelude.{◌≡◌, ℕ, Some, List, [], ◌∷◌, ◌++◌, Bool, true, false, ◌&&◌, not}
 use Rattle.pm_epochs.specs.declared.event.Event.{Event}
 use Rattle.pm_epochs.specs.declared.event.Event.TheVariants.{Mark}
@@ -23,19 +23,21 @@ abbrev pub is_refused : Answer → Bool
 is_refused (refused why) = true
 is_refused _ = false
 
--- the call changed the tree
+-- Whether the call changed the tree: it is a changing call and was not refused.
 abbrev pub has_changed : FileTree → Call → Answer → Bool
 has_changed tree call answer = is_changing tree call && not (is_refused answer)
 
--- the call made one change, at no more than it costs, or it has these events
+-- The events of a changing call are within its bounds: either it made one change at no more than its cost, or it
+-- changes only the superblock and has exactly the events of `super_events`.
 pub data IsCheap (image : Image) (call : Call) (new : Image) (events : List Event) : Type 0 where
   changes : {change : Change} {kept : ℕ → Bool} → IsChange image call change → AreFrozen image kept →
       IsShort image new kept change events → IsCheap image call new events
   tells : super_events image call ≡ Some events → IsCheap image call new events
 
--- A call on a file: the answer and the new image are a step, the log got the call's events and then its mark, a call
--- that changes nothing has no events, one that changes the tree costs no more than it must, and the new words are a
--- file system, of which a crash at any moment leaves what some calls left.
+-- A call on files. The answer and the new image are a step. The log got the call's events and then its end-of-call
+-- marker. A call that changes nothing has no events, and the events of a changing call are within its bounds. The new
+-- words are a file system, and a crash at any point leaves a file system with the files and directories of some prefix
+-- of the calls.
 pub record FileCall (old : Memory) (call : Call) (answer : Answer) (new : Memory) : Type 0 where
   pub added : List Event
   pub unmarked : marks added ≡ 0

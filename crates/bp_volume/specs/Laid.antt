@@ -11,25 +11,24 @@ use Rattle.bp_limits.specs.Limits.{super_magic}
 use Rattle.bp_limits.specs.declared.version.Version.{Version}
 use Rattle.bp_layout.specs.Words.{Image, word, block_count}
 
--- these stores in an epoch of their own
+-- The events of some stores in an epoch of their own: the stores, and then a barrier.
 abbrev pub stores_epoch : List (ℕ × ℕ) → List Event
 stores_epoch stores = map (λ store. Store store.0 store.1) stores ++ Barrier ∷ []
 
 abbrev pub format_events : Version → ℕ → List Event
 format_events version blocks = flat_map stores_epoch (format_epochs version blocks)
 
--- What a crash in the middle of a format leaves: the words as they were, words without the mark, or an empty file
--- system.
+-- What a crash during a format leaves: the old words, words whose magic number is 0, or an empty file system.
 pub data IsLeftByFormat (version : Version) (old image : Image) : Type 0 where
   untouched : image ≡ old → IsLeftByFormat version old image
   unmarked : word image super_magic ≡ 0 → IsLeftByFormat version old image
   empty : Stands image (empty_tree version) → IsLeftByFormat version old image
 
--- whatever a crash leaves of the memory, this holds of it
+-- The property holds of each image that a crash may leave of the memory.
 abbrev pub OfEachReplay : Memory → (Image → Type 0) → Type 0
 OfEachReplay memory Holds = (image : Image) → IsReplay memory.base memory.events image → Holds image
 
--- a memory that was formatted and drained, which has its last drain's words alone
+-- The memory after a format and a drain: its log is empty, and its words are those of an empty file system.
 abbrev pub formatted_memory : Version → Memory → Memory
 formatted_memory version memory = record {
   base = formatted memory.base version (block_count memory.base);

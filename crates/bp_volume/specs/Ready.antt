@@ -1,4 +1,4 @@
--- A volume that can take a call.
+-- A volume that can carry out a call.
 use Rattle.std.specs.Prelude.{◌≤◌}
 use Rattle.bp_free.specs.declared.parts.Parts.{Parts}
 use Rattle.bp_layout.specs.Trees.{AreFrozen}
@@ -7,8 +7,8 @@ use Rattle.bp_limits.specs.Limits.{call_room}
 use Rattle.bp_shapes.specs.Sets.{IsExact, kept_of}
 use Rattle.pm_region.specs.Memory.{Memory, current_words, room_in}
 
--- The words are a file system, the sets and counts of these parts are just its own, its frozen blocks are those of the
--- snapshot, and there is room for what a call stores.
+-- The words are a file system, the sets and counts of these parts are exactly those of the words, the frozen blocks
+-- are those of the snapshot, and the log has room for all events of a call.
 pub record IsReady {R : Type 0} (memory : Memory) (parts : Parts R) : Type 0 where
   pub well_formed : IsFileSystem (current_words memory)
   pub exact : IsExact (current_words memory) parts

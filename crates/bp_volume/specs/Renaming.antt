@@ -20,14 +20,14 @@ use Rattle.bp_volume.specs.Step.{IsEntryOn, last_of}
 use Rattle.bp_volume.specs.declared.renaming.Ends.{Ends}
 use Rattle.bp_volume.specs.declared.walking.Target.{Target}
 
--- the path is this name in directory i
+-- The path is this name in directory `i`, whether the directory has it or not.
 pub record IsNameIn (image : Image) (path : Path) (i : ℕ) (name : Name) : Type 0 where
   pub below : path ≢ []
   pub parent : lookup image (parent_of path) ≡ Some i
   pub last : last_of path ≡ name
 
--- The path is this name in this directory, and `there` is what has it there. Where nothing has it, `empty` is the
--- directory's least empty slot.
+-- The path is the name of `target` in its directory, and `there` is the entry that has this name, if any. If none has
+-- it, `empty` is the directory's least empty slot.
 pub record IsTarget (image : Image) (path : Path) (target : Target) : Type 0 where
   pub below : path ≢ []
   pub parent : lookup image (parent_of path) ≡ Some target.dir
@@ -39,14 +39,14 @@ pub record IsTarget (image : Image) (path : Path) (target : Target) : Type 0 whe
       → IsEntryOn image path target.dir entry.slot entry.inumber
   pub empty : target.there ≡ None → target.empty ≡ empty_slot image target.dir
 
--- The first path finds an entry, by its name. The second is a name in a directory, and not below the first.
+-- The first path finds an entry, by its name. The second is a name in a directory, and does not lie below the first.
 pub record AreRenameEnds (image : Image) (p q : Path) (ends : Ends) : Type 0 where
   pub source : IsEntryOn image p ends.source.dir ends.source.slot ends.source.inumber
   pub named : slot_named image ends.source.dir ends.source.name.now ≡ Some ends.source.slot
   pub target : IsTarget image q ends.target
   pub outside : moves_below p q ≡ false
 
--- the texts spell such paths
+-- The two texts spell paths that are the ends of this rename.
 pub record FindsEnds (image : Image) (from to : List ℕ) (ends : Ends) : Type 0 where
   pub source_path : Path
   pub source_parsed : parse from ≡ Some source_path
@@ -54,32 +54,33 @@ pub record FindsEnds (image : Image) (from to : List ℕ) (ends : Ends) : Type 0
   pub target_parsed : parse to ≡ Some target_path
   pub are : AreRenameEnds image source_path target_path ends
 
--- there is something, and it is this inode
+-- Whether there is an entry and it refers to inode `i`.
 abbrev pub is_inode : ℕ → Option FoundEntry → Bool
 is_inode i None = false
 is_inode i (Some entry) = entry.inumber == i
 
--- both ends are one entry, or two entries that name one file
+-- Whether both ends are one entry, or two entries that refer to one file.
 abbrev pub are_same : Ends → Bool
 are_same ends = is_inode ends.source.inumber ends.target.there
 
--- no tree for which the image stands refuses the call
+-- No tree that the image represents refuses the call.
 abbrev pub Allows : Image → Call → Type 0
 Allows image call = (tree : FileTree) → Stands image tree → refusal tree call ≡ None
 
--- what has the new name can go
+-- The entry that has the new name may be removed.
 abbrev pub CanUnlinkThere : Image → Ends → FoundEntry → Type 0
 CanUnlinkThere image ends entry =
     CanUnlink image ends.target.dir entry.slot (inumber_at image ends.target.dir entry.slot)
 
--- The ends are entries of two inodes, or the second is new. What has the new name may leave, and nothing refuses the rename.
+-- The ends are entries of two different inodes, or the second name is new. The entry that has the new name may be
+-- removed, and nothing refuses the rename.
 pub record MayMove (image : Image) (from to : List ℕ) (ends : Ends) : Type 0 where
   pub found : FindsEnds image from to ends
   pub other : are_same ends ≡ false
   pub leaves : (entry : FoundEntry) → ends.target.there ≡ Some entry → CanUnlinkThere image ends entry
   pub allowed : Allows image (rename from to)
 
--- the move from end to end
+-- The move from the first end to the second.
 pub record IsMoveOf (ends : Ends) (move : Move) : Type 0 where
   pub from_dir : move.from_dir ≡ ends.source.dir
   pub from_slot : move.from_slot ≡ ends.source.slot
@@ -87,10 +88,11 @@ pub record IsMoveOf (ends : Ends) (move : Move) : Type 0 where
   pub to_slot : move.to_slot ≡ option_map (λ entry. entry.slot) ends.target.there
   pub name : move.name.now ≡ ends.target.name.now
 
--- ---- what a rename does to names
+-- ---- the effect of a rename on names
 
--- The new name, in the slot that it gets: that of the entry that has it, within its directory that of the entry that
--- moves, and in another one the least empty slot, or one behind the last entry.
+-- The new name, in the slot that it gets. If an entry has this name, it is that entry's slot. Otherwise, within its
+-- directory, it is the slot of the entry that moves; in another directory, the least empty slot, or the one after the
+-- last entry.
 pub record IsNewName (image : Image) (ends : Ends) (at : NameAt) : Type 0 where
   pub dir : at.dir ≡ ends.target.dir
   pub name : at.name.now ≡ ends.target.name.now
@@ -98,7 +100,7 @@ pub record IsNewName (image : Image) (ends : Ends) (at : NameAt) : Type 0 where
   pub within : ends.target.there ≡ None → ends.target.dir ≡ ends.source.dir → at.slot ≡ ends.source.slot
   pub across : ends.target.there ≡ None → ends.target.dir ≢ ends.source.dir → at.slot ≡ new_slot image ends.target.dir
 
--- onto the entry that is there, or where none is
+-- The name moves from `from` to `to`: it replaces the entry that is there, if any.
 abbrev pub MovesName : Image → Image → NameAt → NameAt → Option FoundEntry → Type 0
 MovesName old new from to (Some entry) = NameReplaces old new from to
 MovesName old new from to None = NameMoves old new from to

@@ -1,4 +1,4 @@
--- What a call may make of an image.
+-- The image and the answer that a call may result in.
 use Rattle.std.specs.Prelude.{◌≡◌, ◌≢◌, ℕ, ◌<◌, ◌≤◌, List, [], ◌∷◌, length, Bool, true, false, Option, None, Some}
 use Rattle.bp_layout.specs.Words.{Image}
 use Rattle.bp_layout.specs.Directory.{slot_named}
@@ -25,14 +25,14 @@ last_of [] = []
 last_of (name ∷ []) = name
 last_of (name ∷ other ∷ path) = last_of (other ∷ path)
 
--- the path's directory has this inode, and its entry this slot
+-- The path spelled by the text has its entry in slot `s` of the directory with inode `i`.
 pub record StandsIn (image : Image) (text : List ℕ) (i s : ℕ) : Type 0 where
   pub path : Path
   pub parsed : parse text ≡ Some path
   pub parent : lookup image (parent_of path) ≡ Some i
   pub slot : slot_named image i (last_of path) ≡ Some s
 
--- the path is a name in directory i, which doesn't have it
+-- The path is a name in directory `i` that the directory does not have yet.
 pub record IsNewOn (image : Image) (path : Path) (i : ℕ) (name : Name) : Type 0 where
   pub below : path ≢ []
   pub parent : lookup image (parent_of path) ≡ Some i
@@ -41,38 +41,38 @@ pub record IsNewOn (image : Image) (path : Path) (i : ℕ) (name : Name) : Type 
   pub form : IsName name
   pub missing : slot_named image i name ≡ None
 
--- the text spells such a path
+-- The text spells a path that is a new name in directory `i`.
 pub record FindsNew (image : Image) (text : List ℕ) (i : ℕ) (name : Name) : Type 0 where
   pub path : Path
   pub parsed : parse text ≡ Some path
   pub new : IsNewOn image path i name
 
--- the path below the root directory finds inode j, by slot s of directory i
+-- The path lies below the root directory and finds inode `j`, by slot `s` of directory `i`.
 pub record IsEntryOn (image : Image) (path : Path) (i s j : ℕ) : Type 0 where
   pub below : path ≢ []
   pub parent : lookup image (parent_of path) ≡ Some i
   pub slot : slot_named image i (last_of path) ≡ Some s
   pub inode : lookup image path ≡ Some j
 
--- the text spells such a path
+-- The text spells a path that finds inode `j`, by slot `s` of directory `i`.
 pub record FindsEntry (image : Image) (text : List ℕ) (i s j : ℕ) : Type 0 where
   pub path : Path
   pub parsed : parse text ≡ Some path
   pub entry : IsEntryOn image path i s j
 
--- the text spells a path to this inode
+-- The text spells a path to this inode.
 pub record PathFinds (image : Image) (text : List ℕ) (i : ℕ) : Type 0 where
   pub path : Path
   pub parsed : parse text ≡ Some path
   pub inode : lookup image path ≡ Some i
 
--- the path finds this file, which has so many bytes
+-- The text spells a path to this file, which has `size` bytes.
 pub record FindsFile (image : Image) (text : List ℕ) (i size : ℕ) : Type 0 where
   pub found : PathFinds image text i
   pub kind : IsFile image i
   pub sized : size ≡ size_of image i
 
--- the pieces of a batch by the inodes of their files
+-- The pieces of a batch as stretches: each path is replaced by the inode of its file, and the bytes by their number.
 pub data AreStretches (image : Image) : List Piece → List Stretch → Type 0 where
   none : AreStretches image [] []
   more : {piece : Piece} {pieces : List Piece} {stretches : List Stretch} {i : ℕ} → PathFinds image piece.path i →
@@ -80,7 +80,7 @@ pub data AreStretches (image : Image) : List Piece → List Stretch → Type 0 w
       AreStretches image (piece ∷ pieces)
       (record { inode = i; off = piece.off; len = length piece.bytes } ∷ stretches)
 
--- what a changing call changes
+-- The change that a changing call makes to the image.
 pub data IsChange (image : Image) : Call → Change → Type 0 where
   by_create : {text : List ℕ} {name : Name} {i : ℕ} {free : Option ℕ} → FindsNew image text i name →
       IsLeastFree image free → IsChange image (create text) (enters i (entrant_of free))
@@ -103,7 +103,7 @@ pub data IsChange (image : Image) : Call → Change → Type 0 where
   within : {from to : List ℕ} {i s : ℕ} {name : Name} → StandsIn image from i s → FindsNew image to i name →
       IsChange image (rename from to) (respells i s (length name))
 
--- a changing call, the blocks that it needs, and those that are free: in neither tree
+-- A changing call, the number of blocks that it needs, and the number of free blocks: those of neither tree.
 pub record HasNeed (image : Image) (call : Call) (needed free : ℕ) : Type 0 where
   pub change : Change
   pub is : IsChange image call change
@@ -112,12 +112,13 @@ pub record HasNeed (image : Image) (call : Call) (needed free : ℕ) : Type 0 wh
   pub needs : full_need image kept change ≡ needed
   pub has : HasFree image kept free
 
--- the call needs no more blocks than are free
+-- The call needs no more blocks than are free.
 abbrev pub Fits : Image → Call → Type 0
 Fits image call = (needed free : ℕ) → HasNeed image call needed free → needed ≤ free
 
--- The image stands for a tree. A changing call that needs more blocks than are free is refused; want of memory may be
--- answered to a listing; else the answer is that of the plain tree, and the new image stands for the new tree.
+-- One call on an image that represents the tree. A changing call that needs more blocks than are free is refused. A
+-- listing may be refused for lack of memory. In all other cases the answer is that of the abstract tree, and the new
+-- image represents the new tree.
 pub data StepFor (image : Image) (tree : FileTree) : Call → Answer → Image → Type 0 where
   no_room : {call : Call} {needed free : ℕ} → is_changing tree call ≡ true → HasNeed image call needed free →
       free < needed → StepFor image tree call (refused (no_space needed free)) image
@@ -129,7 +130,7 @@ pub data StepFor (image : Image) (tree : FileTree) : Call → Answer → Image �
   changed : {call : Call} {new : Image} → is_changing tree call ≡ true → Fits image call →
       Stands new (plain tree call).1 → StepFor image tree call (plain tree call).0 new
 
--- Each answer to the call is that of the plain tree: it is never refused for want of space or memory.
+-- The call always has the answer of the abstract tree: it is never refused for lack of space or memory.
 abbrev pub IsNeverShort : Image → FileTree → Call → Type 0
 IsNeverShort image tree call = (answer : Answer) (new : Image) → StepFor image tree call answer new
     → answer ≡ (plain tree call).0

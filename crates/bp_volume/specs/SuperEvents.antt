@@ -1,4 +1,4 @@
--- The events of the calls that change words of the superblock alone.
+-- The events of the calls that change only words of the superblock.
 use Rattle.std.specs.Prelude.{Option, None, Some, List, [], ◌∷◌, flat_map}
 use Rattle.pm_epochs.specs.declared.event.Event.{Event}
 use Rattle.pm_epochs.specs.declared.event.Event.TheVariants.{Barrier, Store}
@@ -9,21 +9,23 @@ use Rattle.bp_plain.specs.Calls.{Call}
 use Rattle.bp_plain.specs.Calls.Call.{snap, unsnap, upgrade}
 use Rattle.bp_volume.specs.Laid.{stores_epoch}
 
--- in version 1 the words that version 2 keeps, and then its mark
+-- The events of an upgrade: 0 to the words that version 2 uses for the snapshot, and then the magic number of version
+-- 2.
 abbrev pub upgrade_events : List Event
 upgrade_events = flat_map stores_epoch upgrade_epochs
 
--- The root word of the first tree is stored as that of the second, and once it is written back, its size: up to then there is
--- no second tree.
+-- The events of `snap`: the root word of the first tree is stored as that of the second, and once it is written back,
+-- the size. There is no second tree until the size is stored.
 abbrev pub snap_events : Image → List Event
 snap_events image = Store super_second_root (word image super_root) ∷ Barrier
     ∷ Store super_second_size (word image super_size) ∷ Barrier ∷ []
 
--- the size alone tells that there is a second tree
+-- The events of `unsnap`: the size of the second tree is set to 0. This size alone determines whether there is a
+-- second tree.
 abbrev pub unsnap_events : List Event
 unsnap_events = Barrier ∷ Store super_second_size 0 ∷ Barrier ∷ []
 
--- each such call's; the last store is at the word that tells
+-- The events of each call that changes only the superblock. Its last store is to the word that decides its effect.
 abbrev pub super_events : Image → Call → Option (List Event)
 super_events image upgrade = Some upgrade_events
 super_events image snap = Some (snap_events image)

@@ -1,11 +1,11 @@
--- What an upgrade does to a region before its mark.
+-- What an upgrade does to a region before its end-of-call marker.
 use Rattle.std.specs.Prelude.{◌≡◌}
 use Rattle.pm_region.specs.Memory.{Adds, Memory, current_words}
 use Rattle.bp_layout.specs.Formatted.{version_of}
 use Rattle.bp_limits.specs.declared.version.Version.TheVariants.{One, Two}
 use Rattle.bp_volume.specs.SuperEvents.{upgrade_events}
 
--- in version 1 the stores of an upgrade, and in version 2 nothing
+-- In version 1 the call adds the events of an upgrade, and in version 2 it changes nothing.
 pub data Upgrades (old new : Memory) : Type 0 where
   first : version_of (current_words old) ≡ One → Adds old new upgrade_events → Upgrades old new
   second : version_of (current_words old) ≡ Two → new ≡ old → Upgrades old new

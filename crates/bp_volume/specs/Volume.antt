@@ -11,9 +11,10 @@ use Rattle.bp_layout.specs.Whole.{IsFileSystem, SameFiles}
 use Rattle.bp_layout.specs.Words.{block_count}
 use Rattle.bp_limits.specs.Limits.{block_inodes, call_room}
 
--- A crash at any moment leaves what some calls left. A call has its room, the words are a file
--- system, the sets have just its free blocks and inodes and the blocks of its snapshot, the counts are those of its
--- names, and a scan has its memory.
+-- A volume. A crash at any point leaves a file system with the files and directories of some prefix of the calls. The
+-- log can hold the events of any call, and the words are a file system. The sets hold exactly its free blocks, its
+-- free inodes and the blocks of its snapshot, the counts are those of its links, and a scan has the memory that it
+-- needs.
 pub record IsVolume {R : Type 0} (memory : Memory) (parts : Parts R) (pending : ℕ) : Type 0 where
   pub safe : IsSafe SameFiles memory
   pub roomy : call_room ≤ memory.capacity
@@ -22,7 +23,7 @@ pub record IsVolume {R : Type 0} (memory : Memory) (parts : Parts R) (pending : 
   pub exact : IsExact (current_words memory) parts
   pub scans : pending ≡ block_inodes * block_count (current_words memory)
 
--- a volume, with what it remembers of its directories
+-- A volume, with its cache of directories, which is correct for the words.
 pub record IsCachedVolume {R : Type 0} (memory : Memory) (parts : Parts R) (pending : ℕ) (cache : DirectoryCache) : Type 0 where
   pub volume : IsVolume memory parts pending
   pub right : IsCacheOf (current_words memory) cache

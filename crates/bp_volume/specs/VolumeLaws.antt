@@ -1,4 +1,4 @@
--- What holds of all volumes.
+-- Properties that hold for all volumes.
 use Rattle.std.specs.Prelude.{ℕ, ◌≤◌, List, length}
 use Rattle.bp_calls.specs.InPlace.{LiesInWord}
 use Rattle.bp_layout.specs.Whole.{SameFiles}
@@ -12,19 +12,20 @@ use Rattle.pm_region.specs.Memory.{Memory}
 use Rattle.pm_steps.specs.Machine.{MachineState, MachineStep, cut_of}
 use Rattle.pm_steps.specs.Runs.{RunsTo}
 
--- where these steps lead to this state, its words show what the first calls of the log had made, as many as are kept whole
+-- If these steps lead to this state, its words have the files and directories after the first calls of the log: as
+-- many calls as the state keeps whole.
 abbrev pub ShowsFirstCalls : Memory → List MachineStep → MachineState → Type 0
 ShowsFirstCalls memory steps state =
     RunsTo memory.base memory.events steps state →
     SameFiles state.words (after_calls memory.base memory.events
     (kept_calls memory.events (cut_of memory.events state.back)))
 
--- a truncate to no more bytes than there are is never short of space
+-- A truncate that does not make the file longer is never refused for lack of space or memory.
 abbrev pub ShortensInPlace : Image → FileTree → List ℕ → ℕ → Type 0
 ShortensInPlace image tree text size =
     size ≤ length (bytes_at tree.now.nodes (path_named text)) → IsNeverShort image tree (truncate text size)
 
--- nor is a write of bytes that lie in one word of the file that the path finds
+-- A write of bytes that lie in one word of the file at the path is never refused for lack of space or memory.
 abbrev pub WritesInPlace : Image → FileTree → List ℕ → ℕ → ℕ → List ℕ → Type 0
 WritesInPlace image tree text i off new =
     PathFinds image text i → LiesInWord image i off (length new) → IsNeverShort image tree (write text off new)

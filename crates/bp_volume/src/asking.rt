@@ -21,7 +21,7 @@ use bp_plain::FsError;
 use pm_region::Region;
 use std::alloc::{AllocError, Global};
 
-/// What `stat` answers.
+/// Returns the result of `stat`.
 pub(crate) fn stat_at<R: Region, F: Finder>(
     region: &R,
     finder: &mut F,
@@ -36,7 +36,7 @@ pub(crate) fn stat_at<R: Region, F: Finder>(
     Ok(stat(region, i))
 }
 
-/// What `links` answers.
+/// Returns the result of `links`.
 pub(crate) fn links_at<R: Region>(
     parts: &Parts<R>,
     cache: &mut DirectoryCache,
@@ -51,14 +51,14 @@ pub(crate) fn links_at<R: Region>(
     Ok(links(parts, file.inumber))
 }
 
-/// The refusal of a call for which there is no memory.
+/// Returns the refusal of a call for which allocation failed.
 fn no_memory(_: AllocError) -> FsError
     ensures { result ≡ FsError.Memory }
 {
     FsError::Memory
 }
 
-/// The names in the directory at a path text, which has inode `i`.
+/// Returns the names in the directory at a path text, which has inode `i`.
 fn list_inode<R: Region>(alloc: Global, region: &R, text: &[u8], i: u32) -> Result<Listing, FsError>
     requires well_formed { IsWellFormed (current_words (R.memory region.now)) }
     requires at { PathFinds (current_words (R.memory region.now)) text.now i }
@@ -70,7 +70,7 @@ fn list_inode<R: Region>(alloc: Global, region: &R, text: &[u8], i: u32) -> Resu
     }
 }
 
-/// What `list` answers.
+/// Returns the result of `list`.
 pub(crate) fn list_at<R: Region, F: Finder>(
     alloc: Global,
     region: &R,
@@ -86,7 +86,7 @@ pub(crate) fn list_at<R: Region, F: Finder>(
     list_inode(alloc, region, text, i)
 }
 
-/// What `read` answers.
+/// Carries out `read`: reads bytes into `into` and returns their number.
 pub(crate) fn read_at<R: Region, F: Finder>(
     region: &R,
     finder: &mut F,

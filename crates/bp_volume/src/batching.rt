@@ -1,4 +1,4 @@
-//! Bytes into several files at once.
+//! Batches: bytes written into several files at once.
 
 ghost use Rattle.std.specs.List.{All, list_any, sum_by};
 ghost use Rattle.std.specs.Prelude.{◌≡◌, ◌+◌, ◌≤◌, IfErr, IfOk, IfSome, false, is_none, length, map};
@@ -32,7 +32,7 @@ use bp_path::parse;
 use bp_plain::{FsError, Piece, Span};
 use pm_region::Region;
 
-/// A part of a text.
+/// Returns a part of a text.
 fn part_of(text: &[u8], span: Span) -> &[u8]
     requires { span.at + span.len ≤ length text.now }
     ensures { result.now ≡ spanned text.now span }
@@ -50,12 +50,12 @@ struct Known<'a> {
     file: FoundFile,
 }
 
-/// Whether the path of a piece is not one.
+/// Returns whether the path text of some piece is not a path.
 fn has_bad_path(text: &[u8], pieces: &[Piece]) -> bool
     requires { All (LiesIn text.now) pieces.now }
     ensures { result ≡ list_any (λ piece. is_none (parse piece.path)) (map (piece_in text.now) pieces.now) }
 {
-    // Pieces in a row are mostly for one file, so a path that is right is not parsed again in the next piece.
+    // Consecutive pieces are mostly for one file, so a text that was a path is not parsed again for the next piece.
     let mut good = b"/".as_slice();
     for piece in pieces {
         let path = part_of(text, piece.path);
@@ -67,7 +67,7 @@ fn has_bad_path(text: &[u8], pieces: &[Piece]) -> bool
     false
 }
 
-/// How many bytes the pieces have.
+/// Returns the total number of bytes of the pieces.
 fn total(pieces: &[Piece]) -> u64
     requires { length pieces.now ≤ max_pieces }
     ensures { result ≡ sum_by (λ piece. piece.bytes.len) pieces.now }
@@ -79,8 +79,8 @@ fn total(pieces: &[Piece]) -> u64
     total
 }
 
-/// The file at a path text: the one found last where it was found at this path, and else the one that a walk finds, which
-/// is the last one from then on.
+/// Returns the file at a path text. If `last` was found at the same path, it is `last`; else a walk finds the file,
+/// which then becomes `last`.
 fn file_for<'a, R: Region>(
     region: &R,
     cache: &mut DirectoryCache,
@@ -109,7 +109,7 @@ fn file_for<'a, R: Region>(
     }
 }
 
-/// The patch of a piece whose path is one: its bytes, for the file at the path.
+/// Returns the patch of a piece whose path text is a path: its bytes, and the inode of the file at the path.
 fn patch_for<'a, R: Region>(
     region: &R,
     cache: &mut DirectoryCache,
@@ -144,7 +144,7 @@ fn patch_for<'a, R: Region>(
     })
 }
 
-/// The patches of pieces whose paths are ones, in their order.
+/// Returns the patches of pieces whose path texts are paths, in the order of the pieces.
 fn patches_for<'a, R: Region>(
     region: &R,
     cache: &mut DirectoryCache,
@@ -171,7 +171,7 @@ fn patches_for<'a, R: Region>(
     Ok(patches)
 }
 
-/// Writes the bytes of pieces into their files, all at once. With no byte it changes nothing.
+/// Writes the bytes of pieces into their files, all at once. If there are no bytes, it changes nothing.
 fn batch_into<R: Region>(
     parts: &mut Parts<R>,
     text: &[u8],
@@ -199,7 +199,7 @@ fn batch_into<R: Region>(
     bp_calls::batch(parts, patches).map_err(no_space)
 }
 
-/// What `batch` does before its mark.
+/// Carries out `batch`, except for its end-of-call marker.
 pub(crate) fn batch_at<R: Region>(
     parts: &mut Parts<R>,
     cache: &mut DirectoryCache,
@@ -216,7 +216,7 @@ pub(crate) fn batch_at<R: Region>(
     ensures exact { IsExact (current_words (R.memory parts.new.region)) parts.new }
     ensures right { IsCacheOf (current_words (R.memory parts.new.region)) cache.new }
 {
-    // All texts are to be paths before anything is sought.
+    // All texts must be paths before any file is looked up.
     if has_bad_path(text, pieces) {
         return Err(FsError::BadPath);
     }

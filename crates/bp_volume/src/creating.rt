@@ -19,7 +19,7 @@ use bp_layout::Kind;
 use bp_plain::FsError;
 use pm_region::Region;
 
-/// Creates a file or a directory of a new name, which a path text spells.
+/// Creates a file or a directory at the new name that a path text spells.
 fn create_new<R: Region>(
     parts: &mut Parts<R>,
     cache: &mut DirectoryCache,
@@ -43,7 +43,7 @@ fn create_new<R: Region>(
     Ok(())
 }
 
-/// What `create` and `mkdir` do before their mark.
+/// Carries out `create` or `mkdir`, except for the end-of-call marker.
 pub(crate) fn create_at<R: Region>(
     parts: &mut Parts<R>,
     cache: &mut DirectoryCache,

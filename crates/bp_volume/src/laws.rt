@@ -1,4 +1,4 @@
-//! Laws of volumes. Each is the contract of a function that does nothing.
+//! Properties of volumes. Each is the contract of a function with an empty body.
 
 ghost use Rattle.std.specs.Prelude.{◌≡◌, ℕ, List, None};
 ghost use Rattle.bp_layout.specs.Whole.{SameFiles};
@@ -11,16 +11,17 @@ ghost use Rattle.pm_region.specs.Memory.{Memory};
 ghost use Rattle.pm_region.specs.Safe.{IsSafe};
 ghost use Rattle.pm_steps.specs.Machine.{MachineState, MachineStep};
 
-/// Whatever the order in which the processor executes the events since the last drain and the engine writes their stores
-/// back: the words that are in the memory at a moment show what the first calls had made, as many as are kept whole.
+/// States that at each point of execution the words in memory have the files and directories after the first calls, as
+/// many as are kept whole. This holds for each order in which the processor executes the events since the last drain
+/// and the engine writes their stores back.
 pub fn memory_is_as_after_a_call()
     ensures { (memory : Memory) (steps : List MachineStep) (state : MachineState) → IsSafe SameFiles memory →
         ShowsFirstCalls memory steps state }
 {}
 
-/// What is one store in its place works on a full volume that has no snapshot: an unlink, an rmdir, a truncate to no
-/// more bytes than there are, and a write of bytes that lie in one word and not in a hole answer what the plain tree
-/// does, and never that there is no space.
+/// States which calls work on a full volume that has no snapshot. Each is one store to a word that is in use: an
+/// unlink, an rmdir, a truncate that does not make the file longer, and a write of bytes that lie in one word and not
+/// in a hole. They have the answer of the abstract tree, and are never refused for lack of space.
 pub fn calls_in_place_need_no_space(image: &[u64])
     ensures unlink { (tree : FileTree) (text : List ℕ) → Stands image.now tree → tree.snap ≡ None
         → IsNeverShort image.now tree (unlink text) }

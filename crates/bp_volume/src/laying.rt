@@ -13,15 +13,15 @@ use bp_limits::{
 };
 use pm_region::Region;
 
-/// Stores the words of an empty file system of a version and of so many blocks. All of them stand in its first two
-/// blocks, so the region may end behind those: each word of a new file system from there on is 0.
+/// Stores the words of an empty file system with the given version and number of blocks. All of these words lie in the
+/// first two blocks, so the region may end after those; every later word of a new file system is 0.
 pub fn lay_front<R: Region>(region: &mut R, version: Version, blocks: u32)
     requires front { 2 * block_words ≤ length (R.memory region.old).base }
     requires fresh { (R.memory region.old).events ≡ [] }
     requires room { 16 ≤ room_in (R.memory region.old) }
     ensures { Adds (R.memory region.old) (R.memory region.new) (format_events version blocks) }
 {
-    // The mark is gone before any other word changes, and comes back once all of them are written back.
+    // The magic number is removed before any other word changes, and stored again once all of them are written back.
     region.store(SUPER_MAGIC, 0);
     region.barrier();
     region.store(SUPER_BLOCKS, blocks as u64);
@@ -34,15 +34,16 @@ pub fn lay_front<R: Region>(region: &mut R, version: Version, blocks: u32)
     region.store(FIRST_INODE, DIRECTORY_KIND);
     region.store(FIRST_INODE + ROOT_FIELD, 0);
     region.store(FIRST_INODE + SIZE_FIELD, 0);
-    // The mark tells that all of these are there, so it must not be written back before one of them.
+    // The magic number states that all of these words are there, so it must not be written back before one of them.
     region.barrier();
     region.store(SUPER_MAGIC, version.magic());
-    // A crash must not keep a store of a later call and lose the mark.
+    // A crash must not keep a store of a later call and lose the magic number.
     region.barrier();
 }
 
-/// Makes an empty file system of a version of a region of 8 to 65,536 blocks of 512 words. Its stores are not written back
-/// until the region is drained: up to then a crash may leave the old words, or words without the mark.
+/// Stores an empty file system of the given version into a region of 8 to 65,536 blocks of 512 words. The stores are
+/// not durable until the region is drained: until then a crash may leave the old words, or words without a magic
+/// number.
 pub fn lay_out<R: Region>(region: &mut R, version: Version)
     requires sized { IsSized (R.memory region.old).base }
     requires fresh { (R.memory region.old).events ≡ [] }

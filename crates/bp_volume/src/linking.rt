@@ -1,4 +1,4 @@
-//! Names more for files.
+//! Hard links.
 
 ghost use Rattle.std.specs.Prelude.{◌≡◌, IfErr, IfOk};
 ghost use Rattle.bp_cache.specs.Cache.{IsCacheOf};
@@ -24,7 +24,7 @@ use bp_path::parse;
 use bp_plain::FsError;
 use pm_region::Region;
 
-/// The ends of a link: a file, and the new name that it is to have.
+/// The ends of a link: a file, and the new name that it gets.
 #[derive(Clone, Copy)]
 pub(crate) struct LinkEnds<'a> {
     /// The file's inode.
@@ -33,7 +33,7 @@ pub(crate) struct LinkEnds<'a> {
     pub name: NewName<'a>,
 }
 
-/// The file that a path text finds, and the new name that another one spells.
+/// Returns the file that the first path text finds, and the new name that the second one spells.
 fn link_ends<'a, R: Region>(
     region: &R,
     cache: &mut DirectoryCache,
@@ -52,7 +52,7 @@ fn link_ends<'a, R: Region>(
         (λ e. Refuses (current_words (R.memory region.now)) (link from.now to.now) (refusal_of e)) }
     ensures right { IsCacheOf (current_words (R.memory region.now)) cache.new }
 {
-    // Both texts are to be paths before anything is sought.
+    // Both texts must be paths before any file is looked up.
     let path = parse(to).map_err(bad_path)?;
     let file = file_at(region, cache, from)?;
     let name = new_on(region, cache, &path)?;
@@ -62,7 +62,7 @@ fn link_ends<'a, R: Region>(
     })
 }
 
-/// Gives a file that a path text finds the new name that another one spells.
+/// Gives the file that the first path text finds the new name that the second one spells.
 fn link_found<R: Region>(
     parts: &mut Parts<R>,
     cache: &mut DirectoryCache,
@@ -89,7 +89,7 @@ fn link_found<R: Region>(
     Ok(())
 }
 
-/// What `link` does before its mark.
+/// Carries out `link`, except for its end-of-call marker.
 pub(crate) fn link_at<R: Region>(
     parts: &mut Parts<R>,
     cache: &mut DirectoryCache,

@@ -1,4 +1,4 @@
-//! Names that leave their directories.
+//! Removal of names from directories.
 
 ghost use Rattle.std.specs.Prelude.{◌≡◌, IfErr, IfOk, OnOk, Some};
 ghost use Rattle.bp_cache.specs.Cache.{IsCacheOf};
@@ -28,7 +28,7 @@ use bp_plain::FsError;
 use bp_tree::Tree;
 use pm_region::Region;
 
-/// The entry by which a path text finds a file.
+/// Returns the entry by which a path text finds a file.
 fn file_entry<'a, R: Region>(
     region: &R,
     cache: &mut DirectoryCache,
@@ -52,7 +52,7 @@ fn file_entry<'a, R: Region>(
     }
 }
 
-/// Refuses an entry that names a file, or a directory that has a name.
+/// Refuses an entry that refers to a file, or to a directory that is not empty.
 fn without_names<R: Region>(region: &R, text: &[u8], entry: &NamedEntry<'_>) -> Result<(), FsError>
     requires well_formed { IsWellFormed (current_words (R.memory region.now)) }
     requires at { FindsEntry (current_words (R.memory region.now)) text.now entry.now.dir entry.now.slot entry.now.inumber }
@@ -75,7 +75,7 @@ fn without_names<R: Region>(region: &R, text: &[u8], entry: &NamedEntry<'_>) -> 
     }
 }
 
-/// The entry by which a path text finds a directory without names.
+/// Returns the entry by which a path text finds an empty directory.
 fn empty_entry<'a, R: Region>(
     region: &R,
     cache: &mut DirectoryCache,
@@ -98,7 +98,7 @@ fn empty_entry<'a, R: Region>(
     Ok(entry)
 }
 
-/// What `unlink` does before its mark.
+/// Carries out `unlink`, except for its end-of-call marker.
 pub(crate) fn unlink_at<R: Region>(
     parts: &mut Parts<R>,
     cache: &mut DirectoryCache,
@@ -118,7 +118,7 @@ pub(crate) fn unlink_at<R: Region>(
     Ok(())
 }
 
-/// What `rmdir` does before its mark.
+/// Carries out `rmdir`, except for its end-of-call marker.
 pub(crate) fn rmdir_at<R: Region>(
     parts: &mut Parts<R>,
     cache: &mut DirectoryCache,

@@ -1,4 +1,4 @@
-//! Names that move.
+//! Renames.
 
 ghost use Rattle.std.specs.Prelude.{◌≡◌, ◌≢◌, ◌≤◌, IfErr, IfOk, OnOk, None, Some, [], false, option_map};
 ghost use Rattle.bp_cache.specs.Cache.{IsCacheOf};
@@ -36,13 +36,14 @@ use pm_region::Region;
 /// The ends of a rename: the entry that moves, and its new directory and name.
 #[derive(Clone, Copy)]
 pub(crate) struct Ends<'a> {
-    /// The entry.
+    /// The entry that moves.
     pub source: NamedEntry<'a>,
-    /// The new name, and what has it.
+    /// The new name, and the entry that has it, if any.
     pub target: Target<'a>,
 }
 
-/// The ends of a rename of one path to another one, both of names in one directory, which are sought there together.
+/// Returns the ends of a rename whose two paths name entries of one directory. Both names are searched for there at
+/// once.
 fn ends_beside<'a, R: Region>(
     region: &R,
     cache: &mut DirectoryCache,
@@ -84,7 +85,7 @@ fn ends_beside<'a, R: Region>(
     }
 }
 
-/// The ends of a rename of one path to another one, as far as they are found.
+/// Returns the ends of a rename, if the walks to both find them.
 fn found_ends<'a, R: Region>(
     region: &R,
     cache: &mut DirectoryCache,
@@ -112,7 +113,7 @@ fn found_ends<'a, R: Region>(
     Ok(Ends { source, target })
 }
 
-/// The ends of a rename of one path to another one.
+/// Returns the ends of a rename from one path to another.
 fn ends_on<'a, R: Region>(
     region: &R,
     cache: &mut DirectoryCache,
@@ -140,7 +141,7 @@ fn ends_on<'a, R: Region>(
     }
 }
 
-/// The ends of a rename of one path text to another one.
+/// Returns the ends of a rename from one path text to another.
 fn ends_at<'a, R: Region>(
     region: &R,
     cache: &mut DirectoryCache,
@@ -159,8 +160,8 @@ fn ends_at<'a, R: Region>(
     ends_on(region, cache, &source, &target)
 }
 
-/// Refuses a rename onto what may not be replaced so: only a file moves onto a file, and only a directory onto a
-/// directory, which has no names.
+/// Refuses a rename onto an entry that it may not replace: a file may only replace a file, and a directory only an
+/// empty directory.
 fn may_replace<R: Region>(
     region: &R,
     from: &[u8],
@@ -198,7 +199,7 @@ fn may_replace<R: Region>(
     }
 }
 
-/// Refuses a rename whose new name is taken by what may not be replaced.
+/// Refuses a rename whose new name belongs to an entry that it may not replace.
 fn may_move<R: Region>(region: &R, from: &[u8], to: &[u8], ends: &Ends<'_>) -> Result<(), FsError>
     requires well_formed { IsWellFormed (current_words (R.memory region.now)) }
     requires found { FindsEnds (current_words (R.memory region.now)) from.now to.now ends.now }
@@ -213,7 +214,7 @@ fn may_move<R: Region>(region: &R, from: &[u8], to: &[u8], ends: &Ends<'_>) -> R
     }
 }
 
-/// Whether both ends are one entry, or two names of one file.
+/// Returns whether both ends are one entry, or two links of one file.
 fn are_same(ends: &Ends<'_>) -> bool
     ensures { result ≡ are_same ends.now }
 {
@@ -223,7 +224,7 @@ fn are_same(ends: &Ends<'_>) -> bool
     }
 }
 
-/// The slot of an entry.
+/// Returns the slot of an entry.
 fn slot_of(entry: Option<FoundEntry>) -> Option<u64>
     ensures { result ≡ option_map (λ there. there.slot) entry }
 {
@@ -233,7 +234,7 @@ fn slot_of(entry: Option<FoundEntry>) -> Option<u64>
     }
 }
 
-/// The move from end to end.
+/// Returns the move from the first end to the second.
 fn move_of<'a>(ends: &Ends<'a>) -> Move<'a>
     ensures { IsMoveOf ends.now result }
 {
@@ -246,8 +247,9 @@ fn move_of<'a>(ends: &Ends<'a>) -> Move<'a>
     }
 }
 
-/// The new name, and the slot that it gets: that of the entry that has it; within its directory that of the entry that moves;
-/// and in another one the least empty slot, or one behind the last entry.
+/// Returns the new name, and the slot that it gets. If an entry has this name, it is that entry's slot. Otherwise,
+/// within its directory, it is the slot of the entry that moves; in another directory, the least empty slot, or the
+/// one after the last entry.
 fn target_at<'a, R: Region>(region: &R, ends: &Ends<'a>) -> NameAt<'a>
     requires well_formed { IsWellFormed (current_words (R.memory region.now)) }
     requires reached { IsReached (current_words (R.memory region.now)) ends.now.target.dir }
@@ -264,7 +266,7 @@ fn target_at<'a, R: Region>(region: &R, ends: &Ends<'a>) -> NameAt<'a>
     }
 }
 
-/// Tells the cache that a name has moved, onto an entry that is there or where none is.
+/// Updates the cache after a name has moved, with or without replacing an entry.
 fn tell_move(
     cache: &mut DirectoryCache,
     from: NameAt<'_>,
@@ -307,8 +309,8 @@ fn move_name<R: Region>(
     Ok(())
 }
 
-/// Moves a name between the ends that were found. A name that is to move onto itself stays, and so does one that is to
-/// move onto another name of its file.
+/// Moves a name between the ends that were found. If both ends are the same entry, or two links of one file, nothing
+/// changes.
 fn rename_found<R: Region>(
     parts: &mut Parts<R>,
     cache: &mut DirectoryCache,
@@ -332,7 +334,7 @@ fn rename_found<R: Region>(
     move_name(parts, cache, from, to, ends)
 }
 
-/// What `rename` does before its mark.
+/// Carries out `rename`, except for its end-of-call marker.
 pub(crate) fn rename_at<R: Region>(
     parts: &mut Parts<R>,
     cache: &mut DirectoryCache,

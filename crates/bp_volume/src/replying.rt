@@ -7,7 +7,7 @@ ghost use Rattle.bp_volume.specs.Seen.{links_answer, list_answer_of, read_answer
 use bp_layout::{Listing, Stat};
 use bp_plain::{FsError, Reply};
 
-/// Tells the result of a call that has nothing to tell.
+/// Sets the reply to the result of a call that returns no value.
 pub(crate) fn tell_done(reply: &mut Reply, outcome: Result<(), FsError>)
     ensures { reply.new.answer ≡ unit_answer outcome }
 {
@@ -17,7 +17,7 @@ pub(crate) fn tell_done(reply: &mut Reply, outcome: Result<(), FsError>)
     }
 }
 
-/// Tells the result of `stat`.
+/// Sets the reply to the result of `stat`.
 pub(crate) fn tell_stat(reply: &mut Reply, outcome: Result<Stat, FsError>)
     ensures { reply.new.answer ≡ stat_answer_of outcome }
 {
@@ -28,7 +28,7 @@ pub(crate) fn tell_stat(reply: &mut Reply, outcome: Result<Stat, FsError>)
     }
 }
 
-/// Tells the result of `links`.
+/// Sets the reply to the result of `links`.
 pub(crate) fn tell_links(reply: &mut Reply, outcome: Result<u32, FsError>)
     ensures { reply.new.answer ≡ links_answer outcome }
 {
@@ -38,7 +38,7 @@ pub(crate) fn tell_links(reply: &mut Reply, outcome: Result<u32, FsError>)
     }
 }
 
-/// Tells the result of `list`.
+/// Sets the reply to the result of `list`.
 pub(crate) fn tell_list(reply: &mut Reply, outcome: Result<Listing, FsError>)
     ensures { reply.new.answer ≡ list_answer_of outcome }
 {
@@ -48,7 +48,7 @@ pub(crate) fn tell_list(reply: &mut Reply, outcome: Result<Listing, FsError>)
     }
 }
 
-/// Tells the result of `read`, whose bytes stand in the reply's memory.
+/// Sets the reply to the result of `read`, whose bytes are in the reply's buffer.
 pub(crate) fn tell_read(reply: &mut Reply, outcome: Result<usize, FsError>)
     requires { IfOk outcome (λ count. count ≤ max_read) }
     ensures { reply.new.answer ≡ read_answer_of outcome reply.old.buffer }

@@ -1,4 +1,4 @@
-//! A scan of what a volume has.
+//! A scan of a volume's own words.
 
 ghost use Rattle.std.specs.Prelude.{◌*◌, ◌≡◌, length};
 ghost use Rattle.bp_limits.specs.Limits.{block_inodes};
@@ -13,8 +13,8 @@ use bp_free::Parts;
 use bp_scan::{Pending, Totals, scan_whole};
 use pm_region::Region;
 
-/// Makes the sets and counts those of the words, which are a file system, whatever they had, and tells what it holds. It
-/// takes no memory but theirs and that of `pending`.
+/// Sets the sets and counts to those of the words, which are a file system, whatever they were before, and returns its
+/// totals. It allocates no memory: it uses that of the sets and of `pending`.
 pub(crate) fn rescan<R: Region>(parts: &mut Parts<R>, pending: &mut Pending) -> Totals
     requires well_formed { IsFileSystem (current_words (R.memory parts.old.region)) }
     requires blocks { length parts.old.blocks ≡ block_count (current_words (R.memory parts.old.region)) }
@@ -37,7 +37,7 @@ pub(crate) fn rescan<R: Region>(parts: &mut Parts<R>, pending: &mut Pending) -> 
         &mut parts.counts,
     ) {
         Ok(totals) => totals,
-        // No check fails in a file system.
+        // No check fails for a file system.
         Err(_) => unreachable!(),
     }
 }

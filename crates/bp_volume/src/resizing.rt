@@ -1,4 +1,4 @@
-//! Files of another size.
+//! Changes of the size of files.
 
 ghost use Rattle.std.specs.Prelude.{◌≡◌};
 ghost use Rattle.bp_cache.specs.Cache.{IsCacheOf};
@@ -20,7 +20,7 @@ use bp_plain::FsError;
 use bp_tree::version;
 use pm_region::Region;
 
-/// Gives the file that a path text finds another size, as large as the version allows at most.
+/// Changes the size of the file that a path text finds, unless the size is above the version's limit.
 fn resize<R: Region>(
     parts: &mut Parts<R>,
     text: &[u8],
@@ -46,7 +46,7 @@ fn resize<R: Region>(
     bp_calls::truncate(parts, file.inumber, size).map_err(no_space)
 }
 
-/// What `truncate` does before its mark.
+/// Carries out `truncate`, except for its end-of-call marker.
 pub(crate) fn truncate_at<R: Region>(
     parts: &mut Parts<R>,
     cache: &mut DirectoryCache,

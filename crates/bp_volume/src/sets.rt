@@ -12,27 +12,28 @@ use bp_limits::BLOCK_INODES;
 use bp_scan::Pending;
 use std::alloc::{AllocError, Global};
 
-/// What a volume holds beside its region, and what a scan of a region takes.
+/// The memory of a volume besides its region: the sets and counts, and the working memory of a scan.
 #[derive(Drop)]
 pub struct Sets {
     /// The free blocks.
     pub blocks: Blocks,
     /// The free inodes.
     pub inodes: Inodes,
-    /// How many names each inode has.
+    /// The number of links of each inode.
     pub counts: Counts,
     /// The blocks of the snapshot.
     pub frozen: Blocks,
-    /// The memory of a scan.
+    /// The working memory of a scan.
     pub pending: Pending,
 }
 
 impl Sets {
-    /// Empty sets, and the memory of a scan, for a region of so many blocks of 512 words, at most 65,536.
+    /// Makes empty sets, and the working memory of a scan, for a region of `blocks` blocks of 512 words, at most
+    /// 65,536.
     ///
     /// # Errors
     ///
-    /// Where there is no memory for them.
+    /// - `AllocError`: allocation fails.
     pub fn new(alloc: Global, blocks: u32) -> Result<Sets, AllocError>
         requires { blocks ≤ max_blocks }
         ensures blocks { IfOk result (λ sets. sets.blocks ≡ empty blocks) }
@@ -54,7 +55,7 @@ impl Sets {
     }
 }
 
-/// Empty sets of blocks, with hints for copies, and of inodes.
+/// Makes an empty set of blocks, with hints for copies, and an empty set of inodes.
 fn empty_sets(alloc: Global, blocks: u32) -> Result<(Blocks, Inodes), AllocError>
     requires { blocks ≤ max_blocks }
     ensures blocks { IfOk result (λ sets. sets.0 ≡ empty blocks) }
@@ -66,7 +67,7 @@ fn empty_sets(alloc: Global, blocks: u32) -> Result<(Blocks, Inodes), AllocError
     ))
 }
 
-/// Counts of no name, and the empty set of the blocks of a snapshot.
+/// Makes counts that are all 0, and an empty set for the blocks of a snapshot.
 fn counts_and_frozen(alloc: Global, blocks: u32) -> Result<(Counts, Blocks), AllocError>
     requires { blocks ≤ max_blocks }
     ensures counts { IfOk result (λ kept. kept.0 ≡ replicate (block_inodes * blocks) 0) }
@@ -78,8 +79,8 @@ fn counts_and_frozen(alloc: Global, blocks: u32) -> Result<(Counts, Blocks), All
     ))
 }
 
-/// The memory of a volume of so many blocks: its sets, and what it is to remember of its directories. It stands in one
-/// function, so that a volume has one way out where there is none.
+/// Allocates the memory of a volume of `blocks` blocks: its sets and its directory cache. One function does both, so
+/// that a caller handles failed allocation in one place.
 pub(crate) fn memory_for(alloc: Global, blocks: u32) -> Result<(Sets, DirectoryCache), AllocError>
     requires { blocks ≤ max_blocks }
     ensures blocks { IfOk result (λ memory. memory.0.blocks ≡ empty blocks) }

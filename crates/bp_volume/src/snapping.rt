@@ -1,4 +1,4 @@
-//! The snapshot: it is made and let go by words of the superblock alone, and read as the first tree is.
+//! The snapshot. Stores to the superblock alone make it and delete it, and it is read as the first tree is.
 
 ghost use Rattle.std.specs.Prelude.{◌*◌, ◌≡◌, ◌≤◌, IfErr, IfOk, OnErr, OnOk, Some, drop, false, length};
 ghost use Rattle.bp_layout.specs.Formatted.{IsSized, version_of};
@@ -34,7 +34,7 @@ use bp_tree::version;
 use pm_region::Region;
 use std::alloc::Global;
 
-/// Why no snapshot is made, where none is.
+/// Refuses to make a snapshot in version 1, or if there is one.
 fn may_snap<R: Region>(region: &R) -> Result<(), FsError>
     requires { IsSized (current_words (R.memory region.now)) }
     ensures version { OnOk result (version_of (current_words (R.memory region.now)) ≡ Two) }
@@ -53,8 +53,8 @@ fn may_snap<R: Region>(region: &R) -> Result<(), FsError>
     }
 }
 
-/// Stores the root word and the size of the first tree as those of the second. The size comes last, since it tells that there
-/// is one.
+/// Stores the root word and the size of the first tree as those of the second. The size comes last, since it
+/// determines whether there is a second tree.
 fn store_second<R: Region>(region: &mut R)
     requires sized { IsSized (current_words (R.memory region.old)) }
     requires room { 4 ≤ room_in (R.memory region.old) }
@@ -63,27 +63,28 @@ fn store_second<R: Region>(region: &mut R)
     let root = region.load(SUPER_ROOT);
     let size = region.load(SUPER_SIZE);
     region.store(SUPER_SECOND_ROOT, root);
-    // The size tells that there is a second tree, so a crash must not leave it with another root word.
+    // The size makes the second tree exist, so a crash must not leave the size with an old root word.
     region.barrier();
     region.store(SUPER_SECOND_SIZE, size);
     // A crash must not keep a store of a later call and lose the snapshot.
     region.barrier();
 }
 
-/// Stores the size 0 as that of the second tree, which is gone then.
+/// Sets the size of the second tree to 0, which deletes it.
 fn drop_second<R: Region>(region: &mut R)
     requires sized { IsSized (current_words (R.memory region.old)) }
     requires room { 3 ≤ room_in (R.memory region.old) }
     ensures { Adds (R.memory region.old) (R.memory region.new) unsnap_events }
 {
-    // The store stands alone in its epoch, as the last one of each change does.
+    // The store is alone in its epoch, as the last store of each change is.
     region.barrier();
     region.store(SUPER_SECOND_SIZE, 0);
-    // Later calls may store to the blocks that it had: a crash must not keep such a store and leave the snapshot there.
+    // Later calls may store to the freed blocks: a crash must not keep such a store and leave the snapshot there.
     region.barrier();
 }
 
-/// What `snap` does before its mark. No block is read or copied: those of the first tree are kept from then on.
+/// Carries out `snap`, except for its end-of-call marker. It reads and copies no block: the blocks of the first tree
+/// are those of the snapshot from then on.
 pub(crate) fn snap_at<R: Region>(parts: &mut Parts<R>) -> Result<(), FsError>
     requires ready { IsReady (R.memory parts.old.region) parts.old }
     ensures snaps { Snaps (R.memory parts.old.region) (unit_answer result) (R.memory parts.new.region) }
@@ -96,7 +97,8 @@ pub(crate) fn snap_at<R: Region>(parts: &mut Parts<R>) -> Result<(), FsError>
     Ok(())
 }
 
-/// What `unsnap` does before its mark. Which of the blocks of the snapshot are free then, a scan of the first tree tells.
+/// Carries out `unsnap`, except for its end-of-call marker. A scan of the first tree determines which blocks of the
+/// snapshot are free then.
 pub(crate) fn unsnap_at<R: Region>(
     parts: &mut Parts<R>,
     pending: &mut Pending,
@@ -116,7 +118,7 @@ pub(crate) fn unsnap_at<R: Region>(
     Ok(())
 }
 
-/// The refusal of a call at a path of the snapshot, where there is none.
+/// Returns the refusal of a call on a path of the snapshot if there is no snapshot.
 fn no_snapshot(text: &[u8]) -> FsError
     ensures { on_path text.now (λ path. Some no_snap) ≡ Some (refusal_of result) }
 {
@@ -126,7 +128,7 @@ fn no_snapshot(text: &[u8]) -> FsError
     }
 }
 
-/// What `snap_stat` answers.
+/// Returns the result of `snap_stat`.
 pub(crate) fn snap_stat_at<R: Region>(region: &R, text: &[u8]) -> Result<Stat, FsError>
     requires { IsFileSystem (current_words (R.memory region.now)) }
     ensures { Tells (current_words (R.memory region.now)) (snap_stat text.now) (stat_answer_of result) }
@@ -138,7 +140,7 @@ pub(crate) fn snap_stat_at<R: Region>(region: &R, text: &[u8]) -> Result<Stat, F
     stat_at(&second, &mut Scan, text)
 }
 
-/// What `snap_list` answers.
+/// Returns the result of `snap_list`.
 pub(crate) fn snap_list_at<R: Region>(
     alloc: Global,
     region: &R,
@@ -154,7 +156,7 @@ pub(crate) fn snap_list_at<R: Region>(
     list_at(alloc, &second, &mut Scan, text)
 }
 
-/// What `snap_read` answers.
+/// Carries out `snap_read`: reads bytes into `into` and returns their number.
 pub(crate) fn snap_read_at<R: Region>(
     region: &R,
     text: &[u8],

@@ -1,10 +1,10 @@
 //! The space of a volume.
 
-/// The blocks of a volume but the first, which holds the superblock: those that are free, and those that are live.
+/// The numbers of free and of live blocks of a volume. The first block, which holds the superblock, counts as neither.
 #[derive(Clone, Copy, Debug, PartialEq, Eq)]
 pub struct Space {
-    /// The blocks that no tree has.
+    /// The number of blocks that are in neither tree.
     pub free: u32,
-    /// The blocks that the trees have.
+    /// The number of blocks that are in one of the trees or in both.
     pub live: u32,
 }

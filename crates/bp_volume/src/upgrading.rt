@@ -1,4 +1,4 @@
-//! Another version of the format.
+//! Upgrades to version 2 of the format.
 
 ghost use Rattle.std.specs.Prelude.{◌≤◌};
 ghost use Rattle.bp_layout.specs.Formatted.{IsSized};
@@ -9,8 +9,9 @@ use bp_limits::{SUPER_MAGIC, SUPER_SECOND_ROOT, SUPER_SECOND_SIZE, Version};
 use bp_tree::version;
 use pm_region::Region;
 
-/// What `upgrade` does before its mark: in version 1 it stores the words that version 2 keeps for the snapshot, and once
-/// they are written back, the mark of version 2. A crash before that leaves version 1, in which these words tell nothing.
+/// Carries out `upgrade`, except for its end-of-call marker. In version 1 it stores 0 to the words that version 2 uses
+/// for the snapshot, and once they are written back, the magic number of version 2. A crash before that leaves version
+/// 1, in which these words have no meaning. In version 2 it does nothing.
 pub(crate) fn upgrade_region<R: Region>(region: &mut R)
     requires sized { IsSized (current_words (R.memory region.old)) }
     requires room { 5 ≤ room_in (R.memory region.old) }
@@ -21,9 +22,9 @@ pub(crate) fn upgrade_region<R: Region>(region: &mut R)
     }
     region.store(SUPER_SECOND_ROOT, 0);
     region.store(SUPER_SECOND_SIZE, 0);
-    // In version 2 these words tell of a snapshot, so the mark must not be written back before them.
+    // In version 2 these words describe the snapshot, so the magic number must not be written back before them.
     region.barrier();
     region.store(SUPER_MAGIC, Version::Two.magic());
-    // A crash must not keep a store of a later call and lose the mark.
+    // A crash must not keep a store of a later call and lose the magic number.
     region.barrier();
 }

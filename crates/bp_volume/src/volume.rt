@@ -50,7 +50,7 @@ use pm_region::Region;
 use std::alloc::Global;
 use std::marker::Model;
 
-/// A file system over a region. Contracts see it as the region's memory.
+/// A file system over a region. Contracts describe it by the region's memory.
 #[derive(Drop)]
 pub struct Volume<R: Region> {
     parts: Parts<R>,
@@ -70,12 +70,13 @@ impl<R: Region> Model for Volume<R> {
 }
 
 impl<R: Region> Volume<R> {
-    /// Makes a volume of version 1 with an empty root directory of a region of 8 to 65,536 blocks of 512 words, whatever
-    /// they hold.
+    /// Formats a region of 8 to 65,536 blocks of 512 words, whatever they hold, as an empty file system of version 1.
     ///
     /// # Errors
     ///
-    /// `Memory` where there is none for the volume. The region comes back as it was.
+    /// The region is returned unchanged.
+    ///
+    /// - `Memory`: allocation fails.
     pub fn format(alloc: Global, region: R) -> Result<Volume<R>, (R, MountFault)>
         requires sized { IsSized (R.memory region).base }
         requires fresh { (R.memory region).events ≡ [] }
@@ -89,11 +90,11 @@ impl<R: Region> Volume<R> {
         Volume::format_as(alloc, region, Version::One)
     }
 
-    /// The same of a version.
+    /// Formats the region as [`Volume::format`] does, in the given version of the format.
     ///
     /// # Errors
     ///
-    /// As those of [`Volume::format`].
+    /// Those of [`Volume::format`].
     pub fn format_as(
         alloc: Global,
         region: R,
@@ -113,22 +114,25 @@ impl<R: Region> Volume<R> {
         };
         let mut region = region;
         lay_out(&mut region, version);
-        // From here on no crash may leave the words that were there before: what it leaves is always a file system.
+        // From here on a crash cannot leave the words that were there before: it always leaves a file system.
         region.drain();
         match Volume::scanned(region, sets, cache) {
             Ok(volume) => Ok(volume),
-            // The stores of a format make a file system of any words.
+            // The stores of a format turn any words into a file system.
             Err(_) => unreachable!(),
         }
     }
 
-    /// Makes a volume of a region that was formatted, of 8 to 65,536 blocks of 512 words.
+    /// Mounts the file system of a formatted region of 8 to 65,536 blocks of 512 words.
     ///
     /// # Errors
     ///
-    /// `NotFormatted` where the region doesn't begin with the mark of a format; `BadSize` where it was formatted for
-    /// another number of blocks; `Damaged` where a check of the format fails, with one that does; `Memory` where
-    /// there is none for the volume. The region comes back as it was.
+    /// The region is returned unchanged.
+    ///
+    /// - `NotFormatted`: the region does not begin with a magic number of the format.
+    /// - `BadSize`: it was formatted for another number of blocks.
+    /// - `Damaged`: a check of the format fails; it holds one check that does.
+    /// - `Memory`: allocation fails.
     pub fn mount(alloc: Global, region: R) -> Result<Volume<R>, (R, MountFault)>
         requires sized { IsSized (R.memory region).base }
         requires fresh { (R.memory region).events ≡ [] }
@@ -146,7 +150,8 @@ impl<R: Region> Volume<R> {
         }
     }
 
-    /// The region under the volume. Its words are a file system, and a crash at any moment leaves what some calls left.
+    /// Returns the region of the volume. Its words are a file system, and a crash at any point leaves a file system
+    /// with the files and directories of some prefix of the calls.
     pub fn region(&self) -> &R
         ensures memory { R.memory result.now ≡ self.now }
         ensures safe { IsSafe SameFiles self.now }
@@ -154,7 +159,7 @@ impl<R: Region> Volume<R> {
         &self.parts.region
     }
 
-    /// Waits until all that the calls so far have done is written back, and empties the log.
+    /// Waits until all stores of the calls so far are written back, and empties the log.
     pub fn sync(&mut self)
         ensures drained { self.new ≡ drained self.old }
         ensures safe { IsSafe SameFiles self.new }
@@ -162,12 +167,15 @@ impl<R: Region> Volume<R> {
         self.parts.region.drain();
     }
 
-    /// Crashes, and goes on with the words that the choice leaves, with an empty log. They are a file system that shows what
-    /// the calls that are kept had made. It takes no memory: the volume's own is used for a scan of them.
+    /// Crashes, and continues with the words that the choice leaves and an empty log. They are a file system with the
+    /// files and directories after the calls that are kept. It allocates no memory: the scan of the words uses the
+    /// volume's own.
     ///
     /// # Errors
     ///
-    /// `BadChoice` exactly where the choice is not right for the log. Nothing has changed then.
+    /// Nothing has changed then.
+    ///
+    /// - `BadChoice`: the choice is not possible for the log. It is returned for exactly these choices.
     pub fn crash(&mut self, choice: &Choice) -> Result<Kept, BadChoice>
         ensures right { IsOk result ↔ IsRight self.old.events choice.now.cut }
         ensures left { OnOk result (self.new ≡ crashed self.old choice.now.cut) }
@@ -184,8 +192,8 @@ impl<R: Region> Volume<R> {
         Ok(kept)
     }
 
-    /// What the volume holds in all: its files, directories and bytes, and the live blocks of both its trees. It takes time for
-    /// the whole image, as a mount does, and no memory.
+    /// Returns the totals of the volume: its files, directories and bytes, and the live blocks of both its trees. The
+    /// time grows with the whole image, as for a mount. It allocates no memory.
     pub fn totals(&mut self) -> Totals
         ensures totals { HasTotals (current_words self.old) result }
         ensures same { self.new ≡ self.old }
@@ -193,7 +201,7 @@ impl<R: Region> Volume<R> {
         rescan(&mut self.parts, &mut self.pending)
     }
 
-    /// How many blocks are free, and how many are live in one of both trees.
+    /// Returns the numbers of free blocks, and of blocks that are live in one of the trees or in both.
     pub fn space(&self) -> Space
         ensures free { HasSpace (current_words self.now) result.free }
         ensures live { HasLive (current_words self.now) result.live }
@@ -203,13 +211,18 @@ impl<R: Region> Volume<R> {
         Space { free, live }
     }
 
-    /// Makes an empty file at a path.
+    /// Creates an empty file at a path.
     ///
     /// # Errors
     ///
-    /// `BadPath` where the text is no path; `Exists` at the root directory; `NotFound` or `NotDir` at the first name
-    /// on the way that is missing, or is sought in a file; `Exists` where the name is there; and last `NoSpace` where
-    /// fewer blocks are free than the file needs. Nothing has changed then.
+    /// The first of these that applies. Nothing has changed then.
+    ///
+    /// - `BadPath`: the text is no path.
+    /// - `Exists`: the path is the root directory.
+    /// - `NotFound`, `NotDir`: on the way to the parent directory, a name is missing or is searched for in a file. The
+    ///   first such name decides.
+    /// - `Exists`: the name is there.
+    /// - `NoSpace`: fewer blocks are free than the file needs.
     pub fn create(&mut self, path: &[u8]) -> Result<(), FsError>
         ensures { FileCall self.old (create path.now) (unit_answer result) self.new }
     {
@@ -219,13 +232,18 @@ impl<R: Region> Volume<R> {
         made
     }
 
-    /// Makes an empty directory at a path.
+    /// Creates an empty directory at a path.
     ///
     /// # Errors
     ///
-    /// `BadPath` where the text is no path; `Exists` at the root directory; `NotFound` or `NotDir` at the first name
-    /// on the way that is missing, or is sought in a file; `Exists` where the name is there; and last `NoSpace` where
-    /// fewer blocks are free than the directory needs. Nothing has changed then.
+    /// The first of these that applies. Nothing has changed then.
+    ///
+    /// - `BadPath`: the text is no path.
+    /// - `Exists`: the path is the root directory.
+    /// - `NotFound`, `NotDir`: on the way to the parent directory, a name is missing or is searched for in a file. The
+    ///   first such name decides.
+    /// - `Exists`: the name is there.
+    /// - `NoSpace`: fewer blocks are free than the directory needs.
     pub fn mkdir(&mut self, path: &[u8]) -> Result<(), FsError>
         ensures { FileCall self.old (mkdir path.now) (unit_answer result) self.new }
     {
@@ -235,14 +253,19 @@ impl<R: Region> Volume<R> {
         made
     }
 
-    /// Takes this name from a file, and removes the file with its last name: its blocks that are not the snapshot's are free
-    /// then.
+    /// Removes a link of a file, and deletes the file with its last link. The blocks of a deleted file are free then,
+    /// except those of the snapshot.
     ///
     /// # Errors
     ///
-    /// `BadPath` where the text is no path; `IsDir` at the root directory; `NotFound` or `NotDir` at the first name
-    /// on the way that is missing, or is sought in a file; then `IsDir` where a directory stands there; and last `NoSpace`,
-    /// where there is a snapshot and fewer blocks are free than it makes the call copy. Nothing has changed then.
+    /// The first of these that applies. Nothing has changed then.
+    ///
+    /// - `BadPath`: the text is no path.
+    /// - `IsDir`: the path is the root directory.
+    /// - `NotFound`, `NotDir`: a name of the path is missing or is searched for in a file. The first such name
+    ///   decides.
+    /// - `IsDir`: the path finds a directory.
+    /// - `NoSpace`: there is a snapshot, and fewer blocks are free than the call has to copy because of it.
     pub fn unlink(&mut self, path: &[u8]) -> Result<(), FsError>
         ensures { FileCall self.old (unlink path.now) (unit_answer result) self.new }
     {
@@ -252,14 +275,19 @@ impl<R: Region> Volume<R> {
         made
     }
 
-    /// Removes the directory at a path, which has no names. Its blocks that are not the snapshot's are free then.
+    /// Removes the empty directory at a path. Its blocks are free then, except those of the snapshot.
     ///
     /// # Errors
     ///
-    /// `BadPath` where the text is no path; `IsRoot` at the root directory; `NotFound` or `NotDir` at the first name
-    /// on the way that is missing, or is sought in a file; `NotDir` where a file stands there; then `NotEmpty` where the
-    /// directory has a name; and last `NoSpace`, where there is a snapshot and fewer blocks are free than it makes the call
-    /// copy. Nothing has changed then.
+    /// The first of these that applies. Nothing has changed then.
+    ///
+    /// - `BadPath`: the text is no path.
+    /// - `IsRoot`: the path is the root directory.
+    /// - `NotFound`, `NotDir`: a name of the path is missing or is searched for in a file. The first such name
+    ///   decides.
+    /// - `NotDir`: the path finds a file.
+    /// - `NotEmpty`: the directory has a name.
+    /// - `NoSpace`: there is a snapshot, and fewer blocks are free than the call has to copy because of it.
     pub fn rmdir(&mut self, path: &[u8]) -> Result<(), FsError>
         ensures { FileCall self.old (rmdir path.now) (unit_answer result) self.new }
     {
@@ -269,16 +297,23 @@ impl<R: Region> Volume<R> {
         made
     }
 
-    /// Moves what stands at a path to another one, with all below it. What stands there is replaced: by a file, a file;
-    /// and by a directory, a directory that has no names. Onto itself nothing moves.
+    /// Moves a file, or a directory with all below it, from one path to another. It replaces what is at the second
+    /// path: a file replaces a file, and a directory replaces an empty directory. If both paths find one file or
+    /// directory, nothing changes.
     ///
     /// # Errors
     ///
-    /// `BadPath` where a text is no path; `IsRoot` where one is the root directory; `NotFound` or `NotDir` at the first
-    /// name on the way to the first path that is missing, or is sought in a file, and then on the way to the directory
-    /// of the second; `IntoSelf` where the second path is below the first; `IsDir` where a file would replace a
-    /// directory, and `NotDir` where a directory would replace a file; `NotEmpty` where a directory would replace one
-    /// that has a name; and last `NoSpace` where fewer blocks are free than the move needs. Nothing has changed then.
+    /// The first of these that applies. Nothing has changed then.
+    ///
+    /// - `BadPath`: a text is no path.
+    /// - `IsRoot`: one of the paths is the root directory.
+    /// - `NotFound`, `NotDir`: a name of the first path is missing or is searched for in a file, or else one on the
+    ///   way to the directory of the second path. The first such name decides.
+    /// - `IntoSelf`: the second path is below the first.
+    /// - `IsDir`: a file would replace a directory.
+    /// - `NotDir`: a directory would replace a file.
+    /// - `NotEmpty`: a directory would replace one that has a name.
+    /// - `NoSpace`: fewer blocks are free than the move needs.
     pub fn rename(&mut self, from: &[u8], to: &[u8]) -> Result<(), FsError>
         ensures { FileCall self.old (rename from.now to.now) (unit_answer result) self.new }
     {
@@ -288,14 +323,20 @@ impl<R: Region> Volume<R> {
         made
     }
 
-    /// Gives the file at a path one more name: the second path, with the same bytes from then on.
+    /// Gives the file at a path another link, the second path. From then on both paths have the same bytes.
     ///
     /// # Errors
     ///
-    /// `BadPath` where a text is no path; `NotFound` or `NotDir` at the first name on the way to the first path that is
-    /// missing, or is sought in a file; `IsDir` where a directory stands there; then of the second path `Exists` at the
-    /// root directory, `NotFound` or `NotDir` on the way to its directory, and `Exists` where the name is there; and
-    /// last `NoSpace` where fewer blocks are free than the name needs. Nothing has changed then.
+    /// The first of these that applies. Nothing has changed then.
+    ///
+    /// - `BadPath`: a text is no path.
+    /// - `NotFound`, `NotDir`: a name of the first path is missing or is searched for in a file. The first such name
+    ///   decides.
+    /// - `IsDir`: the first path finds a directory.
+    /// - `Exists`: the second path is the root directory.
+    /// - `NotFound`, `NotDir`: the same on the way to the directory of the second path.
+    /// - `Exists`: the second name is there.
+    /// - `NoSpace`: fewer blocks are free than the name needs.
     pub fn link(&mut self, from: &[u8], to: &[u8]) -> Result<(), FsError>
         ensures { FileCall self.old (link from.now to.now) (unit_answer result) self.new }
     {
@@ -305,16 +346,20 @@ impl<R: Region> Volume<R> {
         made
     }
 
-    /// Writes bytes into the file at a path, from byte `off` on. Between its end and `off` it gets zeros. With no
-    /// bytes the file stays as it is, whatever `off` is.
+    /// Writes bytes into the file at a path, from byte `off` on. Bytes between the old end of the file and `off`
+    /// become 0. If there are no bytes, the file stays as it is, whatever `off` is.
     ///
     /// # Errors
     ///
-    /// `BadPath` where the text is no path; `TooLong` where there are more than 65,536 bytes, in version 2 more than
-    /// 1,048,576; `NotFound` or `NotDir` at the first name on the way that is missing, or is sought in a file; `IsDir`
-    /// where a directory stands there; `TooBig` where there are bytes, and the last would lie past the greatest size of
-    /// a file, which its version tells; and last `NoSpace` where fewer blocks are free than the write needs. Nothing has
-    /// changed then.
+    /// The first of these that applies. Nothing has changed then.
+    ///
+    /// - `BadPath`: the text is no path.
+    /// - `TooLong`: there are more than 65,536 bytes; in version 2, more than 1,048,576.
+    /// - `NotFound`, `NotDir`: a name of the path is missing or is searched for in a file. The first such name
+    ///   decides.
+    /// - `IsDir`: the path finds a directory.
+    /// - `TooBig`: there are bytes, and the last would lie past the greatest size of a file in this version.
+    /// - `NoSpace`: fewer blocks are free than the write needs.
     pub fn write(&mut self, path: &[u8], off: u64, bytes: &[u8]) -> Result<(), FsError>
         ensures { FileCall self.old (write path.now off bytes.now) (unit_answer result) self.new }
     {
@@ -324,17 +369,20 @@ impl<R: Region> Volume<R> {
         made
     }
 
-    /// Puts bytes into several files, or into one, all at once: the pieces in their order, so that of two which give the
-    /// same byte the later one stands. The paths of the pieces and their bytes are parts of the text. Each file keeps its
-    /// size, and with no byte in all nothing changes.
+    /// Writes bytes into several files, or into one, all at once. The pieces apply in their order, so if two of them
+    /// write the same byte, the later one wins. The paths and the bytes of the pieces are parts of the text. Each file
+    /// keeps its size. If there are no bytes in all, nothing changes.
     ///
     /// # Errors
     ///
-    /// `BadPath` where the path text of a piece is no path; `TooLong` where there are more than 65,536 bytes in all; of
-    /// the first piece that meets one of these `NotFound` or `NotDir` at the first name on the way that is missing, or is
-    /// sought in a file, `IsDir` where a directory stands there, and `PastEnd` where its bytes, or its place where it has
-    /// none, end past the size of the file; and last `NoSpace` where fewer blocks are free than the batch needs. Nothing
-    /// has changed then.
+    /// The first of these that applies. Nothing has changed then.
+    ///
+    /// - `BadPath`: the path text of a piece is no path.
+    /// - `TooLong`: there are more than 65,536 bytes in all.
+    /// - The first error of the first piece that has one. `NotFound` or `NotDir`: a name of its path is missing or is
+    ///   searched for in a file; the first such name decides. `IsDir`: its path finds a directory. `PastEnd`: its
+    ///   bytes end past the size of the file, or it is empty and lies there.
+    /// - `NoSpace`: fewer blocks are free than the batch needs.
     pub fn batch(&mut self, text: &[u8], pieces: &[Piece]) -> Result<(), FsError>
         requires few { length pieces.now ≤ max_pieces }
         requires lie { All (LiesIn text.now) pieces.now }
@@ -346,14 +394,19 @@ impl<R: Region> Volume<R> {
         made
     }
 
-    /// Gives the file at a path another size in bytes: it ends there, or gets zeros behind its old bytes.
+    /// Changes the size of the file at a path, in bytes: the file is cut, or zeros follow its old bytes.
     ///
     /// # Errors
     ///
-    /// `BadPath` where the text is no path; `NotFound` or `NotDir` at the first name on the way that is missing, or
-    /// is sought in a file; `IsDir` where a directory stands there; `TooBig` where the size is above the greatest of
-    /// a file; and last `NoSpace` where fewer blocks are free than a higher tree needs, and those of the snapshot that are
-    /// copied first. Nothing has changed then.
+    /// The first of these that applies. Nothing has changed then.
+    ///
+    /// - `BadPath`: the text is no path.
+    /// - `NotFound`, `NotDir`: a name of the path is missing or is searched for in a file. The first such name
+    ///   decides.
+    /// - `IsDir`: the path finds a directory.
+    /// - `TooBig`: the size is above the greatest size of a file in this version.
+    /// - `NoSpace`: fewer blocks are free than a higher tree needs, together with the blocks of the snapshot that are
+    ///   copied first.
     pub fn truncate(&mut self, path: &[u8], size: u64) -> Result<(), FsError>
         ensures { FileCall self.old (truncate path.now size) (unit_answer result) self.new }
     {
@@ -363,13 +416,16 @@ impl<R: Region> Volume<R> {
         made
     }
 
-    /// Reads bytes of the file at a path from an offset on, as many as `into` has room for and the file has there,
-    /// and says how many these are. There are none at and past the end of the file. The rest of `into` stays as it
-    /// was.
+    /// Reads bytes of the file at a path from an offset on, and returns their number: as many as `into` has room for
+    /// and the file has from there on. At and past the end of the file there are none. The rest of `into` is
+    /// unchanged.
     ///
     /// # Errors
     ///
-    /// Those of `stat`; and then `IsDir` where a directory stands there. `into` stays as it was then.
+    /// The first of these that applies. `into` is unchanged then.
+    ///
+    /// - Those of [`Volume::stat`].
+    /// - `IsDir`: the path finds a directory.
     pub fn read(&mut self, path: &[u8], off: u64, into: &mut [u8]) -> Result<usize, FsError>
         ensures called { FileCall self.old (read path.now off (length into.old)) (read_answer_of result into.new)
             self.new }
@@ -383,12 +439,13 @@ impl<R: Region> Volume<R> {
         told
     }
 
-    /// What there is to tell of what stands at a path: a file's size in bytes, or how many names a directory has.
+    /// Returns the size in bytes of the file at a path, or the number of names of the directory there.
     ///
     /// # Errors
     ///
-    /// `BadPath` where the text is no path; `NotFound` or `NotDir` at the first name on the way that is missing, or is
-    /// sought in a file.
+    /// - `BadPath`: the text is no path.
+    /// - `NotFound`, `NotDir`: a name of the path is missing or is searched for in a file. The first such name
+    ///   decides.
     pub fn stat(&mut self, path: &[u8]) -> Result<Stat, FsError>
         ensures { FileCall self.old (stat path.now) (stat_answer_of result) self.new }
     {
@@ -398,11 +455,14 @@ impl<R: Region> Volume<R> {
         told
     }
 
-    /// How many names the file at a path has.
+    /// Returns the number of links of the file at a path.
     ///
     /// # Errors
     ///
-    /// Those of `stat`; and then `IsDir` where a directory stands there.
+    /// The first of these that applies.
+    ///
+    /// - Those of [`Volume::stat`].
+    /// - `IsDir`: the path finds a directory.
     pub fn links(&mut self, path: &[u8]) -> Result<u32, FsError>
         ensures { FileCall self.old (links path.now) (links_answer result) self.new }
     {
@@ -412,11 +472,15 @@ impl<R: Region> Volume<R> {
         told
     }
 
-    /// The names in the directory at a path, in the order of their bytes.
+    /// Returns the names in the directory at a path, in byte order.
     ///
     /// # Errors
     ///
-    /// Those of `stat`; `NotDir` where a file stands there; and after all others `Memory`, where the list finds none.
+    /// The first of these that applies.
+    ///
+    /// - Those of [`Volume::stat`].
+    /// - `NotDir`: the path finds a file.
+    /// - `Memory`: allocation of the listing fails.
     pub fn list(&mut self, alloc: Global, path: &[u8]) -> Result<Listing, FsError>
         ensures { FileCall self.old (list path.now) (list_answer_of result) self.new }
     {
@@ -426,8 +490,8 @@ impl<R: Region> Volume<R> {
         told
     }
 
-    /// Makes the format version 2, with the same files and directories, whose limits are larger. On version 2 it changes
-    /// nothing. It needs no block.
+    /// Upgrades the format to version 2, whose limits are larger, with the same files and directories. In version 2 it
+    /// changes nothing. It needs no block.
     pub fn upgrade(&mut self)
         ensures { FileCall self.old upgrade done self.new }
     {
@@ -436,12 +500,16 @@ impl<R: Region> Volume<R> {
         self.parts.region.mark();
     }
 
-    /// Makes a snapshot: the files and directories as they are now, which can be read until it is let go. It copies nothing
-    /// and needs no block, but the blocks that the tree has now are kept, so that later changes may need more.
+    /// Makes a snapshot: the files and directories as they are now, which can be read until the snapshot is deleted.
+    /// It copies nothing and needs no block. But the present blocks of the tree are not freed until then, so later
+    /// changes may need more blocks.
     ///
     /// # Errors
     ///
-    /// `OldVersion` in version 1, whose format has no snapshot; then `HasSnap` where there is one. Nothing has changed then.
+    /// The first of these that applies. Nothing has changed then.
+    ///
+    /// - `OldVersion`: the image is of version 1, whose format has no snapshot.
+    /// - `HasSnap`: there is a snapshot.
     pub fn snap(&mut self) -> Result<(), FsError>
         ensures { FileCall self.old snap (unit_answer result) self.new }
     {
@@ -451,11 +519,14 @@ impl<R: Region> Volume<R> {
         made
     }
 
-    /// Lets the snapshot go. The blocks that it alone has are free then. It takes time for the whole image, as a mount does.
+    /// Deletes the snapshot. The blocks that only the snapshot has are free then. The time grows with the whole image,
+    /// as for a mount.
     ///
     /// # Errors
     ///
-    /// `NoSnap` where there is none. Nothing has changed then.
+    /// Nothing has changed then.
+    ///
+    /// - `NoSnap`: there is no snapshot.
     pub fn unsnap(&mut self) -> Result<(), FsError>
         ensures { FileCall self.old unsnap (unit_answer result) self.new }
     {
@@ -465,12 +536,15 @@ impl<R: Region> Volume<R> {
         made
     }
 
-    /// Reads what [`Volume::read`] read when the snapshot was made.
+    /// Reads the bytes that [`Volume::read`] read when the snapshot was made.
     ///
     /// # Errors
     ///
-    /// `BadPath` where the text is no path; `NoSnap` where there is no snapshot; then those of [`Volume::read`], as it was
-    /// then. `into` stays as it was.
+    /// The first of these that applies. `into` is unchanged then.
+    ///
+    /// - `BadPath`: the text is no path.
+    /// - `NoSnap`: there is no snapshot.
+    /// - Those of [`Volume::read`] when the snapshot was made.
     pub fn snap_read(&mut self, path: &[u8], off: u64, into: &mut [u8]) -> Result<usize, FsError>
         ensures called { FileCall self.old (snap_read path.now off (length into.old)) (read_answer_of result into.new)
             self.new }
@@ -484,12 +558,15 @@ impl<R: Region> Volume<R> {
         told
     }
 
-    /// What [`Volume::stat`] told when the snapshot was made.
+    /// Returns what [`Volume::stat`] returned when the snapshot was made.
     ///
     /// # Errors
     ///
-    /// `BadPath` where the text is no path; `NoSnap` where there is no snapshot; then those of [`Volume::stat`], as it was
-    /// then.
+    /// The first of these that applies.
+    ///
+    /// - `BadPath`: the text is no path.
+    /// - `NoSnap`: there is no snapshot.
+    /// - Those of [`Volume::stat`] when the snapshot was made.
     pub fn snap_stat(&mut self, path: &[u8]) -> Result<Stat, FsError>
         ensures { FileCall self.old (snap_stat path.now) (stat_answer_of result) self.new }
     {
@@ -499,12 +576,16 @@ impl<R: Region> Volume<R> {
         told
     }
 
-    /// The names that [`Volume::list`] gave when the snapshot was made.
+    /// Returns the names that [`Volume::list`] returned when the snapshot was made.
     ///
     /// # Errors
     ///
-    /// `BadPath` where the text is no path; `NoSnap` where there is no snapshot; then those of [`Volume::list`], as it was
-    /// then, and after all others `Memory`, where the list finds none now.
+    /// The first of these that applies.
+    ///
+    /// - `BadPath`: the text is no path.
+    /// - `NoSnap`: there is no snapshot.
+    /// - Those of [`Volume::list`] when the snapshot was made, except `Memory`.
+    /// - `Memory`: allocation of the listing fails now.
     pub fn snap_list(&mut self, alloc: Global, path: &[u8]) -> Result<Listing, FsError>
         ensures { FileCall self.old (snap_list path.now) (list_answer_of result) self.new }
     {
@@ -514,7 +595,7 @@ impl<R: Region> Volume<R> {
         told
     }
 
-    /// Makes a call, and tells its result in the reply. A read may ask for 65,536 bytes at most.
+    /// Makes a call, and sets the reply to its result. A read may ask for at most 65,536 bytes.
     pub fn apply(&mut self, alloc: Global, call: &Call, reply: &mut Reply)
         requires can { CanAsk call.now }
         ensures { FileCall self.old (call_of call.now) reply.new.answer self.new }
@@ -542,7 +623,7 @@ impl<R: Region> Volume<R> {
         }
     }
 
-    /// Makes the format version 2, and tells so.
+    /// Upgrades the format to version 2, and sets the reply.
     fn apply_upgrade(&mut self, reply: &mut Reply)
         ensures { FileCall self.old upgrade reply.new.answer self.new }
     {
@@ -550,7 +631,7 @@ impl<R: Region> Volume<R> {
         reply.set_done();
     }
 
-    /// Lists the names in a directory in a reply, which gives the memory of its last listing back before.
+    /// Lists the names in a directory in a reply. The memory of the reply's last listing is freed before.
     fn apply_list(&mut self, alloc: Global, path: &[u8], reply: &mut Reply)
         ensures { FileCall self.old (list path.now) reply.new.answer self.new }
     {
@@ -558,7 +639,7 @@ impl<R: Region> Volume<R> {
         tell_list(reply, self.list(alloc, path));
     }
 
-    /// Reads so many bytes at most into the front of `buffer`.
+    /// Reads at most `len` bytes into the first bytes of `buffer`.
     fn read_front(
         &mut self,
         path: &[u8],
@@ -573,7 +654,7 @@ impl<R: Region> Volume<R> {
         self.read(path, off, &mut buffer[..len])
     }
 
-    /// Reads bytes into the memory of a reply, and tells the result there.
+    /// Reads bytes into the buffer of a reply, and sets the reply to the result.
     fn apply_read(&mut self, path: &[u8], off: u64, len: usize, reply: &mut Reply)
         requires { len ≤ max_read }
         ensures { FileCall self.old (read path.now off len) reply.new.answer self.new }
@@ -582,7 +663,8 @@ impl<R: Region> Volume<R> {
         tell_read(reply, told);
     }
 
-    /// Lists the names in a directory of the snapshot in a reply, which gives the memory of its last listing back before.
+    /// Lists the names in a directory of the snapshot in a reply. The memory of the reply's last listing is freed
+    /// before.
     fn apply_snap_list(&mut self, alloc: Global, path: &[u8], reply: &mut Reply)
         ensures { FileCall self.old (snap_list path.now) reply.new.answer self.new }
     {
@@ -590,7 +672,7 @@ impl<R: Region> Volume<R> {
         tell_list(reply, self.snap_list(alloc, path));
     }
 
-    /// Reads so many bytes of the snapshot at most into the front of `buffer`.
+    /// Reads at most `len` bytes of the snapshot into the first bytes of `buffer`.
     fn snap_read_front(
         &mut self,
         path: &[u8],
@@ -605,7 +687,7 @@ impl<R: Region> Volume<R> {
         self.snap_read(path, off, &mut buffer[..len])
     }
 
-    /// Reads bytes of the snapshot into the memory of a reply, and tells the result there.
+    /// Reads bytes of the snapshot into the buffer of a reply, and sets the reply to the result.
     fn apply_snap_read(&mut self, path: &[u8], off: u64, len: usize, reply: &mut Reply)
         requires { len ≤ max_read }
         ensures { FileCall self.old (snap_read path.now off len) reply.new.answer self.new }
@@ -614,7 +696,7 @@ impl<R: Region> Volume<R> {
         tell_read(reply, told);
     }
 
-    /// Makes a volume of a region with an empty log whose image passes a scan.
+    /// Makes a volume of a region with an empty log, if its image passes a scan.
     fn scanned(region: R, sets: Sets, cache: DirectoryCache) -> Result<Volume<R>, (R, MountFault)>
         requires sized { IsSized (R.memory region).base }
         requires fresh { (R.memory region).events ≡ [] }
@@ -660,7 +742,8 @@ impl<R: Region> Volume<R> {
         }
     }
 
-    /// Drains where the events of a call might not fit: the room that is kept is for more events than any call adds.
+    /// Drains the region if the events of a call might not fit into the log. The room that is required holds more
+    /// events than any call adds.
     fn make_room(&mut self)
         ensures memory { self.new ≡ with_room call_room self.old }
         ensures room { call_room ≤ room_in self.new }

@@ -28,19 +28,19 @@ use bp_path::{BadPath, FoundEntry, Path, WalkFault, parse, walk_by, walk_parent_
 use bp_plain::FsError;
 use pm_region::Region;
 
-/// A name that a directory doesn't have.
+/// A name that a directory does not have.
 #[derive(Clone, Copy)]
 pub(crate) struct NewName<'a> {
     /// The directory's inode.
     pub dir: u32,
     /// The name.
     pub name: &'a [u8],
-    /// The least slot of the directory whose entry is empty, None where no entry is.
+    /// The least slot of the directory whose entry is empty; `None` if there is none.
     pub slot: Option<u64>,
 }
 
 impl<'a> NewName<'a> {
-    /// The name in the slot that it gets.
+    /// Returns the name, in the slot that it gets.
     pub fn at(&self, slot: u64) -> NameAt<'a>
         ensures dir { result.dir ≡ self.now.dir }
         ensures name { result.name.now ≡ self.now.name.now }
@@ -54,21 +54,21 @@ impl<'a> NewName<'a> {
     }
 }
 
-/// A name in a directory, whether it is there or not.
+/// A name in a directory, whether the directory has it or not.
 #[derive(Clone, Copy)]
 pub(crate) struct Target<'a> {
     /// The directory's inode.
     pub dir: u32,
     /// The name.
     pub name: &'a [u8],
-    /// What has that name there, None where nothing has it.
+    /// The entry that has this name; `None` if there is none.
     pub there: Option<FoundEntry>,
-    /// Where nothing has it, the least slot of the directory whose entry is empty, None where no entry is.
+    /// If no entry has this name, the least slot of the directory whose entry is empty; `None` if there is none.
     pub empty: Option<u64>,
 }
 
 impl<'a> Target<'a> {
-    /// The name in a slot.
+    /// Returns the name, in the given slot.
     pub fn at(&self, slot: u64) -> NameAt<'a>
         ensures dir { result.dir ≡ self.now.dir }
         ensures name { result.name.now ≡ self.now.name.now }
@@ -85,18 +85,18 @@ impl<'a> Target<'a> {
 /// An entry, and the name by which it was found.
 #[derive(Clone, Copy)]
 pub(crate) struct NamedEntry<'a> {
-    /// The number of the inode that it names.
+    /// The number of the inode that it refers to.
     pub inumber: u32,
     /// The directory's inode.
     pub dir: u32,
     /// The name.
     pub name: &'a [u8],
-    /// The slot.
+    /// The slot of the entry.
     pub slot: u64,
 }
 
 impl<'a> NamedEntry<'a> {
-    /// The name in its slot.
+    /// Returns the name, in its slot.
     pub fn at(&self) -> NameAt<'a>
         ensures dir { result.dir ≡ self.now.dir }
         ensures name { result.name.now ≡ self.now.name.now }
@@ -119,7 +119,7 @@ pub(crate) struct FoundFile {
     pub size: u64,
 }
 
-/// The refusal of a call whose path leads nowhere.
+/// Returns the refusal of a call whose path finds nothing.
 pub(crate) fn refused(fault: WalkFault) -> FsError
     ensures { refusal_of_walk (fault_of fault) ≡ Some (refusal_of result) }
 {
@@ -129,14 +129,14 @@ pub(crate) fn refused(fault: WalkFault) -> FsError
     }
 }
 
-/// The refusal of a call whose path text is none.
+/// Returns the refusal of a call whose path text is no path.
 pub(crate) fn bad_path(_: BadPath) -> FsError
     ensures { result ≡ FsError.BadPath }
 {
     FsError::BadPath
 }
 
-/// The inode at a path.
+/// Returns the inode at a path.
 pub(crate) fn inode_on<R: Region, F: Finder>(
     region: &R,
     finder: &mut F,
@@ -152,7 +152,7 @@ pub(crate) fn inode_on<R: Region, F: Finder>(
     Ok(entry.inumber)
 }
 
-/// The inode at a path text.
+/// Returns the inode at a path text.
 pub(crate) fn inode_at<R: Region, F: Finder>(
     region: &R,
     finder: &mut F,
@@ -168,7 +168,7 @@ pub(crate) fn inode_at<R: Region, F: Finder>(
     inode_on(region, finder, &path)
 }
 
-/// The file at a path.
+/// Returns the file at a path.
 pub(crate) fn file_on<R: Region, F: Finder>(
     region: &R,
     finder: &mut F,
@@ -193,7 +193,7 @@ pub(crate) fn file_on<R: Region, F: Finder>(
     }
 }
 
-/// The file at a path text.
+/// Returns the file at a path text.
 pub(crate) fn file_at<R: Region, F: Finder>(
     region: &R,
     finder: &mut F,
@@ -211,7 +211,7 @@ pub(crate) fn file_at<R: Region, F: Finder>(
     file_on(region, finder, &path)
 }
 
-/// The entry at a path below the root directory.
+/// Returns the entry at a path below the root directory.
 pub(crate) fn entry_on<'a, R: Region>(
     region: &R,
     cache: &mut DirectoryCache,
@@ -237,7 +237,8 @@ pub(crate) fn entry_on<'a, R: Region>(
     })
 }
 
-/// The entry by which a path text finds what stands there. The root directory has none: there it is the error `root`.
+/// Returns the entry by which a path text finds a file or directory. The root directory has no entry: there the error
+/// is `root`.
 pub(crate) fn entry_at<'a, R: Region>(
     region: &R,
     cache: &mut DirectoryCache,
@@ -261,7 +262,7 @@ pub(crate) fn entry_at<'a, R: Region>(
     entry_on(region, cache, &path)
 }
 
-/// Where a directory has a name, or where it has room for it.
+/// Returns where a directory has a name, or where it has room for it.
 fn spot_of<R: Region>(region: &R, cache: &mut DirectoryCache, dir: u32, name: &[u8]) -> Spot
     requires well_formed { IsWellFormed (current_words (R.memory region.now)) }
     requires reached { IsReached (current_words (R.memory region.now)) dir }
@@ -276,8 +277,8 @@ fn spot_of<R: Region>(region: &R, cache: &mut DirectoryCache, dir: u32, name: &[
     cache.find_or_free(region, dir, tree_of(region, dir), name)
 }
 
-/// The slot of a name that comes to a directory, given the directory's least empty slot: that one, or the one behind the
-/// last entry where none is empty.
+/// Returns the slot for a new name of a directory, given its least empty slot: that slot, or the one after the last
+/// entry if no entry is empty.
 pub(crate) fn slot_for<R: Region>(region: &R, dir: u32, empty: Option<u64>) -> u64
     requires well_formed { IsWellFormed (current_words (R.memory region.now)) }
     requires reached { IsReached (current_words (R.memory region.now)) dir }
@@ -292,7 +293,7 @@ pub(crate) fn slot_for<R: Region>(region: &R, dir: u32, empty: Option<u64>) -> u
     }
 }
 
-/// The last name of a path below the root directory, which its directory doesn't have yet.
+/// Returns the last name of a path below the root directory, if its directory does not have it yet.
 fn last_name<'a, R: Region>(
     region: &R,
     cache: &mut DirectoryCache,
@@ -314,7 +315,7 @@ fn last_name<'a, R: Region>(
     }
 }
 
-/// A name in a directory, with what has it there, as a search for it told.
+/// Returns a name in a directory and the entry that has it, as found by a search for it.
 pub(crate) fn target_in<'a, R: Region>(
     region: &R,
     dir: u32,
@@ -354,7 +355,7 @@ pub(crate) fn target_in<'a, R: Region>(
     }
 }
 
-/// The last name of a path below the root directory, with what has it in its directory.
+/// Returns the last name of a path below the root directory, and the entry that has it, if any.
 pub(crate) fn target_on<'a, R: Region>(
     region: &R,
     cache: &mut DirectoryCache,
@@ -373,7 +374,7 @@ pub(crate) fn target_on<'a, R: Region>(
     Ok(target_in(region, dir, name, spot))
 }
 
-/// Where a directory has one name, and where it has another one or room for it.
+/// Returns where a directory has one name, and where it has another name or room for it.
 pub(crate) fn both_of<R: Region>(
     region: &R,
     cache: &mut DirectoryCache,
@@ -398,7 +399,7 @@ pub(crate) fn both_of<R: Region>(
     cache.find_both(region, dir, tree_of(region, dir), one, other)
 }
 
-/// The directory that is to have a new name at a path, and its name there.
+/// Returns the directory and the name of a new entry at a path.
 pub(crate) fn new_on<'a, R: Region>(
     region: &R,
     cache: &mut DirectoryCache,
@@ -418,7 +419,7 @@ pub(crate) fn new_on<'a, R: Region>(
     }
 }
 
-/// The directory that is to have a new name at a path text, and its name there.
+/// Returns the directory and the name of a new entry at a path text.
 pub(crate) fn new_name<'a, R: Region>(
     region: &R,
     cache: &mut DirectoryCache,

@@ -1,4 +1,4 @@
-//! Bytes into files.
+//! Writes of bytes into files.
 
 ghost use Rattle.std.specs.Prelude.{◌≡◌, ◌≤◌, ℕ, IfErr, IfOk, OnOk, length};
 ghost use Rattle.bp_cache.specs.Cache.{IsCacheOf};
@@ -26,8 +26,8 @@ use bp_plain::FsError;
 use bp_tree::version;
 use pm_region::Region;
 
-/// The inode of the file at a path text, into which bytes are to be written. More of them than the version writes at once
-/// are too many whatever stands there.
+/// Returns the inode of the file at a path text, into which bytes are to be written. More bytes than the version
+/// writes at once are refused before the file is looked up.
 fn file_for<R: Region>(
     region: &R,
     cache: &mut DirectoryCache,
@@ -78,7 +78,7 @@ fn write_into<R: Region>(
     bp_calls::write(parts, i, off, bytes).map_err(no_space)
 }
 
-/// What `write` does before its mark.
+/// Carries out `write`, except for its end-of-call marker.
 pub(crate) fn write_at<R: Region>(
     parts: &mut Parts<R>,
     cache: &mut DirectoryCache,

@@ -1,4 +1,4 @@
--- What a walk over the pointers of one tree finds.
+-- The result of a walk over the pointers of one tree.
 use Rattle.std.specs.Prelude.{◌≡◌, ◌≢◌, ◌⊎◌, ℕ, suc, ◌+◌, ◌*◌, ◌/◌, ◌%◌, ◌<◌, ◌≤◌, Bool, true, false}
 use Rattle.bp_free.specs.Set.{Set, has, without}
 use Rattle.bp_limits.specs.Limits.{block_size, block_words, greatest_height}
@@ -10,18 +10,18 @@ use Rattle.bp_layout.specs.declared.check.Check.{Check}
 use Rattle.bp_layout.specs.declared.check.Check.TheVariants.{BlockTwice, Capacity, Height, Hole, PointerBits, Range}
 use Rattle.bp_walk.specs.Taken.{Takes}
 
--- pointer l at depth e is below pointer k at depth d, or is it
+-- Pointer `l` at depth `e` is pointer `k` at depth `d`, or is below it.
 pub data IsPointerUnder (d k : ℕ) : ℕ → ℕ → Type 0 where
   here : IsPointerUnder d k d k
   under : {e l : ℕ} → IsPointerUnder d k e (l / block_words) → IsPointerUnder d k (suc e) l
 
--- a live pointer of a tree that is followed, and where it stands
+-- The place of a live pointer of a tree that is followed.
 pub record IsPlace (image : Image) (at root size depth index place : ℕ) : Type 0 where
   pub live : IsLivePointer root size depth index
   pub followed : IsFollowed image root size depth index
   pub stands : place_of image at root depth index ≡ place
 
--- such a pointer under a slot of the node at d and k, of the slots below a number
+-- The place of such a pointer under one of the first `slots` slots of the node at depth `d` and index `k`.
 pub record IsBelow (image : Image) (at root size d k slots place : ℕ) : Type 0 where
   pub slot : ℕ
   pub low : slot < slots
@@ -30,21 +30,22 @@ pub record IsBelow (image : Image) (at root size d k slots place : ℕ) : Type 0
   pub under : IsPointerUnder (suc d) (block_words * k + slot) depth index
   pub is : IsPlace image at root size depth index place
 
--- each of these passes, and is not null where holes are not let through
+-- Each of these pointers passes its checks, and is not null unless `holes` allows it.
 abbrev pub ArePassing : Image → ℕ → ℕ → Bool → ℕ → ℕ → ℕ → Type 0
 ArePassing image root size holes d k slots = (slot e l : ℕ) → slot < slots
     → IsPointerUnder (suc d) (block_words * k + slot) e l
     → IsLivePointer root size e l → IsFollowed image root size e l →
     Passes image root e l × (holes ≡ false → node image root e l ≢ 0)
 
--- the pointers under the slots of a node pass, and their blocks left the set
+-- The pointers under the slots of a node pass, and their blocks are taken out of the set.
 pub record WalksBelow (image : Image) (at root size : ℕ) (holes : Bool) (d k slots : ℕ) (old new : Set) : Type 0 where
   pub takes : Takes image (IsBelow image at root size d k slots) old new
   pub passing : ArePassing image root size holes d k slots
 
--- A check that fails below a node, whose own block is `block`. A block that two pointers name is told in two ways:
--- both pointers are below the node, or the block had left the set before. In the second the pointer itself stands in
--- a block that had not, so it is none of those that were walked over.
+-- A check that fails below a node, whose own block is `block`. There are two cases of a block to which two pointers
+-- point: either both pointers are below the node (`twice`), or the block was not in the set before (`taken`). In the
+-- second case the pointer itself is in `block` or in a block that was in the set, so it is not one of the pointers
+-- that were walked over before.
 pub data FailsBelow (image : Image) (at root size : ℕ) (holes : Bool) (block : ℕ) (old : Set) : Check → ℕ → Type 0 where
   bits : {d k p : ℕ} → IsPlace image at root size (suc d) k p → tree_word image root (suc d) k % block_size ≢ 0
       → FailsBelow image at root size holes block old PointerBits p
@@ -60,20 +61,20 @@ pub data FailsBelow (image : Image) (at root size : ℕ) (holes : Bool) (block :
       → node image root (suc d) k ≢ 0 →
       node image root (suc d) k ≡ node image root (suc e) l → FailsBelow image at root size holes block old BlockTwice p
 
--- the place of a pointer of the tree
+-- The place of a pointer of the tree.
 pub record IsTreePlace (image : Image) (at root size place : ℕ) : Type 0 where
   pub depth : ℕ
   pub index : ℕ
   pub is : IsPlace image at root size depth index place
 
--- each pointer of the tree passes, and its blocks left the set
+-- Each pointer of the tree passes, and its blocks are taken out of the set.
 pub record TakesTree (image : Image) (at root size : ℕ) (holes : Bool) (old new : Set) : Type 0 where
   pub fits : size ≤ covered (suc (height_of root))
   pub takes : Takes image (IsTreePlace image at root size) old new
   pub passing : (d k : ℕ) → IsLivePointer root size d k → IsFollowed image root size d k → Passes image root d k
       × (holes ≡ false → node image root d k ≢ 0)
 
--- a check that fails in the tree
+-- A check that fails in the tree.
 pub data FailsTree (image : Image) (at root size : ℕ) (holes : Bool) (old : Set) : Check → ℕ → Type 0 where
   height : 0 < size → greatest_height (version_of image) < height_of root
       → FailsTree image at root size holes old Height at

@@ -17,19 +17,19 @@ use bp_limits::BLOCK_WORDS;
 use bp_tree::{Tree, version};
 use pm_region::Region;
 
-/// How many pointers are looked at in one go where there may be nulls: a line of a processor's cache.
+/// The number of pointers that are looked at together if there may be null pointers: a cache line of the processor.
 const LINE: usize = 8;
 
-/// A check of the format that fails, and where.
+/// A check of the format that fails, and the place where it does.
 #[derive(Clone, Copy, Debug, PartialEq, Eq)]
 pub struct CheckFault {
-    /// Which one it is. In a tree fail `Height`, `PointerBits`, `Range`, `BlockTwice`, `Hole` and `Capacity`.
+    /// The check that fails. In a tree it is `Height`, `PointerBits`, `Range`, `BlockTwice`, `Hole` or `Capacity`.
     pub check: Check,
-    /// The word of the region at which the check fails.
+    /// The number of the word of the region at which the check fails.
     pub place: u32,
 }
 
-/// The bytes below a pointer that stands `level` levels above the content words.
+/// Returns the number of bytes below a pointer that is `level` levels above the content words.
 fn covered_bytes(level: u32) -> u64
     requires least { 1 ≤ level }
     requires most { level ≤ suc max_height }
@@ -38,8 +38,8 @@ fn covered_bytes(level: u32) -> u64
     pm_words::span(level - 1)
 }
 
-/// Takes the block that a pointer names out of the set, and answers with its number: 0 where the pointer is null and
-/// may be.
+/// Takes the block to which a pointer points out of the set, and returns its number: 0 if the pointer is null and may
+/// be.
 fn claim_pointed(
     block: u64,
     place: u32,
@@ -80,20 +80,20 @@ fn claim_pointed(
     Ok(block)
 }
 
-/// A pointer of a tree, and the block that it names.
+/// A pointer of a tree, and the block to which it points.
 #[derive(Clone, Copy)]
 struct Pointer {
-    /// How far it stands below the root word.
+    /// Its depth below the root word.
     depth: u32,
-    /// How far its block stands above the leaves.
+    /// The level of its block above the leaves.
     level: u32,
-    /// Its number among the pointers at its depth.
+    /// Its index among the pointers at its depth.
     index: u64,
-    /// The block's number, 0 where the pointer is null.
+    /// The number of the block; 0 if the pointer is null.
     block: u32,
 }
 
-/// How many pointers of a node's block are live: those of its first slots.
+/// Returns the number of live pointers of a node's block: those of its first slots.
 fn live_slots(size: u64, top: Pointer) -> u32
     requires least { 1 ≤ top.level }
     requires most { top.level ≤ max_height }
@@ -107,8 +107,8 @@ fn live_slots(size: u64, top: Pointer) -> u32
     ((rest - 1) / covered_bytes(top.level) + 1).min(BLOCK_WORDS as u64) as u32
 }
 
-/// Whether all of these pointers are null. It looks at each, which takes less time than to stop at the first that
-/// isn't.
+/// Returns whether all of these pointers are null. It looks at each, which takes less time than to stop at the first
+/// that is not.
 fn are_null(pointers: &[u64]) -> bool
     ensures { result ≡ true → (i : ℕ) → i < length pointers.now → slice_index pointers.now i ≡ 0 }
 {
@@ -119,7 +119,8 @@ fn are_null(pointers: &[u64]) -> bool
     bits == 0
 }
 
-/// A slot behind one whose pointer is null, with none but null pointers between them. It may be null too.
+/// Returns a slot after one whose pointer is null, with only null pointers between them. Its own pointer may be null
+/// too.
 fn past_nulls(pointers: &[u64], slot: u32) -> u32
     requires low { slot < length pointers.now }
     requires few { length pointers.now ≤ block_words }
@@ -134,7 +135,7 @@ fn past_nulls(pointers: &[u64], slot: u32) -> u32
     next as u32
 }
 
-/// Takes out the blocks below a node above the leaves, whose own block has left the set.
+/// Takes out the blocks below a node above the leaves, whose own block is already taken out of the set.
 fn take_below<R: Region>(
     region: &R,
     tree: Tree,
@@ -169,7 +170,7 @@ fn take_below<R: Region>(
     while slot < live {
         let place = first + slot;
         let pointer = pointers[slot as usize];
-        // Where there may be nulls there may be very many.
+        // If there may be null pointers, there may be very many.
         if pointer == 0 && holes {
             slot = past_nulls(pointers, slot);
             continue;
@@ -197,8 +198,8 @@ fn take_below<R: Region>(
     Ok(())
 }
 
-/// The check that fails at the root word of a tree where it has no form: that of the height where it is above `top`, else
-/// that of the bits.
+/// Returns the check that fails at a malformed root word of a tree: that of the height if it is above `top`, else that
+/// of the bits.
 fn root_fault(tree: Tree, top: u32, place: u32) -> CheckFault
     ensures high { top < height_of tree.root → result.check ≡ Height }
     ensures low { height_of tree.root ≤ top → result.check ≡ PointerBits }
@@ -212,11 +213,14 @@ fn root_fault(tree: Tree, top: u32, place: u32) -> CheckFault
     CheckFault { check, place }
 }
 
-/// Takes the blocks of a tree out of the set of blocks that no tree has yet. `at` is the word of the region at which
-/// the root word stands, which the word of the size follows; where `holes` is false no pointer may be null, as in a
-/// directory and in the inode file. A pointer is live where a byte that it covers is below the size.
+/// Takes the blocks of a tree out of the set of blocks that no tree has yet. `at` is the number of the word of the
+/// region that is the root word; the word of the size follows it. If `holes` is false, no pointer may be null, as in a
+/// directory and in the inode file. A pointer is live if a byte that it covers is below the size.
 ///
-/// The answer is an error exactly where a check fails in the tree; the set has then lost some blocks, and is of no use.
+/// # Errors
+///
+/// - `CheckFault`: a check fails in the tree. It is returned in exactly this case. Some blocks are then taken out of
+///   the set, and its contents are not defined.
 pub fn take_tree<R: Region>(
     region: &R,
     at: u32,

@@ -1,7 +1,10 @@
-//! `bpfs format FILE --blocks N` makes FILE a file system of N blocks, of version 1 or that of `--version V`; `bpfs run FILE`
-//! serves the script of standard input over it, and writes the replies to standard output; `bpfs check FILE` says whether FILE
-//! is a file system, and what it holds; `bpfs play FILE --seed S --count C` tells what came of C turns; `bpfs export FILE`
-//! writes the script that makes its tree.
+//! The program `bpfs`.
+//!
+//! * `bpfs format FILE --blocks N` makes FILE a file system of N blocks, of version 1 or that of `--version V`.
+//! * `bpfs run FILE` serves the script of standard input over it, and writes the replies to standard output.
+//! * `bpfs check FILE` checks whether FILE is a file system, and prints its totals.
+//! * `bpfs play FILE --seed S --count C` prints the outcome of C operations.
+//! * `bpfs export FILE` writes the script that makes its tree.
 #![tactic(auto)]
 
 ghost use Rattle.std.specs.Prelude.{◌≡◌, IfOk, map, string_bytes};
@@ -21,7 +24,7 @@ use std::io::ErrorKind;
 use std::process::ExitCode;
 use std::{io, rt};
 
-/// The words as text.
+/// Borrows the arguments as text.
 fn texts(alloc: Global, words: &[String]) -> Result<Vec<&str>, AllocError>
     ensures { IfOk result (λ texts. map (λ text. text.now) texts.items ≡ map string_bytes words.entry.now) }
 {
@@ -32,7 +35,7 @@ fn texts(alloc: Global, words: &[String]) -> Result<Vec<&str>, AllocError>
     Ok(texts)
 }
 
-/// The name of the file that the words speak of, `None` where they are no command.
+/// Returns the name of the file in the arguments, `None` if they are no command.
 fn file_name<'a>(alloc: Global, words: &'a [&'a str]) -> Result<Option<&'a str>, AllocError> {
     match read_words(alloc, words) {
         Ok(
@@ -57,7 +60,7 @@ fn file_name<'a>(alloc: Global, words: &'a [&'a str]) -> Result<Option<&'a str>,
     }
 }
 
-/// What stands for the file of the program in a reason.
+/// Returns the name of the program's file for a reason, or `FILE` if it is unknown.
 fn known_name<'a>(alloc: Global, words: &'a [&'a str]) -> &'a str {
     match file_name(alloc, words) {
         Ok(Some(name)) => name,
@@ -65,7 +68,8 @@ fn known_name<'a>(alloc: Global, words: &'a [&'a str]) -> &'a str {
     }
 }
 
-/// The words of the call, the name under which the program was called first. None where one of them is no text.
+/// Returns the arguments of the call, first the name under which the program was called. Returns none if one of them
+/// is no text.
 fn program_words<R: Env + AllocGlobal>(runtime: &R) -> Result<Vec<String>, AllocError> {
     match env::args(runtime) {
         Ok(args) => args.collect(runtime.alloc()),
@@ -74,8 +78,8 @@ fn program_words<R: Env + AllocGlobal>(runtime: &R) -> Result<Vec<String>, Alloc
     }
 }
 
-/// Why the file of the program may be the one to which standard output goes: replies would be written over the image. `None`
-/// where it is known to be another one, or nothing is known of standard output.
+/// Returns the reason if standard output may go to the file of the program: replies would be written over the image.
+/// `None` if it is known to be another file, or nothing is known of standard output.
 fn own_output<'a, R: rt::Files<File = File>>(
     runtime: &R,
     alloc: Global,
@@ -102,7 +106,7 @@ struct LastErrors {
     files: Option<io::Error>,
 }
 
-/// Tells why the program ended so, where standard output does not tell it.
+/// Prints why the program ended with this status, if standard output does not say it.
 fn tell_end<E: Eprint>(
     runtime: &E,
     alloc: Global,
@@ -130,13 +134,13 @@ fn tell_end<E: Eprint>(
     }
 }
 
-/// Tells why nothing is done, and gives the exit status of that.
+/// Prints why nothing is done, and returns the exit status for it.
 fn refuse<E: Eprint>(runtime: &E, status: Status, reason: Reason<'_>) -> ExitCode {
     tell_reason(runtime, reason);
     ExitCode::from(status.code())
 }
 
-/// Tells that memory is out, and gives the exit status of that.
+/// Prints that memory lacks, and returns the exit status for it.
 fn out_of_memory<E: Eprint>(runtime: &E) -> ExitCode {
     refuse(runtime, Status::Memory, Reason::Memory)
 }

@@ -6,16 +6,16 @@ use bp_shell::Status;
 use std::alloc::Global;
 use std::io;
 
-/// What failed, ran out or is wrong, for a status that is no answer about FILE.
+/// The reason for a status that is no answer about FILE: a device that failed, memory that lacks, or wrong arguments.
 #[derive(Drop)]
 pub(crate) enum Reason<'a> {
-    /// Standard input, at this error of the system.
+    /// Standard input failed, with this error of the system.
     Input(Option<io::Error>),
-    /// Standard output.
+    /// Standard output failed.
     Output(Option<io::Error>),
-    /// The file of this name.
+    /// The file of this name failed.
     File(&'a str, Option<io::Error>),
-    /// The file of this name, to which standard output goes.
+    /// Standard output goes to the file of this name.
     OwnOutput(&'a str),
     /// There is no file of this name.
     Missing(&'a str),
@@ -27,13 +27,13 @@ pub(crate) enum Reason<'a> {
     LongInput,
     /// There is too little memory.
     Memory,
-    /// A word of the call is no text.
+    /// An argument is no text.
     NoText,
-    /// What is wrong with the words of the call.
+    /// The arguments are wrong, as this text says.
     Words(&'a str),
 }
 
-/// Writes what failed, with the system's word for it.
+/// Prints what failed, with the system's message.
 fn tell_fault<E: Eprint>(runtime: &E, device: &str, error: Option<io::Error>) -> io::Result<()> {
     match error {
         Some(error) => eprintln!(runtime; "bpfs: {device}: {error}"),
@@ -41,7 +41,7 @@ fn tell_fault<E: Eprint>(runtime: &E, device: &str, error: Option<io::Error>) ->
     }
 }
 
-/// Writes the reason as one line, as far as standard error takes it.
+/// Prints the reason as one line, as far as standard error takes it.
 pub(crate) fn tell_reason<E: Eprint>(runtime: &E, reason: Reason<'_>) {
     let _ = match reason {
         Reason::Input(error) => tell_fault(runtime, "standard input", error),
@@ -62,7 +62,7 @@ pub(crate) fn tell_reason<E: Eprint>(runtime: &E, reason: Reason<'_>) {
     };
 }
 
-/// Tells why the program ended so, where its one line says that and standard output did not take it.
+/// Prints why the program ended so, if its one line says that and standard output did not take the line.
 pub(crate) fn tell_untold<E: Eprint>(runtime: &E, status: Status, name: &str) {
     match status {
         Status::Missing => tell_reason(runtime, Reason::Missing(name)),
@@ -72,8 +72,8 @@ pub(crate) fn tell_untold<E: Eprint>(runtime: &E, status: Status, name: &str) {
     }
 }
 
-/// Tells why the words are no command: the help that they ask for, or what is wrong with them. It tells nothing where there
-/// is no memory for that.
+/// Prints why the arguments are no command: the help that they ask for, or the mistake in them. Prints nothing if
+/// memory for that lacks.
 pub(crate) fn tell_usage<E: Eprint>(runtime: &E, alloc: Global, words: &[&str]) {
     match read_words(alloc, words) {
         Err(WordsFault::Usage(mistake)) if mistake.use_stderr() => {

@@ -6,10 +6,10 @@ use std::os::fd::AsRawFd;
 use std::os::unix::fs::MetadataExt;
 use std::{fs, io, rt};
 
-/// The name under which the system tells what standard output is.
+/// The name under which the system shows the file of standard output.
 const OUTPUT: &str = "/proc/self/fd/1";
 
-/// Files that stand for closed streams, as long as they are held.
+/// Files in place of closed streams, as long as they are held.
 #[derive(Drop)]
 pub(crate) struct StandIns {
     _input: Option<File>,
@@ -17,10 +17,9 @@ pub(crate) struct StandIns {
     _errors: Option<File>,
 }
 
-/// Takes the descriptors of the standard streams that are closed, so that no file is opened under
-/// one of them and takes a reply, or is read as a script. Each use of such a stream then fails: the
-/// null device stands for the input where it is open for writing alone, and else for reading alone.
-/// Where all are open the null device need not be there.
+/// Takes the descriptors of the closed standard streams, so that no file is opened under one of them and takes a
+/// reply, or is read as a script. Each use of such a stream then fails: the null device replaces the input, open for
+/// writing only, and the outputs, open for reading only. If all streams are open, the null device need not exist.
 pub(crate) fn take_streams<R: rt::Files<File = File>>(runtime: &R) -> io::Result<StandIns> {
     if are_open(runtime) {
         return Ok(StandIns {
@@ -39,7 +38,8 @@ pub(crate) fn take_streams<R: rt::Files<File = File>>(runtime: &R) -> io::Result
     })
 }
 
-/// Whether each standard stream is known to be open: a new file, here the root, has the least descriptor that is free.
+/// Whether each standard stream is known to be open: a new file, here the root directory, gets the least free
+/// descriptor.
 fn are_open<R: rt::Files<File = File>>(runtime: &R) -> bool {
     match OpenOptions::new().read(true).open(runtime, "/") {
         Ok(root) => root.as_raw_fd() > 2,
@@ -47,8 +47,8 @@ fn are_open<R: rt::Files<File = File>>(runtime: &R) -> bool {
     }
 }
 
-/// The regular file to which standard output is known to go. Nothing is known where the system does not tell what standard
-/// output is.
+/// Returns the regular file to which standard output is known to go. Nothing is known if the system does not show the
+/// file of standard output.
 pub(crate) fn output_file<R: rt::Files<File = File>>(runtime: &R) -> Option<Metadata> {
     match fs::metadata(runtime, OUTPUT) {
         Ok(output) if output.is_file() => Some(output),
@@ -56,7 +56,7 @@ pub(crate) fn output_file<R: rt::Files<File = File>>(runtime: &R) -> Option<Meta
     }
 }
 
-/// Whether a name leads to this file. It does not where nothing has the name; any other error leaves that open.
+/// Whether a name leads to this file. It does not if nothing has the name; any other error leaves that open.
 pub(crate) fn leads_to<R: rt::Files<File = File>>(
     runtime: &R,
     name: &str,
@@ -69,7 +69,7 @@ pub(crate) fn leads_to<R: rt::Files<File = File>>(
     }
 }
 
-/// The file, where its descriptor is at most this one. A new file has the least that is free.
+/// Returns the file if its descriptor is at most `last`. A new file gets the least free descriptor.
 fn up_to(last: i32, file: File) -> Option<File> {
     if file.as_raw_fd() <= last {
         Some(file)

@@ -1,5 +1,5 @@
--- The numbers under which C is told how a call ended, and what else it is told. Each takes what stood before in what the
--- caller lends, then the number, and then what stands there now.
+-- The numbers that an export returns to C for the end of a call, and the results that it writes with them. Each
+-- definition takes the old contents of the caller's variables, then the returned number, and then the new contents.
 use Rattle.std.specs.Prelude.{◌≡◌, ◌≤◌, ℕ, List, Result, Ok, Err, true, false, drop, length, take}
 use Rattle.bp_plain.specs.declared.errors.FsError.{FsError}
 use Rattle.bp_plain.specs.Calls.{Answer, Refusal}
@@ -10,29 +10,31 @@ use Rattle.bp_plain.specs.Seen.{refusal_of}
 use Rattle.bpfs_c.specs.declared.asking.Found.{Found}
 use Rattle.bpfs_c.specs.declared.codes.Lack.{Lack}
 
--- where space lacks, it is told how much; else nothing is
+-- For `no_space` the caller's `Lack` gets the needed and the free blocks; for any other refusal it keeps its
+-- contents.
 abbrev pub HasLack : Refusal → Lack → Lack → Type 0
 HasLack (no_space need free) old new = new ≡ record { need = need; free = free }
 HasLack why old new = new ≡ old
 
--- a call that has nothing to tell ended so
+-- The number, and the contents of `Lack`, after a call whose only result is success or a refusal.
 abbrev pub IsEndedAs : Answer → Lack → ℕ → Lack → Type 0
 IsEndedAs done old code new = (code ≡ 0) × (new ≡ old)
 IsEndedAs (refused why) old code new = (code ≡ refusal_number why) × HasLack why old new
 IsEndedAs answer old code new = ⊥
 
--- .. and can't be refused for want of space
+-- The number after a call whose only result is success or a refusal, and that never fails for lack of space.
 abbrev pub IsEndedBy : Answer → ℕ → Type 0
 IsEndedBy done code = code ≡ 0
 IsEndedBy (refused why) code = code ≡ refusal_number why
 IsEndedBy answer code = ⊥
 
--- a number is told, or a refusal
+-- On success the number is 0 and the caller's variable gets the count; else the number is that of the error.
 abbrev pub TellsCount : Result ℕ FsError → ℕ → ℕ → ℕ → Type 0
 TellsCount (Ok count) old code new = (code ≡ 0) × (new ≡ count)
 TellsCount (Err error) old code new = (code ≡ refusal_number (refusal_of error)) × (new ≡ old)
 
--- bytes were read: they stand in front, and how many they are is told
+-- A read that succeeded wrote its bytes to the first elements of the caller's array and their number to `count`.
+-- Elements after them keep their values; after a refusal all do.
 abbrev pub IsRead : Answer → List ℕ → ℕ → ℕ → List ℕ → ℕ → Type 0
 IsRead (bytes content) into count code new_into new_count =
     (code ≡ 0) × (take new_count new_into ≡ content) × (new_count ≤ length new_into)
@@ -41,20 +43,20 @@ IsRead (refused why) into count code new_into new_count =
     (code ≡ refusal_number why) × (new_into ≡ into) × (new_count ≡ count)
 IsRead answer into count code new_into new_count = ⊥
 
--- what stands at a path is told
+-- The size and the kind of the file or directory at a path, as written to the caller's `Found`.
 abbrev pub TellsFound : Answer → Found → ℕ → Found → Type 0
 TellsFound (file_of size) old code new = (code ≡ 0) × (new ≡ record { size = size; is_dir = false })
 TellsFound (dir_of count) old code new = (code ≡ 0) × (new ≡ record { size = count; is_dir = true })
 TellsFound (refused why) old code new = (code ≡ refusal_number why) × (new ≡ old)
 TellsFound answer old code new = ⊥
 
--- how many names a file has is told
+-- The number of links of a file, as written to the caller's variable.
 abbrev pub TellsLinks : Answer → ℕ → ℕ → ℕ → Type 0
 TellsLinks (links_of count) old code new = (code ≡ 0) × (new ≡ count)
 TellsLinks (refused why) old code new = (code ≡ refusal_number why) × (new ≡ old)
 TellsLinks answer old code new = ⊥
 
--- how many names a directory has is told
+-- The number of entries of a listed directory, as written to the caller's variable.
 abbrev pub IsListed : Answer → ℕ → ℕ → ℕ → Type 0
 IsListed (names listing) old code new = (code ≡ 0) × (new ≡ length listing)
 IsListed (refused why) old code new = (code ≡ refusal_number why) × (new ≡ old)

@@ -1,4 +1,4 @@
--- The events of a format, as C is told them.
+-- The events of a format, as C gets them.
 use Rattle.std.specs.Prelude.{◌≡◌, ◌≤◌, ℕ, List}
 use Rattle.bp_limits.specs.Limits.{max_blocks, min_blocks}
 use Rattle.bp_limits.specs.Numbers.{version_numbered}
@@ -6,14 +6,15 @@ use Rattle.bp_volume.specs.Laid.{format_events}
 use Rattle.bpfs_c.specs.Events.{HasEvents}
 use Rattle.bpfs_c.specs.declared.logging.Logged.{Logged}
 
--- there is an image of so many blocks, and a version of this number
+-- An image may have this number of blocks, and this is the number of a version of the format.
 pub record CanFormat (blocks version : ℕ) : Type 0 where
   pub least : min_blocks ≤ blocks
   pub most : blocks ≤ max_blocks
   pub first : 1 ≤ version
   pub last : version ≤ 2
 
--- the events of the format are told; or there is no such image, or no memory
+-- The caller gets the events of the format, up to the length of its array. It gets none, and its variables keep their
+-- contents, where no such image exists (38) or allocation fails (12).
 pub data TellsFormat (blocks version : ℕ) (old : List Logged) (count code : ℕ) (new : List Logged) (new_count : ℕ) : Type 0 where
   told : CanFormat blocks version → code ≡ 0 →
       HasEvents (format_events (version_numbered version) blocks) 0 old new_count new →

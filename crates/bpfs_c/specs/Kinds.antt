@@ -1,4 +1,4 @@
--- Kinds as C sees them.
+-- The kinds of entries as C sees them: whether an entry is a directory's.
 use Rattle.std.specs.Prelude.{Bool, true, false}
 use Rattle.bp_layout.specs.declared.fields.Kind.{Kind}
 use Rattle.bp_layout.specs.declared.fields.Kind.TheVariants.{Dir, File}

@@ -5,21 +5,22 @@ use Rattle.bp_plain.specs.Calls.{Answer}
 use Rattle.bp_plain.specs.Calls.Answer.{names}
 use Rattle.bpfs_c.specs.Kinds.{is_dir_kind}
 
--- the names of a directory, each with what it names
+-- The entries of a directory: a name, and the kind of the file or directory that it refers to.
 abbrev pub Names : Type 0
 Names = List (Kind × List ℕ)
 
--- a call that lists names keeps them; any other keeps what was there
+-- The listing that a handle keeps after a call: that of a call that listed a directory, else the one before.
 abbrev pub listing_after : Answer → Option Names → Option Names
 listing_after (names listing) old = Some listing
 listing_after answer old = old
 
--- the name at an index of a listing, where there are both
+-- The entry at an index of a listing, if there is a listing and it has the index.
 abbrev pub entry_at : Option Names → ℕ → Option (Kind × List ℕ)
 entry_at None index = None
 entry_at (Some listing) index = slice_get listing index
 
--- the name is told where there is one, and room for it
+-- The entry is written to the caller's variables, where there is one and the array has room for its name. Else the
+-- number is 38, and the variables keep their contents.
 abbrev pub TellsName : Option (Kind × List ℕ) → List ℕ → ℕ → Bool → ℕ → List ℕ → ℕ → Bool → Type 0
 TellsName None name count is_dir code new_name new_count new_is_dir =
     (code ≡ 38) × (new_name ≡ name) × (new_count ≡ count) × (new_is_dir ≡ is_dir)

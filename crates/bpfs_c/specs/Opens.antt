@@ -1,4 +1,4 @@
--- How a handle is given a volume, and lets it go.
+-- How a handle gets a volume, and how it loses it.
 use Rattle.std.specs.Prelude.{◌≡◌, ◌⊎◌, ℕ, ◌*◌, ◌^◌, ◌-◌, List, [], length, min, Option, None, Some, Result, Ok, Err}
 use Rattle.bp_layout.specs.Checks.{number_of}
 use Rattle.bp_layout.specs.Formatted.{IsSized}
@@ -12,7 +12,8 @@ use Rattle.pm_region.specs.Memory.{Memory}
 use Rattle.bpfs_c.specs.declared.mounted.Mounted.{Mounted}
 use Rattle.bpfs_c.specs.declared.opening.Fault.{Fault}
 
--- the number of a fault, and what is told of it
+-- The number of a mount fault, and the fields of `Fault` that are written with it. The other fields keep their
+-- values.
 abbrev pub IsMountFault : MountFault → Fault → ℕ → Fault → Type 0
 IsMountFault NotFormatted old code new = (code ≡ 35) × (new ≡ old)
 IsMountFault (BadSize found wanted) old code new =
@@ -21,41 +22,43 @@ IsMountFault (Damaged check place) old code new =
     (code ≡ 37) × (new ≡ record old { check = number_of check; place = place })
 IsMountFault Lacking old code new = (code ≡ 12) × (new ≡ old)
 
--- the region of a copy of these words, with an empty log
+-- The region of a copy of these words, with an empty log.
 abbrev pub region_of : List ℕ → Memory
 region_of words = record { base = words; events = []; capacity = log_events; drains = 0 }
 
--- the bytes of words, as a number of 64 bits tells them
+-- The length of words in bytes, as a 64-bit number: at most 2^64 - 1.
 abbrev pub byte_count : List ℕ → ℕ
 byte_count words = min (8 * length words) (2 ^ 64 - 1)
 
--- what is told of words where no image has so many: their bytes, and those of the nearest image
+-- The fault of words whose number no image has: their length in bytes, and that of the image nearest in size.
 abbrev pub odd_size : List ℕ → MountFault
 odd_size words = BadSize (byte_count words) (wanted_length (byte_count words))
 
--- an image has so many words; or none has, which the fault tells
+-- An image may have this number of words; else the fault is `odd_size`.
 abbrev pub IsSizedOr : List ℕ → Result (Unit {0}) MountFault → Type 0
 IsSizedOr words (Ok nothing) = IsSized words
 IsSizedOr words (Err fault) = ¬ IsSized words × (fault ≡ odd_size words)
 
--- the volume is of a copy of these words, which are a file system; else the fault is one
+-- The volume is over a copy of these words, and they are a file system. Else the fault names the cause: no image has
+-- this number of words, allocation failed, or the words are no file system.
 abbrev pub Mounts : List ℕ → Result Memory MountFault → Type 0
 Mounts words (Ok volume) = IsSized words × (volume ≡ region_of words) × IsFileSystem words
 Mounts words (Err fault) =
     (¬ IsSized words × (fault ≡ odd_size words))
     ⊎ (IsSized words × ((fault ≡ Lacking) ⊎ (IsFault words fault × ¬ IsFileSystem words)))
 
--- a volume right after its mount: no listing is kept, no event was drained, and the tag is 0
+-- A volume right after its mount: no listing is kept, no event was drained, and the tag is 0.
 abbrev pub mounted_of : Memory → Mounted
 mounted_of volume = record { volume = volume; listing = None; drained = 0; tag = 0 }
 
--- the handle got this volume, or there is no memory for it
+-- The handle holds this volume and no listing (0), or allocation failed and the handle is unchanged (12).
 abbrev pub Holds : Memory → Option Mounted → ℕ → Option Mounted → Type 0
 Holds volume old code new =
     ((code ≡ 0) × (new ≡ Some (mounted_of volume))) ⊎ ((code ≡ 12) × (new ≡ old))
 
--- A handle that held nothing holds a volume of a copy of the words. It holds nothing where no image has so many words and
--- where they are no file system, which is told, and where there is no memory.
+-- A handle that held no volume then holds one over a copy of the words. It still holds none where no image has this
+-- number of words or they are no file system (the number and `Fault` give the cause), and where allocation fails. A
+-- handle that held a volume keeps it, and the number is 33.
 pub data Opens (words : List ℕ) (old : Option Mounted) (fault : Fault) (code : ℕ) (new : Option Mounted) (new_fault : Fault) : Type 0 where
   opened : old ≡ None → IsSized words → IsFileSystem words → code ≡ 0 →
       new ≡ Some (mounted_of (region_of words)) → new_fault ≡ fault →
@@ -69,7 +72,7 @@ pub data Opens (words : List ℕ) (old : Option Mounted) (fault : Fault) (code :
   short : old ≡ None → IsSized words → code ≡ 12 → new ≡ None → new_fault ≡ fault →
       Opens words old fault code new new_fault
 
--- a handle that holds nothing is told so
+-- The number that `bpfs_close` returns: 32 if the handle held no volume, else 0.
 abbrev pub TellsWhetherHeld : Option Mounted → ℕ → Type 0
 TellsWhetherHeld None code = code ≡ 32
 TellsWhetherHeld (Some held) code = code ≡ 0

@@ -1,4 +1,4 @@
--- What a handle owns: nothing, or the block of what it holds.
+-- The memory that a handle owns: nothing, or the heap block of its volume and listing.
 use Rattle.std.specs.Prelude.{Bool, true, false, Option, Some, None}
 use base.Fml.{Fml, feq, fsep}
 use denote.RawPtr.{Ptr}
@@ -8,7 +8,7 @@ use Rattle.std_alloc.specs.Box.Ownership.{box_owns}
 use Rattle.bpfs_c.specs.declared.mounted.Mounted.{Mounted}
 use Rattle.bpfs_c.specs.contracts.mounted.Mounted.{the_row}
 
--- the right to free a block of the C library's heap, which each handle to that heap gives
+-- The right to free a block of the heap of the C library. Each handle of that allocator gives it.
 abbrev pub freeable : Ty → Ptr → Fml
 freeable = ghosts.dealloc_token (record { memory = record { seal = tt } })
 

@@ -1,4 +1,4 @@
--- The pieces of a batch as C gives them.
+-- The pieces of a batch as C passes them.
 use Rattle.std.specs.List.{All}
 use Rattle.std.specs.Prelude.{◌≤◌, ℕ, List, length, map}
 use Rattle.bp_limits.specs.Limits.{max_pieces}
@@ -15,11 +15,11 @@ piece_of patch = record {
   bytes = record { at = patch.bytes_at; len = patch.bytes_length };
 }
 
--- they are few, and their parts lie in the text
+-- There are at most `max_pieces` pieces, and the path and the bytes of each lie in the text.
 pub record AreFit (text : List ℕ) (patches : List Patch) : Type 0 where
   pub few : length patches ≤ max_pieces
   pub lie : All (LiesIn text) (map piece_of patches)
 
--- the batch that they ask for
+-- The batch that the pieces ask for.
 abbrev pub patch_batch : List ℕ → List Patch → Call
 patch_batch text patches = batch (map (piece_in text) (map piece_of patches))

@@ -1,4 +1,4 @@
--- Pieces of the log as C sees them.
+-- Runs of the log as C sees them.
 use Rattle.std.specs.Prelude.{◌≡◌, ◌≤◌, ◌<◌, ℕ, List, length}
 use Rattle.pm_epochs.specs.declared.event.Event.{Event}
 use Rattle.pm_runs.specs.Runs.{TellsRun, run_length}
@@ -11,8 +11,9 @@ seen_run (Stores word count) = record { kind = 0; word = word }
 seen_run Barrier = record { kind = 1; word = 0 }
 seen_run Mark = record { kind = 2; word = 0 }
 
--- A run of the log is told, which begins with an event, and how many events it has: 0 of stores where there is room for no
--- value. Where there is no such event, these are 0 too, and nothing is told.
+-- The run of the log that begins with an event is written to the caller's variables, and the result is its number of
+-- events: 0 for stores where the array has no room for a value. Where the log has no such event, the result is 0 too,
+-- and the variables keep their contents.
 pub data HasPiece (events : List Event) (first : ℕ) (old : Told) (values : List ℕ) (count : ℕ) (new : Told) (new_values : List ℕ) : Type 0 where
   none : length events ≤ first → count ≡ 0 → new ≡ old → new_values ≡ values →
       HasPiece events first old values count new new_values

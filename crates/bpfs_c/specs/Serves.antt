@@ -1,4 +1,4 @@
--- What an export does to a handle.
+-- The effect of an export on the handle.
 use Rattle.std.specs.Prelude.{◌≡◌, ◌≤◌, ◌<◌, ℕ, Option, Some, None, Result}
 use Rattle.std.specs.Borrow.{MutBor}
 use Rattle.std.specs.Fn.{FnOnceReturnsAtMut, Once}
@@ -11,13 +11,13 @@ use Rattle.bp_volume.specs.Seen.{unit_answer}
 use Rattle.bpfs_c.specs.Listings.{listing_after}
 use Rattle.bpfs_c.specs.declared.mounted.Mounted.{Mounted}
 
--- Whatever this does to a volume is this call.
+-- Whatever the function does to a volume, it is this call.
 abbrev pub IsCall : {F : Type 0} → Once F (MutBor Memory × Unit {0}) (Result (Unit {0}) FsError × (MutBor Memory × Unit {0})) → F → Call → Type 0
 IsCall does act call =
     (old new : Memory) (ending : Result (Unit {0}) FsError) → FnOnceReturnsAtMut does act old ending new
     → FileCall old call (unit_answer ending) new
 
--- The call was made on the volume that is held, with an answer that is told.
+-- The call was made on the volume of the handle, and the caller's variables have its answer.
 pub record Serves (old : Mounted) (call : Call) (Told : Answer → Type 0) (new : Option Mounted) : Type 0 where
   pub answer : Answer
   pub volume : Memory
@@ -25,8 +25,9 @@ pub record Serves (old : Mounted) (call : Call) (Told : Answer → Type 0) (new 
   pub held : new ≡ Some (record old { volume = volume; listing = listing_after answer old.listing })
   pub told : Told answer
 
--- What an export does that makes a call: nothing where the handle holds no volume, or where the log has no room for a
--- call, so that no event is ever let go; and else the call. Where it does nothing, what the caller lends is the same.
+-- The effect of an export that makes a call: nothing where the handle holds no volume (32) or the log has room for
+-- fewer events than a call may need (34), so that no event is ever dropped; else the call. Where it does nothing, the
+-- caller's variables keep their contents.
 pub data Exported (old : Option Mounted) (call : Call) (Told : Answer → Type 0) (Same : Type 0) (code : ℕ) (new : Option Mounted) : Type 0 where
   closed : old ≡ None → code ≡ 32 → new ≡ None → Same → Exported old call Told Same code new
   full : (held : Mounted) → old ≡ Some held → room_in held.volume < call_room → code ≡ 34 → new ≡ old → Same →
@@ -34,7 +35,7 @@ pub data Exported (old : Option Mounted) (call : Call) (Told : Answer → Type 0
   served : (held : Mounted) → old ≡ Some held → call_room ≤ room_in held.volume → Serves held call Told new →
       Exported old call Told Same code new
 
--- What an export does that looks at what a handle holds: that stays as it is.
+-- The effect of an export that only looks at the volume or the listing of a handle: the handle is unchanged.
 pub data Looked (old : Option Mounted) (Told : Mounted → Type 0) (Same : Type 0) (code : ℕ) (new : Option Mounted) : Type 0 where
   closed : old ≡ None → code ≡ 32 → new ≡ None → Same → Looked old Told Same code new
   looked : (held : Mounted) → old ≡ Some held → new ≡ Some held → Told held → Looked old Told Same code new

@@ -1,4 +1,4 @@
--- What a volume has in all, as C sees it.
+-- Block counts and totals of a volume, as C sees them.
 use Rattle.std.specs.Prelude.{◌≡◌, ◌^◌, ◌%◌, ◌/◌}
 use Rattle.pm_region.specs.Memory.{Memory, current_words}
 use Rattle.bp_layout.specs.Whole.{HasSpace}
@@ -10,7 +10,8 @@ use Rattle.bpfs_c.specs.declared.space.Sums.{Sums}
 abbrev pub HasBlockCounts : Memory → Blocks → Type 0
 HasBlockCounts memory blocks = HasSpace (current_words memory) blocks.free × HasLive (current_words memory) blocks.live
 
--- the bytes are above 2^64 only in sum: so many times, and the rest
+-- The totals as C gets them. Only the sum of all bytes may exceed 64 bits: it is split into its quotient and its
+-- remainder by 2^64.
 abbrev pub sums_of : Totals → Sums
 sums_of totals = record {
   files = totals.files;

@@ -1,7 +1,8 @@
--- Words as they are told.
+-- Words of the volume, as C gets them.
 use Rattle.std.specs.Prelude.{◌≡◌, ◌≤◌, ◌<◌, ◌+◌, ◌⊎◌, ℕ, List, length, slice_range}
 
--- the words from one on fill what the caller lends, where there are so many
+-- The words from index `first` on fill the caller's array, if the volume has that many; else the number is 38, and
+-- the array keeps its contents.
 abbrev pub TellsWords : List ℕ → ℕ → List ℕ → ℕ → List ℕ → Type 0
 TellsWords words first old code new =
     ((first + length old ≤ length words) × (code ≡ 0) × (new ≡ slice_range words first (first + length old)))

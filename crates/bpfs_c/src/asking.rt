@@ -1,4 +1,4 @@
-//! The calls that tell what stands at a path.
+//! Exports that look up a path: `bpfs_read`, `bpfs_stat`, `bpfs_links`.
 
 ghost use Rattle.std.specs.Prelude.{◌≡◌, length};
 ghost use Rattle.bp_plain.specs.Calls.Call.{links, read, stat};
@@ -14,17 +14,17 @@ use bp_layout::Stat;
 use bp_plain::FsError;
 use std::alloc::Global;
 
-/// What stands at a path: a file or a directory.
+/// A file or a directory at a path.
 #[repr(C)]
 #[derive(Clone, Copy, Drop)]
 pub struct Found {
-    /// The bytes of a file, or how many names a directory has.
+    /// The size of a file in bytes, or the number of entries of a directory.
     pub size: u64,
     /// Whether it is a directory.
     pub is_dir: bool,
 }
 
-/// Tells how many bytes were read.
+/// Stores the number of bytes that were read, and returns the number of the call's end.
 pub(crate) fn tell_count(ending: Result<usize, FsError>, count: &mut usize) -> u32
     ensures { TellsCount ending count.old result count.new }
 {
@@ -62,7 +62,7 @@ pub extern "C" fn bpfs_read(
     code
 }
 
-/// Tells what stands at a path.
+/// Stores the size and the kind at a path, and returns the number of the call's end.
 pub(crate) fn tell_found(ending: Result<Stat, FsError>, found: &mut Found) -> u32
     ensures { TellsFound (stat_answer_of ending) found.old result found.new }
 {
@@ -85,7 +85,7 @@ pub(crate) fn tell_found(ending: Result<Stat, FsError>, found: &mut Found) -> u3
     }
 }
 
-/// Says what stands at a path.
+/// Looks up a path: its kind, and its size or number of entries.
 #[unsafe(no_mangle)]
 pub extern "C" fn bpfs_stat(
     alloc: Global,
@@ -107,7 +107,7 @@ pub extern "C" fn bpfs_stat(
     code
 }
 
-/// Tells how many names a file has.
+/// Stores the number of links of a file, and returns the number of the call's end.
 fn tell_links(ending: Result<u32, FsError>, count: &mut u32) -> u32
     ensures { TellsLinks (links_answer ending) count.old result count.new }
 {
@@ -120,7 +120,7 @@ fn tell_links(ending: Result<u32, FsError>, count: &mut u32) -> u32
     }
 }
 
-/// Says how many names the file at a path has.
+/// Counts the hard links of the file at a path.
 #[unsafe(no_mangle)]
 pub extern "C" fn bpfs_links(
     alloc: Global,

@@ -1,4 +1,4 @@
-//! Bytes into several files at once.
+//! Writes to several files at once: `bpfs_batch`.
 
 ghost use Rattle.std.specs.Prelude.{◌≡◌, ◌≤◌, ◌↔◌, ◌+◌, IsTrue, MatchOption, map};
 ghost use Rattle.bp_plain.specs.Seen.{LiesIn};
@@ -13,23 +13,23 @@ use bp_limits::MAX_PIECES;
 use bp_plain::{Piece, Span};
 use std::alloc::Global;
 
-/// Bytes for the file at a path, from an offset on. Path and bytes are parts of one text.
+/// A write of bytes to the file at a path, from an offset on. Path and bytes are parts of one text.
 #[repr(C)]
 #[derive(Clone, Copy, Drop)]
 pub struct Patch {
-    /// Where the path begins in the text, in bytes.
+    /// The offset of the path in the text, in bytes.
     pub path_at: u32,
-    /// How many bytes the path has.
+    /// The length of the path, in bytes.
     pub path_length: u32,
-    /// The byte of the file at which the new ones begin.
+    /// The offset in the file at which the new bytes begin.
     pub offset: u64,
-    /// Where the new bytes begin in the text, in bytes.
+    /// The offset of the new bytes in the text, in bytes.
     pub bytes_at: u32,
-    /// How many new bytes there are.
+    /// The number of new bytes.
     pub bytes_length: u32,
 }
 
-/// The piece that a patch is.
+/// Converts a patch of C to a piece of a batch.
 fn as_piece(patch: &Patch) -> Piece
     ensures { result ≡ piece_of patch.now }
 {
@@ -46,7 +46,7 @@ fn as_piece(patch: &Patch) -> Piece
     }
 }
 
-/// Whether a part lies in a text of so many bytes.
+/// Whether a part lies in a text of `len` bytes.
 fn fits(span: Span, len: usize) -> bool
     ensures { IsTrue result ↔ (span.at + span.len ≤ len) }
 {
@@ -54,14 +54,14 @@ fn fits(span: Span, len: usize) -> bool
     at <= len && span.len as usize <= len - at
 }
 
-/// Whether the parts of a piece lie in a text.
+/// Whether both parts of a piece lie in a text.
 fn lies_in(text: &[u8], piece: &Piece) -> bool
     ensures { IsTrue result ↔ LiesIn text.now piece.now }
 {
     fits(piece.path, text.len()) && fits(piece.bytes, text.len())
 }
 
-/// The pieces that patches are, where these are few and their parts lie in the text.
+/// Converts patches to the pieces of a batch, if there are at most `MAX_PIECES` and their parts lie in the text.
 fn pieces_in(text: &[u8], patches: &[Patch]) -> Option<ArrayVec<Piece, MAX_PIECES>>
     ensures { MatchOption result (¬ AreFit text.now patches.now)
         (λ pieces. AreFit text.now patches.now × (pieces.items ≡ map piece_of patches.now)) }
@@ -80,7 +80,7 @@ fn pieces_in(text: &[u8], patches: &[Patch]) -> Option<ArrayVec<Piece, MAX_PIECE
     Some(pieces)
 }
 
-/// Puts bytes into several files, or into one, all at once.
+/// Writes bytes to one or several files, all at once.
 #[unsafe(no_mangle)]
 pub extern "C" fn bpfs_batch(
     alloc: Global,

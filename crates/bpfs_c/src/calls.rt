@@ -1,4 +1,4 @@
-//! The calls that may change the tree.
+//! Exports that may change the tree.
 
 ghost use Rattle.std.specs.Prelude.{◌≡◌};
 ghost use Rattle.bp_plain.specs.Calls.Answer.{done};
@@ -15,7 +15,7 @@ use bp_volume::Volume;
 use pm_runs::RedoRegion;
 use std::alloc::Global;
 
-/// Makes a call that changes the tree of the volume that is held, where its log has room for one.
+/// Makes a call that changes the tree of the handle's volume, if its log has room for a call.
 fn change<F: FnOnce(&mut Volume<RedoRegion>) -> Result<(), FsError>>(
     alloc: Global,
     handle: &mut Handle,
@@ -38,7 +38,7 @@ fn change<F: FnOnce(&mut Volume<RedoRegion>) -> Result<(), FsError>>(
     code
 }
 
-/// Makes an empty file.
+/// Creates an empty file.
 #[unsafe(no_mangle)]
 pub extern "C" fn bpfs_create(
     alloc: Global,
@@ -51,7 +51,7 @@ pub extern "C" fn bpfs_create(
     change(alloc, handle, lack, |volume| volume.create(path))
 }
 
-/// Makes an empty directory.
+/// Creates an empty directory.
 #[unsafe(no_mangle)]
 pub extern "C" fn bpfs_mkdir(
     alloc: Global,
@@ -64,7 +64,7 @@ pub extern "C" fn bpfs_mkdir(
     change(alloc, handle, lack, |volume| volume.mkdir(path))
 }
 
-/// Takes this name from a file, and removes the file with its last name.
+/// Removes a link to a file, and deletes the file with its last link.
 #[unsafe(no_mangle)]
 pub extern "C" fn bpfs_unlink(
     alloc: Global,
@@ -90,7 +90,7 @@ pub extern "C" fn bpfs_rmdir(
     change(alloc, handle, lack, |volume| volume.rmdir(path))
 }
 
-/// Moves what stands at a path to another one.
+/// Moves a file or directory to another path.
 #[unsafe(no_mangle)]
 pub extern "C" fn bpfs_rename(
     alloc: Global,
@@ -104,7 +104,7 @@ pub extern "C" fn bpfs_rename(
     change(alloc, handle, lack, |volume| volume.rename(from, to))
 }
 
-/// Gives a file one more name.
+/// Gives a file one more hard link.
 #[unsafe(no_mangle)]
 pub extern "C" fn bpfs_link(
     alloc: Global,
@@ -118,7 +118,7 @@ pub extern "C" fn bpfs_link(
     change(alloc, handle, lack, |volume| volume.link(from, to))
 }
 
-/// Writes bytes into a file.
+/// Writes bytes to a file.
 #[unsafe(no_mangle)]
 pub extern "C" fn bpfs_write(
     alloc: Global,
@@ -133,7 +133,7 @@ pub extern "C" fn bpfs_write(
     change(alloc, handle, lack, |volume| volume.write(path, off, bytes))
 }
 
-/// Gives a file another size.
+/// Changes the size of a file.
 #[unsafe(no_mangle)]
 pub extern "C" fn bpfs_truncate(
     alloc: Global,
@@ -147,7 +147,7 @@ pub extern "C" fn bpfs_truncate(
     change(alloc, handle, lack, |volume| volume.truncate(path, size))
 }
 
-/// Makes the format version 2.
+/// Changes the version of the image's format to 2.
 #[unsafe(no_mangle)]
 pub extern "C" fn bpfs_upgrade(alloc: Global, handle: &mut Handle) -> u32
     ensures { Exported handle.old.held upgrade (λ answer. (answer ≡ done) × (result ≡ 0)) (Unit {0}) result

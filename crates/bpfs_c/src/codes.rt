@@ -1,4 +1,4 @@
-//! The numbers under which C is told how a call ended.
+//! The numbers that exports return for the end of a call.
 
 ghost use Rattle.std.specs.Prelude.{◌≡◌, Result, Ok, Err};
 ghost use Rattle.bp_plain.specs.Refusals.{refusal_number};
@@ -8,10 +8,10 @@ ghost use Rattle.bpfs_c.specs.Codes.{HasLack, IsEndedAs};
 
 use bp_plain::FsError;
 
-/// The call is done.
+/// The call succeeded.
 pub const OK: u32 = 0;
 
-/// There is no memory for the volume.
+/// Allocation of memory for the volume failed.
 pub const NO_MEMORY: u32 = 12;
 
 /// The handle holds no volume.
@@ -20,28 +20,28 @@ pub const CLOSED: u32 = 32;
 /// The handle holds a volume already.
 pub const OPEN: u32 = 33;
 
-/// The log has no room for a call: its events are to be carried, and then it is to be drained.
+/// The log has no room for a call: carry its events, then drain it.
 pub const LOG_FULL: u32 = 34;
 
-/// The words don't begin with the mark of a format.
+/// The words do not begin with the magic number of a version of the format.
 pub const NOT_FORMATTED: u32 = 35;
 
-/// No image has so many words, or it was formatted for another number.
+/// No image has this number of words, or the image was formatted for another number.
 pub const BAD_SIZE: u32 = 36;
 
 /// A check of the format fails.
 pub const DAMAGED: u32 = 37;
 
-/// There is no such place in the words or in the listing, or the caller's array is too short or too long.
+/// No such place in the words or in the listing, or the caller's array is too short or too long.
 pub const OUT_OF_RANGE: u32 = 38;
 
-/// Why a call is refused for want of space.
+/// The blocks that a call needs and those that are free, after a refusal for lack of space.
 #[repr(C)]
 #[derive(Clone, Copy, Drop)]
 pub struct Lack {
-    /// The blocks that the call needs.
+    /// The number of blocks that the call needs.
     pub need: u32,
-    /// The blocks that are free.
+    /// The number of free blocks.
     pub free: u32,
 }
 
@@ -52,7 +52,7 @@ pub(crate) fn number_of(error: FsError) -> u32
     error.number() as u32
 }
 
-/// The number of a refusal; where space lacks it tells how much.
+/// Returns the number of a refusal; for lack of space it also stores the needed and the free blocks.
 fn refused(error: FsError, lack: &mut Lack) -> u32
     ensures number { result ≡ refusal_number (refusal_of error) }
     ensures lack { HasLack (refusal_of error) lack.old lack.new }
@@ -63,7 +63,7 @@ fn refused(error: FsError, lack: &mut Lack) -> u32
     number_of(error)
 }
 
-/// The number of a call's end.
+/// Returns the number of a call's end; for lack of space it also stores the needed and the free blocks.
 pub(crate) fn ended(ending: Result<(), FsError>, lack: &mut Lack) -> u32
     ensures { IsEndedAs (unit_answer ending) lack.old result lack.new }
 {

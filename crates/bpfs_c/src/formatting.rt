@@ -1,4 +1,4 @@
-//! The events of a format.
+//! The events of a format: `bpfs_format_events`.
 ghost use Rattle.bpfs_c.specs.Formats.{TellsFormat};
 
 use crate::codes::{NO_MEMORY, OK, OUT_OF_RANGE};
@@ -8,7 +8,8 @@ use bp_volume::lay_front;
 use pm_runs::RedoRegion;
 use std::alloc::Global;
 
-/// The events that make an empty file system of a version and of so many blocks, whatever the words hold.
+/// Copies the events that make an empty file system of this version and this number of blocks, whatever the words
+/// hold.
 #[unsafe(no_mangle)]
 pub extern "C" fn bpfs_format_events(
     alloc: Global,

@@ -1,4 +1,4 @@
-//! Handles. All raw pointers of the crate stand here.
+//! Handles. All raw pointers of the crate are in this module.
 
 ghost use Rattle.std.specs.Prelude.{◌≡◌, Option, Some, None};
 ghost use Rattle.bpfs_c.specs.Held.{IsHeld, IsSealed};
@@ -12,7 +12,7 @@ use std::marker::Model;
 use std::mem::replace;
 use std::ptr::null_mut;
 
-/// A volume on the heap, or none. C sees a pointer that it does not follow, and whether there is one.
+/// A volume on the heap, or none. C sees a pointer that it does not follow, and whether there is a volume.
 #[repr(C)]
 pub struct Handle {
     at: *mut u8,
@@ -25,7 +25,7 @@ impl Model for Handle {
 }
 
 impl Handle {
-    /// A handle that holds nothing.
+    /// Makes a handle that holds no volume.
     pub fn closed() -> Handle
         ensures { result.held ≡ None }
     {
@@ -35,7 +35,7 @@ impl Handle {
         }
     }
 
-    /// A handle that holds this.
+    /// Makes a handle that holds this volume.
     fn seal(loose: Loose<Mounted, Global>) -> Handle
         ensures { result.held ≡ Some loose.value }
     {
@@ -46,7 +46,7 @@ impl Handle {
         }
     }
 
-    /// What it holds, as its pointer.
+    /// Takes the volume out of a handle, as its pointer.
     fn unseal(self, alloc: Global) -> Option<Loose<Mounted, Global>>
         ensures { IsSealed self.held result }
     {
@@ -61,7 +61,7 @@ impl Handle {
         }
     }
 
-    /// What it holds.
+    /// Takes the volume out of a handle, as a box.
     pub fn into_held(self, alloc: Global) -> Option<Box<Mounted>>
         ensures { IsHeld self.held result }
     {
@@ -71,7 +71,7 @@ impl Handle {
         }
     }
 
-    /// Takes what it holds; it holds nothing then.
+    /// Takes the volume out of a handle, which holds none then.
     pub fn take(&mut self, alloc: Global) -> Option<Box<Mounted>>
         ensures taken { IsHeld self.old.held result }
         ensures closed { self.new.held ≡ None }
@@ -79,7 +79,7 @@ impl Handle {
         replace(self, Handle::closed()).into_held(alloc)
     }
 
-    /// Gives this to a handle, which lets go what it held.
+    /// Gives a volume to a handle. A volume that the handle held is freed.
     pub fn put(&mut self, alloc: Global, mounted: Box<Mounted>)
         ensures { self.new.held ≡ Some mounted.value }
     {

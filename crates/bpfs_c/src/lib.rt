@@ -1,5 +1,5 @@
-//! The volume for programs in C: `bpfs.h` says what each call does. A handle holds a volume on the heap, or none. The
-//! events of its log are the caller's to carry to what it keeps the words in.
+//! The volume for programs in C; `bpfs.h` describes each call. A handle holds a volume on the heap, or none. The
+//! caller carries the events of its log to the storage of its words.
 #![tactic(auto)]
 
 pub mod asking;

@@ -1,4 +1,4 @@
-//! The names in a directory.
+//! Listings of directories: `bpfs_list`, `bpfs_listed`.
 
 ghost use Rattle.std.specs.Prelude.{◌≡◌};
 ghost use Rattle.bp_plain.specs.Calls.Call.{list};
@@ -15,7 +15,7 @@ use bp_layout::{Kind, Listing};
 use bp_plain::FsError;
 use std::alloc::Global;
 
-/// Keeps a listing, and tells how many names it has.
+/// Keeps a listing, stores the number of its entries, and returns the number of the call's end.
 pub(crate) fn keep(
     kept: &mut Option<Listing>,
     ending: Result<Listing, FsError>,
@@ -34,7 +34,7 @@ pub(crate) fn keep(
     }
 }
 
-/// Lists the names in a directory. The handle keeps them until the next listing.
+/// Lists a directory. The handle keeps the entries until the next listing.
 #[unsafe(no_mangle)]
 pub extern "C" fn bpfs_list(
     alloc: Global,
@@ -58,7 +58,7 @@ pub extern "C" fn bpfs_list(
     code
 }
 
-/// Copies the name at an index of a listing.
+/// Copies the name and the kind of the entry at an index of a listing.
 fn copy_name(
     listing: &Option<Listing>,
     index: usize,
@@ -85,7 +85,7 @@ fn copy_name(
     OK
 }
 
-/// Tells the name at an index of the last listing.
+/// Gets the entry at an index of the last listing: its name, the length of the name, and whether it is a directory's.
 #[unsafe(no_mangle)]
 pub extern "C" fn bpfs_listed(
     alloc: Global,

@@ -1,4 +1,4 @@
-//! The log, which is the caller's to carry, event by event; and the words.
+//! The log, which the caller carries event by event, and the words of the volume.
 
 ghost use Rattle.std.specs.Prelude.{◌≡◌, ◌≤◌, ◌<◌, ◌+◌, ◌^◌, length, slice_range};
 ghost use Rattle.pm_region.specs.Memory.{current_words};
@@ -19,22 +19,22 @@ pub const STORE: u32 = 0;
 /// The kind of a barrier.
 pub const BARRIER: u32 = 1;
 
-/// The kind of the end of a call.
+/// The kind of an end-of-call marker.
 pub const MARK: u32 = 2;
 
-/// An event: a store of a word, a barrier, or the end of a call.
+/// An event: a store of a word, a barrier, or an end-of-call marker.
 #[repr(C)]
 #[derive(Clone, Copy, Drop)]
 pub struct Logged {
     /// `STORE`, `BARRIER` or `MARK`.
     pub kind: u32,
-    /// The word that is stored to, counted from the start of the image; 0 where nothing is stored.
+    /// The index of the stored word, from the start of the image; 0 for other events.
     pub word: u32,
-    /// What is stored there; 0 where nothing is.
+    /// The stored value; 0 for other events.
     pub value: u64,
 }
 
-/// The event as C sees it.
+/// Converts an event to the record that C sees.
 fn seen(event: Event) -> Logged
     ensures { result ≡ seen_event event }
 {
@@ -57,7 +57,8 @@ fn seen(event: Event) -> Logged
     }
 }
 
-/// Copies events of a region's log from this one on, as many as there are and as there is room for.
+/// Copies events of a region's log from index `first` on, as many as there are and `into` has room for. Returns their
+/// number.
 pub(crate) fn copy_events(region: &RedoRegion, first: usize, into: &mut [Logged]) -> usize
     ensures { HasEvents region.now.events first into.old result into.new }
 {
@@ -68,7 +69,7 @@ pub(crate) fn copy_events(region: &RedoRegion, first: usize, into: &mut [Logged]
     count
 }
 
-/// How many events the log has.
+/// Returns the number of events of the log; 0 if the handle holds no volume.
 #[unsafe(no_mangle)]
 pub extern "C" fn bpfs_event_count(alloc: Global, handle: &mut Handle) -> usize
     ensures count { result ≡ length (held_events handle.old.held) }
@@ -82,7 +83,7 @@ pub extern "C" fn bpfs_event_count(alloc: Global, handle: &mut Handle) -> usize
     count
 }
 
-/// Copies events of the log.
+/// Copies events of the log from index `first` on, and returns their number; 0 if the handle holds no volume.
 #[unsafe(no_mangle)]
 pub extern "C" fn bpfs_events(
     alloc: Global,
@@ -101,7 +102,7 @@ pub extern "C" fn bpfs_events(
     count
 }
 
-/// Empties the log, all of which was carried.
+/// Empties the log, all of which the caller has carried.
 #[unsafe(no_mangle)]
 pub extern "C" fn bpfs_drain(alloc: Global, handle: &mut Handle) -> u32
     ensures { IsDrained handle.old.held result handle.new.held }
@@ -131,7 +132,7 @@ pub extern "C" fn bpfs_drained(alloc: Global, handle: &mut Handle) -> u64
     count
 }
 
-/// Copies a region's words from this one on, one by one.
+/// Copies words of a region from index `first` on, one by one.
 fn copy_by_word(region: &RedoRegion, first: u32, into: &mut [u64])
     requires in_range { first + length into.old ≤ length region.now.base }
     requires fits { first + length into.old < 2 ^ 32 }
@@ -142,7 +143,7 @@ fn copy_by_word(region: &RedoRegion, first: u32, into: &mut [u64])
     }
 }
 
-/// Copies a region's words from this one on, which stand behind its head.
+/// Copies words of a region from index `first` on, all of which are past its head.
 fn copy_run(region: &RedoRegion, first: u32, into: &mut [u64])
     requires in_range { first + length into.old ≤ length region.now.base }
     requires fits { first + length into.old < 2 ^ 32 }
@@ -156,7 +157,7 @@ fn copy_run(region: &RedoRegion, first: u32, into: &mut [u64])
     into.copy_from_slice(region.load_words(first, count));
 }
 
-/// Copies a region's words from this one on, where there are so many.
+/// Copies words of a region from index `first` on, if it has that many.
 fn copy_words(region: &RedoRegion, first: u32, into: &mut [u64]) -> u32
     ensures { TellsWords (current_words region.now) first into.old result into.new }
 {

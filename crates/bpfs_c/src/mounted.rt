@@ -1,4 +1,4 @@
-//! What a handle holds.
+//! The contents of a handle that holds a volume.
 
 ghost use Rattle.std.specs.Prelude.{◌≤◌, ◌↔◌, IsTrue};
 ghost use Rattle.bp_limits.specs.Limits.{call_room};
@@ -15,7 +15,7 @@ use pm_runs::RedoRegion;
 pub struct Mounted {
     /// The volume, over a copy of the caller's words.
     pub volume: Volume<RedoRegion>,
-    /// The names that the last listing found.
+    /// The entries that the last listing found.
     pub listing: Option<Listing>,
     /// How many events drains have removed from the log since the mount, modulo 2^64.
     pub drained: u64,
@@ -23,7 +23,7 @@ pub struct Mounted {
     pub tag: u64,
 }
 
-/// Whether the log has room for a call, so that none of its events is let go.
+/// Whether the log has room for a call, so that none of its events is dropped.
 pub(crate) fn has_room(mounted: &Mounted) -> bool
     ensures { IsTrue result ↔ (call_room ≤ room_in mounted.now.volume) }
 {

@@ -1,4 +1,4 @@
-//! Opening and closing.
+//! Mounting and closing.
 
 ghost use Rattle.std.specs.Prelude.{[], ◌≡◌, IfOk, None};
 ghost use Rattle.bp_layout.specs.Formatted.{IsSized};
@@ -15,23 +15,23 @@ use pm_raw::RawArray;
 use pm_runs::RedoRegion;
 use std::alloc::{AllocError, Global};
 
-/// Why words are no image: the check that fails and the word at which it does, or the bytes that there are and those that
-/// are wanted. The two that are not told stay as they were.
+/// Why words are no image: the check that fails and the word at which it does, or the number of bytes found and
+/// wanted. The two fields that a fault does not set keep their values.
 #[repr(C)]
 #[derive(Clone, Copy, Drop)]
 pub struct Fault {
     /// The number of the check.
     pub check: u32,
-    /// The word, counted from the start of the image.
+    /// The index of the word, from the start of the image.
     pub place: u32,
-    /// How many bytes the words are, at most `u64::MAX`.
+    /// The length of the words in bytes, at most `u64::MAX`.
     pub found: u64,
-    /// How many bytes the image says that it has, at most `u64::MAX`. Where no image has so many words: how many the one
-    /// has that is nearest in size.
+    /// The length in bytes that the image states for itself, at most `u64::MAX`. Where no image has this number of
+    /// words: the length of the image that is nearest in size.
     pub wanted: u64,
 }
 
-/// The number of a fault of an image, which it tells.
+/// Returns the number of a mount fault, and stores its details.
 fn faulty(fault: MountFault, told: &mut Fault) -> u32
     ensures { IsMountFault fault told.old result told.new }
 {
@@ -51,7 +51,7 @@ fn faulty(fault: MountFault, told: &mut Fault) -> u32
     }
 }
 
-/// Tests whether an image may have so many words.
+/// Tests whether an image may have this number of words.
 fn test_size(words: &[u64]) -> Result<(), MountFault>
     ensures { IsSizedOr words.now result }
 {
@@ -59,7 +59,7 @@ fn test_size(words: &[u64]) -> Result<(), MountFault>
     Ok(())
 }
 
-/// An array of these words.
+/// Copies the words into a new array.
 fn array_of(alloc: Global, words: &[u64]) -> Result<RawArray<u64>, AllocError>
     requires { IsSized words.now }
     ensures { IfOk result (λ array. array ≡ words.now) }
@@ -69,7 +69,7 @@ fn array_of(alloc: Global, words: &[u64]) -> Result<RawArray<u64>, AllocError>
     Ok(array)
 }
 
-/// A region of these words.
+/// Copies the words into a new region.
 fn copy(alloc: Global, words: &[u64]) -> Result<RedoRegion, AllocError>
     requires { IsSized words.now }
     ensures { IfOk result (λ region. region ≡ record {
@@ -84,7 +84,7 @@ fn copy(alloc: Global, words: &[u64]) -> Result<RedoRegion, AllocError>
     Ok(region)
 }
 
-/// Mounts a copy of these words.
+/// Mounts a copy of the words.
 fn mount(alloc: Global, words: &[u64]) -> Result<Volume<RedoRegion>, MountFault>
     ensures { Mounts words.now result }
 {
@@ -98,7 +98,7 @@ fn mount(alloc: Global, words: &[u64]) -> Result<Volume<RedoRegion>, MountFault>
     }
 }
 
-/// Gives a volume to a handle, which lets go what it held.
+/// Gives a volume to a handle. A volume that the handle held is freed.
 fn hold(alloc: Global, handle: &mut Handle, volume: Volume<RedoRegion>) -> u32
     ensures { Holds volume handle.old.held result handle.new.held }
 {
@@ -139,7 +139,7 @@ pub extern "C" fn bpfs_mount(
     }
 }
 
-/// Lets the volume of a handle go.
+/// Frees the volume of a handle.
 #[unsafe(no_mangle)]
 pub extern "C" fn bpfs_close(alloc: Global, handle: &mut Handle) -> u32
     ensures code { TellsWhetherHeld handle.old.held result }

@@ -1,4 +1,4 @@
-//! The log as runs: stores to words in a row, which a carrier copies at once.
+//! The log as runs: stores to consecutive words, which a carrier copies at once.
 
 ghost use Rattle.std.specs.Prelude.{◌≡◌};
 ghost use Rattle.pm_runs.specs.Runs.{run_length};
@@ -11,17 +11,17 @@ use pm_region::Region;
 use pm_runs::{RedoRegion, Run, run_at};
 use std::alloc::Global;
 
-/// A piece of the log: stores to words in a row, a barrier, or the end of a call.
+/// A run of the log: stores to consecutive words, a barrier, or an end-of-call marker.
 #[repr(C)]
 #[derive(Clone, Copy, Drop)]
 pub struct Told {
     /// `STORE`, `BARRIER` or `MARK`.
     pub kind: u32,
-    /// The first word that is stored to, counted from the start of the image; 0 where nothing is stored.
+    /// The index of the first stored word, from the start of the image; 0 for other runs.
     pub word: u32,
 }
 
-/// Tells a run, and how many events it has.
+/// Stores a run as C sees it, and returns its number of events.
 fn tell_run(run: Run, told: &mut Told) -> usize
     ensures told { told.new ≡ seen_run run }
     ensures count { result ≡ run_length run }
@@ -48,7 +48,7 @@ fn tell_run(run: Run, told: &mut Told) -> usize
     }
 }
 
-/// Tells the piece of a region's log that begins with this event.
+/// Gets the run of a region's log that begins with event `first`, and returns its number of events.
 fn copy_run(region: &RedoRegion, first: usize, told: &mut Told, values: &mut [u64]) -> usize
     ensures { HasPiece region.now.events first told.old values.old result told.new values.new }
 {
@@ -58,7 +58,7 @@ fn copy_run(region: &RedoRegion, first: usize, told: &mut Told, values: &mut [u6
     tell_run(run_at(region, first, values), told)
 }
 
-/// Tells the piece of the log that begins with this event, and how many events it has.
+/// Gets the run of the log that begins with event `first`, and returns its number of events.
 #[unsafe(no_mangle)]
 pub extern "C" fn bpfs_run_at(
     alloc: Global,

@@ -1,4 +1,4 @@
-//! The calls on a snapshot.
+//! Calls on the snapshot.
 
 ghost use Rattle.std.specs.Prelude.{◌≡◌, length};
 ghost use Rattle.bp_plain.specs.Calls.Call.{snap, snap_list, snap_read, snap_stat, unsnap};
@@ -15,7 +15,7 @@ use crate::mounted::has_room;
 use bp_plain::FsError;
 use std::alloc::Global;
 
-/// The number of the end of a call that can't be refused for want of space.
+/// Returns the number of the end of a call that never fails for lack of space.
 fn ended_by(ending: Result<(), FsError>) -> u32
     ensures { IsEndedBy (unit_answer ending) result }
 {
@@ -25,7 +25,7 @@ fn ended_by(ending: Result<(), FsError>) -> u32
     }
 }
 
-/// Makes a snapshot.
+/// Takes a snapshot.
 #[unsafe(no_mangle)]
 pub extern "C" fn bpfs_snap(alloc: Global, handle: &mut Handle) -> u32
     ensures { Exported handle.old.held snap (λ answer. IsEndedBy answer result) (Unit {0}) result handle.new.held }
@@ -42,7 +42,7 @@ pub extern "C" fn bpfs_snap(alloc: Global, handle: &mut Handle) -> u32
     code
 }
 
-/// Gives the snapshot up.
+/// Deletes the snapshot.
 #[unsafe(no_mangle)]
 pub extern "C" fn bpfs_unsnap(alloc: Global, handle: &mut Handle) -> u32
     ensures { Exported handle.old.held unsnap (λ answer. IsEndedBy answer result) (Unit {0}) result handle.new.held }
@@ -84,7 +84,7 @@ pub extern "C" fn bpfs_snap_read(
     code
 }
 
-/// Says what stands at a path of the snapshot.
+/// Looks up a path of the snapshot: its kind, and its size or number of entries.
 #[unsafe(no_mangle)]
 pub extern "C" fn bpfs_snap_stat(
     alloc: Global,
@@ -106,7 +106,7 @@ pub extern "C" fn bpfs_snap_stat(
     code
 }
 
-/// Lists the names in a directory of the snapshot. The handle keeps them until the next listing.
+/// Lists a directory of the snapshot. The handle keeps the entries until the next listing.
 #[unsafe(no_mangle)]
 pub extern "C" fn bpfs_snap_list(
     alloc: Global,

@@ -1,4 +1,4 @@
-//! What a volume has in all.
+//! Block counts and totals of a volume.
 
 ghost use Rattle.std.specs.Prelude.{◌≡◌};
 ghost use Rattle.bpfs_c.specs.Serves.{Looked};
@@ -9,33 +9,33 @@ use crate::handle::Handle;
 use bp_volume::Totals;
 use std::alloc::Global;
 
-/// The blocks of a volume but the first.
+/// The block counts of a volume, without the first block.
 #[repr(C)]
 #[derive(Clone, Copy, Drop)]
 pub struct Blocks {
-    /// The blocks that no tree has.
+    /// The number of blocks that no tree uses.
     pub free: u32,
-    /// The blocks that the trees have.
+    /// The number of blocks that the trees use.
     pub live: u32,
 }
 
-/// What a volume holds in all.
+/// The totals of a volume.
 #[repr(C)]
 #[derive(Clone, Copy, Drop)]
 pub struct Sums {
-    /// The files.
+    /// The number of files.
     pub files: u64,
-    /// The directories, the root directory among them.
+    /// The number of directories, with the root directory.
     pub dirs: u64,
-    /// The bytes of all files, modulo 2^64.
+    /// The number of bytes of all files, modulo 2^64.
     pub bytes: u64,
-    /// How many times 2^64 bytes they have beside these.
+    /// The number of bytes of all files, divided by 2^64.
     pub bytes_above: u64,
-    /// The blocks in use, but the first.
+    /// The number of blocks in use, without the first.
     pub live: u32,
 }
 
-/// Tells the free and the live blocks.
+/// Counts the free and the live blocks.
 #[unsafe(no_mangle)]
 pub extern "C" fn bpfs_space(alloc: Global, handle: &mut Handle, blocks: &mut Blocks) -> u32
     ensures { Looked handle.old.held (λ held. (result ≡ 0) × HasBlockCounts held.volume blocks.new)
@@ -53,7 +53,7 @@ pub extern "C" fn bpfs_space(alloc: Global, handle: &mut Handle, blocks: &mut Bl
     OK
 }
 
-/// Totals as C sees them.
+/// Converts totals to those that C sees.
 fn seen(totals: Totals) -> Sums
     ensures { result ≡ sums_of totals }
 {
@@ -66,7 +66,7 @@ fn seen(totals: Totals) -> Sums
     }
 }
 
-/// Scans the words, and tells what the volume holds in all.
+/// Scans the words, and stores the totals of the volume.
 #[unsafe(no_mangle)]
 pub extern "C" fn bpfs_totals(alloc: Global, handle: &mut Handle, sums: &mut Sums) -> u32
     ensures { Looked handle.old.held (λ held. (result ≡ 0) × HasSums held.volume sums.new)

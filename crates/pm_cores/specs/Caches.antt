@@ -6,9 +6,9 @@ use Rattle.pm_cores.specs.declared.entry.Entry.TheVariants.{Load, Store, Barrier
 use Rattle.pm_cores.specs.declared.entry.Owner.{Owner}
 use Rattle.pm_cores.specs.Log.{core_barriers, epoch_at, last_value, words_back, line_at}
 
--- How many cores there are, and words; of each word whose it is where it is dirty; the log, with a flag for each entry, whether it
--- is a store that is back; and how many entries the log has room for. The words of the memory are not among them: they are a
--- region's, with the stores that are back.
+-- The state of the caches: the numbers of cores and of words; the owner of each dirty word; the log, with a flag for
+-- each entry, whether it is a store that is written back; and the capacity of the log. The words of the memory are not
+-- among these: they are a region's words with the stores that are written back.
 pub record Caches : Type 0 where
   pub cores : ℕ
   pub words : ℕ
@@ -17,7 +17,7 @@ pub record Caches : Type 0 where
   pub back : List Bool
   pub capacity : ℕ
 
--- nothing done
+-- The state before anything is executed.
 abbrev pub caches_over : ℕ → ℕ → ℕ → Caches
 caches_over cores words capacity = record {
   cores = cores;
@@ -28,18 +28,18 @@ caches_over cores words capacity = record {
   capacity = capacity;
 }
 
--- the words of the memory: the base with the stores that are back, in the order of the log
+-- The words of the memory: the base with the stores that are written back, in the order of the log.
 abbrev pub memory_over : List ℕ → Caches → List ℕ
 memory_over base caches = words_back base caches.log caches.back
 
--- a word as each core sees it: the last store to it, or the base's word
+-- A word as each core sees it: the last store to it, or the base's word.
 abbrev pub value_at : List ℕ → Caches → ℕ → ℕ
 value_at base caches word = last_value (slice_index base word) caches.log word
 
 abbrev pub owner_at : Caches → ℕ → Option Owner
 owner_at caches word = slice_index_or caches.owners word None
 
--- whose the dirty words of a line are: the line's first dirty word tells
+-- The owner of the dirty words of a line, which is the owner of the line's first dirty word.
 abbrev pub first_owner : List (Option Owner) → Option Owner
 first_owner [] = None
 first_owner (None ∷ owners) = first_owner owners
@@ -50,7 +50,7 @@ line_owner caches word = first_owner (take 8 (drop (8 * line_at word) caches.own
 
 -- ## What is written back
 
--- whether this is the core's, of this epoch or an earlier one
+-- Whether this is the core and its epoch, or an earlier epoch of that core.
 abbrev pub is_up_to : Owner → ℕ → ℕ → Bool
 is_up_to owner core epoch = core == owner.core && nat_le epoch owner.epoch
 
@@ -58,15 +58,15 @@ abbrev pub owner_is_up_to : Owner → Option Owner → Bool
 owner_is_up_to owner None = false
 owner_is_up_to owner (Some other) = is_up_to owner other.core other.epoch
 
--- of the entry at a place, whether it is a store of such a core and epoch
+-- Whether the entry at a position is a store of the owner's core, of the owner's epoch or an earlier one.
 abbrev pub entry_is_up_to : Owner → List Entry → ℕ → Option Entry → Bool
 entry_is_up_to owner log place None = false
 entry_is_up_to owner log place (Some (Load core word)) = false
 entry_is_up_to owner log place (Some (Store core word value)) = is_up_to owner core (epoch_at log core place)
 entry_is_up_to owner log place (Some (Barrier core)) = false
 
--- A settle: all dirty words of an owner's core, of its epoch and those before, are written back, and all stores to them
--- are back.
+-- A settle: all dirty words of an owner's core, of its epoch and earlier ones, are written back, with all stores to
+-- them.
 unfoldable pub settled : Caches → Owner → Caches
 settled caches owner = record caches {
   owners = map (λ other. if owner_is_up_to owner other then None else other) caches.owners;
@@ -74,7 +74,7 @@ settled caches owner = record caches {
       (range_with_len 0 (length caches.log));
 }
 
--- of the entry at a place, whether it is a store of this owner to this word
+-- Whether the entry at a position is a store of this owner to this word.
 abbrev pub entry_is_of : Owner → ℕ → List Entry → ℕ → Option Entry → Bool
 entry_is_of owner word log place None = false
 entry_is_of owner word log place (Some (Load core other)) = false
@@ -82,7 +82,7 @@ entry_is_of owner word log place (Some (Store core other value)) =
     other == word && (core == owner.core && epoch_at log core place == owner.epoch)
 entry_is_of owner word log place (Some (Barrier core)) = false
 
--- One dirty word is written back, and all stores so far of its owner to it are back.
+-- One dirty word is written back, with all stores of its owner to it so far.
 unfoldable pub written_by : Caches → ℕ → Owner → Caches
 written_by caches word owner = record caches {
   owners = slice_set caches.owners word None;
@@ -102,18 +102,19 @@ with_back caches word = written_under caches word (owner_at caches word)
 abbrev pub logged : Caches → Entry → Caches
 logged caches entry = record caches { log = caches.log ++ entry ∷ []; back = caches.back ++ false ∷ [] }
 
--- before a load: a line that is dirty under another core is settled
+-- Before a load: a line that is dirty under another core is settled.
 abbrev pub ready_to_load : Caches → ℕ → Option Owner → Caches
 ready_to_load caches core None = caches
 ready_to_load caches core (Some owner) = if owner.core == core then caches else settled caches owner
 
--- before a store of an epoch: a line that is dirty under another core is settled, or under an older epoch of the same one
+-- Before a store of an epoch: a line is settled if it is dirty under another core, or under an older epoch of the same
+-- core.
 abbrev pub ready_to_store : Caches → ℕ → ℕ → Option Owner → Caches
 ready_to_store caches core epoch None = caches
 ready_to_store caches core epoch (Some owner) =
     if owner.core == core && nat_le epoch owner.epoch then caches else settled caches owner
 
--- the word is dirty, and waits with its new value
+-- The word is dirty, and its new value waits.
 abbrev pub stored : Caches → ℕ → ℕ → ℕ → Caches
 stored caches core word value = record (logged caches (Store core word value)) {
   owners = slice_set caches.owners word (Some (record { core = core; epoch = core_barriers core caches.log }));
@@ -131,28 +132,29 @@ after_barrier caches core = logged caches (Barrier core)
 
 -- ## Which words may be written back alone
 
--- this word is dirty under this owner
+-- This word is dirty under this owner.
 abbrev pub IsDirtyUnder : Caches → ℕ → Owner → Type 0
 IsDirtyUnder caches word owner = slice_get caches.owners word ≡ Some (Some owner)
 
--- the dirty words of a word's line are this core's
+-- The dirty words of a word's line are this core's.
 abbrev pub IsOpenToLoad : Caches → ℕ → ℕ → Type 0
 IsOpenToLoad caches core word =
     (other : ℕ) (owner : Owner) → IsDirtyUnder caches other owner → line_at other ≡ line_at word → owner.core ≡ core
 
--- .. and of its epoch now
+-- The dirty words of a word's line are this core's, and of its current epoch.
 abbrev pub IsOpenToStore : Caches → ℕ → ℕ → Type 0
 IsOpenToStore caches core word =
     (other : ℕ) (owner : Owner) → IsDirtyUnder caches other owner → line_at other ≡ line_at word →
     owner ≡ record { core = core; epoch = core_barriers core caches.log }
 
--- the word is dirty, and its owner has no dirty word of an earlier epoch
+-- The word is dirty, and its owner's core has no dirty word of an earlier epoch.
 pub record MayLeave (caches : Caches) (word : ℕ) : Type 0 where
   pub owner : Owner
   pub under : IsDirtyUnder caches word owner
   pub earliest : (other : ℕ) (its : Owner) → IsDirtyUnder caches other its → its.core ≡ owner.core → owner.epoch ≤ its.epoch
 
--- the lowest dirty word of the earliest epoch of which a word's owner has some, where that is an earlier one than its own
+-- The lowest dirty word of the earliest epoch of which the owner's core has a dirty word, if that epoch is earlier
+-- than the word's own.
 pub record IsNeeded (caches : Caches) (word needs : ℕ) : Type 0 where
   pub owner : Owner
   pub under : IsDirtyUnder caches word owner

@@ -3,31 +3,31 @@ use Rattle.std.specs.Prelude.{◌≡◌, ℕ, ◌+◌, ◌/◌, ◌==◌, if◌t
 use Rattle.pm_cores.specs.declared.entry.Entry.{Entry}
 use Rattle.pm_cores.specs.declared.entry.Entry.TheVariants.{Load, Store, Barrier}
 
--- whose entry it is
+-- The core of an entry.
 abbrev pub core_of : Entry → ℕ
 core_of (Load core word) = core
 core_of (Store core word value) = core
 core_of (Barrier core) = core
 
--- how many barriers of this core the log has
+-- The number of this core's barriers in the log.
 abbrev pub core_barriers : ℕ → List Entry → ℕ
 core_barriers core [] = 0
 core_barriers core (Load other word ∷ log) = core_barriers core log
 core_barriers core (Store other word value ∷ log) = core_barriers core log
 core_barriers core (Barrier other ∷ log) = (if other == core then 1 else 0) + core_barriers core log
 
--- the epoch that this core had before the entry at a place: the number of its barriers before it
+-- The epoch of this core before the entry at a position: the number of its barriers before it.
 abbrev pub epoch_at : List Entry → ℕ → ℕ → ℕ
 epoch_at log core place = core_barriers core (take place log)
 
--- a word after all stores of the log, whichever are back
+-- A word after all stores of the log, written back or not.
 abbrev pub last_value : ℕ → List Entry → ℕ → ℕ
 last_value now [] word = now
 last_value now (Load core place ∷ log) word = last_value now log word
 last_value now (Store core place value ∷ log) word = last_value (if place == word then value else now) log word
 last_value now (Barrier core ∷ log) word = last_value now log word
 
--- the words after those stores of the log that are back, in the log's order; each entry has a flag
+-- The words after those stores of the log that are written back, in the log's order. Each entry has a flag.
 abbrev pub words_back : List ℕ → List Entry → List Bool → List ℕ
 words_back words [] back = words
 words_back words (entry ∷ log) [] = words
@@ -36,16 +36,16 @@ words_back words (Store core word value ∷ log) (true ∷ back) = words_back (s
 words_back words (Store core word value ∷ log) (false ∷ back) = words_back words log back
 words_back words (Barrier core ∷ log) (flag ∷ back) = words_back words log back
 
--- a line has eight words
+-- The line of a word. A line has eight words.
 abbrev pub line_at : ℕ → ℕ
 line_at word = word / 8
 
--- the entry at a place is this core's store to this word
+-- The entry at a position is this core's store to this word.
 pub record IsStore (log : List Entry) (place core word : ℕ) : Type 0 where
   pub value : ℕ
   pub is : slice_get log place ≡ Some (Store core word value)
 
--- it is this core's load of or store to a word of this line
+-- The entry at a position is this core's load of a word of this line, or its store to one.
 pub data IsUse (log : List Entry) (place core line : ℕ) : Type 0 where
   use_load : (word : ℕ) → slice_get log place ≡ Some (Load core word) → line_at word ≡ line → IsUse log place core line
   use_store : (word value : ℕ) → slice_get log place ≡ Some (Store core word value) → line_at word ≡ line → IsUse log place core line

@@ -1,4 +1,4 @@
--- Core 0 does the events of a log, while no other core stores.
+-- Core 0 executes the events of a log, while no other core stores.
 use Rattle.std.specs.Prelude.{◌≡◌, ℕ, ◌==◌, if◌then◌else◌, List, [], ◌∷◌}
 use Rattle.pm_epochs.specs.declared.event.Event.{Event}
 use Rattle.pm_epochs.specs.declared.event.Event.TheVariants.{Store as Set, Barrier as Fence, Mark}
@@ -6,14 +6,14 @@ use Rattle.pm_cores.specs.declared.entry.Entry.{Entry}
 use Rattle.pm_cores.specs.declared.entry.Entry.TheVariants.{Load, Store, Barrier}
 use Rattle.pm_cores.specs.Log.{IsStore}
 
--- the events without the marks
+-- The events without the end-of-call markers.
 abbrev pub unmarked : List Event → List Event
 unmarked [] = []
 unmarked (Set word value ∷ events) = Set word value ∷ unmarked events
 unmarked (Fence ∷ events) = Fence ∷ unmarked events
 unmarked (Mark ∷ events) = unmarked events
 
--- the stores and barriers of core 0
+-- The stores and barriers of core 0.
 abbrev pub done_by_first : List Entry → List Event
 done_by_first [] = []
 done_by_first (Load core word ∷ log) = done_by_first log
@@ -21,7 +21,7 @@ done_by_first (Store core word value ∷ log) =
     if core == 0 then Set word value ∷ done_by_first log else done_by_first log
 done_by_first (Barrier core ∷ log) = if core == 0 then Fence ∷ done_by_first log else done_by_first log
 
--- core 0 did these events, a mark being nothing, and no other core stored
+-- Core 0 executed these events, where an end-of-call marker does nothing, and no other core stored.
 pub record IsPlayed (events : List Event) (log : List Entry) : Type 0 where
   pub same : unmarked events ≡ done_by_first log
   pub alone : (place core word : ℕ) → IsStore log place core word → core ≡ 0

@@ -19,30 +19,30 @@ use pm_region::Region;
 use std::alloc::{AllocError, Global};
 use std::marker::Model;
 
-/// A word can't go back yet, since its owner has a dirty word of an earlier epoch.
+/// Error: a word cannot be written back yet, because its owner's core has a dirty word of an earlier epoch.
 #[derive(Clone, Copy, Debug, PartialEq, Eq)]
 pub struct NotYet {
     /// The lowest dirty word of the earliest such epoch.
     pub needs: u32,
 }
 
-/// Several cores over one memory, each with a cache. The memory is a region's words at its last drain with the stores that are
-/// back: what reads a word is given the region.
+/// Several cores over one memory, each with a cache. The memory is a region's words at its last drain with the stores
+/// that are written back, so a call that reads a word takes the region.
 #[derive(Drop)]
 pub struct Cores {
     words: u32,
-    // Of each dirty word, how many entries the log has up to the first store to it that waits. 0 for a clean word.
+    // For each dirty word, the number of entries of the log up to the first waiting store to it. 0 for a clean word.
     since: Vec<u32>,
-    // Of each word, how many entries the log has up to the last store to it. 0 where there is none.
+    // For each word, the number of entries of the log up to the last store to it. 0 if there is none.
     lasts: Vec<u32>,
     log: Vec<Entry>,
-    // Of each entry, its core's epoch.
+    // For each entry, its core's epoch.
     epochs: Vec<u32>,
-    // Of each store, how many entries the log has up to the one to its word before it. 0 where there is none.
+    // For each store, the number of entries of the log up to the previous store to its word. 0 if there is none.
     befores: Vec<u32>,
-    // Of each core, its epoch now.
+    // For each core, its current epoch.
     counts: Vec<u32>,
-    // Of each core, a place of the log before which none of its stores waits.
+    // For each core, a position of the log before which none of its stores waits.
     lows: Vec<usize>,
     room: usize,
 }
@@ -60,8 +60,12 @@ impl Model for Cores {
 }
 
 impl Cores {
-    /// Cores that have done nothing, with room for so many entries of their log. Takes 8 bytes a word, and about 32 an entry.
-    /// Fails only for want of memory; no other call takes any.
+    /// Makes cores that have executed nothing, with memory for a log of `room` entries. Takes 8 bytes for each word,
+    /// and about 32 for each entry. No other call allocates.
+    ///
+    /// # Errors
+    ///
+    /// `AllocError`: out of memory, or `room` is 4,294,967,295 or more.
     pub fn new(alloc: Global, cores: u32, words: u32, room: usize) -> Result<Cores, AllocError>
         requires few { 1 ≤ cores }
         requires whole { (lines : ℕ) × (1 ≤ lines) × (words ≡ 8 * lines) }
@@ -90,7 +94,7 @@ impl Cores {
         })
     }
 
-    /// Begins anew. Takes time for the entries of the log, whatever the number of words.
+    /// Resets the cores. Takes time for the entries of the log, whatever the number of words.
     pub fn begin(&mut self)
         ensures { self.new ≡ caches_over self.old.cores self.old.words self.old.capacity }
     {
@@ -103,14 +107,14 @@ impl Cores {
         self.befores.clear();
     }
 
-    /// How many more entries the log can take.
+    /// Returns how many more entries fit into the log.
     pub fn room(&self) -> usize
         ensures { result ≡ self.now.capacity - length self.now.log }
     {
         self.room - self.log.len()
     }
 
-    /// Whether a word is dirty.
+    /// Returns whether a word is dirty.
     pub fn is_dirty(&self, i: u32) -> bool
         requires { i < self.now.words }
         ensures { result ≡ is_some (owner_in self.now i) }
@@ -118,7 +122,8 @@ impl Cores {
         self.since[i as usize] != 0
     }
 
-    /// A word of the memory over a region: the last store to it that is back, or the region's word at its last drain.
+    /// Returns a word of the memory over a region: the last store to it that is written back, or the region's word at
+    /// its last drain.
     pub fn memory_word<R: Region>(&self, region: &R, i: u32) -> u64
         requires word { i < self.now.words }
         requires region { self.now.words ≡ length (R.memory region.now).base }
@@ -127,14 +132,15 @@ impl Cores {
         word_told(&self.log, self.last_back(i), region, i)
     }
 
-    /// What holds behind every list of calls.
+    /// States the invariant of the caches, which holds after any sequence of calls.
     pub fn is_coherent(&self)
         ensures { IsCoherent self.now }
     {
         let _ = &self.log;
     }
 
-    /// A settle is a list of writes back, each allowed: of the core's dirty words up to the epoch, by epoch, then by word.
+    /// States that a settle is a sequence of allowed write-backs: of the core's dirty words up to the epoch, by epoch,
+    /// then by word.
     pub fn settles_by_backs(&self)
         ensures { (owner : TheOwner) →
             BacksTo self.now (words_up_to owner.core owner.epoch self.now.owners) (settled self.now owner) }
@@ -142,8 +148,8 @@ impl Cores {
         let _ = &self.log;
     }
 
-    /// A core reads a word: the last store to it, or the region's word at its last drain. A line that is dirty under another
-    /// core is settled first.
+    /// Loads a word for a core: the value of the last store to it, or the region's word at its last drain. A line that
+    /// is dirty under another core is settled first.
     pub fn load<R: Region>(&mut self, region: &R, core: u32, i: u32) -> u64
         requires core { core < self.old.cores }
         requires word { i < self.old.words }
@@ -158,7 +164,8 @@ impl Cores {
         value
     }
 
-    /// A core sets a word. A line that is dirty under another core, or under an older epoch of the same core, is settled first.
+    /// Stores a word for a core. A line is settled first if it is dirty under another core, or under an older epoch of
+    /// the same core.
     pub fn store(&mut self, core: u32, i: u32, v: u64)
         requires core { core < self.old.cores }
         requires word { i < self.old.words }
@@ -169,7 +176,8 @@ impl Cores {
         self.push_store(core, i, v);
     }
 
-    /// Each store of the core before it goes back before any store of the core after it.
+    /// Ends the core's epoch: each store of the core before the barrier is written back before any store of the core
+    /// after it.
     pub fn barrier(&mut self, core: u32)
         requires core { core < self.old.cores }
         requires room { length self.old.log < self.old.capacity }
@@ -182,9 +190,13 @@ impl Cores {
         self.counts[core as usize] = epoch + 1;
     }
 
-    /// Writes a dirty word back. `NotYet` is the answer where its owner has a dirty word of an earlier epoch, with the lowest of
-    /// the earliest such epoch, and then nothing changes. Takes time for the entries from the owner's first store that waits to
-    /// its next epoch, and for those before it once.
+    /// Writes back a dirty word. Takes time for the entries from the owner's first waiting store to its next epoch,
+    /// and for those before it once.
+    ///
+    /// # Errors
+    ///
+    /// `NotYet`: the owner's core has a dirty word of an earlier epoch. `needs` is the lowest of the earliest such
+    /// epoch, and nothing changes.
     pub fn back(&mut self, i: u32) -> Result<(), NotYet>
         requires word { i < self.old.words }
         requires dirty { is_some (owner_in self.old i) ≡ true }
@@ -202,7 +214,7 @@ impl Cores {
         }
     }
 
-    /// Whose a dirty word is.
+    /// Returns the owner of a dirty word.
     fn owner_of_word(&self, i: u32) -> Owner
         requires word { i < self.now.words }
         requires dirty { is_some (owner_in self.now i) ≡ true }
@@ -215,7 +227,7 @@ impl Cores {
         }
     }
 
-    /// The word that must go back before this one, or none where it may go.
+    /// Returns the word that must be written back before this one, or `None` if this one may be.
     fn needed(&mut self, i: u32) -> Option<u32>
         requires word { i < self.old.words }
         requires dirty { is_some (owner_in self.old i) ≡ true }
@@ -246,8 +258,8 @@ impl Cores {
         self.since[i as usize] = 0;
     }
 
-    /// What a crash keeps after so many events of core 0, where no other core stores: the moment, the first epoch that has a
-    /// dirty word, or the last one, and which of its stores are back. Takes time for the whole log.
+    /// Sets `choice` to the crash point after `moment` events of core 0, if no other core stores: the first epoch that
+    /// has a dirty word, or the current one, and which of its stores are written back. Takes time for the whole log.
     pub fn choice(&self, choice: &mut Choice, moment: usize)
         requires { length self.now.log ≤ choice.old.room }
         ensures { choice.new ≡ record { cut = cut_at self.now moment; room = choice.old.room } }
@@ -257,7 +269,7 @@ impl Cores {
         push_flags(&self.since, &self.log, &self.epochs, epoch, choice);
     }
 
-    /// The first epoch of core 0 that has a dirty word, the last where none has.
+    /// Returns the first epoch of core 0 that has a dirty word, or its current epoch if none has.
     fn dirty_epoch(&self) -> u32
         ensures { result ≡ dirty_epoch 0 self.now }
     {
@@ -269,7 +281,7 @@ impl Cores {
         }
     }
 
-    /// A core's epoch: how many barriers it made.
+    /// Returns a core's epoch, which is the number of its barriers.
     fn epoch(&self, core: u32) -> u32
         requires { core < self.now.cores }
         ensures { result ≡ core_barriers core self.now.log }
@@ -277,7 +289,7 @@ impl Cores {
         self.counts[core as usize]
     }
 
-    /// How many entries the log has up to the last store to a word. 0 where there is none.
+    /// Returns the number of entries of the log up to the last store to a word; 0 if there is none.
     fn last_store(&self, i: u32) -> u32
         requires { i < self.now.words }
         ensures within { result ≤ length self.now.log }
@@ -286,7 +298,8 @@ impl Cores {
         self.lasts[i as usize]
     }
 
-    /// How many entries the log has up to the last store to a word that is back. 0 where there is none.
+    /// Returns the number of entries of the log up to the last store to a word that is written back; 0 if there is
+    /// none.
     fn last_back(&self, i: u32) -> u32
         requires { i < self.now.words }
         ensures within { result ≤ length self.now.log }
@@ -301,7 +314,7 @@ impl Cores {
         }
     }
 
-    /// Whose the dirty words of a word's line are.
+    /// Returns the owner of the dirty words of a word's line.
     fn owner_of_line(&self, i: u32) -> Option<Owner>
         requires { i < self.now.words }
         ensures line { result ≡ line_owner_in self.now i }
@@ -313,7 +326,7 @@ impl Cores {
         line_owner(&self.since, &self.log, &self.epochs, i)
     }
 
-    /// Writes back all dirty words of an owner's core, of its epoch and those before.
+    /// Writes back all dirty words of an owner's core, of its epoch and earlier ones.
     fn settle(&mut self, owner: Owner)
         requires { owner.core < self.old.cores }
         ensures { self.new ≡ settled self.old owner }
@@ -323,7 +336,7 @@ impl Cores {
         self.lows[core] = settle_words(&mut self.since, &self.log, &self.epochs, low, owner);
     }
 
-    /// Settles a word's line where it is dirty under another core.
+    /// Settles a word's line if it is dirty under another core.
     fn open_to_load(&mut self, core: u32, i: u32)
         requires { i < self.old.words }
         ensures after { self.new ≡ ready_to_load self.old core (line_owner_in self.old i) }
@@ -336,7 +349,7 @@ impl Cores {
         }
     }
 
-    /// Settles a word's line where it is dirty under another core, or under an older epoch of this one.
+    /// Settles a word's line if it is dirty under another core, or under an older epoch of this one.
     fn open_to_store(&mut self, core: u32, i: u32)
         requires word { i < self.old.words }
         requires core { core < self.old.cores }
@@ -353,7 +366,7 @@ impl Cores {
         }
     }
 
-    /// Writes a load to the log.
+    /// Appends a load to the log.
     fn push_load(&mut self, core: u32, i: u32)
         requires core { core < self.old.cores }
         requires room { length self.old.log < self.old.capacity }
@@ -366,7 +379,7 @@ impl Cores {
         push_number(&mut self.befores, 0);
     }
 
-    /// Writes a store to the log. Its word waits.
+    /// Appends a store to the log. Its word waits.
     fn push_store(&mut self, core: u32, i: u32, v: u64)
         requires core { core < self.old.cores }
         requires word { i < self.old.words }
@@ -390,7 +403,7 @@ impl Cores {
     }
 }
 
-/// Whether an owner is this core, in this epoch or a later one.
+/// Returns whether an owner is this core, in this epoch or a later one.
 fn is_of_epoch(owner: Owner, core: u32, epoch: u32) -> bool
     ensures { result ≡ (owner.core == core && nat_le epoch owner.epoch) }
 {
@@ -409,7 +422,7 @@ fn clear_places(lows: &mut [usize])
     lows.fill(0);
 }
 
-/// Puts an entry at the end of a log that has room.
+/// Appends an entry to a log that has room.
 fn push_entry(log: &mut Vec<Entry>, entry: Entry)
     requires { vec_len log.old < vec_capacity log.old }
     ensures items { log.new.items ≡ log.old.items ++ entry ∷ [] }
@@ -419,7 +432,7 @@ fn push_entry(log: &mut Vec<Entry>, entry: Entry)
     let _ = log.push(entry);
 }
 
-/// Puts the number of an entry behind the others, where there is room.
+/// Appends the number of an entry to a vector that has room.
 fn push_number(numbers: &mut Vec<u32>, number: u32)
     requires { vec_len numbers.old < vec_capacity numbers.old }
     ensures items { numbers.new.items ≡ numbers.old.items ++ number ∷ [] }
@@ -428,7 +441,7 @@ fn push_number(numbers: &mut Vec<u32>, number: u32)
     let _ = numbers.push(number);
 }
 
-/// A word that was clean waits since the store at this place of the log.
+/// Records that a clean word waits since the store at this position of the log.
 fn wait_since(since: &mut [u32], word: usize, place: usize)
     requires in_range { word < length since.old }
     requires place { place < 2 ^ 32 - 1 }

@@ -1,4 +1,4 @@
-//! Several cores' caches over one memory, which keep the order of each core's epochs.
+//! The caches of several cores over one memory, which keep the order of each core's epochs.
 #![tactic(auto)]
 
 pub mod cores;

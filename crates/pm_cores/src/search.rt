@@ -1,4 +1,4 @@
-//! Searches in the log, and writing back by it.
+//! Searches in the log, and write-back by the log.
 
 ghost use Rattle.std.specs.Prelude.{◌≡◌, ℕ, ◌+◌, ◌*◌, ◌<◌, ◌≤◌, ◌^◌, ◌-◌, ◌==◌, ◌&&◌, nat_lt, if◌then◌else◌, length, take, drop, slice_index, replicate, Some, [], ◌++◌};
 ghost use Rattle.std.proofs.Common.{suc};
@@ -12,14 +12,15 @@ use super::entry::{Entry, Owner};
 use pm_epochs::Choice;
 use pm_region::Region;
 
-/// Whether a store at a place of the log waits, where so many entries stand up to the first one to its word that does.
+/// Returns whether the store at a position of the log waits, where `since` is the number of entries up to the first
+/// waiting store to its word.
 pub fn waits(since: u32, place: usize) -> bool
     ensures { result ≡ waits_at since place }
 {
     0 < since && since as usize - 1 <= place
 }
 
-/// Whose a word is, where so many entries of the log stand up to the first store to it that waits.
+/// Returns the owner of a word, where `since` is the number of entries of the log up to the first waiting store to it.
 pub fn owner_at(log: &[Entry], epochs: &[u32], since: u32) -> Option<Owner>
     requires sized { length epochs.now ≡ length log.now }
     requires in_log { since ≤ length log.now }
@@ -39,7 +40,7 @@ pub fn owner_at(log: &[Entry], epochs: &[u32], since: u32) -> Option<Owner>
     }
 }
 
-/// Whose the dirty words of a word's line are.
+/// Returns the owner of the dirty words of a word's line.
 pub fn line_owner(since: &[u32], log: &[Entry], epochs: &[u32], word: u32) -> Option<Owner>
     requires sized { length epochs.now ≡ length log.now }
     requires in_log { (other : ℕ) → slice_index since.now other ≤ length log.now }
@@ -56,8 +57,8 @@ pub fn line_owner(since: &[u32], log: &[Entry], epochs: &[u32], word: u32) -> Op
     None
 }
 
-/// A word as a number tells it: the value of the store up to which so many entries of the log stand, or the region's word at its
-/// last drain.
+/// Returns a word by the number of entries of the log up to a store: the value of that store, or the region's word at
+/// its last drain if the number is 0.
 pub fn word_told<R: Region>(log: &[Entry], number: u32, region: &R, word: u32) -> u64
     requires in_log { number ≤ length log.now }
     requires in_region { word < length (R.memory region.now).base }
@@ -74,8 +75,8 @@ pub fn word_told<R: Region>(log: &[Entry], number: u32, region: &R, word: u32) -
     }
 }
 
-/// Writes back all dirty words of an owner's core, of its epoch and those before. None of the core's stores before `low` waits,
-/// and then none before the result. Takes time for the entries of the log from `low` to the result.
+/// Writes back all dirty words of an owner's core, of its epoch and earlier ones. None of the core's stores before
+/// `low` waits, and afterwards none before the result. Takes time for the entries of the log from `low` to the result.
 pub fn settle_words(
     since: &mut [u32],
     log: &[Entry],
@@ -108,7 +109,7 @@ pub fn settle_words(
     log.len()
 }
 
-/// Makes a word clean where the store at a place is the first to it that waits.
+/// Makes a word clean if the store at a position is the first waiting store to it.
 fn clean_waiting(since: &mut [u32], word: usize, place: usize)
     requires in_since { word < length since.old }
     requires place { place < 2 ^ 64 - 1 }
@@ -120,7 +121,8 @@ fn clean_waiting(since: &mut [u32], word: usize, place: usize)
     }
 }
 
-/// The first store of a core that waits, from `low` on, or the log's length. Takes time for the entries up to it.
+/// Returns the position of a core's first waiting store, from `low` on, or the log's length. Takes time for the
+/// entries up to it.
 pub fn first_waiting(since: &[u32], log: &[Entry], low: usize, core: u32) -> usize
     requires low { IsLow since.now log.now core low }
     requires high { low ≤ length log.now }
@@ -147,8 +149,8 @@ pub fn first_waiting(since: &[u32], log: &[Entry], low: usize, core: u32) -> usi
     log.len()
 }
 
-/// The lowest dirty word of an owner, whose first store that waits is the first of its core. Takes time for the entries from
-/// there to the core's next epoch.
+/// Returns the lowest dirty word of an owner whose first waiting store is the first of its core. Takes time for the
+/// entries from there to the core's next epoch.
 pub fn lowest_word(since: &[u32], log: &[Entry], epochs: &[u32], first: usize, owner: Owner) -> u32
     requires sound { AreSound (length since.now) since.now log.now epochs.now }
     requires low { IsLow since.now log.now owner.core first }
@@ -176,7 +178,7 @@ pub fn lowest_word(since: &[u32], log: &[Entry], epochs: &[u32], first: usize, o
     lowest
 }
 
-/// The lower of two words, where the second counts.
+/// Returns the lower of two words if the second counts, otherwise the first.
 fn lower_of(lowest: u32, word: u32, counts: bool) -> u32
     ensures { result ≡ (if counts && nat_lt word lowest then word else lowest) }
 {
@@ -187,7 +189,7 @@ fn lower_of(lowest: u32, word: u32, counts: bool) -> u32
     }
 }
 
-/// The word of a store, or any.
+/// Returns the word of a store. For another entry the result has no meaning.
 fn stored_word(entry: Entry) -> u32
     ensures { (core word value : ℕ) → entry ≡ Store core word value → result ≡ word }
 {
@@ -198,7 +200,7 @@ fn stored_word(entry: Entry) -> u32
     }
 }
 
-/// Makes all words clean: those that wait stand in the log.
+/// Makes all words clean, by going through the log, which has a store to each waiting word.
 pub fn clean_words(since: &mut [u32], log: &[Entry])
     requires words { (place its_core word : ℕ) → IsStore log.now place its_core word → word < length since.old }
     requires first { (word first : ℕ) → slice_index since.old word ≡ suc first →
@@ -214,7 +216,7 @@ pub fn clean_words(since: &mut [u32], log: &[Entry])
     }
 }
 
-/// Says of each store of core 0 of an epoch whether it is back, in order.
+/// Appends to the mask, for each store of core 0 of an epoch, in order, whether it is written back.
 pub fn push_flags(since: &[u32], log: &[Entry], epochs: &[u32], epoch: u32, choice: &mut Choice)
     requires words { (place its_core word : ℕ) → IsStore log.now place its_core word → word < length since.now }
     requires sized { length epochs.now ≡ length log.now }
@@ -237,14 +239,14 @@ pub fn push_flags(since: &[u32], log: &[Entry], epochs: &[u32], epoch: u32, choi
     }
 }
 
-/// Whether a store is core 0's, and of this epoch.
+/// Returns whether a store is core 0's, and of this epoch.
 fn is_counted(core: u32, its_epoch: u32, epoch: u32) -> bool
     ensures { result ≡ (core == 0 && its_epoch == epoch) }
 {
     core == 0 && its_epoch == epoch
 }
 
-/// Says of a store that counts whether it is back.
+/// Appends to the mask, for a store that counts, whether it is written back.
 fn push_flag(counts: bool, since: u32, place: usize, choice: &mut Choice)
     requires { length choice.old.cut.mask < choice.old.room }
     ensures { choice.new ≡ record {

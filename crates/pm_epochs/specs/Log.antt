@@ -4,42 +4,42 @@ use Rattle.std.proofs.Common.{zero, suc}
 use Rattle.pm_epochs.specs.declared.event.Event.{Event}
 use Rattle.pm_epochs.specs.declared.event.Event.TheVariants.{Store, Barrier, Mark}
 
--- the words after the stores of the log, in order
+-- The words after the stores of the log, in order.
 abbrev pub words_after : List ℕ → List Event → List ℕ
 words_after words [] = words
 words_after words (Store word value ∷ events) = words_after (slice_set words word value) events
 words_after words (Barrier ∷ events) = words_after words events
 words_after words (Mark ∷ events) = words_after words events
 
--- one word after the stores of the log
+-- One word after the stores of the log, from its value before.
 abbrev pub word_after : ℕ → List Event → ℕ → ℕ
 word_after now [] place = now
 word_after now (Store word value ∷ events) place = word_after (if word == place then value else now) events place
 word_after now (Barrier ∷ events) place = word_after now events place
 word_after now (Mark ∷ events) place = word_after now events place
 
--- the stores of the log alone
+-- The stores of the log, without its other events.
 abbrev pub stores : List Event → List Event
 stores [] = []
 stores (Store word value ∷ events) = Store word value ∷ stores events
 stores (Barrier ∷ events) = stores events
 stores (Mark ∷ events) = stores events
 
--- how many barriers the log has
+-- The number of barriers in the log.
 abbrev pub barriers : List Event → ℕ
 barriers [] = 0
 barriers (Store word value ∷ events) = barriers events
 barriers (Barrier ∷ events) = suc (barriers events)
 barriers (Mark ∷ events) = barriers events
 
--- how many marks the log has
+-- The number of end-of-call markers in the log.
 abbrev pub marks : List Event → ℕ
 marks [] = 0
 marks (Store word value ∷ events) = marks events
 marks (Barrier ∷ events) = marks events
 marks (Mark ∷ events) = suc (marks events)
 
--- how many stores an epoch has, where the epoch of an event is the number of barriers before it
+-- The number of stores in an epoch. The epoch of an event is the number of barriers before it.
 abbrev pub epoch_stores : ℕ → List Event → ℕ
 epoch_stores epoch [] = 0
 epoch_stores zero (Store word value ∷ events) = suc (epoch_stores zero events)
@@ -48,7 +48,7 @@ epoch_stores zero (Barrier ∷ events) = 0
 epoch_stores (suc epoch) (Barrier ∷ events) = epoch_stores epoch events
 epoch_stores epoch (Mark ∷ events) = epoch_stores epoch events
 
--- the events up to the mark with this number, counted from 1; none for 0, all where there are fewer marks
+-- The events up to the end-of-call marker with this number, counted from 1: none for 0, all if there are fewer markers.
 abbrev pub up_to_mark : ℕ → List Event → List Event
 up_to_mark zero events = []
 up_to_mark (suc count) [] = []
@@ -56,36 +56,36 @@ up_to_mark (suc count) (Store word value ∷ events) = Store word value ∷ up_t
 up_to_mark (suc count) (Barrier ∷ events) = Barrier ∷ up_to_mark (suc count) events
 up_to_mark (suc count) (Mark ∷ events) = Mark ∷ up_to_mark count events
 
--- each store has a barrier behind it
+-- Each store has a barrier after it.
 abbrev pub IsClosed : List Event → Type 0
 IsClosed [] = Unit {0}
 IsClosed (Store word value ∷ events) = (0 < barriers events) × IsClosed events
 IsClosed (Barrier ∷ events) = IsClosed events
 IsClosed (Mark ∷ events) = IsClosed events
 
--- the word of the last store of the log, or the given answer where it has no store
+-- The word of the last store of the log, or the given result if the log has no store.
 abbrev pub last_stored_or : Option ℕ → List Event → Option ℕ
 last_stored_or otherwise [] = otherwise
 last_stored_or otherwise (Store word value ∷ events) = last_stored_or (Some word) events
 last_stored_or otherwise (Barrier ∷ events) = last_stored_or otherwise events
 last_stored_or otherwise (Mark ∷ events) = last_stored_or otherwise events
 
--- the word of the last store of the log
+-- The word of the last store of the log.
 abbrev pub last_stored : List Event → Option ℕ
 last_stored events = last_stored_or None events
 
--- some store of the log goes to one of these words
+-- At least one store of the log goes to one of these words.
 abbrev pub StoresTo : (ℕ → Type 0) → List Event → Type 0
 StoresTo Inside [] = ⊥
 StoresTo Inside (Store word value ∷ events) = Inside word ⊎ StoresTo Inside events
 StoresTo Inside (Barrier ∷ events) = StoresTo Inside events
 StoresTo Inside (Mark ∷ events) = StoresTo Inside events
 
--- the log has a store to this word
+-- The log has a store to this word.
 abbrev pub IsStoredIn : List Event → ℕ → Type 0
 IsStoredIn events word = StoresTo (λ place. place ≡ word) events
 
--- a part of one call: no mark, and at most so many barriers and stores
+-- A part of one call: no end-of-call marker, and at most these numbers of barriers and stores.
 pub record IsPiece (most_barriers most_stores : ℕ) (events : List Event) : Type 0 where
   pub unmarked : marks events ≡ 0
   pub few_barriers : barriers events ≤ most_barriers

@@ -1,37 +1,37 @@
--- Stores of values that may stand at their words, and stores of which a crash may keep any.
+-- Stores of values that are allowed at their words, and stores of which a crash may keep any subset.
 use Rattle.std.specs.Prelude.{◌≡◌, ◌⊎◌, ℕ, Bool, IsTrue, List, [], ◌∷◌, length, slice_index, slice_set}
 use Rattle.pm_epochs.specs.declared.event.Event.{Event}
 use Rattle.pm_epochs.specs.declared.event.Event.TheVariants.{Store, Barrier, Mark}
 use Rattle.pm_epochs.specs.Crash.{IsQuiet, Likeness}
 
--- each store of the log puts a value that may stand at its word
+-- Each store of the log writes a value that is allowed at its word.
 abbrev pub StoresMay : (ℕ → ℕ → Type 0) → List Event → Type 0
 StoresMay May [] = Unit {0}
 StoresMay May (Store word value ∷ events) = May word value × StoresMay May events
 StoresMay May (Barrier ∷ events) = StoresMay May events
 StoresMay May (Mark ∷ events) = StoresMay May events
 
--- any value may stand at these words
+-- Any value is allowed at these words.
 abbrev pub AnyAt : (ℕ → Type 0) → ℕ → ℕ → Type 0
 AnyAt Inside word value = Inside word
 
--- as many words, and each is as before or has a value that may stand there
+-- The same number of words, each unchanged or with a value that is allowed there.
 pub record EachMay (May : ℕ → ℕ → Type 0) (old new : List ℕ) : Type 0 where
   pub size : length new ≡ length old
   pub each : (word : ℕ) → (slice_index new word ≡ slice_index old word) ⊎ May word (slice_index new word)
 
--- stores of values that pass a test are quiet, where nobody sees which words have such values
+-- Stores of values that pass a test are quiet, if the relation ignores which words have such values.
 abbrev pub IsQuietByTest : Likeness → (ℕ → ℕ → Bool) → List ℕ → List Event → Type 0
 IsQuietByTest Same may base events =
     ((image : List ℕ) → EachMay (λ word value. IsTrue (may word value)) base image → Same base image) →
     StoresMay (λ word value. IsTrue (may word value)) events → IsQuiet Same base events
 
--- the stores of these values at these words, in a row
+-- The stores of these values at these words, in order.
 abbrev pub links_of : List (ℕ × ℕ) → List Event
 links_of [] = []
 links_of (link ∷ links) = Store link.0 link.1 ∷ links_of links
 
--- whichever of the links are done over these words, the base is like what they make
+-- Whichever of the links are stored over these words, the result is like the base.
 abbrev pub AnyOf : Likeness → List ℕ → List ℕ → List (ℕ × ℕ) → Type 0
 AnyOf Same base words [] = Same base words
 AnyOf Same base words (link ∷ links) =

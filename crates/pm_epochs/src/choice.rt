@@ -1,18 +1,19 @@
-//! Choices of what a crash keeps.
+//! Crash points: which stores of a log survive.
 
 ghost use Rattle.std.specs.Prelude.{◌≡◌, ◌<◌, [], ◌∷◌, ◌++◌, IfOk, length};
 
 use std::alloc::{AllocError, Global};
 use std::marker::Model;
 
-/// The choice is not right for the log: its moment is behind the log's end, the log has fewer barriers before that moment
-/// than the epoch wants, or the mask is longer than the epoch has stores before that moment.
+/// Error: the crash point is not valid for the log. `moment` is past the end of the log, the log has fewer barriers
+/// before `moment` than `epoch`, or the mask is longer than the number of the epoch's stores before `moment`.
 #[derive(Clone, Copy, Debug, PartialEq, Eq)]
 pub struct BadChoice;
 
-/// What a crash keeps of a log. `moment` is how many events were done, `epoch` the epoch that was being written back (an
-/// event's epoch is the number of barriers before it), and `mask` says of that epoch's stores, in order, which had been. A
-/// mask that ends early goes on with false. Stores of earlier epochs are kept, those of later ones are lost.
+/// A crash point of a log. `moment` is the number of events executed, `epoch` the epoch that was being written back
+/// (the epoch of an event is the number of barriers before it), and `mask` says of each store of that epoch, in order,
+/// whether it was written back. Stores past the end of the mask are lost. Stores of earlier epochs survive, those of
+/// later ones are lost.
 #[derive(Drop)]
 pub struct Choice {
     moment: usize,
@@ -36,7 +37,11 @@ impl Model for Choice {
 }
 
 impl Choice {
-    /// A choice that keeps nothing, with room for a mask of so many places. Fails only for want of memory.
+    /// Makes a crash point that keeps nothing, with memory for a mask of `room` positions.
+    ///
+    /// # Errors
+    ///
+    /// `AllocError`: out of memory.
     pub fn new(alloc: Global, room: usize) -> Result<Choice, AllocError>
         ensures { IfOk result (λ choice. choice ≡ record {
           cut = record { moment = 0; epoch = 0; mask = [] };
@@ -52,35 +57,35 @@ impl Choice {
         })
     }
 
-    /// How many places the mask has room for.
+    /// Returns the number of positions for which the mask has memory.
     pub fn room(&self) -> usize
         ensures { result ≡ self.now.room }
     {
         self.room
     }
 
-    /// How many events were done.
+    /// Returns the number of events executed before the crash.
     pub fn moment(&self) -> usize
         ensures { result ≡ self.now.cut.moment }
     {
         self.moment
     }
 
-    /// The epoch that was being written back.
+    /// Returns the epoch that was being written back.
     pub fn epoch(&self) -> usize
         ensures { result ≡ self.now.cut.epoch }
     {
         self.epoch
     }
 
-    /// Which stores of that epoch are kept, in order.
+    /// Returns which stores of that epoch survive, in order.
     pub fn mask(&self) -> &[bool]
         ensures { result.now ≡ self.now.cut.mask }
     {
         &self.mask
     }
 
-    /// Begins anew, with an empty mask.
+    /// Starts again at this event count and epoch, with an empty mask.
     pub fn start(&mut self, moment: usize, epoch: usize)
         ensures { self.new ≡ record {
           cut = record { moment = moment; epoch = epoch; mask = [] };
@@ -92,7 +97,7 @@ impl Choice {
         self.mask.clear();
     }
 
-    /// Says of the next store of the epoch whether it is kept. Takes no memory.
+    /// Appends to the mask whether the next store of the epoch survives. Allocates nothing.
     pub fn push(&mut self, keep: bool)
         requires { length self.old.cut.mask < self.old.room }
         ensures { self.new ≡ record {

@@ -1,4 +1,4 @@
-//! What a crash leaves, and how many calls it keeps.
+//! What a crash leaves of a log, and how many calls survive.
 
 ghost use Rattle.std.specs.Prelude.{◌≡◌, ◌+◌, ◌-◌, ◌<◌, ◌≤◌, ◌↔◌, if◌then◌else◌, [], ◌∷◌, ◌++◌, IsOk, IfOk};
 ghost use Rattle.std.specs.Prelude.{MatchOption, List};
@@ -9,27 +9,28 @@ ghost use Rattle.pm_epochs.specs.Replay.{IsRight, LeavesWord, stores_of, marks_o
 use super::choice::{BadChoice, Choice};
 use super::event::Event;
 
-/// How many calls a crash kept whole, and how many there were.
+/// The number of calls that survive a crash, and the number of calls in the log.
 #[derive(Clone, Copy, Debug, PartialEq, Eq)]
 pub struct Kept {
-    /// Calls that are kept.
+    /// The number of calls that survive.
     pub c: usize,
-    /// Calls in the log: its marks.
+    /// The number of calls in the log, which is the number of its end-of-call markers.
     pub n: usize,
 }
 
-/// Goes through a log, and says of each event whether it is a store that is kept.
+/// A pass over a log, event by event, which decides of each event whether it is a store that survives.
 #[derive(Drop)]
 pub struct Keeper<'a> {
-    /// How many barriers are still to come before the epoch that the mask is for.
+    /// The number of barriers still to come before the epoch that the mask belongs to.
     pub epoch: usize,
-    /// Which stores of that epoch are kept, of those still to come. None where it has ended.
+    /// Which of the epoch's stores still to come survive. It is empty once the epoch has ended.
     pub mask: &'a [bool],
 }
 
 impl Keeper<'_> {
-    /// Takes the next event, and says whether it is a store that is kept. What is kept of a log that goes on with the event
-    /// is the event, where it is kept, and then what is kept of the rest. Its calls are counted up to a store that is lost.
+    /// Takes the next event, and returns whether it is a store that survives. Of a log that begins with this event,
+    /// the event survives if the result is true, and then what survives of the rest. Calls are counted up to the first
+    /// lost store.
     pub fn keeps(&mut self, event: Event) -> bool
         ensures stores { (rest : List Event) → kept_by self.old (event ∷ rest) ≡
             (if result then event ∷ [] else []) ++ kept_by self.new rest }
@@ -63,7 +64,7 @@ impl Keeper<'_> {
     }
 }
 
-/// How many stores an epoch has, or none where there are fewer barriers.
+/// Returns the number of stores in an epoch, or `None` if there are fewer barriers than the epoch's number.
 fn epoch_len(events: &[Event], epoch: usize) -> Option<usize>
     ensures { MatchOption result (barriers events.now < epoch)
         (λ count. (epoch ≤ barriers events.now) × (count ≡ epoch_stores epoch events.now)) }
@@ -89,7 +90,7 @@ fn epoch_len(events: &[Event], epoch: usize) -> Option<usize>
     if left == 0 { Some(count) } else { None }
 }
 
-/// One word after the stores that are kept.
+/// Returns one word after the stores that survive.
 fn word_of(base: u64, events: &[Event], epoch: usize, mask: &[bool], word: u32) -> u64
     ensures { result ≡ word_after base (stores_of epoch mask.now events.now) word }
 {
@@ -107,7 +108,7 @@ fn word_of(base: u64, events: &[Event], epoch: usize, mask: &[bool], word: u32) 
     now
 }
 
-/// The marks before the first store that is not kept.
+/// Returns the number of end-of-call markers before the first lost store.
 fn calls_of(events: &[Event], epoch: usize, mask: &[bool]) -> usize
     ensures { result ≡ marks_of epoch mask.now events.now }
 {
@@ -140,7 +141,11 @@ fn mark_count(events: &[Event]) -> usize
     count
 }
 
-/// Whether a choice is right for a log. `BadChoice` is the answer where it is not.
+/// Checks that a crash point is valid for a log.
+///
+/// # Errors
+///
+/// `BadChoice`: the crash point is not valid for the log.
 pub fn check_choice(events: &[Event], choice: &Choice) -> Result<(), BadChoice>
     ensures { IsOk result ↔ IsRight events.now choice.now.cut }
 {
@@ -153,8 +158,11 @@ pub fn check_choice(events: &[Event], choice: &Choice) -> Result<(), BadChoice>
     }
 }
 
-/// What a crash leaves of the word at place `word`, in any memory that had `base` there before the log. `BadChoice` is the
-/// answer where the choice is not right for the log.
+/// Returns what a crash leaves of the word at index `word`, in any memory that had `base` there before the log.
+///
+/// # Errors
+///
+/// `BadChoice`: the crash point is not valid for the log.
 pub fn replay_word(
     base: u64,
     events: &[Event],
@@ -174,8 +182,11 @@ pub fn replay_word(
     ))
 }
 
-/// How many calls a crash keeps: those each of whose stores, and each store before them, is kept. `BadChoice` is the answer
-/// where the choice is not right for the log.
+/// Returns how many calls survive a crash: a call survives if each of its stores, and each store before them, survives.
+///
+/// # Errors
+///
+/// `BadChoice`: the crash point is not valid for the log.
 pub fn kept_calls(events: &[Event], choice: &Choice) -> Result<Kept, BadChoice>
     ensures right { IsOk result ↔ IsRight events.now choice.now.cut }
     ensures kept { IfOk result (λ kept. kept.c ≡ kept_calls_of events.now choice.now.cut) }

@@ -4,7 +4,7 @@ use Rattle.pm_raw.specs.declared.cells.Base.{Base}
 use Rattle.pm_raw.specs.declared.cells.Cells.{Cells}
 use Rattle.pm_raw.specs.declared.cells.Deed.{Deed}
 
--- the address, the places and the deed are those of one block of so many places, from this allocator
+-- The address, the places and the deed belong to one block of `count` places, from this allocator.
 module _ {T A : Type 0} where
   pub record IsBlock (base : Base T) (cells : Cells T) (deed : Deed T A) (count : ℕ) (alloc : A) : Type 0 where
     pub cells_at : cells.at ≡ base.address

@@ -1,14 +1,14 @@
--- How a log stands in a list of words and a list of values, with one place of each for an event. In memory the words are
--- runs, and the values a vector.
+-- A log as a list of words and a list of values, with one entry of each for an event. In memory the words are stored
+-- as runs, and the values in a vector.
 use Rattle.std.specs.Prelude.{ℕ, ◌==◌, if◌then◌else◌, List, [], ◌∷◌}
 use Rattle.pm_epochs.specs.declared.event.Event.{Event}
 use Rattle.pm_epochs.specs.declared.event.Event.TheVariants.{Store, Barrier, Mark}
 
--- the last number of 32 bits, which no word of a region has, stands for what is no store
+-- The largest number of 32 bits, which is no word of a region. It represents an event that is no store.
 abbrev pub no_word : ℕ
 no_word = 4294967295
 
--- what is no store, by its value
+-- The event that is no store, by its value.
 abbrev pub signal_of : ℕ → Event
 signal_of value = if value == 0 then Barrier else Mark
 
@@ -20,7 +20,7 @@ events_of [] values = []
 events_of (word ∷ words) [] = []
 events_of (word ∷ words) (value ∷ values) = event_of word value ∷ events_of words values
 
--- the events that code holds, each by its word and its number, and how many it has room for
+-- The events that an `Entries` has, each by its word and its number, and the number of events that it has memory for.
 pub record Entered : Type 0 where
   pub words : List ℕ
   pub saved : List ℕ

@@ -1,4 +1,4 @@
--- How the numbers of a log's entries stand in a vector.
+-- The numbers of a log's entries in a vector.
 use Rattle.std.specs.Prelude.{◌≡◌, ◌≤◌, length, vec_capacity}
 use Rattle.pm_raw.specs.Entries.{Entered}
 use Rattle.pm_raw.specs.declared.entries.Entries.TheInside.{Inside}
@@ -10,7 +10,7 @@ entered_of entries = record {
   room = entries.words.room;
 }
 
--- each entry has its number, and the vector has room for all
+-- Each entry has its number, and the vector has room for all numbers.
 pub record HasNumbers (entries : Inside) : Type 0 where
   pub counted : length entries.saved.items ≡ length entries.words.words
   pub has_room : entries.words.room ≤ vec_capacity entries.saved

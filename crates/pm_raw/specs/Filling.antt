@@ -1,4 +1,4 @@
--- What holds of a block that is partly filled.
+-- A block that is partly filled.
 use Rattle.std.specs.Prelude.{◌≡◌, ◌≤◌, length}
 use Rattle.pm_raw.specs.Block.{IsBlock}
 use Rattle.pm_raw.specs.Part.{Part}
@@ -7,7 +7,7 @@ use Rattle.pm_raw.specs.declared.array.Filling.TheInside.{Inside}
 abbrev pub part_of : Inside → Part
 part_of filling = record { words = filling.cells.items; size = filling.size }
 
--- the parts are of one block, and the first places hold an item each
+-- The parts belong to one block, and its first places have an item each.
 pub record IsPartly (filling : Inside) : Type 0 where
   pub block : IsBlock filling.base filling.cells filling.deed filling.size filling.alloc
   pub counted : length filling.cells.items ≡ filling.count

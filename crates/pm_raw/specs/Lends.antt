@@ -1,11 +1,11 @@
--- What the places end as, once a `&mut` to their items has ended.
+-- The value that the places have after a `&mut` to their items has ended.
 use Rattle.std.specs.Prelude.{List, length}
 use Rattle.std.specs.Borrow.{Fml, RattleType, MutBor, Array, Lends}
 use Rattle.std.specs.List.{refill}
 use Rattle.pm_raw.specs.declared.cells.Cells.{Cells}
 use Rattle.pm_raw.specs.contracts.cells.Cells.{the_row}
 
--- the places with these items in place of theirs, of which there are as many
+-- The places with these items in place of their own, of which there are as many.
 abbrev pub refilled : {T : Type 0} → Cells T → List T → Cells T
 refilled cells items = record cells { items = refill (length cells.items) cells.items items }
 

@@ -1,7 +1,7 @@
--- What a region's words in the making are seen as.
+-- The model of a region's words while they are being filled.
 use Rattle.std.specs.Prelude.{ℕ, List}
 
--- the words that are there, and how many there are to be
+-- The words present, and their final number.
 pub record Part : Type 0 where
   pub words : List ℕ
   pub size : ℕ

@@ -11,20 +11,20 @@ piece_events (Stores word values) = stores_from word values.now
 piece_events Barrier = event.Barrier ∷ []
 piece_events Mark = event.Mark ∷ []
 
--- whether all of these are true
+-- Whether all of these are true.
 abbrev pub all_kept : List Bool → Bool
 all_kept [] = true
 all_kept (true ∷ mask) = all_kept mask
 all_kept (false ∷ mask) = false
 
--- whether a mask keeps so many first stores
+-- Whether a mask keeps this number of first stores.
 abbrev pub keeps : ℕ → List Bool → Bool
 keeps zero mask = true
 keeps (suc n) [] = false
 keeps (suc n) (true ∷ mask) = keeps n mask
 keeps (suc n) (false ∷ mask) = false
 
--- the word that goes on with a piece's stores, 0 where it is none
+-- The word after those of a piece's stores; 0 if the piece has no stores.
 abbrev pub piece_end : Piece → ℕ
 piece_end (Stores word values) = word + length values.now
 piece_end Barrier = 0

@@ -1,25 +1,25 @@
--- Where the events of one kind stand in a log.
+-- The positions of the events of one kind in a log.
 use Rattle.std.specs.Prelude.{ℕ, Bool, true, false, nat_lt, if◌then◌else◌, List, [], ◌∷◌, slice_index}
 use Rattle.std.proofs.Common.{zero, suc}
 use Rattle.pm_epochs.specs.declared.event.Event.{Event}
 use Rattle.pm_epochs.specs.declared.event.Event.TheVariants.{Store, Barrier, Mark}
 
--- places that code holds, and how many it has room for
+-- The positions that a `Places` has, and the number of positions that it has memory for.
 pub record Placed : Type 0 where
   pub items : List ℕ
   pub room : ℕ
 
--- with this place in front of the others, where it is one of them
+-- The positions, with this one prepended if it is one of them.
 abbrev pub noted : Bool → ℕ → List ℕ → List ℕ
 noted true place places = place ∷ places
 noted false place places = places
 
--- the places of the events that are of a kind, where the first event has this number
+-- The positions of the events of a kind, if the first event has this position.
 abbrev pub places_where : (Event → Bool) → ℕ → List Event → List ℕ
 places_where is_one at [] = []
 places_where is_one at (event ∷ events) = noted (is_one event) at (places_where is_one (suc at) events)
 
--- whether an event is a barrier, and whether it is a mark
+-- Whether an event is a barrier, and whether it is an end-of-call marker.
 abbrev pub is_barrier : Event → Bool
 is_barrier (Store word value) = false
 is_barrier Barrier = true
@@ -30,12 +30,12 @@ is_mark (Store word value) = false
 is_mark Barrier = false
 is_mark Mark = true
 
--- where an epoch begins, in a log with barriers at these places: behind the barrier before it
+-- The start of an epoch in a log with barriers at these positions: after the barrier before it.
 abbrev pub start_behind : List ℕ → ℕ → ℕ
 start_behind places zero = 0
 start_behind places (suc epoch) = suc (slice_index places epoch)
 
--- how many of these numbers are less than the bound
+-- The number of these numbers that are less than the bound.
 abbrev pub count_below : ℕ → List ℕ → ℕ
 count_below bound [] = 0
 count_below bound (place ∷ places) =

@@ -1,34 +1,34 @@
--- The words of a log's events, from runs of words in a row.
+-- The words of a log's events, stored as runs of consecutive words.
 use Rattle.std.specs.Prelude.{◌≡◌, ℕ, zero, suc, ◌+◌, ◌-◌, ◌^◌, ◌<◌, ◌≤◌, nat_lt, Bool, true, if◌then◌else◌, List, [], ◌∷◌, length, slice_index}
 
--- words that code holds, and how many it has room for
+-- The words that a `Runs` has, and the number of words that it has memory for.
 pub record Worded : Type 0 where
   pub words : List ℕ
   pub room : ℕ
 
--- whether an event stands before the first of these runs
+-- Whether an event is before the first of these runs.
 abbrev pub is_before : ℕ → List ℕ → Bool
 is_before i [] = true
 is_before i (start ∷ starts) = nat_lt i start
 
--- the word of an event, by its number, from the first words of the runs and the numbers of their first events: the last run
--- goes on for ever, and without a run it is more than any word
+-- The word of an event, by its index, from the first words of the runs and the indices of their first events. The last
+-- run has no end. Without a run, the result is greater than any word.
 abbrev pub run_word_at : List ℕ → List ℕ → ℕ → ℕ
 run_word_at [] starts i = 4294967296
 run_word_at (first ∷ firsts) [] i = 4294967296
 run_word_at (first ∷ firsts) (start ∷ starts) i = if is_before i starts then first + (i - start) else run_word_at firsts starts i
 
--- the words of so many events, from this one on
+-- The words of this number of events, from this one on.
 abbrev pub words_from : List ℕ → List ℕ → ℕ → ℕ → List ℕ
 words_from firsts starts at zero = []
 words_from firsts starts at (suc count) = run_word_at firsts starts at ∷ words_from firsts starts (suc at) count
 
--- each number is greater than those before it
+-- Each number is greater than those before it.
 abbrev pub Rises : List ℕ → Type 0
 Rises numbers = (i j : ℕ) → i < j → j < length numbers → slice_index numbers i < slice_index numbers j
 
--- Runs in order, of events from `at` on and before `end`: the event at `at` is in the first one, each has an event before the
--- end, and the events' words have 32 bits.
+-- Runs in order, of the events from `at` on and before `end`. The event at `at` is in the first run, each run has an
+-- event before the end, and the events' words have 32 bits.
 pub record AreRuns (firsts starts : List ℕ) (at end : ℕ) : Type 0 where
   pub same : length firsts ≡ length starts
   pub some : at < end → 0 < length starts

@@ -1,4 +1,4 @@
--- How runs stand in two vectors.
+-- Runs in two vectors.
 use Rattle.std.specs.Prelude.{◌≡◌, ◌≤◌, length, vec_capacity}
 use Rattle.pm_raw.specs.RunWords.{Worded, AreRuns, run_word_at, words_from}
 use Rattle.pm_raw.specs.declared.runs.Runs.TheInside.{Inside}
@@ -6,8 +6,8 @@ use Rattle.pm_raw.specs.declared.runs.Runs.TheInside.{Inside}
 abbrev pub worded_of : Inside → Worded
 worded_of runs = record { words = words_from runs.firsts.items runs.starts.items 0 runs.count; room = runs.room }
 
--- there are at most as many runs as events, and the two vectors have room for as many; and it is known with which word the last
--- run goes on
+-- There are at most as many runs as events, the two vectors have room for as many, and the next word of the last run
+-- is recorded.
 pub record HasRuns (runs : Inside) : Type 0 where
   pub are : AreRuns runs.firsts.items runs.starts.items 0 runs.count
   pub next : runs.next ≡ run_word_at runs.firsts.items runs.starts.items runs.count

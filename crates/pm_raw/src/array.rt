@@ -9,7 +9,7 @@ use pm_words::word_at;
 use std::alloc::{AllocError, Global};
 use std::marker::Model;
 
-/// An array in a block of memory of its own, which is freed at the array's end. It is seen as the list of its items.
+/// An array in its own block of memory, which is freed when the array is dropped. Its model is the list of its items.
 pub struct RawArray<T: Copy> {
     base: Base<T>,
     len: usize,
@@ -46,7 +46,7 @@ impl<T: Copy> Drop for RawArray<T> {
     }
 }
 
-/// Puts the value into each place of an empty block.
+/// Writes the value into each place of an empty block.
 fn fill<T: Copy>(cells: &mut Cells<T>, base: Base<T>, len: usize, value: T)
     requires at { base.address ≡ cells.old.at }
     requires empty { cells.old.items ≡ [] }
@@ -63,7 +63,11 @@ fn fill<T: Copy>(cells: &mut Cells<T>, base: Base<T>, len: usize, value: T)
 impl<T: Copy> RawArray<T> {
     ghost use Rattle.pm_raw.specs.RawLends.{AreReplaced, lends_array};
 
-    /// An array of so many items, each this value. Fails only for want of memory; no other call takes any.
+    /// Makes an array of `len` items, each of this value. No other call allocates.
+    ///
+    /// # Errors
+    ///
+    /// `AllocError`: out of memory.
     pub fn new(alloc: Global, len: usize, value: T) -> Result<RawArray<T>, AllocError>
         requires { FitsInBlock T.row len }
         ensures { IfOk result (λ array. array ≡ replicate len value) }
@@ -79,21 +83,21 @@ impl<T: Copy> RawArray<T> {
         })
     }
 
-    /// How many items there are.
+    /// Returns the number of items.
     pub fn len(&self) -> usize
         ensures { result ≡ length self.now }
     {
         self.len
     }
 
-    /// The items.
+    /// Returns the items.
     pub fn as_slice(&self) -> &[T]
         ensures { result.now ≡ self.now }
     {
         self.cells.slice(self.base, self.len)
     }
 
-    /// The items, to be changed.
+    /// Returns the items for modification.
     pub fn as_mut_slice(&mut self) -> &mut [T]
         ensures* writes_back { sem 𝓛 (lends_array T.row self.entry result) }
         ensures value { result.now ≡ self.old }
@@ -112,7 +116,8 @@ impl<T: Copy> RawArray<T> {
     }
 }
 
-/// The words of a region in the making: a block of so many places, of which the first are written. It is freed at its end.
+/// The words of a region while they are being filled: a block of `size` places, of which the first are written. The
+/// block is freed when the value is dropped.
 pub struct Filling {
     base: Base<u64>,
     size: usize,
@@ -148,7 +153,7 @@ impl Drop for Filling {
     }
 }
 
-/// Puts the words that the bytes spell into the first empty places, which are those from this index on.
+/// Writes the words that the bytes encode into the first empty places, which begin at index `count`.
 fn push_spelled(cells: &mut Cells<u64>, base: Base<u64>, count: usize, bytes: &[u8])
     requires at { base.address ≡ cells.old.at }
     requires count { count ≡ length cells.old.items }
@@ -164,7 +169,11 @@ fn push_spelled(cells: &mut Cells<u64>, base: Base<u64>, count: usize, bytes: &[
 }
 
 impl Filling {
-    /// No words yet, and places for so many. Fails only for want of memory; no other call takes any.
+    /// Allocates `size` empty places. No other call allocates.
+    ///
+    /// # Errors
+    ///
+    /// `AllocError`: out of memory.
     pub fn new(alloc: Global, size: u32) -> Result<Filling, AllocError>
         ensures { IfOk result (λ filling. filling ≡ record { words = []; size = size }) }
     {
@@ -180,8 +189,8 @@ impl Filling {
         })
     }
 
-    /// Puts the words that these bytes spell behind those that are there: each eight bytes are one word, the lowest
-    /// byte first. Fewer than eight at the end spell none.
+    /// Appends the words that these bytes encode: each eight bytes are one word, the lowest byte first. Fewer than
+    /// eight bytes at the end are ignored.
     pub fn push_bytes(&mut self, bytes: &[u8])
         requires room { length self.old.words + length bytes.now / 8 ≤ self.old.size }
         ensures { self.new ≡ record self.old {
@@ -192,7 +201,7 @@ impl Filling {
         self.count += bytes.len() / 8;
     }
 
-    /// The words, once they are all there.
+    /// Returns the words, once all of them are present.
     pub fn finish(self) -> RawArray<u64>
         requires full { length self.words ≡ self.size }
         ensures { result ≡ self.words }

@@ -1,5 +1,5 @@
-//! The raw memory behind an array: a block of places, of which the first ones hold an item each and the others are empty.
-//! All raw pointers of the crate stand here.
+//! The raw memory of an array: a block of places, of which the first have an item each and the others are empty. All
+//! raw pointers of the crate are in this file.
 ghost use Rattle.std.specs.Prelude.{◌≡◌, ℕ, ◌<◌, ◌≤◌, List, [], ◌∷◌, ◌++◌, length, IfOk};
 ghost use Rattle.std.specs.Borrow.{sem};
 ghost use Rattle.std.specs.Vec.Ownership.{FitsInBlock};
@@ -12,7 +12,7 @@ use std::marker::{Model, PhantomData};
 use std::mem::{align_of, size_of};
 use std::slice;
 
-/// Where a block begins. It owns nothing, so it is copied freely.
+/// The address of a block. It owns nothing, so it is copied freely.
 #[derive(Clone, Copy)]
 pub struct Base<T> {
     address: *mut T,
@@ -32,7 +32,7 @@ impl<T> Model for Cells<T> {
     ghost also_shares = { λ cells _ κ. places_lend T.row cells.at cells.items cells.count κ };
 }
 
-/// The right to give a block of `count` places back to the allocator that it came from. It has no bytes.
+/// The right to return a block of `count` places to the allocator that it came from. It has no bytes.
 pub struct Deed<T, A: Allocator> {
     of: PhantomData<*const (T, A)>,
     ghost at: { Ptr },
@@ -49,7 +49,11 @@ impl<T, A: Allocator> Model for Deed<T, A> {
 impl<T> Base<T> {
     ghost use Rattle.pm_raw.specs.Block.{IsBlock};
 
-    /// A block of so many places, all empty. Fails only for want of memory.
+    /// Allocates a block of `count` places, all empty.
+    ///
+    /// # Errors
+    ///
+    /// `AllocError`: out of memory.
     pub(crate) fn allocate<A: Allocator>(
         alloc: &A,
         count: usize,
@@ -70,7 +74,7 @@ impl<T> Base<T> {
         }
     }
 
-    /// Gives a block back. Its items are forgotten, so their type is to be `Copy`.
+    /// Frees a block. Its items are forgotten, so their type must be `Copy`.
     pub(crate) fn deallocate<A: Allocator>(
         alloc: &A,
         base: Base<T>,
@@ -95,7 +99,7 @@ impl<T> Base<T> {
 impl<T> Cells<T> {
     ghost use Rattle.pm_raw.specs.Lends.{lends_items};
 
-    /// Puts an item into the first empty place, which is that of this index.
+    /// Writes an item into the first empty place, which has this index.
     pub(crate) fn push(&mut self, base: Base<T>, index: usize, item: T)
         requires { (base.address ≡ self.old.at) × (index ≡ length self.old.items) × (index < self.old.count) }
         ensures { self.new ≡ record self.old { items = self.old.items ++ item ∷ [] } }
@@ -103,7 +107,7 @@ impl<T> Cells<T> {
         unsafe { base.address.add(index).write(item) }
     }
 
-    /// The items of a block whose places all hold one.
+    /// Returns the items of a block whose places all have one.
     pub(crate) fn slice(&self, base: Base<T>, len: usize) -> &[T]
         requires { (base.address ≡ self.now.at) × (length self.now.items ≡ len) × (self.now.count ≡ len) }
         ensures { result.now ≡ self.now.items }
@@ -111,7 +115,7 @@ impl<T> Cells<T> {
         unsafe { slice::from_raw_parts(base.address, len) }
     }
 
-    /// The same, to be changed.
+    /// Returns the items of a block whose places all have one, for modification.
     pub(crate) fn slice_mut(&mut self, base: Base<T>, len: usize) -> &mut [T]
         requires { (base.address ≡ self.old.at) × (length self.old.items ≡ len) × (self.old.count ≡ len) }
         ensures* writes_back { sem 𝓛 (lends_items T.row self.entry result) }

@@ -1,4 +1,4 @@
-//! What a cut of the power leaves of a log, and how many calls it keeps.
+//! What a power failure leaves of a log, and how many calls survive.
 
 ghost use Rattle.std.specs.Prelude.{◌≡◌, ◌^◌, ◌<◌, ◌≤◌, ◌↔◌, true, false, IsOk, IfOk, length, slice_set};
 ghost use Rattle.pm_epochs.specs.Log.{epoch_stores, marks, words_after};
@@ -12,7 +12,7 @@ use super::log::{Log, Piece};
 use super::places::Places;
 use pm_epochs::{BadChoice, Choice, Kept};
 
-/// How many stores stand before the first barrier.
+/// Returns the number of stores before the first barrier.
 fn first_stores(log: Log<'_>) -> usize
     ensures { result ≡ epoch_stores 0 log.entry }
 {
@@ -29,7 +29,7 @@ fn first_stores(log: Log<'_>) -> usize
     count
 }
 
-/// Whether all of these stores are kept.
+/// Returns whether the mask keeps all of its stores.
 fn keeps_all(mask: &[bool]) -> bool
     ensures { result ≡ all_kept mask.now }
 {
@@ -41,7 +41,7 @@ fn keeps_all(mask: &[bool]) -> bool
     true
 }
 
-/// Whether the mask keeps so many first stores.
+/// Returns whether the mask keeps the first `wanted` stores.
 #[tactic(auto, using(crate::proofs::PieceLaws::keeps_short, crate::proofs::PieceLaws::keeps_long))]
 fn keeps_first(mask: &[bool], wanted: usize) -> bool
     ensures { result ≡ keeps wanted mask.now }
@@ -53,7 +53,7 @@ fn keeps_first(mask: &[bool], wanted: usize) -> bool
     }
 }
 
-/// The marks before the first store that is not kept, where the mask is for the first epoch.
+/// Returns the number of end-of-call markers before the first lost store, if the mask is for the first epoch.
 fn calls_of(log: Log<'_>, mask: &[bool]) -> usize
     ensures { result ≡ marks_of 0 mask.now log.entry }
 {
@@ -76,7 +76,7 @@ fn calls_of(log: Log<'_>, mask: &[bool]) -> usize
     calls
 }
 
-/// Where an epoch begins, in a log with these barriers.
+/// Returns the index of an epoch's first event, in a log with these barriers.
 pub fn start_of_epoch(barrier_places: &Places, epoch: usize) -> usize
     requires begun { epoch ≤ length barrier_places.now.items }
     requires small { start_behind barrier_places.now.items epoch < 2 ^ 64 }
@@ -89,7 +89,11 @@ pub fn start_of_epoch(barrier_places: &Places, epoch: usize) -> usize
     }
 }
 
-/// Where the epoch of a choice begins. `BadChoice` is the answer where the choice is not right for the log.
+/// Returns the index of the first event of the choice's epoch.
+///
+/// # Errors
+///
+/// `BadChoice`: the crash point is not valid for the log.
 pub fn start_of(log: &Log<'_>, barrier_places: &Places, choice: &Choice) -> Result<usize, BadChoice>
     requires places { barrier_places.now.items ≡ places_where is_barrier 0 log.now }
     requires small { length log.now < 2 ^ 64 }
@@ -108,8 +112,8 @@ pub fn start_of(log: &Log<'_>, barrier_places: &Places, choice: &Choice) -> Resu
     Ok(start)
 }
 
-/// How many calls a crash keeps that keeps the stores before `start`, where its epoch begins, and how many there are. The log
-/// has these marks.
+/// Returns how many calls survive a crash that keeps the stores before `start`, where its epoch begins, and how many
+/// calls there are. The log has these end-of-call markers.
 pub fn kept_calls(log: &Log<'_>, mark_places: &Places, start: usize, choice: &Choice) -> Kept
     requires places { mark_places.now.items ≡ places_where is_mark 0 log.now }
     requires start { start ≡ epoch_start choice.now.cut.epoch log.now }
@@ -123,7 +127,7 @@ pub fn kept_calls(log: &Log<'_>, mark_places: &Places, start: usize, choice: &Ch
     }
 }
 
-/// Puts a value in place of a word that is there, where it is kept.
+/// Replaces a word by a value, if the word exists and the store survives.
 #[inline(always)]
 #[tactic(auto, using(std::proofs::lemmas::List::set_past))]
 fn put_kept(words: &mut [u64], place: usize, value: u64, keep: bool)
@@ -135,7 +139,7 @@ fn put_kept(words: &mut [u64], place: usize, value: u64, keep: bool)
     }
 }
 
-/// Does those stores of these values, to the words from this one on, that the mask keeps.
+/// Stores those of these values that the mask keeps, to the words from this one on.
 fn apply_stores(words: &mut [u64], word: u32, values: &[u64], mask: &[bool])
     ensures { words.new ≡ words_after words.old (stores_of 0 mask.now (stores_from word values.now)) }
 {
@@ -145,7 +149,7 @@ fn apply_stores(words: &mut [u64], word: u32, values: &[u64], mask: &[bool])
     }
 }
 
-/// Does those stores before the first barrier that the mask keeps.
+/// Applies those stores before the first barrier that the mask keeps.
 pub fn apply_first(words: &mut [u64], log: Log<'_>, mask: &[bool])
     ensures { words.new ≡ words_after words.old (stores_of 0 mask.now log.entry) }
 {

@@ -1,4 +1,4 @@
-//! What a region writes down of each event since the last drain.
+//! What a region records of each event since the last drain.
 ghost use Rattle.std.specs.Prelude.{◌≡◌, ◌+◌, ◌-◌, ◌^◌, ◌<◌, ◌≤◌, [], ◌∷◌, ◌++◌, IfOk, Some, drop, length, option_map, slice_get, take};
 ghost use Rattle.std.specs.List.{range_with_len};
 ghost use Rattle.pm_epochs.specs.Kind.{event_kind};
@@ -15,9 +15,9 @@ use pm_region::Row;
 use std::alloc::{AllocError, Global};
 use std::marker::Model;
 
-/// The events of a log: the words of all, by runs, and for each one number, in a vector that takes its memory once. The number
-/// of a store is the value that it replaced: the one that it brought is what the next store to its word replaced, or the word
-/// now.
+/// The events of a log: all their words, as runs, and one number for each event, in a vector that is allocated once.
+/// The number of a store is the value that it replaced. The value that it brought is what the next store to its word
+/// replaced, or the current word.
 #[derive(Drop)]
 pub struct Entries {
     words: Runs,
@@ -36,7 +36,7 @@ impl Model for Entries {
     ghost invariant = { HasNumbers };
 }
 
-/// What the event with this word and this number is.
+/// Returns the kind of the event with this word and this number.
 #[tactic(auto, using(std::proofs::lemmas::Bool::Decides::nat_tests))]
 fn read_kind(word: u32, number: u64) -> EventKind
     ensures { result ≡ event_kind (event_of word number) }
@@ -53,7 +53,11 @@ fn read_kind(word: u32, number: u64) -> EventKind
 }
 
 impl Entries {
-    /// None yet, with room for so many. Fails only for want of memory; no other call takes any.
+    /// Makes an empty list with memory for `room` events. No other call allocates.
+    ///
+    /// # Errors
+    ///
+    /// `AllocError`: out of memory.
     pub fn new(alloc: Global, room: usize) -> Result<Entries, AllocError>
         ensures { IfOk result (λ entries. entries ≡ record { words = []; saved = []; room = room }) }
     {
@@ -62,21 +66,21 @@ impl Entries {
         Ok(Entries { words, saved })
     }
 
-    /// How many there are.
+    /// Returns the number of events.
     pub fn len(&self) -> usize
         ensures { result ≡ length self.now.words }
     {
         self.words.len()
     }
 
-    /// How many more there is room for.
+    /// Returns how many more events there is room for.
     pub fn room(&self) -> usize
         ensures { result ≡ self.now.room - length self.now.words }
     {
         self.words.room()
     }
 
-    /// The undo log.
+    /// Returns the undo log.
     pub fn log(&self) -> Log<'_>
         requires { length self.now.saved ≡ length self.now.words }
         ensures { result ≡ events_of self.now.words self.now.saved }
@@ -84,7 +88,7 @@ impl Entries {
         self.words.log(&self.saved)
     }
 
-    /// What one of the events is, by its number from 0.
+    /// Returns the kind of event `i`, counted from 0.
     #[inline]
     pub fn kind(&self, i: usize) -> EventKind
         requires each { length self.now.saved ≡ length self.now.words }
@@ -94,7 +98,8 @@ impl Entries {
         read_kind(self.words.word(i), self.saved[i])
     }
 
-    /// What one of the events is, by its number from 0, and how many from it on are stores to words in a row.
+    /// Returns the kind of event `i`, counted from 0, and a number of events from it on that store to consecutive
+    /// words.
     #[inline]
     pub fn row(&self, i: usize) -> Row
         requires each { length self.now.saved ≡ length self.now.words }
@@ -105,7 +110,7 @@ impl Entries {
         ensures row { AreInRow (events_of self.now.words self.now.saved) i result.len }
     {
         let WordRow { first, len } = self.words.row(i);
-        // The word that stands for no store is none of a row.
+        // `NO_WORD`, which represents an event that is no store, belongs to no row of stores.
         let stores = (NO_WORD - first) as usize;
         Row {
             kind: read_kind(first, self.saved[i]),
@@ -113,8 +118,8 @@ impl Entries {
         }
     }
 
-    /// Unwinds the events from the last one to that with the number `start`: the words are then those before it, and the numbers
-    /// of the stores from it on are the values that they brought.
+    /// Unwinds the events from the last one down to index `start`: the words are then those before that event, and the
+    /// numbers of the stores from it on are the values that they brought.
     pub fn unwind(&mut self, words: &mut [u64], start: usize)
         requires each { length self.old.saved ≡ length self.old.words }
         requires fits { start ≤ length self.old.words }
@@ -128,7 +133,7 @@ impl Entries {
         unwind(words, &self.words, &mut self.saved, start);
     }
 
-    /// Begins anew, with none. The room stays.
+    /// Removes all events. The memory stays allocated.
     pub fn clear(&mut self)
         ensures { self.new ≡ record { words = []; saved = []; room = self.old.room } }
     {
@@ -136,7 +141,7 @@ impl Entries {
         self.saved.clear();
     }
 
-    /// One more, behind the others.
+    /// Appends an event.
     #[inline(always)]
     pub fn push(&mut self, word: u32, saved: u64)
         requires { length self.old.words < self.old.room }
@@ -148,8 +153,9 @@ impl Entries {
         self.words.push(word, 1);
     }
 
-    /// A run of stores, behind the others, to the words from `first` on, which replaced these values.
-    // By itself, so that the callers that compare words before they store them stay small enough to be inlined.
+    /// Appends a run of stores to the words from `first` on, which replaced these values.
+    // It is a function of its own, so that callers that compare words before they store them stay small enough to be
+    // inlined.
     #[inline(never)]
     pub fn push_run(&mut self, first: u32, saved: &[u64])
         requires room { length self.old.words + length saved.now ≤ self.old.room }

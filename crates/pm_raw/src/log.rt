@@ -1,4 +1,4 @@
-//! A part of a log as it stands in memory.
+//! A part of a log as it is stored in memory.
 
 ghost use Rattle.std.specs.Prelude.{◌≡◌, ◌+◌, ◌^◌, ◌<◌, ◌≤◌, [], ◌∷◌, ◌++◌, length, take, drop, slice_index};
 ghost use Rattle.std.specs.List.{range_with_len};
@@ -9,28 +9,28 @@ ghost use Rattle.pm_raw.specs.Pieces.{piece_end, piece_events};
 use super::runs::run_of;
 use std::marker::Model;
 
-/// The word of an event that is no store. No region has a word with this place.
+/// The word of an event that is no store. No region has a word with this index.
 pub const NO_WORD: u32 = u32::MAX;
 
 /// The value of a barrier, whose word is `NO_WORD`.
 pub const BARRIER: u64 = 0;
 
-/// The value of a mark, whose word is `NO_WORD`.
+/// The value of an end-of-call marker, whose word is `NO_WORD`.
 pub const MARK: u64 = 1;
 
-/// Events in a row of a log.
+/// Consecutive events of a log.
 #[derive(Drop)]
 pub enum Piece<'a> {
-    /// Stores of these values to words in a row, from this one on.
+    /// Stores of these values to consecutive words, from this one on.
     Stores { word: u32, values: &'a [u64] },
     /// A barrier.
     Barrier,
-    /// The end of a call.
+    /// An end-of-call marker.
     Mark,
 }
 
-/// A part of a log as it stands in memory: the runs of words, each by its first word and the number of its first event, the
-/// number of the part's first event, and the values of its events.
+/// A part of a log as it is stored in memory: the runs of words, each by its first word and the index of its first
+/// event; the index of the part's first event; and the values of its events.
 #[derive(Drop)]
 pub struct Log<'a> {
     firsts: &'a [u32],
@@ -51,8 +51,8 @@ impl<'a> Model for Log<'a> {
     ghost invariant = { IsPart };
 }
 
-/// How many events the first piece has, in a log from `at` to `end`, where the first word is this one: those of the first run,
-/// but one alone where it is no store, and no such one behind stores.
+/// Returns the number of events of the first piece in a log from `at` to `end` whose first word is this one. The piece
+/// has the events of the first run. An event that is no store is a piece by itself, and ends a piece of stores.
 #[inline]
 fn count_of_first(starts: &[usize], at: usize, end: usize, word: u32) -> usize
     requires some { at < end }
@@ -68,7 +68,7 @@ fn count_of_first(starts: &[usize], at: usize, end: usize, word: u32) -> usize
     (last - at).min(((NO_WORD - word) as usize).max(1))
 }
 
-/// The number of the run of an event that is in the first run or begins the next one.
+/// Returns the index of the run of an event that is in the first run or begins the next one.
 fn first_or_next(starts: &[usize], event: usize) -> usize
     requires rises { Rises starts.now }
     requires some { (0 < length starts.now) × (slice_index starts.now 0 ≤ event) }
@@ -84,7 +84,7 @@ fn first_or_next(starts: &[usize], event: usize) -> usize
     }
 }
 
-/// The piece of what is no store, by its value.
+/// Returns the piece of an event that is no store, by its value.
 #[tactic(auto, using(std::proofs::lemmas::Bool::Decides::nat_tests))]
 fn signal_piece<'a>(value: u64) -> Piece<'a>
     ensures events { piece_events result ≡ signal_of value ∷ [] }
@@ -97,7 +97,7 @@ fn signal_piece<'a>(value: u64) -> Piece<'a>
     }
 }
 
-/// The piece of events with words in a row, from this one on, and with these values.
+/// Returns the piece of events with consecutive words, from this one on, and with these values.
 #[tactic(auto, using(crate::proofs::EntryLaws::row_signal, crate::proofs::EntryLaws::row_stores))]
 #[inline]
 fn piece_of<'a>(word: u32, values: &'a [u64]) -> Piece<'a>
@@ -115,7 +115,7 @@ fn piece_of<'a>(word: u32, values: &'a [u64]) -> Piece<'a>
 }
 
 impl<'a> Log<'a> {
-    /// The log of events with these values, whose words are in these runs.
+    /// Makes the log of events with these values, whose words are in these runs.
     pub fn new(firsts: &'a [u32], starts: &'a [usize], values: &'a [u64]) -> Log<'a>
         requires { AreRuns firsts.now starts.now 0 (length values.now) }
         ensures { result ≡ events_of (words_from firsts.now starts.now 0 (length values.now)) values.now }
@@ -128,14 +128,14 @@ impl<'a> Log<'a> {
         }
     }
 
-    /// How many events there are.
+    /// Returns the number of events.
     pub fn len(&self) -> usize
         ensures { result ≡ length self.now }
     {
         self.values.len()
     }
 
-    /// The first events, as many as are wanted.
+    /// Returns the first `wanted` events.
     pub fn front(&self, wanted: usize) -> Log<'a>
         requires { wanted ≤ length self.now }
         ensures { result ≡ take wanted self.now }
@@ -157,7 +157,7 @@ impl<'a> Log<'a> {
         }
     }
 
-    /// The events behind the first ones.
+    /// Returns the events after the first `first` ones.
     pub fn behind(&self, first: usize) -> Log<'a>
         requires { first ≤ length self.now }
         ensures { result ≡ drop first self.now }
@@ -180,7 +180,8 @@ impl<'a> Log<'a> {
         }
     }
 
-    /// Takes the first events off: a signal, or stores to words in a row, as many as their run has. There is an event.
+    /// Removes the first piece and returns it: a barrier or a marker, or stores to consecutive words, as many as their
+    /// run has. There is at least one event.
     #[inline]
     pub fn take_first(&mut self) -> Piece<'a>
         requires { 0 < length self.old }

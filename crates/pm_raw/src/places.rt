@@ -1,4 +1,4 @@
-//! Where the events of one kind stand in a log.
+//! The positions of the events of one kind in a log.
 
 ghost use Rattle.std.specs.Prelude.{◌≡◌, ◌<◌, ◌≤◌, ◌++◌, [], ◌∷◌, IfOk, length, slice_index};
 ghost use Rattle.pm_raw.specs.Places.{count_below};
@@ -6,7 +6,7 @@ ghost use Rattle.pm_raw.specs.Places.{count_below};
 use std::alloc::{AllocError, Global};
 use std::marker::Model;
 
-/// Places of events of one kind in a log, by their numbers from 0, in order. It takes its memory once.
+/// Positions of events of one kind in a log, by their indices from 0, in order. Memory is allocated once.
 #[derive(Drop)]
 pub struct Places {
     places: Vec<usize>,
@@ -25,7 +25,11 @@ impl Model for Places {
 }
 
 impl Places {
-    /// None yet, with room for so many. Fails only for want of memory; no other call takes any.
+    /// Makes an empty list with memory for `room` positions. No other call allocates.
+    ///
+    /// # Errors
+    ///
+    /// `AllocError`: out of memory.
     pub fn new(alloc: Global, room: usize) -> Result<Places, AllocError>
         ensures { IfOk result (λ places. places ≡ record { items = []; room = room }) }
     {
@@ -33,14 +37,14 @@ impl Places {
         Ok(Places { places, room })
     }
 
-    /// How many there are.
+    /// Returns the number of positions.
     pub fn len(&self) -> usize
         ensures { result ≡ length self.now.items }
     {
         self.places.len()
     }
 
-    /// One of them, by its number from 0.
+    /// Returns position `i`, counted from 0.
     pub fn get(&self, i: usize) -> usize
         requires { i < length self.now.items }
         ensures { result ≡ slice_index self.now.items i }
@@ -48,21 +52,21 @@ impl Places {
         self.places[i]
     }
 
-    /// How many stand before the event with this number.
+    /// Returns how many positions are before the event with this index.
     pub fn before(&self, moment: usize) -> usize
         ensures { result ≡ count_below moment self.now.items }
     {
         count_of(&self.places, moment)
     }
 
-    /// Begins anew, with none. The room stays.
+    /// Removes all positions. The memory stays allocated.
     pub fn clear(&mut self)
         ensures { self.new ≡ record { items = []; room = self.old.room } }
     {
         self.places.clear();
     }
 
-    /// One more, behind the others.
+    /// Appends a position.
     pub fn push(&mut self, place: usize)
         requires { length self.old.items < self.old.room }
         ensures { self.new ≡ record { items = self.old.items ++ place ∷ []; room = self.old.room } }
@@ -71,7 +75,7 @@ impl Places {
     }
 }
 
-/// How many of these numbers are less than a bound.
+/// Returns how many of these numbers are less than a bound.
 fn count_of(places: &[usize], bound: usize) -> usize
     ensures { result ≡ count_below bound places.now }
 {

@@ -16,12 +16,14 @@ use pm_region::{Region, Row};
 use std::alloc::{AllocError, Global};
 use std::marker::Model;
 
-/// A region in raw memory: the words now, the words of the events since the last drain by runs, and for each store the
-/// value that it replaced. Beside them it keeps where the barriers and the marks stand, so that a crash and a storm need
-/// not look for them among the stores. The words at the last drain are held nowhere: they are what unwinding the log
-/// leaves; nor is the value of a store, which is what the next store to its word replaced, or the word now. So a drain
-/// takes constant time, as each other call does but a crash and a look at a word of an earlier moment, which take time
-/// for the events behind it, and a count of the barriers before an event, which takes time for the barriers.
+/// A region in raw memory. It stores the current words, the words of the events since the last drain as runs, and for
+/// each store the value that it replaced. It also records the positions of the barriers and of the end-of-call
+/// markers, so that a crash and a storm need not search for them among the stores.
+///
+/// The words at the last drain are stored nowhere: unwinding the log restores them. Nor is the value of a store: it is
+/// what the next store to its word replaced, or the current word. So a drain takes constant time, as does each other
+/// call, with three exceptions. A crash, and a look at a word as of an earlier event, take time for the events after
+/// it. A count of the barriers before an event takes time for the barriers.
 #[derive(Drop)]
 pub struct RawRegion {
     current: RawArray<u64>,
@@ -43,7 +45,7 @@ impl Model for RawRegion {
     ghost invariant = { IsConsistent };
 }
 
-/// Puts these values in place of the words from `first` on.
+/// Replaces the words from `first` on by these values.
 fn overwrite(words: &mut [u64], first: usize, values: &[u64])
     requires { first + length values.now ≤ length words.old }
     ensures { words.new ≡ with_values words.old first values.now }
@@ -51,7 +53,7 @@ fn overwrite(words: &mut [u64], first: usize, values: &[u64])
     words[first..first + values.len()].copy_from_slice(values);
 }
 
-/// Notes the place of an event that is no store, by its value.
+/// Records the position of an event that is no store, by its value.
 fn note_signal(barriers: &mut Places, marks: &mut Places, place: usize, value: u64)
     requires barriers_room { length barriers.old.items < barriers.old.room }
     requires marks_room { length marks.old.items < marks.old.room }
@@ -72,8 +74,12 @@ fn note_signal(barriers: &mut Places, marks: &mut Places, place: usize, value: u
 impl RawRegion {
     ghost use Rattle.pm_region.specs.Memory.{Memory};
 
-    /// A region of `size` words, each 0, with an empty log that can take `capacity` events. Fails only for want of memory; no
-    /// other call takes any.
+    /// Makes a region of `size` words, each 0, with an empty log that can hold `capacity` events. No other call
+    /// allocates.
+    ///
+    /// # Errors
+    ///
+    /// `AllocError`: out of memory.
     pub fn new(alloc: Global, size: u32, capacity: usize) -> Result<RawRegion, AllocError>
         ensures { IfOk result (λ region. region ≡ record {
           base = replicate size 0;
@@ -95,7 +101,7 @@ impl RawRegion {
         })
     }
 
-    /// Puts these words in place of all of its own, as words that were there at the last drain.
+    /// Replaces all words of the region by these, as the words at the last drain.
     pub fn adopt_all(&mut self, words: RawArray<u64>)
         requires few { length words < 2 ^ 32 }
         requires drained { self.old.events ≡ [] }
@@ -104,7 +110,7 @@ impl RawRegion {
         self.current = words;
     }
 
-    /// Puts an event that is no store at the end of the log, by its value.
+    /// Appends an event that is no store to the log, by its value.
     #[inline(always)]
     fn push_signal(&mut self, value: u64)
         requires { length self.old.events < self.old.capacity }
@@ -202,7 +208,7 @@ impl Region for RawRegion {
         let start = start_of(&log, &self.barriers, choice)?;
         let kept = kept_calls(&log, &self.marks, start, choice);
         self.entries.unwind(self.current.as_mut_slice(), start);
-        // Its stores from there on now have the values that they brought.
+        // The log's stores from there on now have the values that they brought.
         let log = self.entries.log();
         apply_first(
             self.current.as_mut_slice(),

@@ -1,4 +1,4 @@
-//! The words of a log's events, held by runs of words in a row.
+//! The words of a log's events, stored as runs of consecutive words.
 ghost use Rattle.std.specs.Prelude.{◌≡◌, ℕ, ◌+◌, ◌-◌, ◌^◌, ◌<◌, ◌≤◌, [], ◌++◌, IfOk, drop, length, slice_index, take};
 ghost use Rattle.std.specs.List.{range_with_len};
 ghost use Rattle.pm_raw.specs.Entries.{events_of, no_word};
@@ -9,11 +9,12 @@ use std::alloc::{AllocError, Global};
 use std::cell::Cell;
 use std::marker::Model;
 
-/// What no word goes on with: more than any word of 32 bits.
+/// The next word when there is no run: more than any word of 32 bits.
 const NOWHERE: usize = 1 << 32;
 
-/// The word of each event of a log, `NO_WORD` where it is no store. Words in a row are one run, of which the first word is held
-/// and the number of the first event, in two vectors that take their memory once. There is room for a run for each event.
+/// The word of each event of a log, `NO_WORD` for an event that is no store. Consecutive words are one run, stored as
+/// its first word and the index of its first event, in two vectors that are allocated once. There is room for a run
+/// for each event.
 #[derive(Drop)]
 pub struct Runs {
     firsts: Vec<u32>,
@@ -21,15 +22,16 @@ pub struct Runs {
     next: usize,
     count: usize,
     room: usize,
-    // The run of the event that was last asked for.
+    // The run of the event that was last looked up.
     asked: Cell<usize>,
 }
 
-/// The word of an event, and how many events from it on have words in a row: each is one more than the word before it.
+/// The word of an event, and how many events from it on have consecutive words: each is one more than the word before
+/// it.
 pub struct WordRow {
-    /// The word of the first of these events, `NO_WORD` where it is no store.
+    /// The word of the first of these events, `NO_WORD` if it is no store.
     pub first: u32,
-    /// How many events are in the row, the first among them.
+    /// The number of events in the row, the first among them.
     pub len: usize,
 }
 
@@ -45,7 +47,7 @@ impl Model for Runs {
     ghost invariant = { HasRuns };
 }
 
-/// The number of the last run that begins no later than an event.
+/// Returns the index of the last run that begins no later than an event.
 pub fn run_of(starts: &[usize], event: usize) -> usize
     requires rises { Rises starts.now }
     requires some { (0 < length starts.now) × (slice_index starts.now 0 ≤ event) }
@@ -66,8 +68,8 @@ pub fn run_of(starts: &[usize], event: usize) -> usize
     low
 }
 
-/// The same, where events are mostly asked for in order: it looks first at the run with the number `near`, and at the one behind
-/// it.
+/// Returns the same run as `run_of`, for look-ups that are mostly in order: it looks first at the run with index
+/// `near`, and at the one after it.
 #[inline(always)]
 fn run_near(starts: &[usize], event: usize, near: usize) -> usize
     requires rises { Rises starts.now }
@@ -89,8 +91,8 @@ fn run_near(starts: &[usize], event: usize, near: usize) -> usize
     run_of(starts, event)
 }
 
-/// Where a row begins whose last event is `last`, with this word, in a run that begins at `begun`: not before `start`, and with
-/// the event itself where it is no store.
+/// Returns the start of a row whose last event is `last`, with this word, in a run that begins at `begun`. The start
+/// is not before `start`, and it is the event itself if the event is no store.
 fn row_start(word: u32, last: usize, begun: usize, start: usize) -> usize
     requires { (begun ≤ last) × (start ≤ last) }
     ensures run { begun ≤ result }
@@ -106,7 +108,11 @@ fn row_start(word: u32, last: usize, begun: usize, start: usize) -> usize
 }
 
 impl Runs {
-    /// None yet, with room for the words of so many events. Fails only for want of memory; no other call takes any.
+    /// Makes an empty list with memory for the words of `room` events. No other call allocates.
+    ///
+    /// # Errors
+    ///
+    /// `AllocError`: out of memory.
     pub fn new(alloc: Global, room: usize) -> Result<Runs, AllocError>
         ensures { IfOk result (λ runs. runs ≡ record { words = []; room = room }) }
     {
@@ -122,21 +128,21 @@ impl Runs {
         })
     }
 
-    /// Of how many events they are.
+    /// Returns the number of events.
     pub fn len(&self) -> usize
         ensures { result ≡ length self.now.words }
     {
         self.count
     }
 
-    /// Of how many more events there is room for words.
+    /// Returns for how many more events there is room.
     pub fn room(&self) -> usize
         ensures { result ≡ self.now.room - length self.now.words }
     {
         self.room - self.count
     }
 
-    /// The events with these words and values.
+    /// Returns the events with these words and values.
     pub fn log<'a>(&'a self, values: &'a [u64]) -> Log<'a>
         requires { length values.now ≡ length self.now.words }
         ensures { result ≡ events_of self.now.words values.now }
@@ -144,7 +150,7 @@ impl Runs {
         Log::new(&self.firsts, &self.starts, values)
     }
 
-    /// The word of an event, by its number from 0.
+    /// Returns the word of event `i`, counted from 0.
     #[inline]
     pub fn word(&self, i: usize) -> u32
         requires { i < length self.now.words }
@@ -156,7 +162,7 @@ impl Runs {
         firsts[run] + (i - starts[run]) as u32
     }
 
-    /// The word of an event, by its number from 0, and how many from it on have words in a row.
+    /// Returns the word of event `i`, counted from 0, and how many events from it on have consecutive words.
     #[inline]
     pub fn row(&self, i: usize) -> WordRow
         requires { i < length self.now.words }
@@ -180,8 +186,9 @@ impl Runs {
         }
     }
 
-    /// The last of the first `end` events, and those before it, from `start` on, whose words are in a row with its own: one alone
-    /// where it is no store, and no such one behind stores.
+    /// Returns the row that ends with the last of the first `end` events: that event, and those before it, from
+    /// `start` on, whose words are consecutive with its own. A row has one event if that event is no store; no such
+    /// event is in a row with stores.
     pub fn row_before(&self, start: usize, end: usize) -> WordRow
         requires some { start < end }
         requires inside { end ≤ length self.now.words }
@@ -195,7 +202,7 @@ impl Runs {
         let (firsts, starts) = (self.firsts.as_slice(), self.starts.as_slice());
         let last = end - 1;
         let run = run_near(starts, last, self.asked.get());
-        // Events are asked for from the last to the first.
+        // Look-ups go from the last event to the first.
         self.asked.set(run.saturating_sub(1));
         let word = firsts[run] + (last - starts[run]) as u32;
         let from = row_start(word, last, starts[run], start);
@@ -205,7 +212,7 @@ impl Runs {
         }
     }
 
-    /// Begins anew, with none. The room stays.
+    /// Removes all words. The memory stays allocated.
     pub fn clear(&mut self)
         ensures { self.new ≡ record { words = []; room = self.old.room } }
     {
@@ -215,7 +222,7 @@ impl Runs {
         self.count = 0;
     }
 
-    /// Words in a row, of so many events, behind the others.
+    /// Appends consecutive words, of `wanted` events.
     #[inline(always)]
     pub fn push(&mut self, first: u32, wanted: usize)
         requires some { 0 < wanted }
@@ -233,7 +240,7 @@ impl Runs {
         self.count = count + wanted;
     }
 
-    /// The same of any number of events, also of none.
+    /// Appends consecutive words, of any number of events, also of none.
     #[inline(always)]
     pub fn extend(&mut self, first: u32, wanted: usize)
         requires room { length self.old.words + wanted ≤ self.old.room }

@@ -8,7 +8,7 @@ ghost use Rattle.pm_raw.specs.Unwound.{base_from, events_from, unwound, unwound_
 use super::log::{Log, NO_WORD, Piece};
 use super::runs::{Runs, WordRow};
 
-/// Whether a word is one of so many in a row, from the first one on.
+/// Returns whether a word is one of `count` consecutive ones, from `first` on.
 fn is_among(word: u32, first: u32, count: usize) -> bool
     ensures inside { result ≡ true → (first ≤ word) × (word < first + count) }
     ensures outside { result ≡ false → first ≤ word → first + count ≤ word }
@@ -16,7 +16,7 @@ fn is_among(word: u32, first: u32, count: usize) -> bool
     first <= word && ((word - first) as usize) < count
 }
 
-/// What a word was before a log with these undos: what the first store to it replaced.
+/// Returns the value of a word before a log with this undo log: what the first store to the word replaced.
 pub fn word_before(words: &[u64], undos: Log<'_>, word: u32) -> u64
     requires { word < length words.now }
     ensures { result ≡ slice_index (base_from words.now undos.entry) word }
@@ -39,8 +39,8 @@ pub fn word_before(words: &[u64], undos: Log<'_>, word: u32) -> u64
     words[word as usize]
 }
 
-/// Unwinds stores to words in a row, from `first` on, which replaced these values: from the last one to the first, each word is
-/// swapped with the value.
+/// Unwinds stores to consecutive words, from `first` on, which replaced these values. From the last store to the
+/// first, each word is swapped with the value.
 fn unwind_stores(words: &mut [u64], first: usize, saved: &mut [u64])
     requires { first + length saved.old ≤ length words.old }
     ensures words { words.new ≡ base_from words.old (stores_from first saved.old) }
@@ -55,8 +55,8 @@ fn unwind_stores(words: &mut [u64], first: usize, saved: &mut [u64])
     }
 }
 
-/// Unwinds the last of the first `end` events, and those before it, from `start` on, that are in a row with it. It tells where
-/// they begin.
+/// Unwinds the last of the first `end` events, and those before it, from `start` on, that are in a row with it.
+/// Returns where the row begins.
 fn unwind_row(
     words: &mut [u64],
     places: &Runs,
@@ -83,7 +83,7 @@ fn unwind_row(
     from
 }
 
-/// Unwinds a log from its last event to that with the number `start`: the words are then those before that event, and the values
+/// Unwinds a log from its last event down to index `start`. The words are then those before that event, and the values
 /// that its events replaced are then those that they brought.
 pub fn unwind(words: &mut [u64], places: &Runs, saved: &mut [u64], start: usize)
     requires each { length saved.old ≡ length places.now.words }

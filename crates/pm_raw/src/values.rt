@@ -1,8 +1,8 @@
-//! Values of events, in a vector that has its room from the start.
+//! Values of events, in a vector that has its capacity from the start.
 
 ghost use Rattle.std.specs.Prelude.{◌≡◌, ◌+◌, ◌≤◌, ◌++◌, length, vec_capacity, vec_len};
 
-/// Adds values, in room that is there.
+/// Appends values within the capacity of the vector.
 #[inline(always)]
 pub fn add(values: &mut Vec<u64>, more: &[u64])
     requires { vec_len values.old + length more.now ≤ vec_capacity values.old }

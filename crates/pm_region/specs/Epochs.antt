@@ -4,7 +4,7 @@ use Rattle.std.proofs.Common.{zero, suc}
 use Rattle.pm_epochs.specs.declared.event.Event.{Event}
 use Rattle.pm_epochs.specs.declared.event.Event.TheVariants.{Store, Barrier, Mark}
 
--- how many events stand before an epoch: those up to the barrier with its number, counted from 1
+-- The number of events before an epoch: those up to the barrier with the epoch's number, counted from 1.
 abbrev pub epoch_start : ℕ → List Event → ℕ
 epoch_start zero events = 0
 epoch_start (suc epoch) [] = 0

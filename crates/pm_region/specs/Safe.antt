@@ -1,5 +1,5 @@
--- A memory that a crash at any moment leaves in the state after its last kept call, up to a relation on the words; and
--- the parts of a call, each with at most so many barriers and stores.
+-- A memory that a crash at any point leaves in the state after its last surviving call, up to a relation on the words;
+-- and the parts of a call, each with at most these numbers of barriers and stores.
 use Rattle.std.specs.Prelude.{ℕ, List, ◌++◌}
 use Rattle.pm_epochs.specs.declared.event.Event.{Event}
 use Rattle.pm_epochs.specs.Log.{IsClosed, IsPiece}
@@ -7,20 +7,21 @@ use Rattle.pm_epochs.specs.Crash.{Likeness, CrashRight, IsQuiet, commit}
 use Rattle.pm_epochs.specs.May.{StoresMay}
 use Rattle.pm_region.specs.Memory.{Memory, current_words, Adds}
 
--- between calls: crashes are right, each store has a barrier behind it, and the words now are well formed
+-- Between calls: the log is right (`CrashRight`), each store has a barrier after it, and the current words are well
+-- formed.
 pub record IsSafe (Same : Likeness) (memory : Memory) : Type 0 where
   pub right : CrashRight Same memory.base memory.events
   pub closed : IsClosed memory.events
   pub well : Same (current_words memory) (current_words memory)
 
--- stores of values that may stand at their words, and barriers: a part of a preparation
+-- Stores of values that are allowed at their words, and barriers: a part of a preparation.
 pub record AddsMay (May : ℕ → ℕ → Type 0) (most_barriers most_stores : ℕ) (old new : Memory) : Type 0 where
   pub added : List Event
   pub adds : Adds old new added
   pub may : StoresMay May added
   pub piece : IsPiece most_barriers most_stores added
 
--- a part of a call that a crash may cut anywhere and nobody sees: what a preparation ensures
+-- A part of a call that a crash may interrupt anywhere without a visible change: the postcondition of a preparation.
 pub record AddsQuiet (Same : Likeness) (most_barriers most_stores : ℕ) (old new : Memory) : Type 0 where
   pub added : List Event
   pub adds : Adds old new added
@@ -28,8 +29,8 @@ pub record AddsQuiet (Same : Likeness) (most_barriers most_stores : ℕ) (old ne
   pub closed : IsClosed added
   pub piece : IsPiece most_barriers most_stores added
 
--- A call up to its mark: a quiet preparation, and then one store alone in its epoch, of this value at this word. The
--- counts are those of both.
+-- A call up to its end-of-call marker: a quiet preparation, and then one store alone in its epoch, of this value at
+-- this word. The counts are those of both together.
 pub record AddsCommit (Same : Likeness) (word value most_barriers most_stores : ℕ) (old new : Memory) : Type 0 where
   pub prepared : List Event
   pub adds : Adds old new (prepared ++ commit word value)

@@ -8,9 +8,9 @@ use pm_epochs::{BadChoice, Choice, Event, EventKind, Kept, kept_calls};
 use std::alloc::{AllocError, Global};
 use std::marker::Model;
 
-/// A region in ordinary memory, for tests, simulations and files that are read whole. A drain, a crash, a look at a word of the
-/// past and the questions about barriers take time for the events of the log, and such a look none for a word that no event
-/// stores to. A store of several words takes time for these. Each other call takes constant time.
+/// A region in ordinary memory, for tests, simulations and files that are read whole. A drain, a crash, `word_at` and
+/// the calls that count barriers take time for the events of the log; `word_at` takes constant time for a word that no
+/// event stores to. A store of several words takes time for these words. Each other call takes constant time.
 #[derive(Drop)]
 pub struct ListRegion {
     base: Vec<u64>,
@@ -35,8 +35,11 @@ impl Model for ListRegion {
 impl ListRegion {
     ghost use Rattle.pm_region.specs.Memory.{Memory, AreWithin};
 
-    /// A region of these words, with an empty log that can take `capacity` events. Fails only for want of memory; no other call
-    /// takes any.
+    /// Makes a region of these words, with an empty log that can hold `capacity` events. No other call allocates.
+    ///
+    /// # Errors
+    ///
+    /// `AllocError`: out of memory.
     pub fn new(alloc: Global, words: Vec<u64>, capacity: usize) -> Result<ListRegion, AllocError>
         requires { vec_len words < 2 ^ 32 }
         ensures { IfOk result (λ region. region ≡ record {

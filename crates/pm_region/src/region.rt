@@ -1,4 +1,4 @@
-//! What a region can do.
+//! The calls of a region.
 
 ghost use Rattle.std.specs.Prelude.{◌≡◌, ◌+◌, ◌<◌, ◌≤◌, ◌↔◌, [], ◌∷◌, length, take, slice_get, slice_index, slice_index_or, slice_range, Some, IsOk, IfOk, OnOk, OnErr};
 ghost use Rattle.pm_epochs.specs.declared.event.Event.TheVariants.{Store, Barrier, Mark};
@@ -10,45 +10,47 @@ ghost use Rattle.pm_region.specs.Memory.{Memory, crashed, current_words, room_in
 
 use pm_epochs::{BadChoice, Choice, Event, EventKind, Kept};
 
-/// The words that are read one by one: those of the first cache line. A region may show other words in their places than those
-/// that stand there, which no slice of what it holds could.
+/// Number of words that are read one by one: those of the first cache line. A region may show other words there than
+/// those that it has stored, which no slice of its storage could.
 pub const HEAD_WORDS: u32 = 8;
 
-/// What an event of a log is, and how many from it on, itself among them, are stores to words in a row: one where it is no store.
+/// The kind of an event of a log, and how many events from it on, itself included, store to consecutive words: 1 if it
+/// is no store.
 pub struct Row {
-    /// What the event is.
+    /// The kind of the event.
     pub kind: EventKind,
-    /// How many events the row has.
+    /// The number of events in the row.
     pub len: usize,
 }
 
-/// Words of 8 bytes that outlive a crash, with the log of what was done to them since the last drain. Places and sizes are
-/// in words.
+/// Words of 8 bytes that survive a crash, with the log of what was done to them since the last drain. Indices and
+/// sizes are in words.
 pub trait Region {
     ghost memory: { Self → Memory };
 
-    /// How many words there are.
+    /// Returns the number of words.
     fn words(&self) -> u32
         ensures { result ≡ length (memory self.now).base };
 
-    /// A word as the processor sees it.
+    /// Returns a word as the processor sees it.
     fn load(&self, word: u32) -> u64
         requires { word < length (memory self.now).base }
         ensures { result ≡ slice_index (current_words (memory self.now)) word };
 
-    /// The words from `first` on, so many, as the processor sees them. They stand behind the head, which is read by `load`.
+    /// Returns the `count` words from `first` on, as the processor sees them. They are past the first `HEAD_WORDS`
+    /// words, which are read by `load`.
     fn load_words(&self, first: u32, count: u32) -> &[u64]
         requires behind_head { HEAD_WORDS ≤ first }
         requires in_range { first + count ≤ length (memory self.now).base }
         ensures { result.now ≡ slice_range (current_words (memory self.now)) first (first + count) };
 
-    /// Sets a word, and writes that to the log.
+    /// Sets a word, and appends the store to the log.
     fn store(&mut self, word: u32, value: u64)
         requires in_range { word < length (memory self.old).base }
         requires room { 0 < room_in (memory self.old) }
         ensures { Adds (memory self.old) (memory self.new) (Store word value ∷ []) };
 
-    /// Sets the words from `first` on to these values, one after the other, and writes that to the log.
+    /// Sets the words from `first` on to these values, in order, and appends the stores to the log.
     fn store_words(&mut self, first: u32, values: &[u64])
         requires in_range { first + length values.now ≤ length (memory self.old).base }
         requires room { length values.now ≤ room_in (memory self.old) }
@@ -60,12 +62,12 @@ pub trait Region {
         }
     }
 
-    /// The stores before it are written back before those after it. It takes one place of the log.
+    /// Separates stores: those before the barrier are written back before those after it. Takes one entry of the log.
     fn barrier(&mut self)
         requires { 0 < room_in (memory self.old) }
         ensures { Adds (memory self.old) (memory self.new) (Barrier ∷ []) };
 
-    /// A call ends. It takes one place of the log.
+    /// Ends a call with an end-of-call marker. Takes one entry of the log.
     fn mark(&mut self)
         requires { 0 < room_in (memory self.old) }
         ensures { Adds (memory self.old) (memory self.new) (Mark ∷ []) };
@@ -74,17 +76,17 @@ pub trait Region {
     fn drain(&mut self)
         ensures { memory self.new ≡ drained (memory self.old) };
 
-    /// How many more events the log can take.
+    /// Returns the number of events that still fit into the log.
     fn room(&self) -> usize
         ensures { result ≡ room_in (memory self.now) };
 
-    /// How many events the log has. Each store of it went to one of the words.
+    /// Returns the number of events in the log. Each store of the log went to one of the region's words.
     fn event_count(&self) -> usize
         ensures count { result ≡ length (memory self.now).events }
         ensures few { result ≤ (memory self.now).capacity }
         ensures within { AreWithin (length (memory self.now).base) (memory self.now).events };
 
-    /// What an event of the log is, by its number from 0, but for the value of a store.
+    /// Returns the kind of the log's event `i`, counted from 0, without the value of a store.
     fn kind(&self, i: usize) -> EventKind
         requires { i < length (memory self.now).events }
         ensures get { slice_get (memory self.now).events i ≡
@@ -92,14 +94,14 @@ pub trait Region {
         ensures value { let event = event_of result (value_at (memory self.now).events i) in
             event ≡ slice_index_or (memory self.now).events i event };
 
-    /// A word as it was behind the first `moment` events of the log. It may take time for each event of the log.
+    /// Returns a word as it was after the first `moment` events of the log. It may take time for each event of the log.
     fn word_at(&self, moment: usize, word: u32) -> u64
         requires moment { moment ≤ length (memory self.now).events }
         requires in_range { word < length (memory self.now).base }
         ensures { result ≡ slice_index (words_after (memory self.now).base (take moment (memory self.now).events)) word };
 
-    /// An event of the log, by its number from 0. The value of a store may take time for each event of the log: `kind` does
-    /// without it.
+    /// Returns the log's event `i`, counted from 0. To find the value of a store may take time for each event of the
+    /// log; `kind` does without the value.
     fn event(&self, i: usize) -> Event
         requires { i < length (memory self.now).events }
         ensures get { slice_get (memory self.now).events i ≡ Some result }
@@ -116,8 +118,8 @@ pub trait Region {
         }
     }
 
-    /// What an event of the log is, by its number from 0, and how many from it on are stores to words in a row. Fewer may be
-    /// told than there are.
+    /// Returns the kind of the log's event `first`, counted from 0, and a number of events from it on that store to
+    /// consecutive words. The number may be less than there are.
     fn row(&self, first: usize) -> Row
         requires { first < length (memory self.now).events }
         ensures get { slice_get (memory self.now).events first ≡
@@ -132,7 +134,7 @@ pub trait Region {
         }
     }
 
-    /// How many barriers stand before the event with this number.
+    /// Returns the number of barriers before the event with this index.
     fn barriers_before(&self, moment: usize) -> usize
         requires { moment ≤ length (memory self.now).events }
         ensures { result ≡ barriers (take moment (memory self.now).events) }
@@ -148,7 +150,7 @@ pub trait Region {
         count
     }
 
-    /// How many events stand before an epoch: those up to the barrier with its number, counted from 1.
+    /// Returns the number of events before an epoch: those up to the barrier with the epoch's number, counted from 1.
     fn start_of_epoch(&self, epoch: usize) -> usize
         requires { epoch ≤ barriers (memory self.now).events }
         ensures { result ≡ epoch_start epoch (memory self.now).events }
@@ -167,7 +169,7 @@ pub trait Region {
         self.event_count()
     }
 
-    /// A word at the last drain. It may take time for each event of the log.
+    /// Returns a word as of the last drain. It may take time for each event of the log.
     fn base_word(&self, word: u32) -> u64
         requires { word < length (memory self.now).base }
         ensures { result ≡ slice_index (memory self.now).base word }
@@ -175,8 +177,11 @@ pub trait Region {
         self.word_at(0, word)
     }
 
-    /// Crashes, and goes on with what the choice leaves, with an empty log. `BadChoice` is the answer where the choice is not
-    /// right for the log, and then nothing changes.
+    /// Crashes, and goes on with the words that the choice leaves and an empty log.
+    ///
+    /// # Errors
+    ///
+    /// `BadChoice`: the crash point is not valid for the log; nothing changes.
     fn crash_to(&mut self, choice: &Choice) -> Result<Kept, BadChoice>
         ensures right { IsOk result ↔ IsRight (memory self.old).events choice.now.cut }
         ensures left { OnOk result (memory self.new ≡ crashed (memory self.old) choice.now.cut) }

@@ -27,7 +27,7 @@ pub fn set_words(words: &mut [u64], first: u32, values: &[u64])
     }
 }
 
-/// Does what one event does.
+/// Applies one event to the words.
 pub fn apply_event(words: &mut [u64], event: Event)
     ensures { words.new ≡ words_after words.old (event ∷ []) }
 {
@@ -38,7 +38,7 @@ pub fn apply_event(words: &mut [u64], event: Event)
     }
 }
 
-/// Does the stores of a log.
+/// Applies the stores of a log to the words.
 pub fn apply(words: &mut [u64], events: &[Event])
     ensures { words.new ≡ words_after words.old events.now }
 {
@@ -47,7 +47,7 @@ pub fn apply(words: &mut [u64], events: &[Event])
     }
 }
 
-/// One word after the stores of a log, from what it was before.
+/// Returns one word after the stores of a log, from its value before.
 pub fn apply_to_word(base: u64, events: &[Event], word: u32) -> u64
     ensures { result ≡ word_after base events.now word }
 {
@@ -62,7 +62,7 @@ pub fn apply_to_word(base: u64, events: &[Event], word: u32) -> u64
     now
 }
 
-/// Does the stores of a log that are kept.
+/// Applies those stores of a log that survive.
 pub fn apply_kept(words: &mut [u64], events: &[Event], epoch: usize, mask: &[bool])
     ensures { words.new ≡ words_after words.old (stores_of epoch mask.now events.now) }
 {
@@ -75,7 +75,7 @@ pub fn apply_kept(words: &mut [u64], events: &[Event], epoch: usize, mask: &[boo
     }
 }
 
-/// Makes the words those of `from`, from which they differ at most where the log has a store.
+/// Restores the words to those of `from`. They differ from these at most where the log has a store.
 pub fn put_back(words: &mut [u64], from: &[u64], events: &[Event])
     requires { EachMay (AnyAt (IsStoredIn events.now)) from.now words.old }
     ensures { words.new ≡ from.now }
@@ -89,7 +89,7 @@ pub fn put_back(words: &mut [u64], from: &[u64], events: &[Event])
     }
 }
 
-/// Puts one word back. A place behind the end is left out.
+/// Restores one word. An index past the end is ignored.
 fn put_back_word(words: &mut [u64], from: &[u64], word: u32)
     requires { length words.old ≡ length from.now }
     ensures { words.new ≡ slice_set words.old word (slice_index from.now word) }

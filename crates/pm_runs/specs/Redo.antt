@@ -1,4 +1,4 @@
--- A region with the value of each event of its log beside it.
+-- A region with the value of each event of its log next to it.
 use Rattle.std.specs.Prelude.{◌≡◌, ◌≤◌, length, map, vec_capacity}
 use Rattle.pm_epochs.specs.Kind.{event_value}
 use Rattle.pm_region.specs.Memory.{Memory}
@@ -7,7 +7,7 @@ use Rattle.pm_runs.specs.declared.redo.RedoRegion.TheInside.{Inside}
 abbrev pub redo_memory : Inside → Memory
 redo_memory redo = redo.region
 
--- the values are those of the log's events, which is within its room, and there is room for as many
+-- The values are those of the log's events, the log is within its capacity, and there is memory for as many values.
 pub record HasValues (redo : Inside) : Type 0 where
   pub values : redo.values.items ≡ map event_value redo.region.events
   pub fits : length redo.region.events ≤ redo.region.capacity

@@ -1,4 +1,4 @@
--- Pieces of a log: stores to words in a row, a barrier, or a mark.
+-- Pieces of a log: stores to consecutive words, a barrier, or an end-of-call marker.
 use Rattle.std.specs.Prelude.{◌≡◌, ◌≤◌, ◌<◌, ◌+◌, ℕ, List, [], ◌∷◌, ◌++◌, Some, drop, length, slice_get, take}
 use Rattle.pm_epochs.specs.Kind.{event_of, value_at}
 use Rattle.pm_epochs.specs.declared.event.Event.{Event}
@@ -10,7 +10,7 @@ use Rattle.pm_region.specs.Memory.{stores_from, with_values}
 use Rattle.pm_runs.specs.declared.pieces.Run.{Run}
 use Rattle.pm_runs.specs.declared.pieces.Run.TheVariants as run
 
--- how many events a run tells, and how many values it has
+-- The number of events that a run has, and the number of its values.
 abbrev pub run_length : Run → ℕ
 run_length (run.Stores word count) = count
 run_length run.Barrier = 1
@@ -21,20 +21,21 @@ value_count (run.Stores word count) = count
 value_count run.Barrier = 0
 value_count run.Mark = 0
 
--- the events that it tells, with its values in front of these
+-- The events of a run, whose values are the first of these.
 abbrev pub run_events : Run → List ℕ → List Event
 run_events (run.Stores word count) values = stores_from word (take count values)
 run_events run.Barrier values = Barrier ∷ []
 run_events run.Mark values = Mark ∷ []
 
--- what the event is with which it begins: a store to its first word, also where it tells no value
+-- The kind of the event with which a run begins: a store to its first word, even if the run has no value.
 abbrev pub first_kind : Run → EventKind
 first_kind (run.Stores word count) = kinds.Store word
 first_kind run.Barrier = kinds.Barrier
 first_kind run.Mark = kinds.Mark
 
--- The run tells just the events of a log from one on, as many as it has: at least one where there is room for a value. So a
--- barrier and a mark are told in any room, and of stores at least the first one's word. No other value has changed.
+-- The run has exactly the events of a log from one on, as many as its length: at least one if there is room for a
+-- value. So a barrier and a marker are returned in any room, and of stores at least the first word. No other value has
+-- changed.
 pub record TellsRun (events : List Event) (first : ℕ) (old : List ℕ) (run : Run) (new : List ℕ) : Type 0 where
   pub told : take (run_length run) (drop first events) ≡ run_events run new
   pub within : first + run_length run ≤ length events
@@ -43,22 +44,22 @@ pub record TellsRun (events : List Event) (first : ℕ) (old : List ℕ) (run : 
   pub fits : value_count run ≤ length old
   pub rest : drop (value_count run) new ≡ drop (value_count run) old
 
--- the events of runs, in order
+-- The events of runs, in order.
 abbrev pub runs_events : List (Run × List ℕ) → List Event
 runs_events [] = []
 runs_events (told ∷ runs) = run_events told.0 told.1 ++ runs_events runs
 
--- the words after their stores, in order
+-- The words after the stores of runs, in order.
 abbrev pub words_after_runs : List ℕ → List (Run × List ℕ) → List ℕ
 words_after_runs words runs = words_after words (runs_events runs)
 
--- the words with the values of a run copied to their place
+-- The words with the values of a run copied to their place.
 abbrev pub copied_run : List ℕ → Run → List ℕ → List ℕ
 copied_run words (run.Stores word count) values = with_values words word (take count values)
 copied_run words run.Barrier values = words
 copied_run words run.Mark values = words
 
--- and those of runs, one after the other
+-- The words with the values of runs copied to their places, one run after the other.
 abbrev pub copied : List ℕ → List (Run × List ℕ) → List ℕ
 copied words [] = words
 copied words (told ∷ runs) = copied (copied_run words told.0 told.1) runs

@@ -1,4 +1,4 @@
-//! Logs as runs: stores to words in a row, which what carries a log to its memory copies at once.
+//! Logs as runs: stores to consecutive words, which a carrier of the log copies to its memory at once.
 #![tactic(auto)]
 
 pub mod laws;

@@ -10,20 +10,20 @@ use pm_region::{Region, Row};
 /// A piece of a log.
 #[derive(Clone, Copy, Debug, PartialEq, Eq)]
 pub enum Run {
-    /// Stores to so many words in a row, from this one on.
+    /// Stores to `count` consecutive words, from `word` on.
     Stores {
         /// The first word.
         word: u32,
-        /// How many words there are.
+        /// The number of words.
         count: usize,
     },
     /// A barrier.
     Barrier,
-    /// The end of a call.
+    /// An end-of-call marker.
     Mark,
 }
 
-/// Copies as many of these values as there is room for in front of the others, and says how many these are.
+/// Copies the first of these values over the first of `into`, as many as there is room for, and returns their number.
 fn copy_front(values: &[u64], into: &mut [u64]) -> usize
     ensures count { result ≡ min (length values.now) (length into.old) }
     ensures copied { into.new ≡ take result values.now ++ drop result into.old }
@@ -33,9 +33,9 @@ fn copy_front(values: &[u64], into: &mut [u64]) -> usize
     count
 }
 
-/// The piece of a region's log that begins with an event. The values of its stores are put in front of `values`; it has as
-/// many as follow each other there and as there is room for. It ends where a barrier or a mark stands, or a store to
-/// another word than the next one.
+/// Returns the piece of a region's log that begins with event `first`, and puts the values of its stores into the
+/// first places of `values`. A piece of stores has as many as the region's `row` returns, and at most as many as
+/// `values` has places. It ends at a barrier, a marker, or a store to another word than the next one.
 pub fn run_at(region: &RedoRegion, first: usize, values: &mut [u64]) -> Run
     requires { first < length region.now.events }
     ensures { TellsRun region.now.events first values.old result values.new }

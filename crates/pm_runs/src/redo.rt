@@ -1,4 +1,4 @@
-//! A region that keeps the values of its log.
+//! A region that stores the values of its log.
 ghost use Rattle.std.specs.Prelude.{◌≡◌, ◌+◌, ◌^◌, ◌<◌, ◌≤◌, [], ◌++◌, IfOk, length, map, replicate};
 ghost use Rattle.pm_epochs.specs.Kind.{event_value};
 
@@ -9,8 +9,9 @@ use pm_region::{Region, Row};
 use std::alloc::{AllocError, Global};
 use std::marker::Model;
 
-/// A raw region with the value of each event of its log beside it, 0 for what is no store. The region itself knows what a
-/// store replaced, and would have to look for what it brought: here the values of stores in a row are lent as they stand.
+/// A raw region with the value of each event of its log next to it, 0 for an event that is no store. The raw region
+/// records the value that a store replaced, and would have to search for the one that it brought. Here the values of
+/// consecutive stores are lent as a slice.
 #[derive(Drop)]
 pub struct RedoRegion {
     region: RawRegion,
@@ -32,8 +33,12 @@ impl Model for RedoRegion {
 impl RedoRegion {
     ghost use Rattle.pm_region.specs.Memory.{Memory};
 
-    /// A region of `size` words, each 0, with an empty log that can take `capacity` events. Fails only for want of memory; no
-    /// other call takes any.
+    /// Makes a region of `size` words, each 0, with an empty log that can hold `capacity` events. No other call
+    /// allocates.
+    ///
+    /// # Errors
+    ///
+    /// `AllocError`: out of memory.
     pub fn new(alloc: Global, size: u32, capacity: usize) -> Result<RedoRegion, AllocError>
         ensures { IfOk result (λ region. region ≡ record {
           base = replicate size 0;
@@ -47,7 +52,7 @@ impl RedoRegion {
         Ok(RedoRegion { region, values })
     }
 
-    /// Puts these words in place of all of its own, as words that were there at the last drain.
+    /// Replaces all words of the region by these, as the words at the last drain.
     pub fn adopt_all(&mut self, words: RawArray<u64>)
         requires few { length words < 2 ^ 32 }
         requires drained { self.old.events ≡ [] }
@@ -56,7 +61,7 @@ impl RedoRegion {
         self.region.adopt_all(words);
     }
 
-    /// The value of each event of the log, 0 for what is no store.
+    /// Returns the value of each event of the log, 0 for an event that is no store.
     #[inline]
     pub fn values(&self) -> &[u64]
         ensures { result.now ≡ map event_value self.now.events }

@@ -1,27 +1,27 @@
 -- Write-back: the processor executes the events of a log in order, and an engine writes stores back to the memory. The
--- steps of the two come in any order.
+-- steps of the two interleave in any order.
 use Rattle.std.specs.Prelude.{◌≡◌, ℕ, ◌<◌, ◌≤◌, ◌⊎◌, Bool, true, false, Option, Some, None, List, [], ◌∷◌, ◌++◌, length, drop, replicate, slice_get, slice_set}
 use Rattle.std.proofs.Common.{zero, suc}
 use Rattle.pm_epochs.specs.declared.event.Event.{Event}
 use Rattle.pm_epochs.specs.declared.event.Event.TheVariants.{Store, Barrier, Mark}
 use Rattle.pm_epochs.specs.Replay.{PowerCut, is_store, epoch_of}
 
--- One flag for each event that the processor has executed, whether it is a store that is written back; and the words of
--- the memory, without what is still in a cache.
+-- One flag for each event that the processor has executed: whether it is a store that is written back. And the words
+-- of the memory, without what is still in a cache.
 pub record MachineState : Type 0 where
   pub back : List Bool
   pub words : List ℕ
 
--- nothing executed over these words
+-- The state with these words before anything is executed.
 abbrev pub machine_over : List ℕ → MachineState
 machine_over base = record { back = []; words = base }
 
--- the processor executes its next event, or a store goes back to the memory
+-- The processor executes its next event, or the engine writes a store back to the memory.
 pub data MachineStep : Type 0 where
   Execute : MachineStep
   WriteBack : (which : ℕ) → MachineStep
 
--- an earlier store that has to be written back first: it is of an earlier epoch, or of the same word
+-- The earlier store must be written back before the later one: it is of an earlier epoch, or goes to the same word.
 pub record ComesFirst (events : List Event) (earlier later : ℕ) : Type 0 where
   pub before : earlier < later
   pub first_word : ℕ
@@ -32,44 +32,44 @@ pub record ComesFirst (events : List Event) (earlier later : ℕ) : Type 0 where
   pub second_is : slice_get events later ≡ Some (Store word value)
   pub must : (epoch_of events earlier < epoch_of events later) ⊎ (first_word ≡ word)
 
--- whether there is an event, and it is a store
+-- Whether there is an event and it is a store.
 abbrev pub is_some_store : Option Event → Bool
 is_some_store None = false
 is_some_store (Some event) = is_store event
 
--- only stores are written back, and what must come first came first
+-- Only stores are written back, and each store that must be written back before them is.
 pub record IsInOrder (events : List Event) (back : List Bool) : Type 0 where
   pub few : length back ≤ length events
   pub stores : (i : ℕ) → slice_get back i ≡ Some true → is_some_store (slice_get events i) ≡ true
   pub first : (earlier later : ℕ) → slice_get back later ≡ Some true → ComesFirst events earlier later →
       slice_get back earlier ≡ Some true
 
--- the first store that must be written back before this one, and is not
+-- The first store that must be written back before this one and is not.
 pub record IsFirstMissing (events : List Event) (back : List Bool) (which needs : ℕ) : Type 0 where
   pub comes : ComesFirst events needs which
   pub waits : slice_get back needs ≡ Some false
   pub first : (earlier : ℕ) → earlier < needs → ComesFirst events earlier which → slice_get back earlier ≡ Some true
 
--- each store below is back
+-- Each store before this index is written back.
 pub record IsBackBelow (events : List Event) (back : List Bool) (low : ℕ) : Type 0 where
   pub few : low ≤ length back
   pub each : (i : ℕ) → i < low → is_some_store (slice_get events i) ≡ true → slice_get back i ≡ Some true
 
--- a store that was executed and is not back
+-- A store that was executed and is not written back.
 abbrev pub IsWaiting : List Event → List Bool → ℕ → Type 0
 IsWaiting events back which = (is_some_store (slice_get events which) ≡ true) × (slice_get back which ≡ Some false)
 
--- a store to this word
+-- A store to this word.
 pub record IsStoreTo (events : List Event) (word i : ℕ) : Type 0 where
   pub value : ℕ
   pub store : slice_get events i ≡ Some (Store word value)
 
--- each store to the word in this range is back
+-- Each store to the word in this range of the log is written back.
 abbrev pub AllToBack : List Event → List Bool → ℕ → ℕ → ℕ → Type 0
 AllToBack events back word from to =
     (i : ℕ) → from ≤ i → i < to → IsStoreTo events word i → slice_get back i ≡ Some true
 
--- the first store to the word in this range that is not back
+-- The first store to the word in this range of the log that is not written back.
 pub record IsFirstTo (events : List Event) (back : List Bool) (word from to first : ℕ) : Type 0 where
   pub low : from ≤ first
   pub high : first < to
@@ -77,14 +77,14 @@ pub record IsFirstTo (events : List Event) (back : List Bool) (word from to firs
   pub waits : slice_get back first ≡ Some false
   pub before : AllToBack events back word from first
 
--- Flags that code holds, and how many it has room for, both counted in events. Beside them it notes words whose
--- stores wait, where that is asked of it.
+-- The flags that a `Backs` has, and the number of events that it has memory for. It also notes words whose stores
+-- wait, if it is asked to.
 pub record Flags : Type 0 where
   pub back : List Bool
   pub room : ℕ
   pub waiting : List ℕ
 
--- a store that was executed and is not back, while all that must come first is
+-- A store that was executed and is not written back, while all stores that must come first are.
 pub record MayGoBack (events : List Event) (back : List Bool) (which : ℕ) : Type 0 where
   pub word : ℕ
   pub value : ℕ
@@ -92,12 +92,12 @@ pub record MayGoBack (events : List Event) (back : List Bool) (which : ℕ) : Ty
   pub waits : slice_get back which ≡ Some false
   pub first : (earlier : ℕ) → ComesFirst events earlier which → slice_get back earlier ≡ Some true
 
--- the steps that may be taken: there is a next event, or the store may go back
+-- The steps that are allowed: executing an event if there is a next one, and writing back a store that may go back.
 abbrev pub Allowed : List Event → List Bool → MachineStep → Type 0
 Allowed events back Execute = length back < length events
 Allowed events back (WriteBack which) = MayGoBack events back which
 
--- the state after this event of the log goes back: its word takes its value
+-- The state after this event of the log is written back: its word takes its value.
 abbrev pub after_write_back : MachineState → ℕ → Option Event → MachineState
 after_write_back state which (Some (Store word value)) = record {
   back = slice_set state.back which true;
@@ -107,29 +107,29 @@ after_write_back state which (Some Barrier) = state
 after_write_back state which (Some Mark) = state
 after_write_back state which None = state
 
--- the state after a step
+-- The state after a step.
 abbrev pub state_after : List Event → MachineState → MachineStep → MachineState
 state_after events state Execute = record { back = state.back ++ false ∷ []; words = state.words }
 state_after events state (WriteBack which) = after_write_back state which (slice_get events which)
 
--- from one state to another by steps that are allowed
+-- These steps lead from one state to another, and each is allowed.
 abbrev pub StepsTo : List Event → MachineState → List MachineStep → MachineState → Type 0
 StepsTo events old [] new = old ≡ new
 StepsTo events old (step ∷ steps) new =
     Allowed events old.back step × StepsTo events (state_after events old step) steps new
 
--- the stores that are back, written back in the order of the log; the first flag is that of the event at this index
+-- The write-backs of the flagged stores, in the order of the log. The first flag is that of the event at this index.
 abbrev pub write_backs : ℕ → List Bool → List MachineStep
 write_backs which [] = []
 write_backs which (true ∷ back) = WriteBack which ∷ write_backs (suc which) back
 write_backs which (false ∷ back) = write_backs (suc which) back
 
--- the processor executes as many events as there are flags, and then the stores that are back are written back in order
+-- The processor executes as many events as there are flags, and then the flagged stores are written back in order.
 abbrev pub in_log_order : List Bool → List MachineStep
 in_log_order back = replicate (length back) Execute ++ write_backs 0 back
 
--- the epoch that is being written back: the barriers that were executed before the first store that is not back, or all
--- that were executed
+-- The epoch that is being written back: the number of barriers executed before the first store that is not written
+-- back, or of all barriers executed if there is no such store.
 abbrev pub open_epoch : List Event → List Bool → ℕ
 open_epoch [] back = 0
 open_epoch (event ∷ events) [] = 0
@@ -138,7 +138,7 @@ open_epoch (Store word value ∷ events) (false ∷ back) = 0
 open_epoch (Barrier ∷ events) (flag ∷ back) = suc (open_epoch events back)
 open_epoch (Mark ∷ events) (flag ∷ back) = open_epoch events back
 
--- the flags of the stores of an epoch, as far as they were executed
+-- The flags of the stores of an epoch, as far as they were executed.
 abbrev pub epoch_flags : ℕ → List Event → List Bool → List Bool
 epoch_flags epoch [] back = []
 epoch_flags epoch (event ∷ events) [] = []
@@ -148,7 +148,7 @@ epoch_flags zero (Barrier ∷ events) (flag ∷ back) = []
 epoch_flags (suc epoch) (Barrier ∷ events) (flag ∷ back) = epoch_flags epoch events back
 epoch_flags epoch (Mark ∷ events) (flag ∷ back) = epoch_flags epoch events back
 
--- the cut at which a machine stands
+-- The crash point of a machine with these flags.
 abbrev pub cut_of : List Event → List Bool → PowerCut
 cut_of events back = record {
   moment = length back;
@@ -156,7 +156,7 @@ cut_of events back = record {
   mask = epoch_flags (open_epoch events back) events back;
 }
 
--- the marks before the first store that is not written back
+-- The number of end-of-call markers before the first store that is not written back.
 abbrev pub waiting_marks : List Event → List Bool → ℕ
 waiting_marks [] back = 0
 waiting_marks (Store word value ∷ events) [] = 0

@@ -6,60 +6,61 @@ use Rattle.pm_epochs.specs.Replay.{IsRight, PowerCut, after_calls, kept_calls, r
 use Rattle.pm_region.specs.Memory.{Memory}
 use Rattle.pm_steps.specs.Machine.{AllToBack, ComesFirst, IsFirstMissing, IsFirstTo, MachineState, MachineStep, StepsTo, cut_of, in_log_order, machine_over}
 
--- each store that has to be written back before this one is back
+-- Each store that must be written back before this one is.
 abbrev pub AreBackBefore : List Event → List Bool → ℕ → Type 0
 AreBackBefore events back which = (earlier : ℕ) → ComesFirst events earlier which → slice_get back earlier ≡ Some true
 
--- the first of these that is not back is found, or none, where all are
+-- The result is the first store that must be written back before this one and is not, or none if all are.
 abbrev pub FindsMissing : Option ℕ → List Event → List Bool → ℕ → Type 0
 FindsMissing found events back which = MatchOption found (AreBackBefore events back which) (IsFirstMissing events back which)
 
--- the same of the stores to a word in a range
+-- The result is the first store to a word in a range that is not written back, or none if all are.
 abbrev pub FindsFirstTo : Option ℕ → List Event → List Bool → ℕ → ℕ → ℕ → Type 0
 FindsFirstTo found events back word from to =
     MatchOption found (AllToBack events back word from to) (IsFirstTo events back word from to)
 
--- the words of the memory while these stores are back: the replay of the cut at which the machine stands
+-- The words of the memory while these stores are written back: the replay of the machine's crash point.
 abbrev pub words_by : List ℕ → List Event → List Bool → List ℕ
 words_by base events back = replay base events (cut_of events back)
 
--- the same over a region's memory
+-- The words of a region's memory while these stores are written back.
 abbrev pub words_in : Memory → List Bool → List ℕ
 words_in memory back = words_by memory.base memory.events back
 
 -- ---- whole runs
 
--- from nothing executed over these words by steps that are allowed
+-- These steps lead from a state over these words, with nothing executed, to this state, and each is allowed.
 abbrev pub RunsTo : List ℕ → List Event → List MachineStep → MachineState → Type 0
 RunsTo base events steps state = StepsTo events (machine_over base) steps state
 
--- of each state to which any such steps lead this holds
+-- The property holds of each state to which any allowed steps lead.
 abbrev pub AfterEachRun : List ℕ → List Event → (MachineState → Type 0) → Type 0
 AfterEachRun base events Holds =
     (steps : List MachineStep) (state : MachineState) → RunsTo base events steps state → Holds state
 
--- the cut at which the machine stands is right
+-- The crash point of the machine is valid.
 abbrev pub StandsRight : List Event → MachineState → Type 0
 StandsRight events state = IsRight events (cut_of events state.back)
 
--- the memory is its replay
+-- The memory is the replay of the machine's crash point.
 abbrev pub HoldsReplay : List ℕ → List Event → MachineState → Type 0
 HoldsReplay base events state = state.words ≡ words_by base events state.back
 
--- the machine with these stores back, and that memory
+-- The machine with these stores written back, and with the memory that they make.
 abbrev pub machine_at : List ℕ → List Event → List Bool → MachineState
 machine_at base events back = record { back = back; words = words_by base events back }
 
--- to which it leads that the processor executes its events, and these stores then go back in the order of the log
+-- If the processor executes its events, and these stores then go back in the order of the log, all steps are allowed
+-- and lead to `machine_at`.
 abbrev pub RunsInLogOrder : List ℕ → List Event → List Bool → Type 0
 RunsInLogOrder base events back = RunsTo base events (in_log_order back) (machine_at base events back)
 
--- some steps that are allowed lead to what this cut leaves
+-- Some allowed steps lead to the words that this crash point leaves.
 abbrev pub HasRunTo : List ℕ → List Event → PowerCut → Type 0
 HasRunTo base events cut = (steps : List MachineStep) × (state : MachineState) ×
     RunsTo base events steps state × (state.words ≡ replay base events cut)
 
--- over a log that a crash at any moment leaves right, the memory is like what the calls had made that are kept whole
+-- Over a right log (`CrashRight`), the memory is like the words after the surviving calls.
 abbrev pub HoldsCalls : Likeness → List ℕ → List Event → List MachineStep → MachineState → Type 0
 HoldsCalls Same base events steps state =
     CrashRight Same base events → RunsTo base events steps state →

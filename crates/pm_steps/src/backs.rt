@@ -7,8 +7,8 @@ use super::word_set::WordSet;
 use std::alloc::{AllocError, Global};
 use std::marker::Model;
 
-/// Which of the events that were executed are stores that are written back: one flag an event, in the log's order. Beside them
-/// it can note words whose stores wait. It takes its memory once, so that a log is gone through without an allocation.
+/// Which of the executed events are stores that are written back: one flag an event, in the log's order. It can also
+/// note words whose stores wait. It allocates only in `new`, so that going through a log allocates nothing.
 #[derive(Drop)]
 pub struct Backs {
     flags: Vec<bool>,
@@ -32,7 +32,11 @@ impl Model for Backs {
 }
 
 impl Backs {
-    /// For no event yet, with room for so many. `AllocError` is the answer for want of memory; no other call takes any.
+    /// Makes flags for no event yet, with memory for `room` events. No other call allocates.
+    ///
+    /// # Errors
+    ///
+    /// `AllocError`: out of memory.
     pub fn new(alloc: Global, room: usize) -> Result<Backs, AllocError>
         ensures { IfOk result (λ backs. backs ≡ record { back = []; room = room; waiting = [] }) }
     {
@@ -45,21 +49,21 @@ impl Backs {
         })
     }
 
-    /// How many events it has room for.
+    /// Returns the number of events that it has memory for.
     pub fn room(&self) -> usize
         ensures { result ≡ self.now.room }
     {
         self.room
     }
 
-    /// How many events were executed.
+    /// Returns the number of events executed.
     pub fn len(&self) -> usize
         ensures { result ≡ length self.now.back }
     {
         self.flags.len()
     }
 
-    /// Whether an event that was executed is a store that is written back. `which` is its place in the log, from 0.
+    /// Returns whether an executed event is a store that is written back. `which` is its index in the log, from 0.
     pub fn is_back(&self, which: usize) -> bool
         requires { which < length self.now.back }
         ensures get { slice_get self.now.back which ≡ Some result }
@@ -68,7 +72,7 @@ impl Backs {
         self.flags[which]
     }
 
-    /// Begins anew, with no event and no word. The room stays.
+    /// Clears all flags and noted words. The memory stays allocated.
     pub fn clear(&mut self)
         ensures { self.new ≡ record { back = []; room = self.old.room; waiting = [] } }
     {
@@ -76,7 +80,7 @@ impl Backs {
         self.waiting.clear();
     }
 
-    /// One more event is executed. A store among them is not back yet.
+    /// Appends an executed event. If it is a store, it is not written back yet.
     pub fn push(&mut self)
         requires { length self.old.back < self.old.room }
         ensures { self.new ≡ record self.old { back = self.old.back ++ false ∷ [] } }
@@ -84,7 +88,7 @@ impl Backs {
         self.push_flag(false);
     }
 
-    /// One more event is executed, of which it is said at once whether it is a store that is written back.
+    /// Appends an executed event, with the flag whether it is a store that is written back.
     pub fn push_flag(&mut self, is_back: bool)
         requires { length self.old.back < self.old.room }
         ensures { self.new ≡ record self.old { back = self.old.back ++ is_back ∷ [] } }
@@ -92,7 +96,7 @@ impl Backs {
         let _ = self.flags.push(is_back);
     }
 
-    /// A store is written back. `which` is its place in the log, from 0.
+    /// Sets the flag of a store that is written back. `which` is its index in the log, from 0.
     pub fn set_back(&mut self, which: usize)
         requires { which < length self.old.back }
         ensures { self.new ≡ record self.old { back = slice_set self.old.back which true } }
@@ -100,7 +104,7 @@ impl Backs {
         self.flags[which] = true;
     }
 
-    /// Whether a word was noted.
+    /// Returns whether a word was noted.
     pub fn waits(&self, word: u32) -> bool
         ensures { result ≡ is_noted self.now.waiting word }
     {

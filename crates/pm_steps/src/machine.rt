@@ -1,4 +1,4 @@
-//! The processor and the engine that writes back, over a region's log.
+//! The processor and the write-back engine, over a region's log.
 
 ghost use Rattle.std.specs.Prelude.{◌≡◌, ◌<◌, ◌≤◌, ◌↔◌, [], ◌∷◌, ◌++◌, IsOk, OnOk, IfErr, OnErr, length, slice_get, slice_index, slice_set, Some, true, false};
 ghost use Rattle.pm_epochs.specs.Log.{marks};
@@ -10,22 +10,23 @@ use super::backs::Backs;
 use pm_epochs::{Choice, EventKind, Kept};
 use pm_region::Region;
 
-/// A store can't go back yet, since an earlier one has to go first: of an earlier epoch, or to the same word.
+/// Error: a store cannot be written back yet, because an earlier one has to go first: of an earlier epoch, or to the
+/// same word.
 #[derive(Clone, Copy, Debug, PartialEq, Eq)]
 pub struct NotYet {
-    /// The first such store that is not back, by its place in the log, from 0.
+    /// The first such store that is not written back, by its index in the log, from 0.
     pub needs: usize,
 }
 
-/// The log of a region, how far the processor has come in it, and which of its stores are written back. The region itself
-/// stays as it is: the machine tells what a crash would find in memory.
+/// The log of a region, how many of its events the processor has executed, and which of its stores are written back.
+/// The region itself does not change: the machine computes what a crash would leave in memory.
 #[derive(Drop)]
 pub struct Machine<'a, R: Region> {
     /// The region whose log it is.
     pub region: &'a R,
-    /// What is executed and what is written back.
+    /// Which events are executed and which stores are written back.
     pub backs: &'a mut Backs,
-    // Each store before this place of the log is written back, so that a search begins there.
+    // Each store before this index of the log is written back, so that a search begins here.
     low: usize,
     ghost in_order: { IsInOrder (R.memory region.now).events backs.now.back },
     ghost fits: { length (R.memory region.now).events ≤ backs.now.room },
@@ -33,7 +34,7 @@ pub struct Machine<'a, R: Region> {
 }
 
 impl<'a, R: Region> Machine<'a, R> {
-    /// The processor has executed nothing yet, and the memory has the words of the last drain. The backs are cleared.
+    /// Makes a machine that has executed nothing: the memory has the words of the last drain. Clears `backs`.
     pub fn over(region: &'a R, backs: &'a mut Backs) -> Machine<'a, R>
         requires { length (R.memory region.now).events ≤ backs.old.room }
         ensures same_region { result.region.now ≡ region.now }
@@ -48,7 +49,7 @@ impl<'a, R: Region> Machine<'a, R> {
         }
     }
 
-    /// A machine that stands where these backs say.
+    /// Makes a machine in the state that `backs` records.
     pub fn resume(region: &'a R, backs: &'a mut Backs) -> Machine<'a, R>
         requires fits { length (R.memory region.now).events ≤ backs.old.room }
         requires in_order { IsInOrder (R.memory region.now).events backs.old.back }
@@ -63,14 +64,14 @@ impl<'a, R: Region> Machine<'a, R> {
         }
     }
 
-    /// How many events the processor has executed.
+    /// Returns the number of events that the processor has executed.
     pub fn moment(&self) -> usize
         ensures { result ≡ length self.now.backs.now.back }
     {
         self.backs.len()
     }
 
-    /// The processor executes the next event of the log.
+    /// Executes the next event of the log.
     pub fn execute(&mut self)
         requires { length self.old.backs.now.back < length (R.memory self.old.region.now).events }
         ensures same_region { self.new.region.now ≡ self.old.region.now }
@@ -82,7 +83,7 @@ impl<'a, R: Region> Machine<'a, R> {
         self.backs.push();
     }
 
-    /// Whether an event that was executed is a store that is written back. `which` is its place in the log, from 0.
+    /// Returns whether an executed event is a store that is written back. `which` is its index in the log, from 0.
     pub fn is_back(&self, which: usize) -> bool
         requires { which < length self.now.backs.now.back }
         ensures { slice_get self.now.backs.now.back which ≡ Some result }
@@ -90,9 +91,13 @@ impl<'a, R: Region> Machine<'a, R> {
         self.backs.is_back(which)
     }
 
-    /// Writes a store back that was executed and is not back; `which` is its place in the log, from 0. `NotYet` is the answer
-    /// where an earlier store has to go first, with the first that has, and then nothing changes. A log that is written back
-    /// in order takes constant time for each store; a store behind one that waits takes time for the events between.
+    /// Writes back a store that was executed and is not written back; `which` is its index in the log, from 0. A log
+    /// that is written back in order takes constant time for each store; a store after one that waits takes time for
+    /// the events between.
+    ///
+    /// # Errors
+    ///
+    /// `NotYet`: an earlier store has to go first; `needs` is the first of these, and nothing changes.
     pub fn back(&mut self, which: usize) -> Result<(), NotYet>
         requires store { is_some_store (slice_get (R.memory self.old.region.now).events which) ≡ true }
         requires waits { slice_get self.old.backs.now.back which ≡ Some false }
@@ -115,8 +120,8 @@ impl<'a, R: Region> Machine<'a, R> {
         }
     }
 
-    /// A word of the memory: what a crash would leave now, since what is not back is lost. Takes time for all events of the
-    /// log.
+    /// Returns a word of the memory: what a crash would leave now, since a store that is not written back is lost.
+    /// Takes time for all events of the log.
     pub fn image_word(&self, word: u32) -> u64
         requires { word < length (R.memory self.now.region.now).base }
         ensures { result ≡ slice_index (words_in (R.memory self.now.region.now) self.now.backs.now.back) word }
@@ -124,7 +129,7 @@ impl<'a, R: Region> Machine<'a, R> {
         image_word_of(self.region, self.backs, word)
     }
 
-    /// Says what a crash would keep now. `Region::crash_to` takes it, and leaves the words of this memory.
+    /// Sets `choice` to what a crash would keep now. `Region::crash_to` with it leaves the words of this memory.
     pub fn choice(&self, choice: &mut Choice)
         requires { length self.now.backs.now.back ≤ choice.old.room }
         ensures chosen { choice.new ≡ record {
@@ -138,7 +143,7 @@ impl<'a, R: Region> Machine<'a, R> {
         push_flags(self.region, self.backs, epoch, choice);
     }
 
-    /// How many calls a crash would keep whole now, and how many the log has.
+    /// Returns how many calls would survive a crash now, and how many the log has.
     pub fn kept(&self) -> Kept
         ensures c { result.c ≡ kept_calls (R.memory self.now.region.now).events
             (cut_of (R.memory self.now.region.now).events self.now.backs.now.back) }
@@ -151,7 +156,7 @@ impl<'a, R: Region> Machine<'a, R> {
     }
 }
 
-/// Whether an event that was executed needs no more of the engine: it is no store, or it is back.
+/// Returns whether an executed event needs no more of the engine: it is no store, or it is written back.
 fn is_done<R: Region>(region: &R, backs: &Backs, which: usize) -> bool
     requires done { length backs.now.back ≤ length (R.memory region.now).events }
     requires taken { which < length backs.now.back }
@@ -166,7 +171,7 @@ fn is_done<R: Region>(region: &R, backs: &Backs, which: usize) -> bool
     }
 }
 
-/// The first store from `low` on that was executed and is not back, or how many events were executed.
+/// Returns the first store from `low` on that was executed and is not written back, or the number of executed events.
 fn first_waiting<R: Region>(region: &R, backs: &Backs, low: usize) -> usize
     requires done { length backs.now.back ≤ length (R.memory region.now).events }
     requires below { IsBackBelow (R.memory region.now).events backs.now.back low }
@@ -182,7 +187,7 @@ fn first_waiting<R: Region>(region: &R, backs: &Backs, low: usize) -> usize
     backs.len()
 }
 
-/// Whether a barrier stands in this range.
+/// Returns whether there is a barrier in this range.
 fn has_barrier<R: Region>(region: &R, from: usize, to: usize) -> bool
     requires { (from ≤ to) × (to ≤ length (R.memory region.now).events) }
     ensures some { result ≡ true →
@@ -200,7 +205,7 @@ fn has_barrier<R: Region>(region: &R, from: usize, to: usize) -> bool
     false
 }
 
-/// The first store to a word in this range that is not back.
+/// Returns the first store to a word in this range that is not written back.
 fn first_waiting_to<R: Region>(
     region: &R,
     backs: &Backs,
@@ -227,7 +232,8 @@ fn first_waiting_to<R: Region>(
     None
 }
 
-/// The first store that has to be written back before this one, and is not. `low` is the first store that is not back.
+/// Returns the first store that must be written back before this one and is not. `low` is the first store that is not
+/// back.
 fn first_missing<R: Region>(region: &R, backs: &Backs, low: usize, which: usize) -> Option<usize>
     requires done { length backs.now.back ≤ length (R.memory region.now).events }
     requires below { IsBackBelow (R.memory region.now).events backs.now.back low }
@@ -249,13 +255,13 @@ fn first_missing<R: Region>(region: &R, backs: &Backs, low: usize, which: usize)
     first_waiting_to(region, backs, word, low, which)
 }
 
-/// A word after the stores that are back.
+/// Returns a word after the stores that are written back.
 fn image_word_of<R: Region>(region: &R, backs: &Backs, word: u32) -> u64
     requires in_order { IsInOrder (R.memory region.now).events backs.now.back }
     requires in_range { word < length (R.memory region.now).base }
     ensures { result ≡ slice_index (words_in (R.memory region.now) backs.now.back) word }
 {
-    // Behind so many events of the log it has the value of the last store to it that is back.
+    // After this number of events of the log, the word has the value of the last store to it that is written back.
     let mut moment = 0;
     for i in 0..backs.len() {
         let is_back = backs.is_back(i);
@@ -272,7 +278,8 @@ fn image_word_of<R: Region>(region: &R, backs: &Backs, word: u32) -> u64
     region.word_at(moment, word)
 }
 
-/// The epoch that is being written back: the barriers that were executed before the first store that is not back.
+/// Returns the epoch that is being written back: the number of barriers executed before the first store that is not
+/// back.
 fn open_epoch_at<R: Region>(region: &R, backs: &Backs) -> usize
     requires { length backs.now.back ≤ length (R.memory region.now).events }
     ensures { result ≡ open_epoch (R.memory region.now).events backs.now.back }
@@ -293,7 +300,7 @@ fn open_epoch_at<R: Region>(region: &R, backs: &Backs) -> usize
     passed
 }
 
-/// Says of each store of an epoch whether it is back.
+/// Appends to the mask, for each store of an epoch, whether it is written back.
 fn push_flags<R: Region>(region: &R, backs: &Backs, epoch: usize, choice: &mut Choice)
     requires done { length backs.now.back ≤ length (R.memory region.now).events }
     requires room { length backs.now.back ≤ choice.old.room }
@@ -322,7 +329,7 @@ fn push_flags<R: Region>(region: &R, backs: &Backs, epoch: usize, choice: &mut C
     }
 }
 
-/// The marks before the first store that is not written back.
+/// Returns the number of end-of-call markers before the first store that is not written back.
 fn waiting_mark_count<R: Region>(region: &R, backs: &Backs) -> usize
     ensures { result ≡ waiting_marks (R.memory region.now).events backs.now.back }
 {
@@ -342,7 +349,7 @@ fn waiting_mark_count<R: Region>(region: &R, backs: &Backs) -> usize
     count
 }
 
-/// How many marks the log has.
+/// Returns the number of end-of-call markers in the log.
 fn mark_count<R: Region>(region: &R) -> usize
     ensures { result ≡ marks (R.memory region.now).events }
 {

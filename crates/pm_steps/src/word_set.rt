@@ -6,18 +6,19 @@ ghost use Rattle.pm_steps.specs.WordSet.{is_noted, remainders, IsLinked};
 use std::alloc::{AllocError, Global};
 use std::marker::Model;
 
-/// By so many remainders a set finds its words: few enough to stay at hand, and enough for the words of most storms.
+/// Number of remainders by which a set finds its words: few enough to stay in cache, and enough for the words of most
+/// storms.
 const REMAINDERS: usize = 16_384;
 
-/// A set of words of a region. It takes its memory once. A word is taken in at once, and found by the words that leave its
-/// remainder, of which there are few unless it was meant otherwise.
+/// A set of words of a region. It allocates only in `new`. Adding a word takes constant time. A search goes through
+/// the words with the same remainder, which are few unless a caller picks them to be many.
 #[derive(Drop)]
 pub struct WordSet {
     words: Vec<u32>,
-    // Of each word, which was the last before it with its remainder. Any number where there was none.
+    // For each word, the last word before it with the same remainder. Any number if there was none.
     before: Vec<usize>,
-    // Of each remainder, which word is the last that leaves it. Any number where there is none, so that nothing has to be
-    // put back when the set begins anew.
+    // For each remainder, the last word that leaves it. Any number if there is none, so that `clear` need not reset
+    // these.
     heads: Vec<usize>,
     room: usize,
 }
@@ -38,7 +39,11 @@ impl Model for WordSet {
 }
 
 impl WordSet {
-    /// Of no word, with room for so many. `AllocError` is the answer for want of memory; no other call takes any.
+    /// Makes an empty set, with memory for `room` words. No other call allocates.
+    ///
+    /// # Errors
+    ///
+    /// `AllocError`: out of memory.
     pub fn new(alloc: Global, room: usize) -> Result<WordSet, AllocError>
         ensures { IfOk result (λ set. set ≡ record { words = []; room = room }) }
     {
@@ -53,7 +58,7 @@ impl WordSet {
         })
     }
 
-    /// Begins anew, with no word. The room stays.
+    /// Removes all words. The memory stays allocated.
     pub fn clear(&mut self)
         ensures { self.new ≡ record { words = []; room = self.old.room } }
     {
@@ -61,7 +66,7 @@ impl WordSet {
         self.before.clear();
     }
 
-    /// Takes a word in. One that is there already takes room again.
+    /// Adds a word. A word that is already there takes memory again.
     pub fn note(&mut self, word: u32)
         requires { length self.old.words < self.old.room }
         ensures { self.new ≡ record { words = self.old.words ++ word ∷ []; room = self.old.room } }
@@ -73,7 +78,7 @@ impl WordSet {
         let _ = self.words.push(word);
     }
 
-    /// Whether a word is there.
+    /// Returns whether a word is in the set.
     pub fn has(&self, word: u32) -> bool
         ensures { result ≡ is_noted self.now.words word }
     {
@@ -81,14 +86,14 @@ impl WordSet {
     }
 }
 
-/// By which remainder a word is found.
+/// Returns the remainder by which a word is found.
 fn remainder_of(word: u32) -> usize
     ensures { result ≡ word % remainders }
 {
     word as usize % REMAINDERS
 }
 
-/// Whether a word is among these, by the links between those of one remainder.
+/// Returns whether a word is among these, by the links between the words with the same remainder.
 fn is_among(words: &[u32], before: &[usize], heads: &[usize], word: u32) -> bool
     requires { IsLinked words.now before.now heads.now }
     ensures { result ≡ is_noted words.now word }

@@ -13,10 +13,10 @@ mod overlay;
 
 pub use overlay::{Overlay, word_at};
 
-/// The greatest level whose span fits into a word: 2^57 bytes.
+/// The maximum level whose span fits into a word: 2^57 bytes.
 pub const MAX_LEVEL: u32 = 5;
 
-/// The word whose bytes these are, the lowest first.
+/// Returns the word of these bytes, the lowest first.
 #[tactic(auto, using(crate::proofs::Bytes::eight_of))]
 pub fn read_word(bytes: &[u8; 8]) -> u64
     ensures { result ≡ word_of bytes.now }
@@ -24,14 +24,14 @@ pub fn read_word(bytes: &[u8; 8]) -> u64
     u64::from_le_bytes(*bytes)
 }
 
-/// The bytes of a word, the lowest first.
+/// Returns the bytes of a word, the lowest first.
 pub fn write_word(word: u64) -> [u8; 8]
     ensures { result ≡ word_bytes word }
 {
     word.to_le_bytes()
 }
 
-/// The lowest bytes of a word, as many as are asked for: all of it from eight on.
+/// Returns the lowest `count` bytes of a word: all of it from eight on.
 #[tactic(auto, using(crate::proofs::LowBytes::masked))]
 pub fn low_bytes(word: u64, count: u64) -> u64
     ensures { result ≡ word % 256 ^ min 8 count }
@@ -43,14 +43,15 @@ pub fn low_bytes(word: u64, count: u64) -> u64
     }
 }
 
-/// The number of the block to which a pointer points, 0 where it is null: its bits 12 to 63.
+/// Returns the number of the block to which a pointer points, which is its bits 12 to 63; 0 if the pointer is null.
 pub fn block_of(pointer: u64) -> u64
     ensures { result ≡ pointer / block_size }
 {
     pointer / BLOCK_SIZE
 }
 
-/// How many bytes a node of a tree covers that stands `level` above the leaves. `level` is at most `MAX_LEVEL`.
+/// Returns the number of bytes that a tree node `level` levels above the leaves covers. `level` is at most
+/// `MAX_LEVEL`.
 #[tactic(auto, using(crate::proofs::Digits::shifted_span))]
 pub fn span(level: u32) -> u64
     requires { level ≤ max_level }
@@ -59,8 +60,8 @@ pub fn span(level: u32) -> u64
     BLOCK_SIZE << (9 * level)
 }
 
-/// The slot through which the way to leaf `leaf` goes, in the block of the node that stands `level + 1` above the leaves:
-/// a digit of `leaf` in base 512.
+/// Returns the slot on the path to leaf `leaf` in the block of the node `level + 1` levels above the leaves: a digit
+/// of `leaf` in base 512.
 #[tactic(auto, using(crate::proofs::Digits::shifted_digit))]
 pub fn digit(leaf: u64, level: u32) -> u16
     requires { level ≤ max_level }

@@ -1,4 +1,4 @@
-//! Words of bytes that stand in a row, and words over which such bytes lie.
+//! Words of consecutive bytes, and words that such bytes overlay.
 
 ghost use Rattle.std.specs.Prelude.{◌≡◌, ℕ, ◌+◌, ◌^◌, ◌<◌, ◌≤◌, length, slice_index};
 ghost use Rattle.pm_words.specs.Bytes.{byte_of};
@@ -6,16 +6,16 @@ ghost use Rattle.pm_words.specs.Overlay.{byte_over};
 
 use crate::{low_bytes, read_word};
 
-/// Bytes that lie over others.
+/// Bytes that overlay others.
 #[derive(Clone, Copy)]
 pub struct Overlay<'a> {
-    /// The offset of the first one.
+    /// The offset of the first byte.
     pub from: u64,
-    /// They themselves, one behind the other.
+    /// The bytes, in order.
     pub bytes: &'a [u8],
 }
 
-/// The word whose eight bytes stand at a place.
+/// Returns the word whose eight bytes are at an index.
 pub fn word_at(bytes: &[u8], at: usize) -> u64
     requires { at + 8 ≤ length bytes.now }
     ensures { (c : ℕ) → c < 8 → byte_of result c ≡ slice_index bytes.now (at + c) }
@@ -25,14 +25,14 @@ pub fn word_at(bytes: &[u8], at: usize) -> u64
     read_word(&word)
 }
 
-/// A byte, 0 behind the last one.
+/// Returns a byte, or 0 past the last one.
 fn byte_or_zero(bytes: &[u8], at: usize) -> u8
     ensures { result ≡ slice_index bytes.now at }
 {
     if at < bytes.len() { bytes[at] } else { 0 }
 }
 
-/// The word whose first byte stands at a place, made of bytes one by one: 0 stands behind the last one.
+/// Returns the word whose first byte is at an index, made byte by byte: bytes past the last one are 0.
 fn short_word(bytes: &[u8], at: usize) -> u64
     requires few { at + 8 < 2 ^ 64 }
     ensures { (c : ℕ) → c < 8 → byte_of result c ≡ slice_index bytes.now (at + c) }
@@ -50,8 +50,8 @@ fn short_word(bytes: &[u8], at: usize) -> u64
     u64::from_le_bytes(word)
 }
 
-/// The word whose first byte stands at a place, and in which the last byte is: 0 stands behind it. Where there are eight bytes,
-/// one read of the last eight has all of them.
+/// Returns the word whose first byte is at an index, and which has the last byte in it: bytes past that one are 0. If
+/// there are at least eight bytes, one read of the last eight has all that are needed.
 fn last_word(bytes: &[u8], at: usize) -> u64
     requires few { at + 8 < 2 ^ 64 }
     requires begun { at < length bytes.now }
@@ -66,7 +66,7 @@ fn last_word(bytes: &[u8], at: usize) -> u64
     }
 }
 
-/// The lowest bytes of one word, so many, and the others of another one.
+/// Returns the lowest `count` bytes of one word with the other bytes of another one.
 fn join(low: u64, high: u64, count: u64) -> u64
     requires { count < 8 }
     ensures lowest { (c : ℕ) → c < count → byte_of result c ≡ byte_of low c }
@@ -77,7 +77,7 @@ fn join(low: u64, high: u64, count: u64) -> u64
     kept | rest
 }
 
-/// The word whose first byte stands at a place, and behind the last one the bytes of an old word.
+/// Returns the word whose first byte is at an index, with the bytes of an old word past the last byte.
 fn word_over(bytes: &[u8], at: usize, old: u64) -> u64
     requires few { at + 8 < 2 ^ 64 }
     ensures { (c : ℕ) → c < 8 → byte_of result c ≡ byte_over 0 bytes.now (at + c) (byte_of old c) }
@@ -93,7 +93,7 @@ fn word_over(bytes: &[u8], at: usize, old: u64) -> u64
 }
 
 impl Overlay<'_> {
-    /// The word whose first byte is at the offset `start`, given the one that is there without these bytes.
+    /// Returns the word whose first byte is at offset `start`, given the word that is there without the overlay.
     pub fn word(&self, start: u64, old: u64) -> u64
         requires few { start + 8 < 2 ^ 64 }
         ensures { (c : ℕ) → c < 8 →

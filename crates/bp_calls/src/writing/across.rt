@@ -1,5 +1,5 @@
-//! Bytes that begin below the size of a file and end past it: a preparation for those behind the size, and then a commit
-//! of the others with the size.
+//! Writes of bytes that begin below the size of a file and end past it: a preparation for those past the size, and
+//! then a commit of the others together with the size.
 
 ghost use Rattle.std.specs.Prelude.{◌≡◌, ◌+◌, ◌<◌, ◌≤◌, ◌∷◌, [], ℕ, length, slice_index};
 ghost use Rattle.bp_calls.specs.Commits.{CommitsChange, CommitsOrLacksBlocks};
@@ -29,7 +29,7 @@ use bp_tree::{Slots, Tree};
 use pm_region::Region;
 use std::slice;
 
-/// The run of bytes that lie below the size of a file, in its tree once it is high enough for an end.
+/// Returns the run of bytes that lie below the size of a file, in its tree once it is high enough for an end.
 fn run_across<'a, R: Region>(
     region: &R,
     i: u32,
@@ -59,11 +59,11 @@ struct Plan<'a> {
     inode: u32,
     /// The file's tree, before the write.
     tree: Tree,
-    /// Where the bytes begin, below the size.
+    /// The offset of the bytes, which is below the size.
     off: u64,
     /// The bytes, which end past the size.
     bytes: &'a [u8],
-    /// The word of the size, with the end of the bytes, which it is given.
+    /// The path of the word of the size, and its new value: the end of the bytes.
     sized: (Slots, u64),
     /// The run of those bytes that lie below the size.
     run: Run<'a>,
@@ -91,7 +91,7 @@ fn plan_write<'a, R: Region>(region: &R, i: u32, tree: Tree, off: u64, bytes: &'
     }
 }
 
-/// What a planned write touches: the bytes below the size, and the word of the size.
+/// Returns what a planned write touches: the bytes below the size, and the word of the size.
 fn touched_across<'a>(plan: &'a Plan<'_>) -> Touched<'a>
     ensures words { result.words.now ≡ plan.now.sized ∷ [] }
     ensures runs { result.runs.now ≡ plan.now.run ∷ [] }
@@ -104,7 +104,7 @@ fn touched_across<'a>(plan: &'a Plan<'_>) -> Touched<'a>
     }
 }
 
-/// How many blocks a planned write takes, given what was found of the ways to what it touches.
+/// Returns the number of blocks that a planned write takes, given the paths to what it touches.
 fn need_found<R: Region>(
     parts: &Parts<R>,
     plan: &Plan<'_>,
@@ -123,7 +123,7 @@ fn need_found<R: Region>(
     need_prep(&parts.region, plan.tree, plan.tree.size, end) + copied
 }
 
-/// How many blocks bytes take that begin below the size of a file and end past it, given its tree.
+/// Returns the number of blocks that bytes take that begin below the size of a file and end past it, given its tree.
 pub(crate) fn need_across<R: Region>(
     parts: &Parts<R>,
     i: u32,
@@ -146,8 +146,8 @@ pub(crate) fn need_across<R: Region>(
     need_found(parts, &plan, &touched, &found)
 }
 
-/// Does a planned write, given what was found of the ways to what it touches. The tree is prepared for the bytes behind the
-/// size, which leaves these ways as they are, and then one store brings the others in, together with the size.
+/// Makes a planned write, given the paths to what it touches. The tree is prepared for the bytes past the size, which
+/// does not change these paths, and then one store makes the other bytes visible together with the size.
 fn write_planned<R: Region>(
     parts: &mut Parts<R>,
     plan: &Plan<'_>,
@@ -174,12 +174,14 @@ fn write_planned<R: Region>(
     commit_at(parts, touched, found);
 }
 
-/// Writes bytes that begin below the size of a file and end past it, once nothing is left to thaw, given its tree. The ways
-/// to what they touch are found once.
+/// Writes bytes that begin below the size of a file and end past it, once no block is left to thaw, given its tree.
+/// The paths to what they touch are searched for once.
 ///
 /// # Errors
 ///
-/// Where fewer blocks are free than are needed. Nothing has changed then.
+/// Nothing has changed then.
+///
+/// - `NoSpace`: fewer blocks are free than the write needs.
 pub(crate) fn write_across<R: Region>(
     parts: &mut Parts<R>,
     i: u32,

@@ -1,4 +1,4 @@
-//! Batches of writes in the plain tree.
+//! Batches of writes in the abstract tree.
 
 ghost use Rattle.bp_layout.specs.Paths.{parse};
 ghost use Rattle.bp_limits.specs.Limits.{max_pieces};
@@ -41,7 +41,7 @@ impl Plain {
         ]))
     }
 
-    // ---- what a batch makes
+    // ---- the effect of a batch
 
     pub(super) fn batch(
         &mut self,
@@ -64,7 +64,7 @@ impl Plain {
 }
 
 impl FileMap {
-    /// The first refusal of a piece.
+    /// Returns the first refusal of a piece.
     fn refuses_pieces(
         &self,
         alloc: Global,
@@ -131,7 +131,7 @@ impl FileMap {
     }
 }
 
-/// Whether the path of a piece is not one.
+/// Returns whether the path of some piece is not a valid path.
 fn has_bad_path(alloc: Global, text: &[u8], pieces: &[Piece]) -> Result<bool, AllocError>
     requires { All (LiesIn text.now) pieces.now }
     ensures { IfOk result (λ holds.
@@ -146,7 +146,7 @@ fn has_bad_path(alloc: Global, text: &[u8], pieces: &[Piece]) -> Result<bool, Al
     Ok(false)
 }
 
-/// How many bytes the pieces have.
+/// Returns the number of bytes of all pieces together.
 fn total(pieces: &[Piece]) -> u64
     requires { length pieces.now ≤ max_pieces }
     ensures { result ≡ sum_by (λ piece. piece.bytes.len) pieces.now }
@@ -158,7 +158,7 @@ fn total(pieces: &[Piece]) -> u64
     total
 }
 
-/// A part of a text.
+/// Returns a part of a text.
 fn part_of(text: &[u8], span: Span) -> &[u8]
     requires { span.at + span.len ≤ length text.now }
     ensures { result.now ≡ spanned text.now span }

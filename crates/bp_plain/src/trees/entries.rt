@@ -1,4 +1,4 @@
-//! What stands at each path, as the program keeps it: a file has a number, the same one at each of its paths.
+//! The node at each path, as the program holds it: a file has a number, the same one at each of its paths.
 
 ghost use Rattle.bp_layout.specs.Paths.{rest_below};
 ghost use Rattle.bp_layout.specs.Listing.{listed};
@@ -16,42 +16,42 @@ use std::alloc::{AllocError, Global};
 use std::collections::BTreeMap;
 use std::marker::Model;
 
-/// What stands at a path.
+/// Node at a path.
 #[derive(Drop)]
 pub(super) enum Node {
     /// A directory.
     Dir,
     /// A file.
     File {
-        /// Its number, which no other file has.
+        /// Number of the file, which no other file has.
         id: u64,
-        /// Its bytes.
+        /// Bytes of the file.
         content: Vec<u8>,
     },
 }
 
-/// What is different in a copy of files.
+/// Change that a copy of the files makes.
 #[derive(Clone, Copy)]
 pub(super) enum Change<'a> {
-    /// Nothing.
+    /// No change.
     Nothing,
-    /// The file with a number has other bytes, at each of its paths.
+    /// The file with a number gets other bytes, at each of its paths.
     Content {
-        /// The number.
+        /// Number of the file.
         id: u64,
-        /// The bytes.
+        /// New bytes.
         bytes: &'a [u8],
     },
-    /// What is at or below the one path is at or below the other, whose own node is gone.
+    /// Everything at or below path `from` moves to `to`. The old node at `to` is removed.
     Moved {
-        /// The one path.
+        /// Old path.
         from: &'a [Name],
-        /// The other path.
+        /// New path.
         to: &'a [Name],
     },
 }
 
-/// What stands at each path.
+/// Nodes of all paths.
 #[derive(Drop)]
 pub(super) struct Files {
     nodes: BTreeMap<Vec<Name>, Node>,
@@ -73,7 +73,7 @@ impl Model for Files {
 }
 
 impl Files {
-    /// The root directory alone.
+    /// Makes the files of a tree that has only the root directory.
     pub(super) fn root_alone(alloc: Global) -> Result<Files, AllocError>
         ensures { IfOk result (λ files. files ≡ root_alone) }
     {
@@ -82,7 +82,7 @@ impl Files {
         Ok(Files { nodes })
     }
 
-    /// Not even a root directory.
+    /// Makes files with no path at all, not even the root directory.
     fn with_nothing(alloc: Global) -> Files
         ensures { result ≡ empty }
     {
@@ -91,7 +91,7 @@ impl Files {
         }
     }
 
-    /// This node stands at the path, whatever stood there.
+    /// Puts this node at the path, in place of any node there.
     pub(super) fn put(&mut self, path: Vec<Name>, node: Node) -> Result<(), AllocError>
         ensures put { OnOk result (self.new ≡ insert self.old (names_of path.items) (numbered node)) }
         ensures kept { OnErr result (self.new ≡ self.old) }
@@ -100,21 +100,21 @@ impl Files {
         Ok(())
     }
 
-    /// Nothing stands at the path any more.
+    /// Removes the node at the path.
     pub(super) fn take(&mut self, path: &[Name])
         ensures { self.new ≡ remove self.old (names_of path.now) }
     {
         let _ = self.nodes.remove(path);
     }
 
-    /// What stands at a path.
+    /// Returns the node at a path.
     pub(super) fn node(&self, path: &[Name]) -> Option<&Node>
         ensures { option_map (λ node. numbered node.now) result ≡ get self.now (names_of path.now) }
     {
         self.nodes.get(path)
     }
 
-    /// The number of the file at a path.
+    /// Returns the number of the file at a path.
     pub(super) fn id(&self, path: &[Name]) -> Option<u64>
         ensures { result ≡ number_at self.now (names_of path.now) }
     {
@@ -124,11 +124,11 @@ impl Files {
         }
     }
 
-    /// How many paths the file with a number has.
+    /// Returns how many paths the file with a number has.
     ///
     /// # Errors
     ///
-    /// `AllocError` where there are 2^32 of them or more.
+    /// - `AllocError`: the file has 2^32 paths or more.
     pub(super) fn count(&self, id: u64) -> Result<u32, AllocError>
         ensures { IfOk result (λ count. count ≡ length (paths_numbered id (entries self.now))) }
     {
@@ -140,7 +140,7 @@ impl Files {
         Ok(count)
     }
 
-    /// The names in a directory with their kinds, in the order of their bytes.
+    /// Returns the names in a directory with their kinds, in the order of their bytes.
     pub(super) fn names(&self, alloc: Global, dir: &[Name]) -> Result<Vec<(Kind, Name)>, AllocError>
         ensures { IfOk result (λ names. listed names.items ≡ listing (plain_nodes self.now) (names_of dir.now)) }
     {
@@ -153,7 +153,7 @@ impl Files {
         Ok(names)
     }
 
-    /// A copy with a change.
+    /// Returns a copy of the files with a change.
     pub(super) fn changed(&self, alloc: Global, change: &Change<'_>) -> Result<Files, AllocError>
         ensures { IfOk result (λ files. files ≡ changed_files change.now self.now) }
     {
@@ -164,7 +164,7 @@ impl Files {
         Ok(files)
     }
 
-    /// Puts in a copy of what stands at a path elsewhere, with a change.
+    /// Inserts a copy of an entry of the old files, after the change.
     fn put_changed(
         &mut self,
         alloc: Global,
@@ -188,7 +188,7 @@ impl Files {
         }
     }
 
-    /// The same where it lies after a rename.
+    /// Inserts a copy of an entry at its path after the move of `from` to `to`.
     fn put_moved(
         &mut self,
         alloc: Global,
@@ -216,7 +216,7 @@ fn has_number(node: &Node, id: u64) -> bool
     }
 }
 
-/// One more where something holds.
+/// Returns `count`, plus 1 if `holds`.
 fn with_one(count: u32, holds: bool) -> Result<u32, AllocError>
     ensures { IfOk result (λ more. more ≡ count + (if holds then 1 else 0)) }
 {
@@ -229,7 +229,7 @@ fn with_one(count: u32, holds: bool) -> Result<u32, AllocError>
     }
 }
 
-/// Where a path lies, once what is at or below the one is at or below the other.
+/// Returns a path after the move of `from` to `to`.
 fn moved_path(
     alloc: Global,
     from: &[Name],
@@ -245,7 +245,7 @@ fn moved_path(
     }
 }
 
-/// A copy of what stands at a path.
+/// Returns a copy of a node.
 pub(super) fn copy(node: &Node) -> Result<Node, AllocError>
     ensures { IfOk result (λ copied. numbered copied ≡ numbered node.now) }
 {
@@ -258,7 +258,7 @@ pub(super) fn copy(node: &Node) -> Result<Node, AllocError>
     }
 }
 
-/// A copy of a node, or these bytes where it is the file with this number.
+/// Returns a copy of a node, with these bytes if it is the file with this number.
 fn with_bytes(alloc: Global, node: &Node, id: u64, bytes: &[u8]) -> Result<Node, AllocError>
     ensures { IfOk result (λ copied. numbered copied ≡ with_bytes_in id bytes.now (numbered node.now)) }
 {
@@ -286,7 +286,7 @@ fn kind_of(node: &Node) -> Kind
     }
 }
 
-/// The name of an entry of a directory, where a path is that of one.
+/// Returns the last name of a path if the path is that of an entry of this directory.
 fn name_below<'a>(dir: &[Name], path: &'a [Name]) -> Option<&'a Name>
     ensures { option_map (λ name. name.now.items) result
         ≡ plain.only_name (rest_below (names_of dir.now) (names_of path.now)) }

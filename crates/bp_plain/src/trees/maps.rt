@@ -1,4 +1,4 @@
-//! What stands at each path, and which paths are one file.
+//! The node at each path, and which paths are one file.
 
 ghost use Rattle.bp_layout.specs.Paths.{same_path};
 ghost use Rattle.bp_layout.specs.Listing.{listed};
@@ -22,7 +22,7 @@ use bp_layout::{Kind, Listing, Name};
 use std::alloc::{AllocError, Global};
 use std::marker::Model;
 
-/// What stands at each path, and which paths are one file.
+/// Nodes of all paths, and which paths are one file.
 #[derive(Drop)]
 pub(super) struct FileMap {
     files: Files,
@@ -45,7 +45,7 @@ impl Model for FileMap {
 }
 
 impl FileMap {
-    /// The root directory alone.
+    /// Makes a map that has only the root directory.
     pub(super) fn root_alone(alloc: Global) -> Result<FileMap, AllocError>
         ensures { IfOk result (λ map. map ≡ empty_map) }
     {
@@ -53,7 +53,7 @@ impl FileMap {
         Ok(FileMap { files, next: 0 })
     }
 
-    /// A copy.
+    /// Returns a copy.
     pub(super) fn copied(&self, alloc: Global) -> Result<FileMap, AllocError>
         ensures { IfOk result (λ map. map ≡ self.now) }
     {
@@ -64,9 +64,9 @@ impl FileMap {
         })
     }
 
-    // ---- what stands at a path
+    // ---- the node at a path
 
-    /// What stands at a path.
+    /// Returns the node at a path.
     fn node(&self, path: &[Name]) -> Option<&Node>
         ensures { option_map (λ node. node_seen node.now) result ≡ get self.now.nodes (names_of path.now) }
     {
@@ -104,7 +104,7 @@ impl FileMap {
         }
     }
 
-    /// The names in a directory with their kinds, in the order of their bytes.
+    /// Returns the names in a directory with their kinds, in the order of their bytes.
     fn names(&self, alloc: Global, dir: &[Name]) -> Result<Vec<(Kind, Name)>, AllocError>
         ensures { IfOk result (λ names. listed names.items ≡ listing self.now.nodes (names_of dir.now)) }
     {
@@ -113,7 +113,7 @@ impl FileMap {
 
     // ---- refusals
 
-    /// The first name on the way that is sought in a file, or is missing.
+    /// Returns the refusal at the first name of the path that is looked up in a file or is missing.
     pub(super) fn walk(&self, path: &[Name]) -> Option<FsError>
         ensures { option_map refusal_of result ≡ plain.walk self.now.nodes (names_of path.now) }
     {
@@ -138,7 +138,7 @@ impl FileMap {
         ])
     }
 
-    /// Why nothing new may stand at a path.
+    /// Returns why no new file or directory can be created at a path.
     pub(super) fn refuses_new(&self, path: &[Name]) -> Option<FsError>
         ensures { option_map refusal_of result ≡ plain.new_refusal self.now.nodes (names_of path.now) }
     {
@@ -149,21 +149,21 @@ impl FileMap {
         ])
     }
 
-    /// Why a path is not that of a file.
+    /// Returns why a path is not that of a file.
     pub(super) fn refuses_file(&self, path: &[Name]) -> Option<FsError>
         ensures { option_map refusal_of result ≡ plain.file_refusal self.now.nodes (names_of path.now) }
     {
         first(&[self.walk(path), when(self.is_dir(path), FsError::IsDir)])
     }
 
-    /// Why a path is not that of a directory.
+    /// Returns why a path is not that of a directory.
     pub(super) fn refuses_dir(&self, path: &[Name]) -> Option<FsError>
         ensures { option_map refusal_of result ≡ plain.dir_refusal self.now.nodes (names_of path.now) }
     {
         first(&[self.walk(path), when(!self.is_dir(path), FsError::NotDir)])
     }
 
-    /// Why the directory at a path does not go.
+    /// Returns why the directory at a path cannot be removed.
     pub(super) fn refuses_rmdir(
         &self,
         alloc: Global,
@@ -229,20 +229,20 @@ impl FileMap {
         Ok(())
     }
 
-    // ---- which paths are one
+    // ---- which paths are one file
 
-    /// Whether two paths are one file.
+    /// Returns whether two paths are one file.
     pub(super) fn is_one(&self, path: &[Name], other: &[Name]) -> bool
         ensures { result ≡ is_one self.now.one (names_of path.now) (names_of other.now) }
     {
         are_one(self.files.id(path), self.files.id(other))
     }
 
-    /// How many paths the file at a path has.
+    /// Returns how many paths the file at a path has.
     ///
     /// # Errors
     ///
-    /// `AllocError` where there are 2^32 of them or more.
+    /// - `AllocError`: the file has 2^32 paths or more.
     pub(super) fn links(&self, path: &[Name]) -> Result<u32, AllocError>
         ensures { IfOk result (λ count. count ≡ plain.path_count self.now.one (names_of path.now)) }
     {
@@ -254,12 +254,11 @@ impl FileMap {
 
     // ---- changes
 
-    /// Makes an empty file.
+    /// Creates an empty file at a path.
     ///
     /// # Errors
     ///
-    /// `AllocError` for want of memory, or of a number for the file, once there were 2^64 of them. The map is then as
-    /// it was.
+    /// - `AllocError`: out of memory, or no number is left after 2^64 files. The map is unchanged.
     pub(super) fn make_file(&mut self, alloc: Global, path: Vec<Name>) -> Result<(), AllocError>
         requires { plain.new_refusal self.old.nodes (names_of path.items) ≡ None }
         ensures made { OnOk result (self.new ≡ plain.with_file self.old (names_of path.items)) }
@@ -278,7 +277,7 @@ impl FileMap {
         Ok(())
     }
 
-    /// Makes an empty directory.
+    /// Creates an empty directory at a path.
     pub(super) fn make_dir(&mut self, path: Vec<Name>) -> Result<(), AllocError>
         requires { plain.new_refusal self.old.nodes (names_of path.items) ≡ None }
         ensures made { OnOk result (self.new ≡ plain.with_dir self.old (names_of path.items)) }
@@ -288,7 +287,7 @@ impl FileMap {
         Ok(())
     }
 
-    /// Gives the file at a path one more.
+    /// Gives the file at a path another path.
     pub(super) fn link(&mut self, path: &[Name], new: Vec<Name>) -> Result<(), AllocError>
         requires file { plain.file_refusal self.old.nodes (names_of path.now) ≡ None }
         requires new { plain.new_refusal self.old.nodes (names_of new.items) ≡ None }
@@ -305,7 +304,7 @@ impl FileMap {
         }
     }
 
-    /// Takes away the path of a file.
+    /// Removes one path of a file.
     pub(super) fn remove_file(&mut self, path: &[Name])
         requires { plain.file_refusal self.old.nodes (names_of path.now) ≡ None }
         ensures { self.new ≡ plain.with_nothing self.old (names_of path.now) }
@@ -313,7 +312,7 @@ impl FileMap {
         self.files.take(path);
     }
 
-    /// Takes away the path of an empty directory other than the root.
+    /// Removes an empty directory other than the root.
     pub(super) fn remove_dir(&mut self, path: &[Name])
         requires other { plain.is_root_path (names_of path.now) ≡ false }
         requires empty { plain.is_empty_dir self.old.nodes (names_of path.now) ≡ true }
@@ -322,7 +321,7 @@ impl FileMap {
         self.files.take(path);
     }
 
-    /// Puts bytes into the file at a path, from an offset on.
+    /// Writes bytes to the file at a path, from byte `off` on.
     pub(super) fn write(
         &mut self,
         alloc: Global,
@@ -337,7 +336,7 @@ impl FileMap {
         self.set_content(alloc, path, &content)
     }
 
-    /// Gives the file at a path another size.
+    /// Sets the size of the file at a path.
     pub(super) fn resize(
         &mut self,
         alloc: Global,
@@ -351,7 +350,7 @@ impl FileMap {
         self.set_content(alloc, path, &content)
     }
 
-    /// Gives the file at a path other bytes, and leaves all as it is where there is none.
+    /// Replaces the bytes of the file at a path; changes nothing if there is no file.
     fn set_content(&mut self, alloc: Global, path: &[Name], bytes: &[u8]) -> Result<(), AllocError>
         ensures set { OnOk result (self.new ≡ plain.with_content self.old (names_of path.now) bytes.now) }
         ensures kept { OnErr result (self.new ≡ self.old) }
@@ -366,7 +365,7 @@ impl FileMap {
         }
     }
 
-    /// Moves what is at or below the one path to the other, whose own node goes.
+    /// Moves everything at or below `from` to `to`. The old node at `to` is removed.
     pub(super) fn move_to(
         &mut self,
         alloc: Global,
@@ -384,7 +383,7 @@ impl FileMap {
     }
 }
 
-/// Whether two numbers are there and the same.
+/// Returns whether both paths have a number and the numbers are equal.
 fn are_one(id: Option<u64>, other: Option<u64>) -> bool
     ensures { result ≡ are_one id other }
 {
@@ -394,7 +393,7 @@ fn are_one(id: Option<u64>, other: Option<u64>) -> bool
     }
 }
 
-/// The next number.
+/// Returns the next number.
 fn following(number: u64) -> Result<u64, AllocError>
     ensures { IfOk result (λ next. next ≡ number + 1) }
 {

@@ -1,4 +1,4 @@
-//! Renames in the plain tree.
+//! Renames in the abstract tree.
 
 ghost use Rattle.bp_layout.specs.Paths.{rest_below};
 ghost use Rattle.bp_plain.specs.Calls.Call.{rename};
@@ -33,7 +33,7 @@ impl Plain {
         }
     }
 
-    // ---- what a rename makes
+    // ---- the effect of a rename
 
     pub(super) fn rename(
         &mut self,
@@ -57,7 +57,7 @@ impl Plain {
 }
 
 impl FileMap {
-    /// The same of two paths that are spelled.
+    /// Returns why the node at one path cannot move to the other, for paths that are parsed already.
     fn refuses_move(
         &self,
         alloc: Global,
@@ -112,7 +112,7 @@ fn moves_below(from: &[Name], to: &[Name]) -> bool
     !is_same(from, to) && is_below(from, to)
 }
 
-/// Whether a path is another one, or goes on from it.
+/// Returns whether `path` is `above` or below it.
 fn is_below(above: &[Name], path: &[Name]) -> bool
     ensures { result ≡ is_some (rest_below (names_of above.now) (names_of path.now)) }
 {

@@ -1,9 +1,10 @@
-/* bpfs.h - a crash-safe file tree over words of eight bytes, in your own process.
+/* bpfs.h - a crash-safe file system over 64-bit words, in your own process.
  *
  * WHAT IT IS
- *   A volume holds a copy of an image's words in ordinary memory and serves file calls over it. It does no input and no output. What each
- *   call stores it writes down in a log. Carrying that log to what really persists (persistent memory, a file, another machine) is yours:
- *   carry.h beside this header has the loop, and file.c, pmem.c and stream.c are carriers of sixty to ninety lines.
+ *   A volume holds a copy of an image's words in ordinary memory and serves file calls on it. The
+ *   library does no I/O: each call appends its stores to a log. Your program carries the log to
+ *   durable storage: persistent memory, a file, another machine. carry.h has the loop over the log;
+ *   file.h, redo.h, pmem.h and stream.h have carriers.
  *
  * A PROGRAM
  *     #include "file.h"
@@ -17,66 +18,78 @@
  *         bpfs_lack lack;
  *         uint8_t bytes[64];
  *         size_t count;
- *         if (bpfs_file_open(&file, "image", BPFS_FILE_WAITS)) return 1;
- *         if (bpfs_file_format(&file, 64, 1) || bpfs_file_mount(&fs, &file, &fault)) return 1;
+ *         if (bpfs_file_create(&file, "image", 64, 2, BPFS_FILE_WAITS)) return 1;
+ *         if (bpfs_file_mount(&fs, &file, &fault)) return 1;
  *         if (bpfs_create(&fs, PATH("/greeting"), &lack)) return 1;
  *         if (bpfs_write(&fs, PATH("/greeting"), 0, PATH("hello"), &lack)) return 1;
- *         if (bpfs_carry(&fs, &file.carrier)) return 1; // both calls are certain from here on
+ *         if (bpfs_carry(&fs, &file.carrier)) return 1; // both calls are durable from here on
  *         if (bpfs_read(&fs, PATH("/greeting"), 0, bytes, sizeof bytes, &count)) return 1;
  *         printf("%.*s\n", (int)count, (const char *)bytes);
- *         return (int)bpfs_close(&fs);
+ *         return bpfs_close(&fs) || bpfs_file_close(&file);
  *     }
  *
  * UNITS
- *   Words are uint64_t, counted from the start of the image; 512 of them are a block of 4,096 bytes. An image has 8 to 65,536 blocks. Sizes
- *   and offsets of files are bytes. Words are numbers of the machine here, and little endian in an image file.
+ *   A word is a uint64_t; words are numbered from the start of the image. A block is 512 words,
+ *   which are 4,096 bytes. An image has 8 to 65,536 blocks. Sizes and offsets of files are in
+ *   bytes. Words are native integers here, and little endian in an image file.
  *
  * PATHS AND NAMES
- *   They are bytes with a length, not C strings. "/" is the root directory, "/a/b" an entry of "/a". A path has at most 4,096 bytes. A name
- *   has 1 to 240 bytes, none of them 0 or '/', and is neither "." nor "..". There is no current directory and no open file.
+ *   Paths and names are bytes with a length, not C strings. "/" is the root directory, "/a/b" is an
+ *   entry of "/a". A path has at most 4,096 bytes. A name has 1 to 240 bytes, contains neither 0
+ *   nor '/', and is neither "." nor "..". There is no current directory and there are no open
+ *   files.
  *
- * ANSWERS
- *   A uint32_t that a call answers is BPFS_OK or another of the numbers below. A call that does not answer BPFS_OK has left the tree as it
- *   was, and has left what it would tell (counts, sizes, names) as that was: only bpfs_lack at BPFS_NO_SPACE and bpfs_fault at
- *   BPFS_DAMAGED and BPFS_BAD_SIZE are filled in then.
+ * RESULTS
+ *   A call that returns a uint32_t returns BPFS_OK or another of the numbers below. If it does not
+ *   return BPFS_OK, the tree is unchanged, and so is each result (a count, a size, a name), except:
+ *   BPFS_NO_SPACE sets the bpfs_lack, BPFS_DAMAGED and BPFS_BAD_SIZE set fields of the bpfs_fault.
  *
  * OWNERSHIP
- *   The handle is yours: begin with BPFS_CLOSED, and never copy one that is open. bpfs_mount gives it a volume on the heap, and bpfs_close
- *   takes that back; closing twice is answered BPFS_HAS_NONE and harmless. All other memory is yours, is used during the call alone, and may
- *   overlap with no other argument of the call.
+ *   You own the handle: initialize it with BPFS_CLOSED, and never copy one that is open. bpfs_mount
+ *   allocates a volume for it, and bpfs_close frees that volume. Closing twice is harmless and
+ *   returns BPFS_HAS_NONE. You own all other memory. The library uses it only during the call. It
+ *   may overlap with no other argument of the call.
  *
  * POINTERS
- *   A pointer that comes with a length may be NULL where the length is 0. All others point to what they say, aligned as C wants it, and an
- *   array has as many elements as its length says. This is what the library takes on trust; all else is tested and answered with a number.
- *   (The symbols of the library want pointers that are never NULL: the macros at the end of this header see to it. A call that goes around
- *   them, through a pointer to the function or as (bpfs_read)(...), has to see to it itself.)
+ *   A pointer that comes with a length may be NULL if the length is 0. Every other pointer must
+ *   point to an aligned object of its type, and an array must have as many elements as its length
+ *   says. The library does not check this; it checks all else and returns a number. (The symbols of
+ *   the library need pointers that are never NULL: the macros at the end of this header provide
+ *   that. A call that avoids the macros, such as (bpfs_read)(...) or a call through a function
+ *   pointer, has to provide it itself.)
  *
  * THREADS
- *   One handle, one thread at a time; different handles are independent. Call nothing here from a signal handler, nor on a handle in two
- *   processes behind a fork.
+ *   Only one thread at a time may use a handle. Different handles are independent. Call nothing
+ *   here from a signal handler, and use no handle in both processes after a fork.
  *
  * COST
- *   A volume has its own copy of the words (4 KiB a block), up to some 724 bytes a block beside it, and a log of 524,288 events (23 MB); of
- *   both the system gives what is used. Memory is taken by bpfs_mount, bpfs_format_events, bpfs_list and bpfs_snap_list; calls may take
- *   some to remember where names stand, and go on without where there is none.
+ *   A volume has its own copy of the words (4 KiB for each block), up to some 724 bytes more for
+ *   each block, and a log of 524,288 events (23 MB). The system provides pages of these as they are
+ *   used. bpfs_mount, bpfs_format_events, bpfs_list and bpfs_snap_list allocate memory. Other calls
+ *   may allocate some to remember where names are; if that fails, they return the same result.
  *
  * CARRYING
- *   The log is a list of events, in order.
- *     BPFS_STORE    sets one word. It has to reach what persists whole or not at all.
- *     BPFS_BARRIER  parts epochs. No store behind it may persist before every store in front of it has. Between two barriers stores may
- *                   persist in any order, but those to one word in theirs.
- *     BPFS_MARK     ends a call. There is nothing to carry.
- *   Each call has a barrier between its last store and its mark. So a call is durable once all in front of its mark persists.
+ *   The log is a list of events, in order:
+ *     BPFS_STORE    sets one word. The word must become durable whole or not at all.
+ *     BPFS_BARRIER  ends an epoch. No store after it may become durable before all stores before it
+ *                   are. Between two barriers, stores may become durable in any order, except that
+ *                   stores to one word keep their order.
+ *     BPFS_MARK     is the end-of-call marker. There is nothing to carry.
+ *   A call that stores has a barrier between its last store and its marker. So a call is durable
+ *   once everything before its marker is.
  *
- *   Where power fails at any moment while you carry, what persists is an image that mounts, and that shows the tree after a prefix of the
- *   calls. Each call that was durable is in the prefix. Many calls may be carried at once (a group commit): their order is what matters.
+ *   If power fails at any point while you carry, the durable words are an image that mounts and
+ *   shows the tree after a prefix of the calls. Each call that was durable is in that prefix. You
+ *   may carry many calls at once (a group commit): only the order matters.
  *
- *   Carry before you drain or close: bpfs_drain and bpfs_close forget the events, and no other call does. An image that is changed otherwise
- *   than by its events, by a second volume for one, is no image any more. (BPFS_NOTE_WORD of carry.h is a word that no image uses.)
+ *   Carry before bpfs_drain and bpfs_close, which discard the events; no other call does. Never
+ *   change an image in any way except by the events of one volume: that would damage it. (No image
+ *   uses the two words of the superblock that carry.h reserves, such as BPFS_NOTE_WORD.)
  *
  * A FULL LOG
- *   A call that finds room for fewer than 262,144 events answers BPFS_LOG_FULL and does nothing, whatever it would need. Carry, drain, and
- *   call again; or carry in time, whenever bpfs_event_count tells more than 262,144 (BPFS_LOG_ROOM).
+ *   A call that finds room for fewer than BPFS_LOG_ROOM (262,144) events in the log returns
+ *   BPFS_LOG_FULL and does nothing, whatever it would need. Carry, drain, and call again. To avoid
+ *   that, carry when bpfs_event_count exceeds BPFS_LOG_ROOM.
  */
 #ifndef BPFS_H
 #define BPFS_H
@@ -91,29 +104,29 @@ extern "C" {
 
 enum {
     BPFS_OK = 0,
-    BPFS_BAD_PATH = 1,       /* the bytes are no path */
-    BPFS_NOT_FOUND = 2,      /* a name on the way is missing */
-    BPFS_NOT_DIR = 3,        /* a file stands where a directory is wanted */
-    BPFS_IS_DIR = 4,         /* a directory stands where a file is wanted */
-    BPFS_EXISTS = 5,         /* the name is there already */
-    BPFS_NOT_EMPTY = 6,      /* the directory has names in it */
+    BPFS_BAD_PATH = 1,       /* the bytes are not a path */
+    BPFS_NOT_FOUND = 2,      /* a name of the path does not exist */
+    BPFS_NOT_DIR = 3,        /* a file is where a directory is needed */
+    BPFS_IS_DIR = 4,         /* a directory is where a file is needed */
+    BPFS_EXISTS = 5,         /* the name exists */
+    BPFS_NOT_EMPTY = 6,      /* the directory is not empty */
     BPFS_INTO_SELF = 7,      /* a directory would move below itself */
-    BPFS_IS_ROOT = 8,        /* the root directory is neither removed nor moved */
-    BPFS_TOO_LONG = 9,       /* more bytes than one call takes: BPFS_MAX_WRITE in version 1, BPFS_MAX_WRITE_2 in 2, BPFS_MAX_BATCH */
-    BPFS_TOO_BIG = 10,       /* past the greatest size of a file: 2^39 bytes in version 1, 2^57 in version 2 */
-    BPFS_NO_SPACE = 11,      /* exactly where fewer blocks are free than the call needs; bpfs_lack tells both */
-    BPFS_NO_MEMORY = 12,     /* malloc gave none */
+    BPFS_IS_ROOT = 8,        /* the root directory can be neither removed nor moved */
+    BPFS_TOO_LONG = 9,       /* too many bytes for one call: BPFS_MAX_WRITE, BPFS_MAX_BATCH */
+    BPFS_TOO_BIG = 10,       /* past the maximum file size: 2^39 bytes in version 1, 2^57 in 2 */
+    BPFS_NO_SPACE = 11,      /* fewer blocks are free than the call needs: see bpfs_lack */
+    BPFS_NO_MEMORY = 12,     /* malloc failed */
     BPFS_NO_SNAP = 13,       /* there is no snapshot */
     BPFS_HAS_SNAP = 14,      /* there is a snapshot already */
-    BPFS_OLD_VERSION = 15,   /* an image of version 1 has no snapshot */
-    BPFS_PAST_END = 16,      /* a piece of a batch ends behind its file's end */
-    BPFS_HAS_NONE = 32,      /* the handle holds no volume */
-    BPFS_HAS_ONE = 33,       /* the handle holds a volume already */
+    BPFS_OLD_VERSION = 15,   /* an image of version 1 cannot have a snapshot */
+    BPFS_PAST_END = 16,      /* a piece of a batch ends past the end of its file */
+    BPFS_HAS_NONE = 32,      /* the handle is closed: it has no volume */
+    BPFS_HAS_ONE = 33,       /* the handle is open: it has a volume already */
     BPFS_LOG_FULL = 34,      /* carry the events, drain, and call again */
-    BPFS_NOT_FORMATTED = 35, /* the words do not begin with the mark of a format */
-    BPFS_BAD_SIZE = 36,      /* no image has so many words, or it was formatted for another number */
-    BPFS_DAMAGED = 37,       /* a check of the format fails; bpfs_fault tells which, and where */
-    BPFS_OUT_OF_RANGE = 38,  /* no such place, number or version, or an array too short */
+    BPFS_NOT_FORMATTED = 35, /* word 0 is not the magic number of a version */
+    BPFS_BAD_SIZE = 36,      /* no image has this size, or this image has another: see bpfs_fault */
+    BPFS_DAMAGED = 37,       /* a check of the format fails: see bpfs_fault */
+    BPFS_OUT_OF_RANGE = 38,  /* no such word, index, version or number of blocks; short array */
 };
 
 enum {
@@ -124,12 +137,12 @@ enum {
     BPFS_MAX_PATH = 4096,
     BPFS_MAX_WRITE = 65536,     /* bytes of one write in version 1 */
     BPFS_MAX_WRITE_2 = 1048576, /* and in version 2 */
-    BPFS_MAX_PIECES = 16,
-    BPFS_MAX_BATCH = 65536,
-    BPFS_LOG_ROOM = 262144, /* events: the room in the log that each call asks for, and half of the log */
+    BPFS_MAX_PIECES = 16,       /* of one batch */
+    BPFS_MAX_BATCH = 65536,     /* bytes of all pieces of a batch together */
+    BPFS_LOG_ROOM = 262144, /* events for which a call needs room: half of the capacity */
 };
 
-/* A handle. Begin with BPFS_CLOSED, and look at no field but is_open. */
+/* A handle. Initialize it with BPFS_CLOSED. Only the field is_open is public. */
 typedef struct bpfs {
     void *volume;
     bool is_open;
@@ -137,14 +150,15 @@ typedef struct bpfs {
 
 #define BPFS_CLOSED ((bpfs){NULL, false})
 
-/* BPFS_NO_SPACE: the blocks that the call needs, and those that are free. Else it stays as it was. */
+/* Set by BPFS_NO_SPACE: the number of blocks that the call needs, and of free blocks. */
 typedef struct bpfs_lack {
     uint32_t need, free;
 } bpfs_lack;
 
-/* BPFS_DAMAGED: the number of the check that fails (docs/format.md) and the word at which it does. BPFS_BAD_SIZE: the bytes that there are
- * and those that are wanted, which are those of the blocks that the image tells; or, where no image has so many words, those of the image
- * that is nearest in size. What is not told stays as it was. */
+/* BPFS_DAMAGED sets `check`, the number of a check that fails (docs/format.md), and `place`, the
+ * word at which it fails. BPFS_BAD_SIZE sets `found`, the size in bytes, and `wanted`: the size
+ * that the image says that it has or, if no image has the size `found`, the size of an image that
+ * is nearest. The other fields keep their values. */
 typedef struct bpfs_fault {
     uint32_t check, place;
     uint64_t found, wanted;
@@ -152,157 +166,189 @@ typedef struct bpfs_fault {
 
 enum { BPFS_STORE = 0, BPFS_BARRIER = 1, BPFS_MARK = 2 };
 
-/* An event. word and value are 0 but for a store. */
+/* An event. `word` and `value` are 0 except for a store. */
 typedef struct bpfs_event {
     uint32_t kind, word;
     uint64_t value;
 } bpfs_event;
 
-/* Stores that follow each other, to words in a row of which `word` is the first; or one event that is no store, with word 0. */
+/* Consecutive events that store to consecutive words, of which `word` is the first; or one event
+ * that is not a store, with word 0. */
 typedef struct bpfs_run {
     uint32_t kind, word;
 } bpfs_run;
 
-/* A file and its size in bytes, or a directory and how many names it has. */
+/* A file and its size in bytes, or a directory and its number of names. */
 typedef struct bpfs_found {
     uint64_t size;
     bool is_dir;
 } bpfs_found;
 
-/* Bytes of a batch for the file at a path, from `offset` on. The path and the bytes are parts of the batch's text. */
+/* Bytes that a batch writes to the file at a path, from `offset` on. The path and the bytes are
+ * parts of the text of the batch: each has a position in it (`path_at`, `bytes_at`) and a
+ * length. */
 typedef struct bpfs_piece {
     uint32_t path_at, path_length;
     uint64_t offset;
     uint32_t bytes_at, bytes_length;
 } bpfs_piece;
 
-/* The blocks of a volume but the first: those that are free, and those in use. */
+/* The numbers of free blocks and of blocks in use. The superblock counts as neither. */
 typedef struct bpfs_blocks {
     uint32_t free, live;
 } bpfs_blocks;
 
-/* What a volume holds in all: its files and directories (the root too), the bytes of all files (bytes_above * 2^64 + bytes), and the blocks
- * in use. */
+/* Totals of a volume: its files, its directories including the root, the bytes of all files
+ * (bytes_above * 2^64 + bytes), and the blocks in use except the superblock. */
 typedef struct bpfs_sums {
     uint64_t files, dirs, bytes, bytes_above;
     uint32_t live;
 } bpfs_sums;
 
-/* ---- opening and closing ------------------------------------------------------------------------------------------------------------ */
+/* ---- opening and closing --------------------------------------------------------------------- */
 
-/* Tells the events that make words of any content an empty file system of so many blocks (BPFS_MIN_BLOCKS to BPFS_MAX_BLOCKS), in version 1
- * or 2 of the format: eleven in version 1, thirteen in 2, of which as many are told as `into` has places; *count says how many. Carry them,
- * then mount. A power failure in between leaves the old image, or one that is answered BPFS_NOT_FORMATTED, or the empty tree.
- * BPFS_OUT_OF_RANGE: no such version or number of blocks. BPFS_NO_MEMORY. */
+/* Returns the events that make an empty file system of any words: `blocks` is BPFS_MIN_BLOCKS to
+ * BPFS_MAX_BLOCKS, `version` is 1 or 2. There are 11 events in version 1 and 13 in version 2.
+ * Copies at most `capacity` of them, and sets *count to the number copied. Carry them, then mount.
+ * A power failure in between leaves the old image, words that are BPFS_NOT_FORMATTED, or the empty
+ * tree. BPFS_OUT_OF_RANGE: no such version or number of blocks. BPFS_NO_MEMORY. */
 uint32_t bpfs_format_events(uint32_t blocks, uint32_t version, bpfs_event *into, size_t capacity, size_t *count);
 
-/* Copies the words of an image, checks all that is in use, and serves them. `words` is only read; it may be mapped memory.
- * BPFS_BAD_SIZE, BPFS_NOT_FORMATTED, BPFS_DAMAGED: exactly where the words are no image. BPFS_HAS_ONE, BPFS_NO_MEMORY. */
+/* Copies the words of an image, checks all of it that is in use, and opens the handle. `words` is
+ * only read, and may be mapped memory. BPFS_BAD_SIZE, BPFS_NOT_FORMATTED, BPFS_DAMAGED: returned
+ * exactly if the words are not an image. BPFS_HAS_ONE. BPFS_NO_MEMORY. */
 uint32_t bpfs_mount(bpfs *fs, const uint64_t *words, size_t count, bpfs_fault *fault);
 
-/* Lets the volume go, with the events that were not carried. BPFS_HAS_NONE. */
+/* Frees the volume and closes the handle. Events that were not carried are lost. BPFS_HAS_NONE. */
 uint32_t bpfs_close(bpfs *fs);
 
-/* ---- calls that change the tree ----------------------------------------------------------------------------------------------------- */
+/* ---- calls that change the tree -------------------------------------------------------------- */
 
-/* Each is one atomic step. Each adds its events and then one mark to the log, a mark also where it is refused; only BPFS_HAS_NONE and
- * BPFS_LOG_FULL add none, and each may answer those. Each with a path may answer BPFS_BAD_PATH, BPFS_NOT_FOUND and BPFS_NOT_DIR. The other
- * answers stand beside each. While there is a snapshot, each with a lack may answer BPFS_NO_SPACE too. */
+/* Each call is one atomic step. It adds its events and then one end-of-call marker to the log; a
+ * refused call adds the marker alone. Every call may return BPFS_HAS_NONE or BPFS_LOG_FULL; then it
+ * adds nothing. Calls with a path may return BPFS_BAD_PATH, BPFS_NOT_FOUND and BPFS_NOT_DIR. Other
+ * results are listed with each call. If there is a snapshot, every call with a `lack` may also
+ * return BPFS_NO_SPACE. */
 
-/* Makes an empty file; an empty directory. BPFS_EXISTS, BPFS_NO_SPACE. */
+/* Create an empty file, or an empty directory. BPFS_EXISTS, BPFS_NO_SPACE. */
 uint32_t bpfs_create(bpfs *fs, const uint8_t *path, size_t length, bpfs_lack *lack);
 uint32_t bpfs_mkdir(bpfs *fs, const uint8_t *path, size_t length, bpfs_lack *lack);
 
-/* Removes the name of a file, and the file with its last one. BPFS_IS_DIR. */
+/* Removes a link of a file, and deletes the file with its last link. BPFS_IS_DIR. */
 uint32_t bpfs_unlink(bpfs *fs, const uint8_t *path, size_t length, bpfs_lack *lack);
 
 /* Removes an empty directory. BPFS_IS_ROOT, BPFS_NOT_EMPTY. */
 uint32_t bpfs_rmdir(bpfs *fs, const uint8_t *path, size_t length, bpfs_lack *lack);
 
-/* Moves what stands at `from` to `to`, across directories too. What stands at `to` is replaced: a file by a file, an empty directory by a
- * directory. BPFS_IS_ROOT, BPFS_INTO_SELF, BPFS_IS_DIR, BPFS_NOT_EMPTY, BPFS_NO_SPACE. */
+/* Moves a file or a directory from `from` to `to`, also to another directory. It replaces what is
+ * at `to`: a file replaces a file, a directory replaces an empty directory. If both paths find one
+ * file or directory, nothing changes. BPFS_IS_ROOT, BPFS_INTO_SELF, BPFS_IS_DIR, BPFS_NOT_EMPTY,
+ * BPFS_NO_SPACE. */
 uint32_t bpfs_rename(bpfs *fs, const uint8_t *from, size_t from_length, const uint8_t *to, size_t to_length, bpfs_lack *lack);
 
-/* Gives the file at `from` one more name, `to`. BPFS_IS_DIR, BPFS_EXISTS, BPFS_NO_SPACE. */
+/* Adds a hard link `to` to the file at `from`. BPFS_IS_DIR, BPFS_EXISTS, BPFS_NO_SPACE. */
 uint32_t bpfs_link(bpfs *fs, const uint8_t *from, size_t from_length, const uint8_t *to, size_t to_length, bpfs_lack *lack);
 
-/* Writes bytes from `offset` on, all or none; between the old end and `offset` the file gets zeros. With no bytes nothing changes.
- * BPFS_TOO_LONG, BPFS_IS_DIR, BPFS_TOO_BIG, BPFS_NO_SPACE. */
+/* Writes bytes from `offset` on, all or none. Bytes between the old end of the file and `offset`
+ * become 0. With no bytes nothing changes. BPFS_TOO_LONG, BPFS_IS_DIR, BPFS_TOO_BIG,
+ * BPFS_NO_SPACE. */
 uint32_t bpfs_write(bpfs *fs, const uint8_t *path, size_t length, uint64_t offset, const uint8_t *bytes, size_t count, bpfs_lack *lack);
 
-/* Writes up to BPFS_MAX_PIECES pieces into files, in their order, all or none. Each file keeps its size. BPFS_OUT_OF_RANGE: too many pieces,
- * or one that lies outside of the text (no mark is added). BPFS_TOO_LONG, BPFS_IS_DIR, BPFS_PAST_END, BPFS_NO_SPACE. */
+/* Writes up to BPFS_MAX_PIECES pieces to one or more files, in their order, all or none. Each file
+ * keeps its size. BPFS_OUT_OF_RANGE: too many pieces, or one that is not within the text (it adds
+ * nothing). BPFS_TOO_LONG, BPFS_IS_DIR, BPFS_PAST_END, BPFS_NO_SPACE. */
 uint32_t bpfs_batch(bpfs *fs, const uint8_t *text, size_t length, const bpfs_piece *pieces, size_t count, bpfs_lack *lack);
 
-/* Gives a file another size: it ends there, or gets zeros behind its bytes. BPFS_IS_DIR, BPFS_TOO_BIG, BPFS_NO_SPACE. */
+/* Sets the size of a file: cuts it, or appends zeros. BPFS_IS_DIR, BPFS_TOO_BIG, BPFS_NO_SPACE. */
 uint32_t bpfs_truncate(bpfs *fs, const uint8_t *path, size_t length, uint64_t size, bpfs_lack *lack);
 
-/* Makes an image of version 1 one of version 2, with the same tree. In version 2 it does nothing. There is no way back. */
+/* Changes an image of version 1 to version 2, with the same tree. Does nothing in version 2. This
+ * cannot be undone. */
 uint32_t bpfs_upgrade(bpfs *fs);
 
-/* Keeps the tree as it is now: the snapshot, of which there is one at most, in version 2 alone. It takes no block. From then on a call that
- * changes the tree first copies each block that it would store to, and that is the snapshot's, with those on the way to it: so any of them
- * may need blocks, a removal too. BPFS_OLD_VERSION, BPFS_HAS_SNAP. */
+/* Takes a snapshot: keeps the tree as it is now, for the bpfs_snap_ calls to read. There is at most
+ * one, and only in version 2. It takes no block. From then on, a call that changes the tree first
+ * copies each block of the snapshot to which it would store, and the blocks on the path to it. So
+ * any such call may need blocks, also a removal. BPFS_OLD_VERSION, BPFS_HAS_SNAP. */
 uint32_t bpfs_snap(bpfs *fs);
 
-/* Gives the snapshot up. The blocks that were kept for it alone are free then. BPFS_NO_SNAP. */
+/* Deletes the snapshot, and frees the blocks that only it uses. BPFS_NO_SNAP. */
 uint32_t bpfs_unsnap(bpfs *fs);
 
-/* ---- calls that change nothing ------------------------------------------------------------------------------------------------------ */
+/* ---- calls that change nothing --------------------------------------------------------------- */
 
-/* The first seven (read, stat, links, list, and those of the snapshot) add one mark to the log, as the calls above do, and may answer
- * BPFS_LOG_FULL too. Each may answer BPFS_HAS_NONE, and each with a path BPFS_BAD_PATH, BPFS_NOT_FOUND and BPFS_NOT_DIR. */
+/* The first seven (read, stat, links, list, and the three of the snapshot) add one end-of-call
+ * marker to the log and may return BPFS_LOG_FULL. Each call may return BPFS_HAS_NONE; each with a
+ * path may return BPFS_BAD_PATH, BPFS_NOT_FOUND and BPFS_NOT_DIR. */
 
-/* Reads what a file has from `offset` on, at most `capacity` bytes; *count says how many. BPFS_IS_DIR. */
+/* Reads at most `capacity` bytes of a file from `offset` on, and sets *count to the number of bytes
+ * that were read. The rest of `into` is unchanged. BPFS_IS_DIR. */
 uint32_t bpfs_read(bpfs *fs, const uint8_t *path, size_t length, uint64_t offset, uint8_t *into, size_t capacity, size_t *count);
 
-/* Tells what stands at a path. */
+/* Gets the kind of what is at a path, and its size or number of names. */
 uint32_t bpfs_stat(bpfs *fs, const uint8_t *path, size_t length, bpfs_found *found);
 
-/* Tells how many names the file at a path has. BPFS_IS_DIR. */
+/* Gets the number of links of a file. BPFS_IS_DIR. */
 uint32_t bpfs_links(bpfs *fs, const uint8_t *path, size_t length, uint32_t *count);
 
-/* Makes the listing of a directory, in the order of the names' bytes; *count says how many names it has. The handle keeps it, whatever
- * happens to the directory, until the next bpfs_list, bpfs_snap_list or bpfs_close. BPFS_NO_MEMORY. */
+/* Lists a directory in the byte order of its names, and sets *count to the number of names. The
+ * handle keeps the listing, whatever happens to the directory, until the next bpfs_list or
+ * bpfs_snap_list that succeeds, or bpfs_close. Get the names by bpfs_listed. BPFS_NO_MEMORY. */
 uint32_t bpfs_list(bpfs *fs, const uint8_t *path, size_t length, size_t *count);
 
-/* The same of the snapshot, whatever has changed since. BPFS_NO_SNAP too. */
+/* As bpfs_read, bpfs_stat and bpfs_list, for the tree of the snapshot. BPFS_NO_SNAP. */
 uint32_t bpfs_snap_read(bpfs *fs, const uint8_t *path, size_t length, uint64_t offset, uint8_t *into, size_t capacity, size_t *count);
 uint32_t bpfs_snap_stat(bpfs *fs, const uint8_t *path, size_t length, bpfs_found *found);
 uint32_t bpfs_snap_list(bpfs *fs, const uint8_t *path, size_t length, size_t *count);
 
-/* Tells one name of the last listing, by its index from 0 on: its bytes (no 0 behind them), their number, and whether it is a directory's.
- * BPFS_MAX_NAME places always serve. BPFS_OUT_OF_RANGE: no listing, no such index, or too few places. */
+/* Gets entry number `index` (from 0) of the last listing: its name, the length of that, and whether
+ * it is a directory. The name is not NUL-terminated; a buffer of BPFS_MAX_NAME bytes always
+ * suffices. BPFS_OUT_OF_RANGE: there is no listing or no such entry, or the buffer is too small. */
 uint32_t bpfs_listed(bpfs *fs, size_t index, uint8_t *name, size_t capacity, size_t *length, bool *is_dir);
 
-/* Tells the free blocks and those in use, by the snapshot too, exactly. */
+/* Gets the numbers of free blocks and of blocks in use, also by the snapshot. They are exact. */
 uint32_t bpfs_space(bpfs *fs, bpfs_blocks *blocks);
 
-/* Scans the image, which takes the time of a mount, and tells its sums: of the tree, but with the snapshot's blocks. */
+/* Scans the image, which takes as long as a mount, and gets its totals: of the current tree, except
+ * that the blocks in use include those of the snapshot. */
 uint32_t bpfs_totals(bpfs *fs, bpfs_sums *sums);
 
-/* Copies `count` words from `first` on, as they are now. BPFS_OUT_OF_RANGE. */
+/* Copies `count` words from `first` on, as they are now, with all events applied.
+ * BPFS_OUT_OF_RANGE. */
 uint32_t bpfs_words(bpfs *fs, uint32_t first, uint64_t *into, size_t count);
 
-/* ---- the log ------------------------------------------------------------------------------------------------------------------------ */
+/* ---- the log --------------------------------------------------------------------------------- */
 
-/* How many events there are since the last drain; 0 for a closed handle. */
+/* Returns the number of events in the log: those since the last drain. 0 for a closed handle. */
 size_t bpfs_event_count(bpfs *fs);
 
-/* Copies events from the one numbered `first` on, at most `capacity`, and answers how many; 0 for a closed handle. */
+/* Copies events from number `first` (from 0) on, at most `capacity`, and returns how many. 0 for a
+ * closed handle. */
 size_t bpfs_events(bpfs *fs, size_t first, bpfs_event *into, size_t capacity);
 
-/* Tells the run that begins with the event numbered `first`, and answers how many events it is made of; the next one begins at first and
- * that number. Of stores it copies their values, at most `capacity`: a longer run is told in parts. 0 where no event is left, for a closed
- * handle, and for stores where capacity is 0, of which it tells the first word. */
+/* Gets the run that begins with event number `first`, and returns its number of events; the next
+ * run begins that many events later. Copies the values of stores, at most `capacity`: a longer run
+ * is returned in parts. Returns 0 if there is no such event, for a closed handle, and for stores if
+ * `capacity` is 0 (then `run` has the first word). */
 size_t bpfs_run_at(bpfs *fs, size_t first, bpfs_run *run, uint64_t *values, size_t capacity);
 
-/* Forgets the events: the caller says that all of them persist. BPFS_HAS_NONE. */
+/* Removes all events from the log. The caller asserts that they are durable. BPFS_HAS_NONE. */
 uint32_t bpfs_drain(bpfs *fs);
 
-/* ---- NULL with length 0 ------------------------------------------------------------------------------------------------------------- */
+/* Returns how many events drains have removed from the log since the mount. An event's number since
+ * the mount is this plus its index in the log. 0 for a closed handle. */
+uint64_t bpfs_drained(bpfs *fs);
 
-/* The same pointer, or one to something where the length is 0: what is behind it is neither read nor written then. */
+/* Sets a number that the library keeps with the mounted volume, for the caller's own use; it is 0
+ * after a mount. carry.c uses it: a program that carries must not set it. BPFS_HAS_NONE. */
+uint32_t bpfs_set_tag(bpfs *fs, uint64_t tag);
+
+/* Returns that number; 0 for a closed handle. */
+uint64_t bpfs_tag(bpfs *fs);
+
+/* ---- NULL with length 0 ---------------------------------------------------------------------- */
+
+/* Returns the pointer, or if the length is 0 one to an object that is neither read nor written. */
 static inline void *bpfs_some(const void *pointer, size_t length) {
     static uint64_t nothing;
     return length ? (void *)(uintptr_t)pointer : (void *)&nothing;

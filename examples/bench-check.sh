@@ -1,6 +1,10 @@
 #!/bin/sh
-# Times `bpfs check` on two images of 64 MiB: one full of files, and one that is one directory. The program is to be built
-# (examples/first-run.sh does it).
+# Times `bpfs check` on two images of 64 MiB: one full of files, and one with a single large directory. Each image is
+# checked three times.
+#
+# Usage: examples/bench-check.sh
+#
+# Needs the built program crates/bpfs/out/bpfs; examples/first-run.sh builds it.
 set -eu
 here=$(cd "$(dirname "$0")" && pwd)
 bpfs=$here/../crates/bpfs/out/bpfs
@@ -17,7 +21,7 @@ words = 64 * 1024 * 1024 // 8
 start = time.perf_counter()
 said = subprocess.run([bpfs, "check", image], capture_output=True, text=True)
 took = time.perf_counter() - start
-print(f"{kind}: {took:.3f} s, {words / took / 1e6:.0f} million words a second: {said.stdout.strip()} (status {said.returncode})")
+print(f"{kind}: {took:.3f} s, {words / took / 1e6:.0f} million words per second: {said.stdout.strip()} (status {said.returncode})")
 PYTHON
     done
 done

@@ -1,8 +1,11 @@
 #!/bin/sh
-# Starts the program with each standard stream closed, with a standard output that takes nothing, and with one that goes to FILE, and
-# compares FILE byte for byte with what it has to be, and standard error where standard output tells nothing.
+# Tests bpfs with unusual standard streams: each one closed, standard output on a full device, and standard output on the
+# image itself. After each run it compares the exit status, FILE byte for byte, and, if standard output could not be
+# written, the message on standard error.
 #
-#   examples/closed-streams.sh PROGRAM      PROGRAM: crates/bpfs/out/bpfs, as `rt run` leaves it there
+# Usage: examples/closed-streams.sh PROGRAM
+#
+# PROGRAM is a built bpfs, such as crates/bpfs/out/bpfs. The exit status is 1 if a test fails.
 set -u
 program=$(realpath "${1:?the path of the program}")
 work=$(mktemp -d)
@@ -10,7 +13,7 @@ trap 'rm -rf "$work"' EXIT
 cd "$work" || exit 1
 failed=0
 
-# What FILE has to be: after a format, before each run, and after the script.
+# The expected contents of FILE: after a format, before each run, and after the script.
 printf 'create /a\ncreate /b\n' > script
 "$program" format formatted --blocks 8 > line || exit 1
 cp formatted old
@@ -19,7 +22,7 @@ cp old scripted
 "$program" run scripted < script > replies || exit 1
 if cmp -s formatted old || cmp -s old scripted; then echo 'FAILED: no run changed FILE'; exit 1; fi
 
-# expect NAME WANTED STATUSES GOT: compares the status and FILE with what they have to be.
+# expect NAME WANTED STATUSES GOT: GOT has to be one of STATUSES, and FILE has to equal the file WANTED.
 expect() {
   name=$1 wanted=$2 statuses=$3 got=$4
   case " $statuses " in
@@ -29,13 +32,13 @@ expect() {
   if cmp -s FILE "$wanted"; then
     echo "ok: $name: status $got"
   else
-    echo "FAILED: $name: FILE is not as it has to be"; failed=1
+    echo "FAILED: $name: FILE has other contents than expected"; failed=1
   fi
 }
 
-# said NAME REASON: compares standard error with the one line that it has to have.
+# said NAME MESSAGE: standard error has to be the one line `bpfs: MESSAGE`.
 said() {
-  if [ "$(cat err)" = "bpfs: $2" ]; then echo "ok: $1: $(cat err)"; else echo "FAILED: $1 says: $(cat err)"; failed=1; fi
+  if [ "$(cat err)" = "bpfs: $2" ]; then echo "ok: $1: $(cat err)"; else echo "FAILED: $1: standard error is: $(cat err)"; failed=1; fi
 }
 
 cp old FILE; "$program" check FILE <&- > out 2> err; expect 'check <&-' old '0' $?
@@ -53,16 +56,16 @@ cp old FILE; "$program" run FILE < script >&- 2> err; expect 'run >&-' old '4' $
 cp old FILE; "$program" run FILE < script > out 2>&-; expect 'run 2>&-' scripted '0' $?
 cp old FILE; "$program" run FILE <&- >&- 2>&-; expect 'run <&- >&- 2>&-' old '3' $?
 
-# The one line of a status that standard output does not take has a reason in its place.
+# If the reply of a status cannot be written to standard output, standard error has a message in its place.
 head -c 32768 /dev/zero > zeros
 for word in check run export; do
   "$program" $word missing < script >&- 2> err; expect "$word missing >&-" old '1' $?; said "$word missing >&-" 'missing: no such file'
   "$program" $word zeros < script > /dev/full 2> err; expect "$word zeros >/dev/full" old '7' $?
   said "$word zeros >/dev/full" 'zeros: not a file system'
   "$program" $word missing < script > out 2> err; expect "$word missing" old '1' $?
-  [ -s err ] && { echo "FAILED: $word missing says: $(cat err)"; failed=1; }
+  [ -s err ] && { echo "FAILED: $word missing: standard error is: $(cat err)"; failed=1; }
 done
-# Two rows of directories, of which one is moved below the other: no call can spell the path of the last.
+# Two chains of nested directories. One is moved below the other, so the path of the last is too long for any call.
 name=$(printf '%0240d' 0)
 "$program" format deep --blocks 64 > line || exit 1
 for first in /first ''; do
@@ -75,7 +78,7 @@ done > rows
 "$program" export deep > /dev/full 2> err; expect 'export deep >/dev/full' old '9' $?
 said 'export deep >/dev/full' 'deep: a path is too long to be exported'
 
-# What is not a regular file is not taken for FILE.
+# FILE has to be a regular file.
 mkdir folder
 for word in 'run folder' 'check folder' 'export folder' 'play folder --seed 1 --count 9' 'format folder --blocks 8'; do
   cp old FILE; "$program" $word < script > out 2> err; expect "$word" old '5' $?; said "$word" 'folder: is a directory'
@@ -85,7 +88,7 @@ for word in run check; do
   said "$word /dev/null" '/dev/null: not a regular file'
 done
 
-# Standard output goes to FILE, under whichever name.
+# Standard output is FILE, under either name.
 ln -s FILE LINK
 own='standard output is the image itself'
 cp old FILE; "$program" run FILE < script 1<> FILE 2> err; expect 'run 1<>FILE' old '5' $?; said 'run 1<>FILE' "FILE: $own"

@@ -1,11 +1,12 @@
 #!/usr/bin/env python3
-"""Tells which functions of a crate are dear to prove: seconds of each, the dearest first.
+"""Lists the functions of a crate that are expensive to prove: those that took two seconds or more, longest first.
 
-    dear_functions.py CRATE [--test]     proves the crate, or the crate with its tests, and prints the functions that took two seconds or more
+    dear_functions.py CRATE [--test]
 
-It runs `rt check --jobs 1` in the crate's folder and notes when each function is done. What an earlier check kept is not proved again, so only a crate
-without `out/`, that no other checkout on this machine has proved, shows all. A crate whose other checks share the processor takes longer, but the order
-stays. (The first function of a step of the call graph is told with the time that the step took to begin.)
+It runs `rt check --jobs 1` in the directory of the crate (with --test: with its tests), and records when each function
+is done. Functions that an earlier check kept are not proved again: only a crate without `out/`, which no other checkout
+on this machine has proved, shows all. Other load makes the times longer, but keeps their order. The time of the first
+function in a step of the call graph includes the start of that step.
 """
 import os
 import re

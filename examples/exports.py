@@ -1,13 +1,16 @@
 #!/usr/bin/env python3
-"""Exports images, runs what was printed over fresh ones, and shows that these hold the same trees.
+"""Tests `bpfs export`: exports images, runs the scripts on fresh images, and compares the trees.
 
-    exports.py PROGRAM [COUNT] [SEED]      PROGRAM: crates/bpfs/out/bpfs; COUNT: how many random trees (100); SEED: of the first of them (1)
+    exports.py PROGRAM [COUNT] [SEED]
 
-A random tree has directories, files with holes, with stretches of zeros and with several names, names of any bytes, names that went and
-moves, and in some images a snapshot. Each is exported, twice: the script, run over a fresh image of another size, has to be answered by
-`ok` alone, and to come back byte for byte when that image is exported; FILE has to stay as it was. Then come a tree of 2,047 directories
-one in the other, whose last path has 4,095 bytes; and one of which a rename made a path longer than calls spell: status 9, and the line
-`err 40 deep` alone. A folder in TMPDIR is used.
+PROGRAM is a built bpfs, such as crates/bpfs/out/bpfs. COUNT is the number of random trees (default 100), SEED the seed
+of the first one (default 1). The tests use a directory in TMPDIR:
+
+- Random trees: directories, files with holes, with zeros and with several links, names of any bytes, unlinks, renames,
+  and in some images a snapshot. The script of each image is run on a fresh image of another size. All replies have to be
+  `ok`, the export of that image has to be the same script, and the exported FILE has to stay unchanged.
+- 2,047 nested directories, the last with a path of 4,095 bytes, in the same way.
+- A path that is too long for a line, made by a rename: the export has to end with status 9 and print `err 40 deep` only.
 """
 import os
 import random
@@ -30,9 +33,9 @@ def fail(what):
 
 
 def make(program, image, blocks, version, lines=()):
-    """A fresh image on which a script was run; what the script's lines were answered."""
+    """Makes a fresh image and runs a script on it; returns the replies."""
     if run(program, ["format", image, "--blocks", str(blocks), "--version", str(version)]).returncode != 0:
-        fail(f"no format of {blocks} blocks")
+        fail(f"format of {blocks} blocks failed")
     done = run(program, ["run", image], [*lines, "sync"])
     if done.returncode != 0:
         fail(f"a run ended with status {done.returncode}")
@@ -44,7 +47,7 @@ def spelled(name):
 
 
 class Tree:
-    """The lines of a random tree."""
+    """The lines of a script that makes a random tree."""
 
     def __init__(self, seed):
         self.random = random.Random(seed)
@@ -111,21 +114,21 @@ def exported(program, image):
         if it.read() != before:
             fail("an export changed FILE")
     if done.stderr:
-        fail(f"an export says {done.stderr!r}")
+        fail(f"an export printed on standard error: {done.stderr!r}")
     return done.returncode, done.stdout
 
 
 def comes_back(program, folder, image, blocks, version):
-    """The script of an image, run over a fresh one, makes the same tree."""
+    """Tests that the export of an image, run on a fresh one, makes the same tree; returns the export."""
     status, script = exported(program, image)
     if status != 0:
         fail(f"an export ended with status {status}")
     other = f"{folder}/other"
     replies = make(program, other, blocks, version, script.decode("ascii").split("\n")[:-1])
     if set(replies) - {b"ok"}:
-        fail(f"a line of an export is answered {(set(replies) - {b'ok'}).pop()!r}")
+        fail(f"the reply to a line of an export is {(set(replies) - {b'ok'}).pop()!r}")
     if run(program, ["check", other]).returncode != 0 or exported(program, other) != (0, script):
-        fail("another tree came back")
+        fail("the copy has another tree")
     return script
 
 
@@ -138,7 +141,7 @@ def random_trees(program, folder, count, first):
             lines = [*lines[: len(lines) // 2], "snap", *lines[len(lines) // 2:]]
         make(program, image, ROOM, version, lines)
         held += len(comes_back(program, folder, image, ROOM + 1000 * (seed % 3), version))
-    print(f"{count} random trees came back, from scripts of {held} bytes")
+    print(f"ok: {count} random trees are equal after export and run; scripts of {held} bytes")
 
 
 def nested(program, folder):
@@ -147,8 +150,8 @@ def nested(program, folder):
     make(program, image, ROOM, 2, lines)
     script = comes_back(program, folder, image, ROOM, 2)
     if script.count(b"\n") != NESTED + 1:
-        fail("nested directories are missing")
-    print(f"{NESTED} directories one in the other came back")
+        fail("nested directories are missing from an export")
+    print(f"ok: {NESTED} nested directories are equal after export and run")
 
 
 def deep(program, folder):
@@ -156,8 +159,8 @@ def deep(program, folder):
     lines = [f"mkdir /e{depth * '/d'}" for depth in range(half)] + [f"mkdir /f{depth * '/d'}" for depth in range(half)]
     make(program, image, ROOM, 1, [*lines, f"rename /f /e{(half - 1) * '/d'}/f"])
     if exported(program, image) != (9, b"err 40 deep\n"):
-        fail("a path that calls can't spell is told otherwise than by its line")
-    print("a path that calls can't spell was told before any line")
+        fail("a path that is too long does not give status 9 and `err 40 deep`")
+    print("ok: a path that is too long is reported before any line")
 
 
 def main():

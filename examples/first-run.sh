@@ -1,17 +1,20 @@
 #!/bin/sh
-# Shows what bpfs does, and builds it: first an unproved run of a script, within two minutes; then the proofs, crate by crate,
-# which take half an hour on four cores the first time; then the proved program over a real file.
+# Runs a sample script with bpfs, then proves and builds bpfs.
 #
-#   examples/first-run.sh             all of it
-#   examples/first-run.sh --proved    without the unproved run
-#   examples/first-run.sh --unproved  the unproved run alone
+# Usage: examples/first-run.sh                    all steps
+#        examples/first-run.sh --unproved [OUT]   step 1 only; with OUT, also builds the unproved program as OUT
+#        examples/first-run.sh --proved           steps 2 and 3 only
+#
+# 1. Compiles bpfs without proofs and runs the script (1 to 2 minutes).
+# 2. Proves all crates (the first time half an hour on four cores).
+# 3. Builds the proved program crates/bpfs/out/bpfs, and runs the script on an image file.
 set -eu
 top=$(cd "$(dirname "$0")/.." && pwd)
 
 if ! command -v rt > /dev/null; then
     cat >&2 << 'END'
-first-run: `rt` is not on the PATH.
-bpfs is proved and compiled by `rt`, the command of the toolchain rattle-kit-13f. Put the folder that holds it on the PATH, as in
+first-run: `rt` is not in PATH.
+bpfs is proved and compiled by `rt`, the command of the toolchain rattle-kit-13f. Add its directory to PATH:
     PATH=/path/of/the/kit/bin:$PATH sh examples/first-run.sh
 `rt version` then prints a line that begins with rattle-kit-13f.
 END
@@ -19,11 +22,10 @@ END
 fi
 
 work=$(mktemp -d)
-script='mkdir /d\ncreate /d/a\nwrite /d/a 0 68656c6c6f\nspace\nread /d/a 0 8\nlist /d\nsync\nwrite /d/a 0 4a\ncrash none\nread /d/a 0 8\n'
-# shellcheck disable=SC2059
-printf "$script" > "$work/script"
+script=$top/examples/first.bpfs
 
-# An empty file system of 8 blocks, as docs/format.md has it: the mark, 8, 0x1000 and 4096, and 2 as word 520.
+# Prints an empty file system of 8 blocks, as docs/format.md describes it: words 0 to 3 are the magic number, 8, 0x1000
+# and 4096, word 520 is 2, and all others are 0.
 empty_image() {
     printf 'BPFSRS01\010\0\0\0\0\0\0\0\0\020\0\0\0\0\0\0\0\020\0\0\0\0\0\0'
     head -c 4128 /dev/zero
@@ -31,7 +33,7 @@ empty_image() {
     head -c 28607 /dev/zero
 }
 
-# watch WHAT COMMAND..: runs a command, says every five seconds that it still does, and ends with its status.
+# watch WHAT COMMAND..: runs a command, prints its time every five seconds, and returns its status.
 watch() {
     what=$1
     shift
@@ -39,7 +41,7 @@ watch() {
         seconds=0
         while sleep 5 > /dev/null 2>&1 && kill -0 $$ 2> /dev/null; do
             seconds=$((seconds + 5))
-            echo "   $what, $seconds s"
+            echo "   $what: $seconds s"
         done
     ) &
     ticker=$!
@@ -55,7 +57,7 @@ ticker=
 trap '[ -z "$ticker" ] || kill "$ticker" 2> /dev/null || true' EXIT
 trap 'exit 130' INT
 
-# beside FILE: each line of the script beside its reply, the replies in FILE. A listing has a reply of several lines.
+# beside FILE: prints each line of the script with its reply from FILE. The reply to `list` has several lines.
 beside() {
     awk -v replies="$1" '{
         printf "  %-32s", $0
@@ -65,11 +67,11 @@ beside() {
             if (more) print gap reply; else print gap "(no reply)"
             gap = sprintf("  %-32s", "")
         } while (more && reply ~ /^entry /)
-    }' "$work/script"
+    }' "$script"
 }
 
 try_script() {
-    (cd "$top/crates/bpfs" && rt try --data f="$work/try" -- run f) < "$work/script" > "$work/log" 2>&1
+    (cd "$top/crates/bpfs" && rt try --data f="$work/try" -- run f) < "$script" > "$work/log" 2>&1
 }
 
 prove() {
@@ -78,23 +80,38 @@ prove() {
     (cd "$top/crates/$1" && rt "$goal") > "$work/log" 2>&1
 }
 
-# A run over no image: what counts is the program that is compiled for it.
+# Builds the program. The run itself fails, since there is no image.
 compile() {
     (cd "$top/crates/bpfs" && rt run -- run /nonexistent/image) < /dev/null > "$work/log" 2>&1
 }
 
 unproved_run() {
-    echo "== an unproved run of a script, to see what bpfs does (it is compiled first, a minute or two; nothing is proved by it)"
+    echo "== Compiling bpfs without proofs and running a sample script (1 to 2 minutes)"
     empty_image > "$work/try"
     watch "compiling" try_script || true
     sed '/^run=/,$d;/^logic/d' "$work/log" > "$work/replies"
     if [ ! -s "$work/replies" ]; then
-        echo "   rt try has shown no reply. It says:"
+        echo "   \`rt try\` printed no reply. The end of its output:"
         tail -20 "$work/log"
         return
     fi
     beside "$work/replies"
-    echo "   (a file gets five bytes, and a sync makes them certain; then one byte more is written, and a cut of the power takes that back)"
+    echo "   (\`sync\` makes the five bytes durable; \`crash none\` is a power failure that undoes the write after it)"
+}
+
+build_unproved() {
+    python3 "$top/examples/unproved_build.py" "$1" > "$work/log" 2>&1
+}
+
+# leave_unproved OUT: builds the program without proofs as OUT.
+leave_unproved() {
+    echo "== Building the unproved program (1 to 2 minutes)"
+    watch "building" build_unproved "$1" || { echo "   It was not built. The end of the output:"; tail -20 "$work/log"; exit 1; }
+    program=$(realpath "$1")
+    echo "   The program is $program: the code of bpfs, compiled without proofs. Try it:"
+    echo "       $program format disk.img --blocks 256 --version 2"
+    echo "       $program run disk.img < $top/examples/first.bpfs"
+    echo "       $program check disk.img"
 }
 
 prove_all() {
@@ -104,22 +121,22 @@ prove_all() {
     for crate in $crates; do
         at=$((at + 1))
         began=$(date +%s)
-        echo "== $at of $count: proving $crate"
-        watch "$crate" prove "$crate" || { echo "$crate: not proved"; tail -20 "$work/log"; exit 1; }
-        echo "   proved, $(($(date +%s) - began)) s"
+        echo "== Proving $crate ($at of $count)"
+        watch "$crate" prove "$crate" || { echo "   $crate is not proved. The end of the output:"; tail -20 "$work/log"; exit 1; }
+        echo "   proved in $(($(date +%s) - began)) s"
     done
 }
 
 proved_run() {
-    echo "== compiling the proved program"
+    echo "== Compiling the proved program"
     watch "compiling" compile || true
     bpfs=$top/crates/bpfs/out/bpfs
-    [ -x "$bpfs" ] || { echo "bpfs was not built: run 'rt check' in crates/bpfs" >&2; tail -20 "$work/log" >&2; exit 1; }
+    [ -x "$bpfs" ] || { echo "first-run: bpfs was not built; run \`rt check\` in crates/bpfs. The end of the output:" >&2; tail -20 "$work/log" >&2; exit 1; }
 
     echo "\$ bpfs format $work/f --blocks 8"
     "$bpfs" format "$work/f" --blocks 8
-    echo "\$ bpfs run $work/f    # each line beside its reply"
-    "$bpfs" run "$work/f" < "$work/script" > "$work/replies"
+    echo "\$ bpfs run $work/f    # each line with its reply"
+    "$bpfs" run "$work/f" < "$script" > "$work/replies"
     beside "$work/replies"
     echo "\$ bpfs check $work/f"
     "$bpfs" check "$work/f"
@@ -127,8 +144,8 @@ proved_run() {
 }
 
 case "${1:-}" in
-    --unproved) unproved_run ;;
+    --unproved) unproved_run; [ -z "${2:-}" ] || leave_unproved "$2" ;;
     --proved) prove_all; proved_run ;;
     "") unproved_run; prove_all; proved_run ;;
-    *) sed -n '2,7s/^# \{0,1\}//p' "$0" >&2; exit 1 ;;
+    *) sed -n '2,10s/^# \{0,1\}//p' "$0" >&2; exit 1 ;;
 esac

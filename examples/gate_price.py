@@ -1,12 +1,12 @@
 #!/usr/bin/env python3
-"""Tells what each crate costs the gate from nothing: processor seconds of its proofs, of its tests and of its must-fail edits.
+"""Measures what a CI run costs for each crate: CPU seconds of its proofs, its tests and its mutation tests.
 
-    gate_price.py watch FILE [PID]   notes in FILE what the provers of this machine use while they run, until it is stopped; with the
-                                     process of a gate, only those that it started
-    gate_price.py table FILE         prints what FILE has as a table for docs/gate.md
+    gate_price.py watch FILE [PID]   records the CPU time of all running provers in FILE, until it is stopped; with the
+                                     process id of a CI run, only of the provers that it started
+    gate_price.py table FILE         prints the totals of FILE as lines for tools/gate_prices.txt
 
-It looks at the processes twice a second and starts none, so it costs a gate nothing. Only a gate that has kept nothing tells the whole price: the first one of
-a machine, say, or `rt ci --anew`. A process that ends between two looks is noted up to the first of them. With no PID, each check of the machine counts.
+It looks at the processes twice a second. A process that ends is counted up to the last look. For the whole cost, watch a
+CI run that proves everything: the first one on a machine, or `rt ci --anew`.
 """
 import collections
 import json
@@ -16,16 +16,16 @@ import sys
 import time
 
 TOP = os.path.dirname(os.path.dirname(os.path.abspath(__file__)))
-# The kit's prover, and the parts of the price.
+# The prover, and the parts of the cost.
 PROVER = "/opt/rattle/bin/rattle"
 KINDS = ("proofs", "tests", "edits")
 TICKS = os.sysconf("SC_CLK_TCK")
-# The folders in which an edit is tried.
+# The directories in which mutation tests run.
 EDIT = re.compile(r"/rt-edit-")
 
 
 def kind_of(words, folder):
-    """The part of the price that a prover with these words in this folder counts to, or None for a process that proves nothing."""
+    """Returns the part of the cost for a prover with these arguments in this directory, or None for other processes."""
     if len(words) < 2 or words[0] != PROVER or words[1] not in ("build", "check"):
         return None
     if EDIT.search(folder):
@@ -34,13 +34,13 @@ def kind_of(words, folder):
 
 
 def status_of(pid):
-    """What /proc tells of a process behind its name: its parent is the second field."""
+    """Returns the fields of /proc/PID/stat after the name of the process. The second one is its parent."""
     with open(f"/proc/{pid}/stat", encoding="ascii", errors="replace") as it:
         return it.read().rpartition(")")[2].split()
 
 
 def is_below(pid, gate):
-    """Whether a process is one that the gate started, or that one of those did. With no gate, each is."""
+    """Returns whether a process descends from the CI run `gate`; True if `gate` is None."""
     while gate and pid != gate:
         if pid in ("0", "1"):
             return False
@@ -49,7 +49,7 @@ def is_below(pid, gate):
 
 
 def look(gate):
-    """The provers of a gate that run now: by process and start, the crate, the part, and the processor seconds so far."""
+    """Returns the provers of a CI run that run now, by process and start: the crate, the part, the CPU seconds so far."""
     found = {}
     for pid in filter(str.isdigit, os.listdir("/proc")):
         try:
@@ -61,7 +61,7 @@ def look(gate):
             fields = status_of(pid)
         except OSError:
             continue
-        # (user and system time of the process, and not of its children, which are noted themselves)
+        # (user and system time of the process without its children, which are recorded themselves)
         seconds = sum(int(it) for it in fields[11:13]) / TICKS
         found[f"{pid}.{fields[19]}"] = [words[words.index("--crate-name") + 1], kind, seconds]
     return found
@@ -81,7 +81,7 @@ def watch(file, gate=None):
 
 
 def crates():
-    """The crates, lowest first, as crates.txt lists them."""
+    """Returns the crates in the order of crates.txt, lowest first."""
     with open(f"{TOP}/crates.txt", encoding="utf-8") as it:
         return [line.partition(":")[0].split()[0] for line in it if line.strip() and not line.startswith("#")]
 
@@ -91,21 +91,14 @@ def edits(crate):
     return len(os.listdir(folder)) if os.path.isdir(folder) else 0
 
 
-def row(name, price, count):
-    return f"| {name} | " + " | ".join(f"{price[it]:.0f}" if price[it] else "" for it in KINDS) + f" | {count or ''} |"
-
-
 def table(file):
     with open(file, encoding="utf-8") as it:
         noted = json.load(it)
     price = collections.defaultdict(lambda: dict.fromkeys(KINDS, 0.0))
     for crate, kind, seconds in noted.values():
         price[crate][kind] += seconds
-    print("| Crate | proofs, s | tests, s | edits, s | edits |\n|---|---|---|---|---|")
     for name in crates():
-        print(row(f"`{name}`", price[name], edits(name)))
-    total = {kind: sum(it[kind] for it in price.values()) / 60 for kind in KINDS}
-    print(row("all, minutes", total, sum(edits(it) for it in crates())))
+        print(name, *(f"{price[name][kind]:.0f}" for kind in KINDS), edits(name))
 
 
 def main():

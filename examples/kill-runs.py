@@ -1,13 +1,19 @@
 #!/usr/bin/env python3
-"""Kills runs at random moments, and shows that each leaves FILE as one of its syncs made it.
+"""Kills bpfs runs at random times, and tests that each leaves FILE as of one of its syncs.
 
-    kill-runs.py PROGRAM [COUNT]      PROGRAM: crates/bpfs/out/bpfs, as `rt run` leaves it there; COUNT: how many runs are killed (300)
+    kill-runs.py PROGRAM [COUNT]
 
-A run gives many blocks of a file the number of its turn, gives the file one name more, and syncs, turn by turn. It is killed (SIGKILL) at
-a random moment, unless it ended before; then it is looked at too, and does not count. `check` has to call FILE clean, FILE has to be the
-tree after one of the turns, no older than that of the last sync that was answered, and the next run has to serve it, to save it by a new
-file, and to leave no second one. The images have 256 to 8,192 blocks, and either version. A folder in TMPDIR is used. A program that writes each block of FILE in place
-fails here after a few kills.
+PROGRAM is a built bpfs, such as crates/bpfs/out/bpfs. COUNT is the number of runs to kill (default 300). The images have
+256 to 8,192 blocks, in either version, in a directory in TMPDIR.
+
+A run has eight rounds. Each round writes its number to many blocks of a file, adds a link to the file, and syncs. The run
+gets SIGKILL at a random time; a run that ends before is tested too, but not counted. Then:
+
+- `check` has to find FILE clean;
+- FILE has to be the tree after one of the rounds, not older than the last sync that was answered `ok`;
+- the next run has to serve FILE, to replace it by a new file, and to leave no second file.
+
+A program that writes FILE in place fails after a few kills.
 """
 import os
 import random
@@ -25,7 +31,7 @@ MOST_PIECES = 8
 
 
 def pieces(blocks):
-    """How many pieces of 64 KiB each turn writes over an image of so many blocks."""
+    """Returns the number of pieces of 64 KiB that each round writes, for an image of this many blocks."""
     return min(blocks // 128, MOST_PIECES)
 
 
@@ -42,10 +48,10 @@ def run(program, words, lines=b""):
 
 
 def turns_held(program, image, blocks):
-    """How many turns FILE holds, or a word that says what is wrong."""
+    """Returns the number of rounds that FILE has, or a text that says what is wrong."""
     said = run(program, ["check", image])
     if said.returncode != 0 or not said.stdout.startswith(b"clean "):
-        return f"no image: status {said.returncode}, {said.stdout!r}"
+        return f"no clean image: status {said.returncode}, {said.stdout!r}"
     lines = ["list /", "links /all", *(f"read /all {PIECE * piece} {PIECE}" for piece in range(pieces(blocks)))]
     told = run(program, ["run", image], "".join(f"{line}\n" for line in lines).encode()).stdout.decode().split("\n")
     names = told[: told.index("end")]
@@ -54,11 +60,11 @@ def turns_held(program, image, blocks):
     held = len(names) - 1
     wanted = ["entry f all", *(f"entry f f{turn}" for turn in range(held)), "end", f"links {held + 1}"]
     wanted += [f"data {PIECE * f'{held - 1:02x}'}"] * pieces(blocks) + [""]
-    return held if told == wanted else f"the tree of no turn, with {names}"
+    return held if told == wanted else f"the tree of no round, with {names}"
 
 
 def feed(stream, lines):
-    """Writes the lines as far as they are read."""
+    """Writes the lines until all are written or the reader has closed the stream."""
     try:
         with stream:
             stream.write(lines)
@@ -67,7 +73,7 @@ def feed(stream, lines):
 
 
 def killed_run(program, image, blocks, after):
-    """Runs the script, and kills the run after so many seconds. Answers how many syncs were answered, and whether it was killed."""
+    """Runs the script, and kills the run after `after` seconds. Returns the number of answered syncs, and whether it was killed."""
     replies = bytearray()
     with subprocess.Popen([program, "run", image], stdin=subprocess.PIPE, stdout=subprocess.PIPE) as child:
         reader = threading.Thread(target=lambda: replies.extend(child.stdout.read()))
@@ -112,15 +118,15 @@ def main():
             leftovers += any(map(os.path.exists, others))
             held = turns_held(program, image, size)
             if not isinstance(held, int) or held < answered:
-                sys.exit(f"FAILED: run {runs}, {size} blocks: {answered} syncs were answered, FILE holds {held}")
+                sys.exit(f"FAILED: run {runs}, {size} blocks: {answered} syncs were answered, but FILE has {held}")
             ahead += held > answered
             held_by_all[held] += 1
             was = os.stat(image).st_ino
             after = run(program, ["run", image], b"create /after\n")
             if after.returncode != 0 or after.stdout != b"ok\n" or os.stat(image).st_ino == was or any(map(os.path.exists, others)):
-                sys.exit(f"FAILED: run {runs}: the next one: {after}")
-    print(f"{runs} runs, {kills} of them killed: FILE was always clean, and as one of its syncs made it")
-    print(f"turns held by FILE, from 0 on: {held_by_all}; a sync not yet answered was there in {ahead}; a second file was left by {leftovers}")
+                sys.exit(f"FAILED: after run {runs}, the next run: {after}")
+    print(f"ok: {runs} runs, {kills} of them killed: FILE was always clean and as of one sync")
+    print(f"runs by the number of rounds in FILE, from 0: {held_by_all}; FILE was ahead of the answered syncs in {ahead}; a second file remained in {leftovers}")
 
 
 main()

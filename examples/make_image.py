@@ -1,10 +1,10 @@
 #!/usr/bin/env python3
-"""Makes well-formed images of 16,384 blocks (64 MiB), to time a check of them.
+"""Makes file system images of 16,384 blocks (64 MiB), for timing `bpfs check`.
 
-    make_image.py full FILE        as many files of one block as fit, in directories of 512 files: no more than a few blocks are free
-    make_image.py directory FILE   a root directory with as many entries as fit, each of which names an empty file
+    make_image.py full FILE        as many files of one block as fit, in directories of 512 files; few blocks are free
+    make_image.py directory FILE   as many empty files as fit, all in the root directory
 
-The layout is that of docs/format.md. The same call makes the same image each time.
+The layout is that of docs/format.md. The same command always makes the same image.
 """
 
 import random
@@ -28,7 +28,7 @@ def quotient_up(count, size):
 
 
 def blocks_of_tree(size):
-    """How many blocks a tree of so many bytes has, none of them null."""
+    """Returns the number of blocks of a tree of `size` bytes without nulls."""
     nodes = quotient_up(size, BLOCK_BYTES)
     blocks = nodes
     while nodes > 1:
@@ -38,7 +38,7 @@ def blocks_of_tree(size):
 
 
 def most(blocks_for):
-    """The greatest count for which the blocks suffice, where a greater count never needs fewer."""
+    """Returns the greatest count for which BLOCKS blocks suffice. `blocks_for` must not decrease."""
     low, high = 0, BLOCKS * BLOCK_BYTES // INODE_BYTES
     while low < high:
         middle = (low + high + 1) // 2
@@ -50,7 +50,7 @@ def most(blocks_for):
 
 
 class Image:
-    """An image under way: its bytes, the least block that has no use yet, and the inodes from 0 on."""
+    """An image in the making: its bytes, the first unused block, and the inodes from 0 on."""
 
     def __init__(self):
         self.bytes = bytearray(BLOCKS * BLOCK_BYTES)
@@ -64,7 +64,7 @@ class Image:
         return block
 
     def add_tree(self, content):
-        """Stores the content of a tree, and answers with its root word."""
+        """Stores the content of a tree, and returns its root word."""
         if not content:
             return 0
         height = 0
@@ -79,7 +79,7 @@ class Image:
         return struct.pack("<3Q", kind, self.add_tree(content), len(content)).ljust(INODE_BYTES, b"\0")
 
     def add_inode(self, kind, content):
-        """Stores a file or a directory, and answers with its number."""
+        """Stores a file or a directory, and returns its inode number."""
         self.inodes.append(self.inode(kind, content))
         return len(self.inodes) - 1
 
@@ -93,12 +93,12 @@ class Image:
 
 
 def directory(entries):
-    """The content of a directory with these pairs of a name and an inode."""
+    """Returns the content of a directory with these pairs of a name and an inode number."""
     return b"".join(struct.pack("<2Q240s", inode, len(name), name) for name, inode in entries)
 
 
 def blocks_of_inodes(count):
-    """How many blocks the inode file has for so many inodes besides 0 and the root."""
+    """Returns the number of blocks of the inode file for `count` inodes besides inode 0 and the root."""
     return blocks_of_tree((count + ROOT + 1) * INODE_BYTES)
 
 
@@ -150,7 +150,7 @@ def main(words):
     kinds[kind](image)
     with open(name, "wb") as file:
         file.write(image.bytes)
-    print(f"{len(image.inodes) - ROOT} files and directories, the root among them, {BLOCKS - image.next_block} blocks free")
+    print(f"{len(image.inodes) - ROOT} files and directories (including the root), {BLOCKS - image.next_block} blocks free")
 
 
 if __name__ == "__main__":

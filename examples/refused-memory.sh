@@ -1,10 +1,16 @@
 #!/bin/sh
-# Refuses each allocation of the built program in turn: of 'format', 'check', 'play' and of 'run' with every call. Each run has to end as
-# without a refusal, or with status 8 and no reply; or, where the script lists or asks for caches, with 'err 12 memory' in place of that reply. The script also
-# searches directories of 40 and of 70 names often, of which a volume remembers names and an index: to lack memory for these shows nowhere.
-# It needs a C compiler, for a malloc that fails once. It is not part of the gate.
+# Tests bpfs with too little memory: lets each of the first 250 allocations fail in turn, in `format`, `check`, `play`,
+# and in `run` with a script of all calls. Each run has to end in one of these ways:
+# - with the status and the replies of a run without a failure;
+# - with status 8 and no reply;
+# - for `list` and `cache` in a script: with `err 12 memory` in place of that reply.
+# The script also searches directories of 40 and 70 names often. Without memory, a volume remembers no names or makes no
+# index of them, which changes no reply.
 #
-#     refused-memory.sh [PROGRAM]
+# Usage: examples/refused-memory.sh [PROGRAM]
+#
+# PROGRAM is a built bpfs (crates/bpfs/out/bpfs). Needs a C compiler, for a malloc that fails once, and a dynamically
+# linked C library. The exit status is 1 if a run ends in another way.
 set -eu
 here=$(cd "$(dirname "$0")" && pwd)
 bpfs=${1:-$here/../crates/bpfs/out/bpfs}
@@ -43,7 +49,8 @@ cc -shared -fPIC -O1 -o "$work/refuse.so" "$work/refuse.c" -ldl
 } > "$work/script"
 printf 'create /a\nmkdir /d\nwrite /a 0 6869\ntruncate /a 5000\nrename /a /d/b\nread /d/b 0 8\nlist /d\nstat /d\nspace\nlog\nstorm 7\ncrash all\nsync\ncache 7\nlist /\n' >> "$work/script"
 
-# One run with a call of malloc refused (0: none): its status and its replies.
+# run CALL ARGUMENTS FILE: runs the program while call number CALL of malloc fails (0: none), and writes its replies and
+# its status to FILE.
 run() {
     cp "$work/image" "$work/f"
     status=0
@@ -64,11 +71,11 @@ for words in "format g --blocks 8" "check f" "play f --seed 9 --count 200" "run 
         elif [ "$words" = "run f" ] && grep -q '^err 12 memory$' "$work/told"; then
             listed=$((listed + 1))
         else
-            echo "bpfs $words, allocation $call refused:"
+            echo "FAILED: bpfs $words, with allocation $call failing:"
             cat "$work/told"
             exit 1
         fi
         call=$((call + 1))
     done
-    echo "bpfs $words: of 250 calls of malloc $none answer 8, $listed a listing or a cache with err 12, $same change nothing or never come"
+    echo "ok: bpfs $words: of 250 failing allocations, $none end the run with status 8, $listed give err 12, $same change nothing or do not occur"
 done

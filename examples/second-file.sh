@@ -1,11 +1,15 @@
 #!/bin/sh
-# Shows what a sync leaves of FILE besides its bytes: the symbolic link that leads to it, its owner, its group, its permissions and its
-# hard links; where it is written in place; what becomes of what a killed run left, and of other things under its names; that the file
-# that was replaced waits for the next sync, unless something else is done with it; what a run leaves that is killed at a step of a sync
-# (by strace, where it is there); and that a sync fails, and writes nothing, where another file has the name of FILE meanwhile, or
-# none, or where another program changed the length of FILE.
+# Tests how a save replaces FILE by a second file (docs/saving.md):
+# - FILE keeps its symbolic link, owner, group, permissions and hard links; some of them need a save in place;
+# - files that a killed run left, and other things under the reserved names, are handled;
+# - the replaced file is reused by the next save, unless something else changed it;
+# - a run that is killed, or whose system calls fail, at each step of a save leaves a clean FILE (needs strace);
+# - a save fails and writes nothing if FILE was replaced, removed, or resized meanwhile.
 #
-#   examples/second-file.sh PROGRAM      PROGRAM: crates/bpfs/out/bpfs, as `rt run` leaves it there
+# Usage: examples/second-file.sh PROGRAM
+#
+# PROGRAM is a built bpfs, such as crates/bpfs/out/bpfs. Tests of owners need root and setpriv, those of steps need
+# strace; without them they are skipped. The exit status is 1 if a test fails.
 set -u
 program=$(realpath "${1:?the path of the program}")
 work=$(mktemp -d)
@@ -16,12 +20,13 @@ failed=0
 second=FILE.bpfs-sync
 old=$second-old
 
-# expect NAME WANTED GOT: compares two words.
+# expect NAME WANTED GOT: GOT has to be WANTED.
 expect() {
   if [ "$2" = "$3" ]; then echo "ok: $1: $3"; else echo "FAILED: $1: $3, not $2"; failed=1; fi
 }
 
-# saved NAME HOW [FILE]: a run that makes a file has to end with status 0 and save it, and HOW is `replaced` or `in place`.
+# saved NAME HOW [FILE]: a run that creates a file in the image has to end with status 0 and to save it. HOW is `replaced`
+# or `in place`.
 made=0
 saved() {
   file=${3:-FILE}
@@ -35,13 +40,13 @@ saved() {
   grep -q "^entry f made$made\$" out || { echo "FAILED: $1: nothing was saved"; failed=1; }
 }
 
-# none_left [WHAT]: no second file is there, nor another one, but for this.
+# none_left [NAME]: no second file remains, nor any other, except NAME.
 none_left() {
   left=$(ls -d FILE.* 2> /dev/null)
-  [ "$left" = "${1:-}" ] || { echo "FAILED: left: $left"; failed=1; }
+  [ "$left" = "${1:-}" ] || { echo "FAILED: files remain: $left"; failed=1; }
 }
 
-# began: begins a run that is given its lines one by one.
+# began: starts a run that gets its lines one by one.
 began() {
   : > replies
   sent=0
@@ -50,14 +55,14 @@ began() {
   exec 3> lines
 }
 
-# did LINE..: gives the run these lines, and waits for its replies.
+# did LINE..: sends these lines to the run, and waits for its replies.
 did() {
   for line; do echo "$line" >&3; sent=$((sent + 1)); done
   turns=0
   while [ "$(wc -l < replies)" -lt $sent ] && [ $turns -lt 500 ]; do sleep 0.02; turns=$((turns + 1)); done
 }
 
-# ended STATUS: the run has to end so.
+# ended STATUS: ends the script; the run has to end with this status.
 ended() {
   exec 3>&-
   wait "$first"
@@ -73,10 +78,10 @@ saved 'a plain file' replaced
 
 "$program" format SPARSE --blocks 4096 > out || exit 1
 saved 'a file with holes' replaced SPARSE
-expect 'its room is less than a tenth' yes "$([ "$(stat -c %b SPARSE)" -lt 3276 ] && echo yes)"
+expect 'less than a tenth of it is allocated' yes "$([ "$(stat -c %b SPARSE)" -lt 3276 ] && echo yes)"
 cp --sparse=never SPARSE WHOLE
 saved 'a file without holes' replaced WHOLE
-expect 'it has all of its room' yes "$([ "$(stat -c %b WHOLE)" -ge 32768 ] && echo yes)"
+expect 'all of it is allocated' yes "$([ "$(stat -c %b WHOLE)" -ge 32768 ] && echo yes)"
 rm SPARSE WHOLE
 
 ln -s FILE LINK
@@ -93,25 +98,25 @@ cmp FILE HARD || failed=1
 rm HARD
 
 echo old > $second
-saved 'beside what a killed run left' replaced
+saved 'with the second file of a killed run' replaced
 none_left
 cp FILE $second
 ln FILE $old
 saved 'with the second link of a killed run' replaced
 none_left
 cp FILE $old
-saved 'beside the file that a killed run replaced' replaced
+saved 'with the file that a killed run replaced' replaced
 none_left
 mkdir $old
-saved 'beside a folder of the other name' replaced
+saved 'with a directory under the third name' replaced
 none_left $old
 rmdir $old
 mkdir $second
-saved 'beside a folder of that name' 'in place'
-[ -d $second ] || { echo 'FAILED: the folder is gone'; failed=1; }
+saved 'with a directory under the second name' 'in place'
+[ -d $second ] || { echo 'FAILED: the directory is gone'; failed=1; }
 rmdir $second
 ln -s nowhere $second
-saved 'beside a link of that name' 'in place'
+saved 'with a symbolic link under the second name' 'in place'
 expect 'that link' nowhere "$(readlink $second)"
 rm $second
 long=$(printf '%0250d' 0)
@@ -124,7 +129,7 @@ if [ "$(id -u)" = 0 ] && command -v setpriv > /dev/null; then
   expect 'the owner' 65534:65534 "$(stat -c %u:%g FILE)"
   as='setpriv --reuid=65534 --regid=65534 --clear-groups'
   chmod 755 .
-  saved 'by its owner, in a folder that only others write' 'in place'
+  saved 'by its owner, in a directory that only others may write' 'in place'
   chmod 777 .
   saved 'by its owner' replaced
   chown 0:0 FILE
@@ -136,24 +141,24 @@ fi
 began
 was=$(stat -c %i FILE)
 did 'create /once' sync
-expect 'the file that was replaced waits' "$was" "$(stat -c %i $second)"
+expect 'the replaced file has the second name' "$was" "$(stat -c %i $second)"
 did 'create /twice' sync
-expect 'it has the name of FILE again' "$was" "$(stat -c %i FILE)"
+expect 'it is FILE again after the next save' "$was" "$(stat -c %i FILE)"
 none_left $second
 printf X | dd of=$second conv=notrunc bs=1 seek=$(($(stat -c %s FILE) - 1)) 2> /dev/null
-expect 'the last byte of a file that was written meanwhile' X "$(tail -c 1 $second)"
+expect 'the last byte of a replaced file that was written meanwhile' X "$(tail -c 1 $second)"
 did 'create /written' sync
 expect 'the last byte of FILE' 0 "$(tail -c 1 FILE | od -An -tu1 | tr -d ' ')"
 none_left $second
 ln $second KEPT
 cp KEPT copy
 did 'create /kept' sync 'create /later' sync
-cmp KEPT copy || { echo 'FAILED: a file with a name of its own was written'; failed=1; }
+cmp KEPT copy || { echo 'FAILED: a file that has another name too was written'; failed=1; }
 rm $second
 did 'create /gone' sync
 ln -sf FILE $second
 did 'create /link' sync
-expect 'a link under the second name' FILE "$(readlink $second)"
+expect 'a symbolic link under the second name' FILE "$(readlink $second)"
 rm $second
 was=$(stat -c %i FILE)
 did 'create /again' sync
@@ -174,7 +179,7 @@ did 'create /mine' sync
 rm $second
 echo mine > $second
 ended 0
-expect 'a file that was put under the second name' mine "$(cat $second)"
+expect 'another file under the second name' mine "$(cat $second)"
 rm $second
 began
 did 'create /linked' sync
@@ -185,17 +190,17 @@ none_left
 if command -v strace > /dev/null; then
   printf 'create /k\nsync\nunlink /k\nsync\n' > script
 
-  # fails MADE RENAMED CALL:WHICH: a run of two syncs in which these calls of the system fail saves, makes so many second files, and
-  # gives FILE's name to so many.
+  # fails MADE RENAMED CALL:WHICH: a run of two syncs in which these system calls fail has to save FILE, with MADE new
+  # second files and RENAMED renames to FILE.
   fails() {
     strace -f -o trace -e trace=openat,link,rename,fsync -e inject="${3%%:*}:${3#*:}" "$program" run FILE < script > out 2> err
-    expect "where $3: run" 0 $?
-    expect "where $3: second files" "$1" "$(grep -c 'bpfs-sync", O_RDWR|O_CREAT' trace)"
-    expect "where $3: renamed" "$2" "$(grep -c '/FILE") = 0$' trace)"
+    expect "with $3: run" 0 $?
+    expect "with $3: second files" "$1" "$(grep -c 'bpfs-sync", O_RDWR|O_CREAT' trace)"
+    expect "with $3: renames" "$2" "$(grep -c '/FILE") = 0$' trace)"
     expect 'its links' 1 "$(stat -c %h FILE)"
     none_left
   }
-  fails 1 2 mkdir:error=EPERM # no call of a run
+  fails 1 2 mkdir:error=EPERM # a run never calls mkdir
   fails 2 2 link:error=EPERM
   fails 2 2 fsync:error=EINVAL:when=2+2
   fails 2 2 rename:error=EIO:when=2+2
@@ -207,17 +212,17 @@ if command -v strace > /dev/null; then
   sleep 0.3
   ln FILE HARD
   wait "$first"
-  expect 'where FILE gets a hard link within a sync: run' 0 $?
+  expect 'with a hard link to FILE made during a sync: run' 0 $?
   first=
   none_left
   rm HARD
 
-  # The steps of the second sync of a run, each killed before it is done.
+  # Kills the run before each step of its second sync.
   for step in link:1 rename:1 rename:2 fsync:2 ftruncate:2 pwrite64:2 fsync:3 link:2 rename:3 rename:4 fsync:4 unlink:1; do
     strace -f -o trace -e trace="${step%:*}" -e inject="${step%:*}:signal=KILL:when=${step#*:}" "$program" run FILE < script > out 2> err
-    [ $? -gt 128 ] || { echo "FAILED: no kill at $step"; failed=1; }
+    [ $? -gt 128 ] || { echo "FAILED: not killed at $step"; failed=1; }
     "$program" check FILE > out || { echo "FAILED: killed at $step: $(cat out)"; failed=1; }
-    saved "behind a kill at $step" replaced
+    saved "after a kill at $step" replaced
     none_left
     echo 'unlink /k' | "$program" run FILE > out
   done
@@ -242,16 +247,16 @@ ended 5
 cmp FILE copy || failed=1
 none_left
 
-# unnamed LINE..: a run that did these lines has to end with status 5, and to leave FILE alone, where FILE lost its name meanwhile.
+# unnamed LINE..: if FILE is moved away after a run did these lines, the run has to end with status 5 and to write nothing.
 unnamed() {
   began
   did "$@"
   mv FILE moved
   cp moved copy
   ended 5
-  expect "its reason behind $*" 'bpfs: FILE: not saved: it was renamed or removed meanwhile' "$(cat errors)"
+  expect "its reason after $*" 'bpfs: FILE: not saved: it was renamed or removed meanwhile' "$(cat errors)"
   [ -e FILE ] && { echo 'FAILED: FILE is there again'; failed=1; }
-  cmp moved copy || { echo 'FAILED: a file without a name was written'; failed=1; }
+  cmp moved copy || { echo 'FAILED: the moved file was written'; failed=1; }
   none_left
   cp moved FILE
 }
@@ -263,8 +268,8 @@ ln FILE HARD
 unnamed 'create /lost'
 rm HARD
 
-# resized SIZE LINE..: a run that did these lines has to end with status 5 at the next sync, and to leave FILE alone, where FILE was
-# given another size meanwhile.
+# resized SIZE LINE..: if FILE is resized after a run did these lines, the run has to end with status 5 at the next sync
+# and to write nothing.
 resized() {
   size=$1
   shift
@@ -274,9 +279,9 @@ resized() {
   cp FILE copy
   echo sync >&3
   ended 5
-  expect "replies before a sync of FILE with $size bytes" $# "$(grep -c '^[a-z]' replies)"
+  expect "replies before a sync with FILE of $size bytes" $# "$(grep -c '^[a-z]' replies)"
   expect 'its reason' 'bpfs: FILE: not saved: another program changed its size' "$(cat errors)"
-  cmp FILE copy || { echo "FAILED: FILE with $size bytes was written"; failed=1; }
+  cmp FILE copy || { echo "FAILED: FILE of $size bytes was written"; failed=1; }
   none_left
 }
 

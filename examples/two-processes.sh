@@ -1,10 +1,13 @@
 #!/bin/sh
-# Shows that one process at a time has FILE: while a run has it, a second run, a format, a check and a play end with status 5 and the
-# reason, by whatever name they call it, also after a sync has put a new file in its place, and nothing that the first one does is lost;
-# while a play reads it, a check does too, and a run ends with status 5. Of a crowd of runs that begin again until they are served, each
-# makes its file.
+# Tests several processes with one FILE:
+# - While a run uses FILE, a second run, a format, a check and a play end with status 5 and a message, under any name of
+#   FILE, also after a sync has replaced it. Nothing that the first run does is lost.
+# - While a play reads FILE, a check succeeds, and a run ends with status 5.
+# - Six processes run scripts at once, each again and again until it succeeds. All their files are in the image.
 #
-#   examples/two-processes.sh PROGRAM      PROGRAM: crates/bpfs/out/bpfs, as `rt run` leaves it there
+# Usage: examples/two-processes.sh PROGRAM
+#
+# PROGRAM is a built bpfs, such as crates/bpfs/out/bpfs. The exit status is 1 if a test fails.
 set -u
 program=$(realpath "${1:?the path of the program}")
 work=$(mktemp -d)
@@ -14,20 +17,20 @@ cd "$work" || exit 1
 failed=0
 : > nothing
 
-# expect NAME WANTED GOT: compares two words.
+# expect NAME WANTED GOT: GOT has to be WANTED.
 expect() {
   if [ "$2" = "$3" ]; then echo "ok: $1: $3"; else echo "FAILED: $1: $3, not $2"; failed=1; fi
 }
 
-# refused WORD..: the program with these words has to end with status 5, no reply and the reason.
+# refused ARGUMENT..: the program with these arguments has to end with status 5, no reply, and the message.
 refused() {
   "$program" "$@" < script > out 2> err
-  expect "$* beside the other" 5 $?
+  expect "$* during the other" 5 $?
   cmp -s out nothing || { echo "FAILED: $* replied"; failed=1; }
-  [ "$(cat err)" = "bpfs: $2: in use by another process" ] || { echo "FAILED: $* says: $(cat err)"; failed=1; }
+  [ "$(cat err)" = "bpfs: $2: in use by another process" ] || { echo "FAILED: $*: standard error is: $(cat err)"; failed=1; }
 }
 
-# answered COUNT: waits until the first run has given so many replies.
+# answered COUNT: waits until the first run has printed COUNT replies.
 answered() {
   turns=0
   while [ "$(wc -l < replies)" -lt "$1" ] && [ $turns -lt 500 ]; do sleep 0.02; turns=$((turns + 1)); done
@@ -63,7 +66,7 @@ first=
 echo 'list /' | "$program" run FILE > out 2> err; expect 'run after it' 0 $?
 expect 'what the first run made' 'entry f a entry f b entry f c end' "$(tr '\n' ' ' < out | sed 's/ $//')"
 
-# A play that meets one of these runs is refused itself, and is begun again.
+# A play that starts during one of these runs is refused itself, and is started again.
 turns=0
 while [ $turns -lt 50 ]; do
     turns=$((turns + 1))
@@ -75,7 +78,7 @@ while [ $turns -lt 50 ]; do
     wait "$first" 2> /dev/null || true
 done
 refused run FILE
-"$program" check FILE > out 2> err; expect 'check beside a play' 0 $?
+"$program" check FILE > out 2> err; expect 'check during a play' 0 $?
 kill "$first"
 wait "$first" 2> /dev/null
 first=
@@ -90,8 +93,8 @@ for member in 1 2 3 4 5 6; do
   done &
 done
 wait
-expect 'replies to a crowd' 48 "$(cat served? | grep -c '^ok$')"
-"$program" check FILE > out 2> err; expect 'check after the crowd' 0 $?
-expect 'files of the crowd' 48 "$(echo 'list /' | "$program" run FILE | grep -c '^entry f m')"
-[ "$(echo FILE*)" = FILE ] || { echo 'FAILED: a second file is left'; failed=1; }
+expect 'replies to six processes' 48 "$(cat served? | grep -c '^ok$')"
+"$program" check FILE > out 2> err; expect 'check after them' 0 $?
+expect 'their files' 48 "$(echo 'list /' | "$program" run FILE | grep -c '^entry f m')"
+[ "$(echo FILE*)" = FILE ] || { echo 'FAILED: a second file remains'; failed=1; }
 exit $failed

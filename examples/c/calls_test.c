@@ -39,12 +39,13 @@ static int nothing(bpfs_carrier *carrier) {
     return 0;
 }
 
-static bpfs_carrier carrier = {put, nothing, nothing, 0};
+static bpfs_carrier carrier = {.put = put, .barrier = nothing, .settle = nothing};
 
 static void make(uint32_t version) {
     memset(words, 0xa5, sizeof words);
     IS(BPFS_OK, bpfs_format(&carrier, BLOCKS, version));
     IS(BPFS_OK, bpfs_mount(&fs, words, WORDS, &fault));
+    IS(0, bpfs_bind(&fs, &carrier));
 }
 
 static void formats(void) {
@@ -297,17 +298,19 @@ static void runs(void) {
     are_carried();
 }
 
-/* A carrier that fails two times in three, and is called again, carries all the same. */
+/* A carrier that fails two times in three, and is called again, carries everything. */
 static void failing_carriers(void) {
     static uint8_t bytes[10000];
-    bpfs_carrier failing = {fail_or_put, fail_or_not, fail_or_not, 0};
+    bpfs_carrier failing = {.put = fail_or_put, .barrier = fail_or_not, .settle = fail_or_not};
     int failures = 0;
+    IS(0, bpfs_bind(&fs, &failing));
     IS(BPFS_OK, bpfs_write(&fs, PATH("/d/a"), 3, bytes, sizeof bytes, &lack));
     IS(BPFS_OK, bpfs_create(&fs, PATH("/d/b"), &lack));
     while (bpfs_carry(&fs, &failing) && failures < 1000) failures++;
     IS(true, failures > 10 && failures < 1000);
     IS(0, bpfs_event_count(&fs));
     are_carried();
+    IS(0, bpfs_bind(&fs, &carrier));
 }
 
 /* A file changes and leaves; its snapshot stays, and gives its blocks back at its end. */

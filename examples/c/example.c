@@ -1,4 +1,4 @@
-/* example.c - makes a volume in a file, writes two files, carries the log, and reads it all back.
+/* example.c - creates an image file, writes two files, carries the log, and reads all of it back.
  *
  *     example IMAGE
  */
@@ -57,7 +57,7 @@ static void read_back(void) {
     printf("%.*s\n", (int)count, (const char *)bytes);
 }
 
-static void tell_sums(void) {
+static void print_sums(void) {
     bpfs_sums sums;
     bpfs_blocks blocks;
     MUST(bpfs_totals(&fs, &sums));
@@ -69,16 +69,15 @@ static void tell_sums(void) {
 int main(int argc, char **argv) {
     bpfs_fault fault;
     if (argc != 2) return fprintf(stderr, "usage: example IMAGE\n"), 2;
-    MUST(bpfs_file_open(&file, argv[1], BPFS_FILE_WAITS));
-    MUST(bpfs_file_format(&file, 64, 1));
+    MUST(bpfs_file_create(&file, argv[1], 64, 1, BPFS_FILE_WAITS));
     MUST(bpfs_file_mount(&fs, &file, &fault));
     write_files();
     fill_up();
     MUST(bpfs_close(&fs));
     MUST(bpfs_file_mount(&fs, &file, &fault));
     read_back();
-    tell_sums();
+    print_sums();
     MUST(bpfs_close(&fs));
-    bpfs_file_close(&file);
+    MUST(bpfs_file_close(&file));
     return 0;
 }

@@ -2,9 +2,9 @@
 #include <stdio.h>
 #include <string.h>
 
-enum { LONG_WRITE = 20000, SHORT_WRITE = 200 };
+enum { LONG_WRITE = MODEL_SIZE / 2, SHORT_WRITE = 200 };
 
-/* What a call is made of: the model, the volume or NULL, the answer of the volume and that of the model. */
+/* What a call is made of: the model, the volume or NULL, what the volume returns and what the model wants it to. */
 typedef struct turn {
     model *m;
     bpfs *fs;
@@ -33,6 +33,7 @@ static path path_of(int name) {
 void model_clear(model *m, uint64_t state) {
     memset(m, 0, sizeof *m);
     m->state = state;
+    m->span = MODEL_SIZE;
     for (int i = 0; i < MODEL_NAMES; i++) m->file_of[i] = -1;
 }
 
@@ -40,6 +41,13 @@ uint32_t model_begin(bpfs *fs) {
     bpfs_lack lack;
     uint32_t code = bpfs_mkdir(fs, (const uint8_t *)"/d0", 3, &lack);
     return code ? code : bpfs_mkdir(fs, (const uint8_t *)"/d1", 3, &lack);
+}
+
+/* Whether there is no space for the call. */
+static bool is_refused(turn *t) {
+    if (t->fs) t->m->refused = t->code == BPFS_NO_SPACE;
+    if (t->m->refused) t->wanted = BPFS_NO_SPACE;
+    return t->m->refused;
 }
 
 /* The file of a name, or NULL. */
@@ -67,6 +75,7 @@ static int free_file(const model *m) {
 static void create(turn *t, int name) {
     path at = path_of(name);
     if (t->fs) t->code = bpfs_create(t->fs, at.text, at.length, &t->lack);
+    if (is_refused(t)) return;
     t->wanted = file_of(t->m, name) ? BPFS_EXISTS : BPFS_OK;
     if (!t->wanted) name_comes(t->m, name, free_file(t->m));
 }
@@ -74,6 +83,7 @@ static void create(turn *t, int name) {
 static void unlink_name(turn *t, int name) {
     path at = path_of(name);
     if (t->fs) t->code = bpfs_unlink(t->fs, at.text, at.length, &t->lack);
+    if (is_refused(t)) return;
     t->wanted = file_of(t->m, name) ? BPFS_OK : BPFS_NOT_FOUND;
     name_goes(t->m, name);
 }
@@ -81,6 +91,7 @@ static void unlink_name(turn *t, int name) {
 static void rename_name(turn *t, int name, int to) {
     path at = path_of(name), other = path_of(to);
     if (t->fs) t->code = bpfs_rename(t->fs, at.text, at.length, other.text, other.length, &t->lack);
+    if (is_refused(t)) return;
     int file = t->m->file_of[name];
     t->wanted = file < 0 ? BPFS_NOT_FOUND : BPFS_OK;
     if (file < 0 || file == t->m->file_of[to]) return; /* two names of one file stay both */
@@ -92,6 +103,7 @@ static void rename_name(turn *t, int name, int to) {
 static void link_name(turn *t, int name, int to) {
     path at = path_of(name), other = path_of(to);
     if (t->fs) t->code = bpfs_link(t->fs, at.text, at.length, other.text, other.length, &t->lack);
+    if (is_refused(t)) return;
     int file = t->m->file_of[name];
     t->wanted = file < 0 ? BPFS_NOT_FOUND : t->m->file_of[to] < 0 ? BPFS_OK : BPFS_EXISTS;
     if (!t->wanted) name_comes(t->m, to, file);
@@ -100,6 +112,7 @@ static void link_name(turn *t, int name, int to) {
 static void truncate_file(turn *t, int name, uint32_t size) {
     path at = path_of(name);
     if (t->fs) t->code = bpfs_truncate(t->fs, at.text, at.length, size, &t->lack);
+    if (is_refused(t)) return;
     model_file *file = file_of(t->m, name);
     t->wanted = file ? BPFS_OK : BPFS_NOT_FOUND;
     if (!file) return;
@@ -111,6 +124,7 @@ static void make_or_remove_dir(turn *t) {
     bool has = t->m->has_dir;
     if (t->fs && has) t->code = bpfs_rmdir(t->fs, empty_dir.text, empty_dir.length, &t->lack);
     if (t->fs && !has) t->code = bpfs_mkdir(t->fs, empty_dir.text, empty_dir.length, &t->lack);
+    if (is_refused(t)) return;
     t->m->has_dir = !has;
 }
 
@@ -121,9 +135,12 @@ static void fill(uint64_t *state, uint8_t *bytes, uint32_t count) {
 static void write_file(turn *t, int name) {
     static uint8_t bytes[LONG_WRITE];
     path at = path_of(name);
-    uint32_t count = 1 + draw(&t->m->state, draw(&t->m->state, 3) ? SHORT_WRITE : LONG_WRITE), offset = draw(&t->m->state, MODEL_SIZE - count);
+    uint32_t most = t->m->span / 2;
+    if (draw(&t->m->state, 3)) most = SHORT_WRITE;
+    uint32_t count = 1 + draw(&t->m->state, most), offset = draw(&t->m->state, t->m->span - count);
     fill(&t->m->state, bytes, count);
     if (t->fs) t->code = bpfs_write(t->fs, at.text, at.length, offset, bytes, count, &t->lack);
+    if (is_refused(t)) return;
     model_file *file = file_of(t->m, name);
     t->wanted = file ? BPFS_OK : BPFS_NOT_FOUND;
     if (!file) return;
@@ -131,7 +148,7 @@ static void write_file(turn *t, int name) {
     if (file->size < offset + count) file->size = offset + count;
 }
 
-/* Two pieces for two names: both are there after it, or none. */
+/* Writes two pieces to two names: both are there after it, or none. */
 static void write_batch(turn *t, int name, int other) {
     uint8_t text[2 * (sizeof(path) + SHORT_WRITE)];
     bpfs_piece pieces[2];
@@ -139,7 +156,7 @@ static void write_batch(turn *t, int name, int other) {
     uint32_t length = 0;
     for (int i = 0; i < 2; i++) {
         path at = path_of(names[i]);
-        uint32_t count = draw(&t->m->state, SHORT_WRITE), offset = draw(&t->m->state, MODEL_SIZE / 4);
+        uint32_t count = draw(&t->m->state, SHORT_WRITE), offset = draw(&t->m->state, t->m->span / 4);
         pieces[i] = (bpfs_piece){length, (uint32_t)at.length, offset, length + (uint32_t)at.length, count};
         memcpy(text + length, at.text, at.length);
         length += (uint32_t)at.length;
@@ -147,6 +164,7 @@ static void write_batch(turn *t, int name, int other) {
         length += count;
     }
     if (t->fs) t->code = bpfs_batch(t->fs, text, length, pieces, 2, &t->lack);
+    if (is_refused(t)) return;
     uint32_t in_all = pieces[0].bytes_length + pieces[1].bytes_length;
     for (int i = 0; i < 2 && !t->wanted; i++) {
         model_file *file = file_of(t->m, names[i]);
@@ -165,7 +183,7 @@ bool model_call(model *m, bpfs *fs) {
     case 2: unlink_name(&t, name); break;
     case 3: rename_name(&t, name, other); break;
     case 4: link_name(&t, name, other); break;
-    case 5: truncate_file(&t, name, draw(&m->state, MODEL_SIZE)); break;
+    case 5: truncate_file(&t, name, draw(&m->state, m->span)); break;
     case 6: make_or_remove_dir(&t); break;
     case 7: case 8: write_batch(&t, name, other); break;
     default: write_file(&t, name);
@@ -194,10 +212,15 @@ bool model_is_shown(const model *m, bpfs *fs) {
     return true;
 }
 
+void model_repeat(model *m, uint32_t at) {
+    m->refused = m->refusals && m->refusals[at];
+    model_call(m, NULL);
+}
+
 bool model_finds(model *m, bpfs *fs, uint32_t *made, uint32_t most) {
     while (!model_is_shown(m, fs)) {
         if (*made >= most) return false;
-        model_call(m, NULL);
+        model_repeat(m, *made);
         ++*made;
     }
     return true;

@@ -1,6 +1,10 @@
+#define _GNU_SOURCE
 #include "pmem.h"
 #include <errno.h>
+#include <fcntl.h>
 #include <libpmem.h>
+#include <sys/mman.h>
+#include <unistd.h>
 #ifdef __SSE2__
 #include <emmintrin.h>
 #endif
@@ -16,20 +20,25 @@ static void flush_line(bpfs_pmem *pmem) {
     pmem->line = NULL;
 }
 
-/* Words of one cache line. The line is flushed once its neighbours are done with: stores of an epoch are often in one line. */
+/* Stores words of one cache line. The line is flushed when the next one begins: stores of an epoch
+ * are often in one line. */
 static void put_in_line(bpfs_pmem *pmem, uint64_t *to, const uint64_t *values, size_t count) {
     if (line_of(to) != pmem->line) flush_line(pmem);
     pmem->line = line_of(to);
     for (size_t i = 0; i < count; i++) __atomic_store_n(to + i, values[i], __ATOMIC_RELAXED);
 }
 
-/* A whole cache line: past the caches where that can be, which takes half of the time. Two words are moved at once. That each of
-   them is in memory whole or not at all, as if it were moved alone, is trusted. */
+/* Stores a whole cache line, past the caches where the processor can do that, which takes half of
+ * the time. Two words are moved at once; that each of them reaches the memory whole or not at all
+ * is trusted. */
 static void put_line(bpfs_pmem *pmem, uint64_t *to, const uint64_t *values) {
 #if defined(__SSE2__) && defined(__x86_64__) && !defined(BPFS_NO_STREAM)
-    if (to == pmem->line) flush_line(pmem); /* an earlier store to it stays the earlier one */
+    if (to == pmem->line) flush_line(pmem); /* so that an earlier store to it stays the earlier one */
     pmem->streamed = true;
-    for (size_t i = 0; i < LINE_WORDS; i += 2) _mm_stream_si128((__m128i *)(to + i), _mm_loadu_si128((const __m128i *)(values + i)));
+    for (size_t i = 0; i < LINE_WORDS; i += 2) {
+        __m128i two = _mm_loadu_si128((const __m128i *)(values + i));
+        _mm_stream_si128((__m128i *)(to + i), two);
+    }
 #else
     put_in_line(pmem, to, values, LINE_WORDS);
 #endif
@@ -37,6 +46,7 @@ static void put_line(bpfs_pmem *pmem, uint64_t *to, const uint64_t *values) {
 
 static int put(bpfs_carrier *carrier, uint32_t word, const uint64_t *values, size_t count) {
     bpfs_pmem *pmem = (bpfs_pmem *)carrier;
+    if (carrier->error) return errno = carrier->error, -1;
     if (word > pmem->count || count > pmem->count - word) return errno = EFBIG, -1;
     pmem->owes = true;
     for (uint64_t *to = pmem->words + word; count;) {
@@ -62,24 +72,72 @@ static int barrier(bpfs_carrier *carrier) {
     return 0;
 }
 
-int bpfs_pmem_open(bpfs_pmem *pmem, const char *path, uint32_t blocks) {
+/* ---- opening */
+
+static void begin(bpfs_pmem *pmem) {
+    *pmem = (bpfs_pmem){.carrier = {.put = put, .barrier = barrier, .settle = barrier}, .file = {.fd = -1}};
+}
+
+static int give_up(bpfs_pmem *pmem) {
+    int why = errno;
+    bpfs_pmem_close(pmem);
+    return errno = why, -1;
+}
+
+/* Maps the open file. Its holes get their room first: a store to one that has none would kill the
+ * process. */
+static int map(bpfs_pmem *pmem, const char *path) {
     size_t length = 0;
     int is_pmem = 0;
-    *pmem = (bpfs_pmem){.carrier = {put, barrier, barrier, 0}};
-    pmem->words = pmem_map_file(path, (size_t)blocks * 8 * BPFS_BLOCK_WORDS, PMEM_FILE_CREATE, 0644, &length, &is_pmem);
-    if (!pmem->words) return -1;
+    if (pmem->file.words == 0) return 0; /* which no mount takes */
+    int code = posix_fallocate(pmem->file.fd, 0, (off_t)(8 * pmem->file.words));
+    if (code) return errno = code, give_up(pmem);
+    if (bpfs_file_sync(&pmem->file)) return give_up(pmem);
+    pmem->words = pmem_map_file(path, 0, 0, 0, &length, &is_pmem);
+    if (!pmem->words) return give_up(pmem);
     pmem->count = length / 8;
-    if (is_pmem) return 0;
-    bpfs_pmem_close(pmem);
-    return errno = ENOTSUP, -1;
+    if (!is_pmem) return errno = ENOTSUP, give_up(pmem);
+    pmem_persist(pmem->words, length);
+    return 0;
 }
+
+int bpfs_pmem_create(bpfs_pmem *pmem, const char *path, uint32_t blocks, uint32_t version) {
+    begin(pmem);
+    int code = bpfs_file_create(&pmem->file, path, blocks, version, BPFS_FILE_WAITS);
+    if (code || map(pmem, path) == 0) return code;
+    int why = errno;
+    unlink(path);
+    return errno = why, -1;
+}
+
+int bpfs_pmem_open(bpfs_pmem *pmem, const char *path) {
+    begin(pmem);
+    return bpfs_file_open(&pmem->file, path, BPFS_FILE_WAITS) ? -1 : map(pmem, path);
+}
+
+int bpfs_pmem_open_read(bpfs_pmem *pmem, const char *path) {
+    begin(pmem);
+    if (bpfs_file_open_read(&pmem->file, path)) return -1;
+    size_t length = 8 * (size_t)pmem->file.words;
+    void *words = length ? mmap(NULL, length, PROT_READ, MAP_SHARED, pmem->file.fd, 0) : NULL;
+    if (words == MAP_FAILED) return give_up(pmem);
+    pmem->words = words, pmem->count = length / 8;
+    pmem->carrier.error = EROFS;
+    if (words) pmem_persist(words, length);
+    return 0;
+}
+
+/* ---- mounting and closing */
 
 int bpfs_pmem_mount(bpfs *fs, bpfs_pmem *pmem, bpfs_fault *fault) {
-    pmem->carrier.at = 0;
-    return (int)bpfs_mount(fs, pmem->words, pmem->count, fault);
+    barrier(&pmem->carrier);
+    int code = (int)bpfs_mount(fs, pmem->words, pmem->count, fault);
+    return code || pmem->carrier.error ? code : bpfs_bind(fs, &pmem->carrier);
 }
 
-void bpfs_pmem_close(bpfs_pmem *pmem) {
-    if (pmem->words) pmem_unmap(pmem->words, pmem->count * 8);
-    pmem->words = NULL;
+int bpfs_pmem_close(bpfs_pmem *pmem) {
+    if (pmem->words && pmem->carrier.error == EROFS) munmap(pmem->words, 8 * pmem->count);
+    else if (pmem->words) pmem_unmap(pmem->words, 8 * pmem->count);
+    pmem->words = NULL, pmem->count = 0;
+    return bpfs_file_close(&pmem->file);
 }

@@ -1,30 +1,56 @@
-/* pmem.h - carries to mapped persistent memory, by libpmem.
+/* pmem.h - carries to an image file that is mapped as persistent memory, by libpmem.
  *
- * What it trusts: that an aligned store of eight bytes reaches the memory whole or not at all; that what was flushed (pmem_flush) or stored
- * past the caches is in the memory, or in the part of the machine that outlives a power failure, once pmem_drain comes back; and that the file is
- * mapped as persistent memory, which pmem_map_file tells. A cache may write a line back before it is flushed: that is within the order that is
- * owed, since a line has nothing of a later epoch before the drain of the earlier one.
+ * Trusted: an aligned store of eight bytes reaches the memory whole or not at all, also where two
+ * words are moved at once past the caches; what was flushed (pmem_flush) or stored past the caches
+ * is durable when pmem_drain returns; and libpmem knows whether a file is persistent memory. A
+ * cache may write a line back before it is flushed. That keeps the order: a line gets no word of a
+ * later epoch before the drain that ends the earlier one.
  *
- * PMEM_IS_PMEM_FORCE=1 lets libpmem take other mapped files (/dev/shm) for persistent memory: for tests and for measuring alone.
+ * PMEM_IS_PMEM_FORCE=1 makes libpmem take other files (in /dev/shm) for persistent memory: for
+ * tests and measurements only.
  */
 #ifndef BPFS_PMEM_H
 #define BPFS_PMEM_H
-#include "carry.h"
+#include "file.h"
 
+#ifdef __cplusplus
+extern "C" {
+#endif
+
+/* An open mapped image. Look at it, but change nothing. Never copy one that is open. */
 typedef struct bpfs_pmem {
     bpfs_carrier carrier;
+    bpfs_file file; /* holds the lock */
     uint64_t *words;
     size_t count;
-    const uint64_t *line; /* the cache line that was stored to last and is not flushed yet, or NULL */
+    const uint64_t *line; /* the cache line that is stored to and not flushed yet, or NULL */
     bool owes;            /* something was put since the last drain */
     bool streamed;        /* and a whole line of it past the caches */
 } bpfs_pmem;
 
-/* Maps so many blocks of a file, which is made where there is none. 0, or -1 with errno; ENOTSUP where it is no persistent memory. */
-int bpfs_pmem_open(bpfs_pmem *pmem, const char *path, uint32_t blocks);
+/* The functions return 0, or -1 with errno. If one that opens fails, the structure is closed.
+ * Errors as in file.h, and
+ *   ENOTSUP   the file is not on persistent memory
+ *   ENOSPC    the file has holes that the file system has no room for */
 
-/* Mounts a copy of its words. A BPFS_ number. To format it: bpfs_format(&pmem->carrier, blocks, version). */
+/* Creates an image as bpfs_file_create does, and maps it. It may also return BPFS_OUT_OF_RANGE or
+ * BPFS_NO_MEMORY. */
+int bpfs_pmem_create(bpfs_pmem *pmem, const char *path, uint32_t blocks, uint32_t version);
+
+/* Maps an image that exists, in its size, to read and write. What an earlier process may have left
+ * in caches is flushed. */
+int bpfs_pmem_open(bpfs_pmem *pmem, const char *path);
+
+/* The same to read only: carrying fails with EROFS. The file need not be on persistent memory. */
+int bpfs_pmem_open_read(bpfs_pmem *pmem, const char *path);
+
+/* Mounts a copy of the words, and binds the carrier to the volume. Returns as bpfs_file_mount. */
 int bpfs_pmem_mount(bpfs *fs, bpfs_pmem *pmem, bpfs_fault *fault);
 
-void bpfs_pmem_close(bpfs_pmem *pmem);
+/* Unmaps, closes and unlocks. It carries nothing. Closing twice is harmless. */
+int bpfs_pmem_close(bpfs_pmem *pmem);
+
+#ifdef __cplusplus
+}
+#endif
 #endif

@@ -47,7 +47,7 @@ static int let_through(bpfs_shuffle *shuffle, const bpfs_event *store) {
     return shuffle->target->put(shuffle->target, store->word, &store->value, 1);
 }
 
-/* Lets the stores through in the mixed order. Where a store's turn comes, the earliest one to its word that is left goes. */
+/* Lets the stores through in the mixed order. When the turn of a store comes, the earliest one left for its word goes. */
 static int let_all_through(bpfs_shuffle *shuffle) {
     if (shuffle->count == 0) return 0;
     qsort(shuffle->stores, shuffle->count, sizeof *shuffle->stores, by_word);
@@ -76,7 +76,7 @@ static int barrier(bpfs_carrier *carrier) {
 }
 
 void bpfs_shuffle_of(bpfs_shuffle *shuffle, bpfs_carrier *target, bool careless, uint64_t state) {
-    *shuffle = (bpfs_shuffle){.carrier = {put, barrier, settle, 0}, .target = target, .careless = careless, .state = state, .left = UINT64_MAX};
+    *shuffle = (bpfs_shuffle){.carrier = {.put = put, .barrier = barrier, .settle = settle}, .target = target, .careless = careless, .state = state, .left = UINT64_MAX};
 }
 
 void bpfs_shuffle_close(bpfs_shuffle *shuffle) {

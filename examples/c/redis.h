@@ -1,29 +1,41 @@
-/* redis.h - the stream of epochs as a Redis stream: an entry for each epoch, with the epoch's number as its id ("number-0") and the frame as its
- * one field.
+/* redis.h - the stream of epochs as a Redis stream. An epoch is one entry, with the id NUMBER-0 and the frame as the value
+ * of its one field.
  *
- * The stream is the truth. Who leads first follows it to its end, into a medium of its own, and mounts that; then it adds an epoch to the stream,
- * and applies it to its own medium once Redis has it. Redis takes no id that is not above all before it: of two that lead, one is told so by a
- * refused epoch, and has to stop.
+ * The Redis stream is the truth. A leader first follows it to its end, into a medium of its own, and mounts that. Then it
+ * adds each epoch to the stream, and applies the epoch to its own medium when Redis has it. Redis refuses an id that is
+ * not above all ids before it: of two leaders, one gets EPROTO, and must stop.
  *
- * What it trusts: that Redis has an entry for good once it has answered. How good that is says its configuration: with `appendonly yes` and
- * `appendfsync always` an answered epoch outlives a power failure of that machine; with `everysec` up to a second of them goes; and behind a
- * failover the new server may lack what the old one had answered, which WAIT makes rarer and not impossible. A follower that has such a lost
- * epoch has to begin anew.
+ * What this relies on: an entry stays once Redis has answered. That depends on the server's configuration:
+ * - `appendonly yes`, `appendfsync always`: the entry survives a power failure of the server.
+ * - `appendfsync everysec`: up to a second of entries is lost then.
+ * - A failover loses what the new server had not received. WAIT makes that rarer, and does not exclude it.
+ * A follower that has applied a lost epoch must begin again with a copy.
  */
 #ifndef BPFS_REDIS_H
 #define BPFS_REDIS_H
 #include "follow.h"
 #include <hiredis/hiredis.h>
 
+#ifdef __cplusplus
+extern "C" {
+#endif
+
 typedef struct bpfs_redis {
     redisContext *at;
     const char *key;
-    bpfs_follower *own; /* who applies what was added, or NULL */
+    bpfs_follower *own; /* applies each epoch that was added; NULL: none does */
 } bpfs_redis;
 
-/* Adds a frame to the stream: a bpfs_send, for bpfs_stream_to with a bpfs_redis. -1 with EPROTO where Redis refuses it. */
+/* Adds a frame to the stream: the bpfs_send of bpfs_stream_to, with a bpfs_redis as `to`. 0, or -1 with errno:
+ * EPROTO: Redis refused the entry, which is not in the stream.
+ * EIO: no answer came; whether the entry is in the stream is open. Begin again by following the stream. */
 int bpfs_redis_send(void *redis, const uint64_t *frame, size_t count);
 
-/* Applies the next epochs of the stream. How many; 0 where there are none now; -1 with errno. */
+/* Applies the next epochs of the stream. Returns how many; 0: there are none now; -1 with errno: EPROTO, EIO as above, or
+ * that of bpfs_follow. */
 long bpfs_redis_follow(bpfs_redis *redis, bpfs_follower *follower);
+
+#ifdef __cplusplus
+}
+#endif
 #endif

@@ -1,10 +1,12 @@
-/* redis_test.c - leaders over a Redis stream are killed, and so is Redis; whoever follows has the tree after a prefix of the calls.
+/* redis_test.c - leaders over a Redis stream are killed, and so is Redis. Followers have the tree after a prefix of the calls.
  *
  *     redis_test FOLDER ROUNDS SEED
  *
- * It starts a redis-server of its own in FOLDER, on a socket there, which syncs each entry. In each round a leader process catches up with the
- * stream, has to find the tree at which the last round ended, makes calls, and is killed. Then a follower goes on from its note. In some rounds
- * Redis is killed before that. The status is 0 where all is right, 1 where a tree is not, and 2 where the test itself could not go on.
+ * It starts a redis-server in FOLDER, on a socket there, which syncs each entry. In each round a leader process follows the
+ * stream to its end, must find the tree at which the last round ended, makes calls, and is killed. Then a follower goes on
+ * from its note. In some rounds Redis is killed first.
+ *
+ * Exit status: 0: all is right; 1: a tree is not; 2: the test could not go on.
  */
 #define _GNU_SOURCE
 #include "file.h"
@@ -27,9 +29,10 @@ static uint64_t state;
 static pid_t server;
 static bpfs_redis redis = {.key = "bpfs"};
 
-static struct told {
+/* Shared with the leader process: how many calls it has begun, and how many Redis has. */
+static struct shared {
     volatile uint32_t begun, durable;
-} *told;
+} *shared;
 
 static void stop(const char *what) {
     fprintf(stderr, "redis_test: %s\n", what);
@@ -61,7 +64,7 @@ static void start_redis(void) {
     }
 }
 
-/* A connection, once Redis has read what it kept. */
+/* A connection, when Redis has read its file. */
 static redisContext *connect_redis(void) {
     for (int i = 0; i < PATIENCE; i++) {
         redisContext *at = redisConnectUnix(in_folder("socket"));
@@ -88,12 +91,12 @@ typedef struct medium {
     bpfs_follower follower;
 } medium;
 
+/* Opens a medium, of zeros if it is new, and resumes at its note. */
 static void open_medium(medium *it, const char *name) {
-    uint64_t noted = 0;
-    must(bpfs_file_open(&it->file, in_folder(name), BPFS_FILE_CACHED) == 0, "no file");
-    must(ftruncate(it->file.fd, (off_t)BLOCKS * 8 * BPFS_BLOCK_WORDS) == 0, "no room");
-    must(pread(it->file.fd, &noted, sizeof noted, 8 * BPFS_NOTE_WORD) == sizeof noted, "no note");
-    bpfs_follower_of(&it->follower, &it->file.carrier, BLOCKS, noted);
+    const char *path = in_folder(name);
+    if (access(path, F_OK)) must(bpfs_file_make(&it->file, path, BLOCKS, BPFS_FILE_CACHED) == 0 && bpfs_file_close(&it->file) == 0, "no file");
+    must(bpfs_file_open(&it->file, path, BPFS_FILE_CACHED) == 0, "no file");
+    must(bpfs_follower_resume(&it->follower, &it->file.carrier, it->file.fd) == 0, "no note");
 }
 
 static void catch_up(medium *it) {
@@ -120,39 +123,39 @@ static void lead(model *tree, bool first) {
     redis.own = &own.follower;
     bpfs_stream_to(&stream, bpfs_redis_send, &redis, own.follower.number);
     if (first && bpfs_format(&stream.carrier, BLOCKS, 2)) _exit(3);
-    if (bpfs_file_mount(&fs, &own.file, &fault)) _exit(3);
+    if (bpfs_file_mount(&fs, &own.file, &fault) || bpfs_bind(&fs, &stream.carrier)) _exit(3);
     if (first && (model_begin(&fs) || bpfs_carry(&fs, &stream.carrier))) _exit(3);
     if (!model_is_shown(tree, &fs)) _exit(6);
     bpfs_carry(&fs, &stream.carrier);
     for (uint32_t i = 0; i < CALLS; i++) {
-        told->begun = i + 1;
+        shared->begun = i + 1;
         if (!model_call(tree, &fs)) _exit(4);
         if ((i + 1) % GROUP && i + 1 < CALLS) continue;
         if (bpfs_carry(&fs, &stream.carrier)) _exit(5);
-        told->durable = i + 1;
+        shared->durable = i + 1;
     }
     _exit(0);
 }
 
 static void kill_a_leader(model *tree, bool first) {
-    told->begun = told->durable = 0;
+    shared->begun = shared->durable = 0;
     pid_t leader = fork();
     must(leader >= 0, "no fork");
     if (leader == 0) lead(tree, first);
-    for (int i = 0; !told->begun && i < 100 * PATIENCE; i++) usleep(1000);
+    for (int i = 0; !shared->begun && i < 100 * PATIENCE; i++) usleep(1000);
     usleep(draw(&state, LONGEST_WAIT));
     kill(leader, SIGKILL);
     int status;
     must(waitpid(leader, &status, 0) == leader, "no child");
-    if (WIFEXITED(status) && WEXITSTATUS(status)) fprintf(stderr, "the leader ended with %d\n", WEXITSTATUS(status));
-    must(!WIFEXITED(status) || WEXITSTATUS(status) == 0, "the leader met what it should not");
+    if (WIFEXITED(status) && WEXITSTATUS(status)) fprintf(stderr, "the leader ended with status %d\n", WEXITSTATUS(status));
+    must(!WIFEXITED(status) || WEXITSTATUS(status) == 0, "the leader failed");
 }
 
 static bool look(model *tree, int round, long *lost) {
     medium it;
     bpfs fs = BPFS_CLOSED;
     bpfs_fault fault;
-    uint32_t made = 0, durable = told->durable, begun = told->begun;
+    uint32_t made = 0, durable = shared->durable, begun = shared->begun;
     open_medium(&it, "follower");
     catch_up(&it);
     must(bpfs_file_mount(&fs, &it.file, &fault) == BPFS_OK, "the follower does not mount");
@@ -165,14 +168,14 @@ static bool look(model *tree, int round, long *lost) {
     return right;
 }
 
-/* Who leads with an old number is refused, and the stream stays as it is. */
+/* A leader with an old number is refused, and the stream stays as it is. */
 static bool is_fenced(void) {
     medium it;
     bpfs_stream stream;
     uint64_t value = 1;
     open_medium(&it, "follower");
     bpfs_stream_to(&stream, bpfs_redis_send, &redis, it.follower.number ? it.follower.number - 1 : 0);
-    must(stream.carrier.put(&stream.carrier, BPFS_NOTE_WORD - 1, &value, 1) == 0, "no put");
+    must(stream.carrier.put(&stream.carrier, BPFS_REDO_WORD - 1, &value, 1) == 0, "no put");
     bool refused = stream.carrier.barrier(&stream.carrier) == -1 && errno == EPROTO;
     if (!refused) fprintf(stderr, "a second leader is not refused\n");
     bpfs_stream_close(&stream);
@@ -185,8 +188,8 @@ int main(int argc, char **argv) {
     if (argc != 4) stop("redis_test FOLDER ROUNDS SEED");
     folder = argv[1];
     state = strtoull(argv[3], NULL, 10);
-    told = mmap(NULL, sizeof *told, PROT_READ | PROT_WRITE, MAP_SHARED | MAP_ANONYMOUS, -1, 0);
-    must(told != MAP_FAILED, "no memory");
+    shared = mmap(NULL, sizeof *shared, PROT_READ | PROT_WRITE, MAP_SHARED | MAP_ANONYMOUS, -1, 0);
+    must(shared != MAP_FAILED, "no memory");
     model_clear(&tree, state);
     start_redis();
     long lost = 0, kills = 0;

@@ -1,46 +1,71 @@
-/* stream.h - carries to whoever follows: the log as a stream of epochs over a pipe, a socket or a file.
+/* stream.h - a carrier that sends the log to a follower (follow.h), as frames over a pipe, a socket or a queue.
  *
- * An epoch is one frame, which is numbered and has a sum over all of it:
+ * Each epoch that stores something is one frame:
  *
- *     word 0      "EPCH" in its low half, the number of words of the payload in its high half
- *     word 1      the number of the epoch: one more than that of the frame before
- *     word 2      the sum of words 0 and 1 and the payload
- *     payload     runs: a word with the place of the first word in its low half and their number in its high half, then the values
+ *     word 0      BPFS_FRAME_MARK in its low half, the number of words of the payload in its high half
+ *     word 1      the number of the epoch: one more than in the frame before
+ *     word 2      the checksum of words 0 and 1 and the payload
+ *     payload     runs: a word with the place of the first word in its low half and their count in its high half,
+ *                 then the values
  *
- * Words are little endian. An epoch without stores is no frame. A follower applies a frame once it has all of it and the sum is right.
+ * Words are little endian. A frame without payload, with the number of the last epoch, asks for an answer. An answer is one
+ * word: the number of the last epoch that is durable at the follower.
  *
- * What it trusts: that the stream brings what was written, in order, or less of it. The sum finds any change within one word, and others but
- * for one in 2^64; it is no signature. With no answers a carry is done when the kernel has the bytes, so what the follower lacks when the
- * leader is gone is open. With answers a carry waits until the follower has told the number of the last epoch.
+ * What this carrier relies on:
+ * - The connection delivers a prefix of what was sent, in order. The checksum finds every change of a single word, and
+ *   others with probability 1 - 2^-64. It does not authenticate.
+ * - With answers, bpfs_carry asks once and returns when the follower has answered the last epoch. It waits as long as
+ *   the connection lasts: detect a dead peer by the means of the connection.
+ * - Without answers, bpfs_carry returns when the kernel has the bytes.
+ *
+ * Any failure except ENOMEM ends the stream, since part of a frame may have been sent. Begin another one then.
  */
 #ifndef BPFS_STREAM_H
 #define BPFS_STREAM_H
 #include "carry.h"
 
-enum { BPFS_FRAME_MARK = 0x48435045, BPFS_FRAME_HEAD = 3, BPFS_FRAME_MOST = 1 << 20 /* words of a payload */ };
+#ifdef __cplusplus
+extern "C" {
+#endif
 
-/* How a frame leaves: 0, or -1 with errno. */
+enum { BPFS_FRAME_MARK = 0x48435045 /* "EPCH" */, BPFS_FRAME_HEAD = 3, BPFS_FRAME_MOST = 1 << 20 /* words of a payload */ };
+
+/* Sends one frame: 0, or -1 with errno. */
 typedef int bpfs_send(void *to, const uint64_t *frame, size_t count);
 
 typedef struct bpfs_stream {
     bpfs_carrier carrier;
     bpfs_send *send;
     void *to;
-    int fd, answers;        /* where bpfs_stream_of was given them; answers is -1 where none come */
-    uint64_t number, heard; /* of the last epoch that was sent, and that was answered */
-    uint64_t bytes;         /* how many were sent, for who counts */
-    uint64_t *frame;        /* the epoch so far: its head is filled in at its end */
+    uint64_t number; /* of the last epoch that was sent */
+    uint64_t heard;  /* of the last epoch that was answered */
+    uint64_t bytes;  /* sent so far */
+
+    /* Of bpfs_stream_of. */
+    int fd, answers; /* -1: none */
+    bool is_socket;
+    uint8_t answer[8]; /* an answer that has come in part */
+    size_t answer_length;
+
+    uint64_t *frame; /* the epoch so far; its head is written last */
     size_t count, capacity;
 } bpfs_stream;
 
-/* The sum of a frame's first two words and payload. */
+/* Returns the checksum of a frame's first two words and its payload. */
 uint64_t bpfs_frame_sum(const uint64_t *frame, size_t payload);
 
-/* A stream whose last epoch had this number (0: none yet), and that goes to fd. It is for one volume: another one begins another stream. */
-void bpfs_stream_of(bpfs_stream *stream, int fd, int answers, uint64_t number);
+/* Begins a stream to `fd`, after epoch `number` (0: none yet), with answers from `answers` (-1: none come). Makes both
+ * descriptors non-blocking, and closes neither. 0, or -1 with errno. */
+int bpfs_stream_of(bpfs_stream *stream, int fd, int answers, uint64_t number);
 
-/* The same to what a function of yours takes: a message of a queue, an entry of a log, a row of a table. */
+/* Begins a stream to a function: a message of a queue, an entry of a log, a row of a table. An epoch is durable when
+ * the function has returned 0. */
 void bpfs_stream_to(bpfs_stream *stream, bpfs_send *send, void *to, uint64_t number);
 
+/* Frees the stream's memory. What was put and not settled is lost. */
 void bpfs_stream_close(bpfs_stream *stream);
+
+#ifdef __cplusplus
+}
+#endif
 #endif

@@ -1,9 +1,14 @@
 #!/bin/sh
-# Runs the tests that make has built. test.sh ROUNDS FOLDER [CHECKER]: so many kills of each kind, images in FOLDER, and the program bpfs.
+# Runs the tests that make has built. test.sh ROUNDS CUTS FOLDER [CHECKER]: ROUNDS kills of each kind, CUTS simulated ends of each
+# carrier, images in FOLDER, and the program bpfs.
 set -u
-rounds=$1 folder=$(mktemp -d "$2/bpfs-c-XXXXXX") checker=${3:-}
+rounds=$1 cuts=$2 folder=$(mktemp -d "$3/bpfs-c-XXXXXX") checker=${4:-}
 trap 'rm -rf "$folder"' EXIT
 passed=0
+if [ "${HAS_PMEM:-}" = yes ]; then
+    PMEM_IS_PMEM_FORCE=1
+    export PMEM_IS_PMEM_FORCE
+fi
 
 fail() {
     echo "FAILED: $*"
@@ -15,8 +20,18 @@ run() {
     passed=$((passed + 1))
 }
 
-if [ -x "$(command -v c++)" ]; then run c++ -std=c++11 -Wall -Wextra -Wpedantic -Werror -fsyntax-only -x c++ bpfs.h; fi
-out/san-example "$folder/image" > "$folder/told" && diff example.expected "$folder/told" || fail example
+# Each header compiles by itself, in C++ too.
+for header in *.h; do
+    case $header in
+    pmem.h) [ "${HAS_PMEM:-}" = yes ] || continue ;;
+    redis.h) [ "${HAS_REDIS:-}" = yes ] || continue ;;
+    esac
+    run cc -std=c11 -Wall -Wextra -Wpedantic -Werror -fsyntax-only -x c "$header"
+    if [ -x "$(command -v c++)" ]; then run c++ -std=c++17 -Wall -Wextra -Wpedantic -Werror -fsyntax-only -x c++ "$header"; fi
+done
+run out/san-link_test "$folder"
+out/san-example "$folder/image" > "$folder/printed" && diff example.expected "$folder/printed" || fail example
+rm "$folder/image"
 passed=$((passed + 1))
 for program in header documented; do
     here=$PWD
@@ -25,26 +40,29 @@ for program in header documented; do
     passed=$((passed + 1))
 done
 run out/san-calls_test
-for order in ordered shuffled; do
+run out/san-carriers_test "$folder"
+run out/san-restart_test file "$cuts" 1
+run out/san-restart_test redo "$cuts" 1
+for order in ordered shuffled redo; do
     for group in 1 20 200; do
         run out/san-kill_test "$folder/image" "$rounds" "$group" "$order" "$group" $checker
     done
 done
 if [ "${HAS_PMEM:-}" = yes ]; then
-    PMEM_IS_PMEM_FORCE=1
-    export PMEM_IS_PMEM_FORCE
     run out/san-kill_test "$folder/image" "$rounds" 5 mapped 20 $checker
-    run out/san-lossy_test file 3000 1
-    run out/san-lossy_test pmem 3000 1
+    run out/san-restart_test pmem "$cuts" 1
 fi
-# A carrier that takes barriers for nothing has to be found out, with each of three seeds.
+# A carrier that ignores barriers has to be found, with each of three seeds.
 for seed in 1 2 3; do
-    out/san-kill_test "$folder/image" 200 $seed careless 20 2> "$folder/told"
+    out/san-kill_test "$folder/image" 200 $seed careless 20 2> "$folder/printed"
     [ $? = 1 ] || fail "a careless carrier passes"
-    echo "careless, by 20: found out: $(cat "$folder/told")"
+    echo "careless, by 20: found: $(cat "$folder/printed")"
     passed=$((passed + 1))
 done
+run out/san-stream_test
 run out/san-follow_test "$folder" "$rounds" 1
+run out/san-follower_test "$folder"
+run out/san-follower_restart_test $((cuts / 6)) 1
 if [ "${HAS_REDIS:-}" = yes ]; then
     run out/san-redis_test "$folder" $((rounds / 4 + 1)) 1
 fi

@@ -1,6 +1,8 @@
-/* mounted_test.c - system calls on a mounted volume, each with the answer that README.md tells.
+/* mounted_test.c - system calls on a mounted volume, each with the result that README.md states.
  *
- *     mounted_test FOLDER          FOLDER is empty, and lies on the mount
+ *     mounted_test calls FOLDER         a series of system calls; FOLDER is empty, and on the mount
+ *     mounted_test looks FOLDER COUNT   COUNT times fstat of one file
+ *     mounted_test many FOLDER COUNT    makes COUNT files of 1,000 bytes, syncs the last one, and prints both times
  */
 #define _GNU_SOURCE
 #include <errno.h>
@@ -23,7 +25,7 @@ static int wrong, checks;
 static void is(long wanted, long found, const char *call, int line) {
     checks++;
     if (wanted == found) return;
-    fprintf(stderr, "mounted_test.c:%d: %s: %ld, and %ld was wanted\n", line, call, found, wanted);
+    fprintf(stderr, "mounted_test.c:%d: %s: %ld, expected %ld\n", line, call, found, wanted);
     wrong = 1;
 }
 
@@ -43,7 +45,7 @@ static long names_of(const char *path) {
     return stat(path, &it) ? -1 : (long)it.st_nlink;
 }
 
-/* Whether a file's front is this text. */
+/* Whether a file holds this text, of less than 64 bytes. */
 static int has(const char *path, const char *text) {
     char bytes[64] = {0};
     int fd = open(path, O_RDONLY);
@@ -146,7 +148,7 @@ static void long_names(void) {
     WORKS(unlink("a"));
 }
 
-static void open_and_gone(void) {
+static void deleted_while_open(void) {
     char bytes[8] = {0};
     int fd = make("a", "kept");
     WORKS(unlink("a"));
@@ -207,16 +209,59 @@ static void space(void) {
     IS(before.f_bfree, after.f_bfree);
 }
 
-int main(int argc, char **argv) {
-    if (argc != 2 || chdir(argv[1])) return fprintf(stderr, "usage: mounted_test FOLDER\n"), 2;
+static int calls(void) {
     files();
     directories();
     renames();
     links();
     long_names();
-    open_and_gone();
+    deleted_while_open();
     what_is_not_kept();
     space();
-    printf("%d answers of system calls\n", checks);
+    printf("%d results of system calls\n", checks);
     return wrong;
+}
+
+/* Each fstat is a request to the mount, which must never run out of room in its log. */
+static int looks(long count) {
+    struct stat it;
+    long failed = 0;
+    int fd = make("looked-at", "x");
+    for (long i = 0; i < count; i++) failed += fstat(fd, &it) != 0;
+    close(fd);
+    if (failed) fprintf(stderr, "%ld of %ld fstats failed\n", failed, count);
+    return failed != 0;
+}
+
+static double seconds(void) {
+    struct timespec it;
+    clock_gettime(CLOCK_MONOTONIC, &it);
+    return (double)it.tv_sec + (double)it.tv_nsec / 1e9;
+}
+
+static int many(long count) {
+    static char bytes[1000], name[32];
+    int fd = -1;
+    double began = seconds();
+    memset(bytes, 'x', sizeof bytes);
+    for (long i = 0; i < count; i++) {
+        if (fd >= 0) close(fd);
+        snprintf(name, sizeof name, "f%ld", i);
+        fd = open(name, O_WRONLY | O_CREAT | O_EXCL, 0644);
+        if (fd < 0 || write(fd, bytes, sizeof bytes) != sizeof bytes) return perror(name), 1;
+    }
+    double made = seconds();
+    if (fsync(fd)) return perror("fsync"), 1;
+    printf("%ld files: %.3f s; fsync: %.3f s\n", count, made - began, seconds() - made);
+    return 0;
+}
+
+int main(int argc, char **argv) {
+    if (argc >= 3 && chdir(argv[2]) == 0) {
+        if (argc == 3 && strcmp(argv[1], "calls") == 0) return calls();
+        if (argc == 4 && strcmp(argv[1], "looks") == 0) return looks(atol(argv[3]));
+        if (argc == 4 && strcmp(argv[1], "many") == 0) return many(atol(argv[3]));
+    }
+    fprintf(stderr, "usage: mounted_test calls FOLDER, mounted_test looks FOLDER COUNT, mounted_test many FOLDER COUNT\n");
+    return 2;
 }

@@ -7,7 +7,6 @@
 
 enum { PLACES = 1 << 14 };
 
-/* An entry of a chain. */
 typedef struct entry {
     struct entry *next;
     struct timespec when;
@@ -67,7 +66,7 @@ void times_touch_parent(const char *path) {
     free(parent);
 }
 
-/* Takes the entry of a path out of the table. */
+/* Removes the entry of a path from the table, and returns it. */
 static entry *take(const char *path) {
     entry **at = chain_of(path);
     while (*at && strcmp((*at)->path, path)) at = &(*at)->next;
@@ -76,7 +75,7 @@ static entry *take(const char *path) {
     return it;
 }
 
-/* Takes the entries of all below a path out of the table: a chain. */
+/* Removes the entries of everything below a path from the table, and returns them as a chain. */
 static entry *take_below(const char *path) {
     size_t length = strlen(path);
     entry *taken = NULL;
@@ -94,7 +93,7 @@ static entry *take_below(const char *path) {
     return taken;
 }
 
-/* Puts the time of an entry below `from` to the path that is as far below `to`. */
+/* Sets the time of an entry below `from` for the same path below `to`. */
 static void move_below(const entry *it, const char *from, const char *to) {
     char *path;
     if (asprintf(&path, "%s%s", to, it->path + strlen(from)) < 0) return;

@@ -119,6 +119,7 @@ static void begin(void) {
     MUST(write_at(0, FILE_SIZE) == BPFS_OK);
     bpfs_drain(&fs);
     bpfs_stream_to(&stream, let_go, NULL, 0);
+    MUST(bpfs_bind(&fs, &stream.carrier) == 0);
 }
 
 int main(void) {

@@ -8,19 +8,6 @@ from .tree import read
 
 # The pages that these rules hold for, as patterns.
 FINISHED = ["*.md", "docs/*.md", "crates/*/README.md", "examples/*/README.md", "docs/*.1"]
-# Files with one long sentence or paragraph above a definition. To change such a comment is to prove the crate and all
-# crates above it again, so it is split when its crate changes next: then its line here goes, too.
-SPLIT_LATER = {
-    "crates/pm_cores/specs/Caches.antt",
-    "crates/bp_io/specs/Views.antt",
-    "crates/bp_cow/specs/Commit.antt",
-    "crates/bp_cow/specs/Committed.antt",
-    "crates/bp_cow/specs/Stage.antt",
-    "crates/bpfs_c/specs/Serves.antt",
-    "crates/bp_script/specs/Commands.antt",
-    "crates/bp_session/specs/Outside.antt",
-    "crates/bp_shell/specs/Exporting.antt",
-}
 MOST_COLUMNS, MOST_IN_PARAGRAPH, MOST_IN_SENTENCE = 100, 80, 40
 WORDS = re.compile(r"\b(behind|tells?|told|so\s+many|but\s+for|anew|whoever|dear|stands\s+for)\b", re.I)
 # A made part that is checked where its text comes from.
@@ -176,5 +163,4 @@ def faults(crates, pages):
     if is_finished("docs/definitions.md"):
         for _, files in definitions.all_files(crates):
             for file in files:
-                if file.path not in SPLIT_LATER:
-                    yield from faults_of(file.path)
+                yield from faults_of(file.path)

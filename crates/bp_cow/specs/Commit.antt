@@ -68,8 +68,10 @@ OnCommit bound touched cover old new Holds = IsForest old bound → IsCommittedB
 
 -- The effect of a commit. One store at the word of the cover, alone in its epoch after a quiet preparation, gives each
 -- touched word its value. The stores before it go to the blocks taken for copies, at least one to each, and nowhere
--- else. No store goes to a kept block. Afterwards the free blocks are exactly those that are not kept and that no tree
--- of the old image has, so the copied blocks are free unless they are kept.
+-- else. No store goes to a kept block.
+--
+-- Afterwards a block is free exactly if it is not kept and no tree has it in the new image, of the inodes that were
+-- reached in the old one. So the blocks that were copied are free, unless they are kept.
 pub record CommitsTouched (bound : ℕ → ℕ) (kept : ℕ → Bool) (touched : Touched) (old new : Memory)
     (blocks blocks_after : Set) : Type 0 where
   pub value : ℕ

@@ -16,8 +16,8 @@ abbrev pub changes_of : Image → Job → ℕ → ℕ → Option ℕ
 changes_of old job t k =
     Some (after_commit old job (tree_trail (height_of (word old super_root)) t (suc (height_of (root_of old t))) k))
 
--- The effect of a commit on the words of an image. `Pointer`: the pointers of the image; `Counts`: the content words
--- that count; `turned`: the pointers that lead to copies, in blocks to which no pointer led before; `after`: the value
+-- The effect of a commit on the words of an image. `Pointer`: the pointers of the image. `Counts`: the content words
+-- that count. `turned`: the pointers that lead to copies, in blocks to which no pointer led before. `after`: the value
 -- of each word that counts and is not such a pointer. A word of a block that is new, below an old null pointer, counts
 -- as 0 before.
 pub record IsCommitted (old new : Image) (Pointer Counts turned : Trail → Type 0) (after : Trail → ℕ) : Type 0 where

@@ -4,9 +4,9 @@ use Rattle.bp_limits.specs.Limits.{block_size, block_words, super_root}
 use Rattle.bp_layout.specs.Words.{Image, word, block_count}
 use Rattle.bp_shapes.specs.Trail.{Trail, word_on, block_on, place_on, IsSkeleton, IsPlaced, LeadsTo}
 
--- `Counts`: the content words that count; `anew`: the pointers that lead to a block taken by this commit; `value`: the
--- values of the touched words; `laid`: the other words of the copied blocks, with the bytes of the runs; `kept`: the
--- blocks that are never free
+-- The state of an image while a commit makes its copies. `Counts`: the content words that count. `anew`: the pointers
+-- that lead to a block taken by this commit. `value`: the values of the touched words. `laid`: the other words of the
+-- copied blocks, with the bytes of the runs. `kept`: the blocks that are never free.
 pub record IsStage (old now : Image) (Pointer Counts anew : Trail → Type 0) (value : Trail → Option ℕ)
     (laid : Trail → ℕ) (kept free : ℕ → Bool) : Type 0 where
   pub whole : length now ≡ length old

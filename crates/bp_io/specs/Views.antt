@@ -21,9 +21,10 @@ HasBytes None bytes = ⊤
 HasBytes (Some None) bytes = ⊥
 HasBytes (Some (Some found)) bytes = found ≡ bytes
 
--- What is known of files: under which names one is attached, how many whole blocks the attached one has (0 if none is
--- attached), whether it may be written, whether everything written is known to be flushed, what is known of the file of
--- each name, and how often they have failed, up to 2^64 - 1, where the count stops.
+-- What is known of files. `is_attached`: the names under which a file is attached. `blocks`: the number of whole blocks
+-- of the attached file, 0 if none is attached. `may_write`: whether it may be written. `is_flushed`: whether everything
+-- written is known to be flushed. `contents`: what is known of the file of each name. `faults`: the number of failures,
+-- which stops at 2^64 - 1.
 pub record View : Type 0 where
   pub is_attached : List ℕ → Bool
   pub blocks : ℕ

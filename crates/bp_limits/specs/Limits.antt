@@ -27,7 +27,7 @@ abbrev pub magic : Version → ℕ
 magic One = 0x3130535253465042
 magic Two = 0x3230535253465042
 
--- The version of an image with this word 0: the first version if it is the magic number of none.
+-- The version of an image with this word 0: version 1 for each word that is not the magic number of version 2.
 abbrev pub version_at : ℕ → Version
 version_at word = if word == magic Two then Two else One
 

@@ -194,14 +194,8 @@ row_command verb (first ∷ second ∷ []) = pair_command verb first second
 row_command verb (first ∷ second ∷ third ∷ []) = long_command verb first second third
 row_command verb words = bad_syntax
 
--- The table of commands, by the fields of a line.
---     sync      space      log
---     create PATH      mkdir PATH      unlink PATH      rmdir PATH      list PATH      stat PATH
---     read PATH OFF LEN      write PATH OFF HEX      truncate PATH SIZE
---     rename PATH PATH      link PATH PATH      links PATH      upgrade
---     snap      unsnap      slist PATH      sstat PATH      sread PATH OFF LEN
---     batch PATH OFF HEX ..      with PATH OFF HEX 1 to 16 times
---     crash all      crash none      crash MOMENT EPOCH MASK      storm SEED      cache SEED
+-- The table of commands, by the fields of a line. The functions above have the verbs with no field,
+-- with one, two and three. Only `batch` has more: PATH, OFF and HEX, 1 to 16 times.
 abbrev pub command_by_words : List (List ℕ) → Command
 command_by_words (verb ∷ words) =
     if bytes_eq verb (codes "batch") then batch_of (piece_words words) else row_command verb words

@@ -11,8 +11,9 @@ pub record Faults : Type 0 where
 abbrev pub counts : ℕ → ℕ → View → Faults
 counts source sink files = record { source = source; sink = sink; files = files.faults }
 
--- The known state of the outside of a program: the bytes left in the source, the bytes that the sink took, the
--- contents of FILE, whether all written data is known to be flushed, and the number of failures of each device.
+-- The known state of the outside of a program. `left`: the bytes left in the source. `taken`: the bytes that the sink
+-- took. `file`: the contents of FILE. `is_flushed`: whether all written data is known to be flushed. `faults`: the
+-- number of failures of each device.
 pub record Outside : Type 0 where
   pub left : Option (List ℕ)
   pub taken : Option (List ℕ)

@@ -25,8 +25,8 @@ use Rattle.bp_shell.specs.declared.status.Status.TheVariants as status
 
 -- ---- a tree
 
--- The text printed for a tree, by the status: the whole script; a prefix of it if memory lacks, or a proper prefix if
--- the sink failed; and if some path is longer than a call can spell, only the line that reports this.
+-- The text printed for a tree, by the status: the whole script; a prefix of it if memory lacks; a proper prefix of it if
+-- the sink failed. If some path is longer than a call can spell, only the line that reports this is printed.
 abbrev pub TellsTree : FileTree → Status → Option (List ℕ) → Option (List ℕ) → ℕ → ℕ → Type 0
 TellsTree tree status.Done taken taken_now faults faults_now =
     HasShortPaths tree × Appends taken taken_now (export_text tree) × (faults_now ≡ faults)

@@ -25,9 +25,9 @@ pub record Serves (old : Mounted) (call : Call) (Told : Answer → Type 0) (new 
   pub held : new ≡ Some (record old { volume = volume; listing = listing_after answer old.listing })
   pub told : Told answer
 
--- The effect of an export that makes a call: nothing where the handle holds no volume (32) or the log has room for
--- fewer events than a call may need (34), so that no event is ever dropped; else the call. Where it does nothing, the
--- caller's variables keep their contents.
+-- The effect of an export that makes a call. If the handle holds no volume (32), or the log has room for fewer events
+-- than a call may need (34), it does nothing, and the caller's variables keep their contents. So no event is ever
+-- dropped. Otherwise it makes the call.
 pub data Exported (old : Option Mounted) (call : Call) (Told : Answer → Type 0) (Same : Type 0) (code : ℕ) (new : Option Mounted) : Type 0 where
   closed : old ≡ None → code ≡ 32 → new ≡ None → Same → Exported old call Told Same code new
   full : (held : Mounted) → old ≡ Some held → room_in held.volume < call_room → code ≡ 34 → new ≡ old → Same →

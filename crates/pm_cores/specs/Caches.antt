@@ -6,9 +6,9 @@ use Rattle.pm_cores.specs.declared.entry.Entry.TheVariants.{Load, Store, Barrier
 use Rattle.pm_cores.specs.declared.entry.Owner.{Owner}
 use Rattle.pm_cores.specs.Log.{core_barriers, epoch_at, last_value, words_back, line_at}
 
--- The state of the caches: the numbers of cores and of words; the owner of each dirty word; the log, with a flag for
--- each entry, whether it is a store that is written back; and the capacity of the log. The words of the memory are not
--- among these: they are a region's words with the stores that are written back.
+-- The state of the caches: the number of cores, the number of words, the owner of each dirty word, the log and its
+-- capacity. `back` has a flag for each entry of the log: whether it is a store that is written back. The words of the
+-- memory are not part of the state: they are a region's words with the stores that are written back.
 pub record Caches : Type 0 where
   pub cores : ℕ
   pub words : ℕ

@@ -2,6 +2,7 @@
 use Rattle.std.proofs.Common.{◌≡◌, ◌≢◌, ◌⊎◌, ℕ, suc, ◌+◌, ◌*◌, ◌/◌, ◌%◌, ◌<◌, ◌≤◌, List, [], length, set, slice_index, Bool, true, false, ◌-◌, refl, sym, ◌∙◌, ap, ap₂, subst, arith, inl, inr}
 use Rattle.std.proofs.lemmas.Bool.{cases_Bool, cases_eq}
 use Rattle.std.proofs.lemmas.List.{length-set}
+use Rattle.bp_limits.specs.Limits.{block_inodes, max_blocks}
 use Rattle.bp_calls.specs.Commits.{CommitsChange}
 use Rattle.bp_calls.specs.GivenBack.{GivesBack}
 use Rattle.bp_calls.proofs.CountLaws.{exact_with}
@@ -107,7 +108,7 @@ module _ {image : Image} {i s j place : ℕ} (can : CanLeave image i s j place) 
   pub named_reached : IsReached image j
   named_reached = named s reached entry
 
-  pub named_few : j < 4194304
+  pub named_few : j < block_inodes * max_blocks
   named_few = few_inode image wf j (wf.inumbers i s j reached entry)
 
   removes : RemovesEntry image last i s

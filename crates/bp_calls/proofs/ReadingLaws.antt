@@ -2,6 +2,7 @@
 use Rattle.std.proofs.Common.{◌≡◌, ◌≢◌, ℕ, zero, suc, ◌+◌, ◌*◌, ◌/◌, ◌<◌, ◌≤◌, [], ◌∷◌, ◌++◌, length, Bool, true, false, ◌==◌, Option, None, Some, filter, filter_map, not, refl, sym, ◌∙◌, ap, subst, arith}
 use Rattle.std.specs.List.{range_with_len, cons_option}
 use Rattle.std.proofs.lemmas.List.FromFn.{length-map-range_with_len}
+use Rattle.bp_limits.specs.Limits.{block_inodes, max_blocks}
 use Rattle.bp_layout.specs.Words.{Image, block_count}
 use Rattle.bp_layout.specs.Tree.{IsSound}
 use Rattle.bp_layout.specs.Inode.{kind_of, root_of, size_of, inode_count}
@@ -28,7 +29,7 @@ module _ (image : Image) (wf : IsWellFormed image) where
   inode_file_sound = wf.sound 0 inode_file
 
   -- inode numbers are small
-  pub few_inode : (j : ℕ) → j < inode_count image → j < 4194304
+  pub few_inode : (j : ℕ) → j < inode_count image → j < block_inodes * max_blocks
   few_inode j high =
       let few : size_of image 0 / 64 ≤ 64 * block_count image = few_inodes image (root_of image 0) (size_of image 0) inode_file_sound wf.full_inode_file (omega (arith, wf.formatted.sized.at_least)) wf.inode_blocks in
       omega (arith, few, high, wf.formatted.sized.at_most)
@@ -37,7 +38,7 @@ module _ (image : Image) (wf : IsWellFormed image) where
   pub record IsInode (j : ℕ) : Type 0 where
     pub low : 1 ≤ j
     pub high : j < inode_count image
-    pub few : j < 4194304
+    pub few : j < block_inodes * max_blocks
     pub least : 1 ≤ kind_of image j
     pub most : kind_of image j ≤ 2
 
@@ -78,7 +79,7 @@ module _ (image : Image) (wf : IsWellFormed image) where
         go (suc j) at =
             let high : inumber_in image root slot < inode_count image = wf.inumbers i slot (inumber_in image root slot) reached names_here in
             let kinds : (1 ≤ kind_of image (suc j)) × (kind_of image (suc j) ≤ 2) = wf.kinds j (subst (IsReached image) at names_reached) in
-            rw at (record { low = omega arith; high = omega (arith, high, at); few = subst (λ k. k < 4194304) at (few_inode (inumber_in image root slot) high); least = kinds.0; most = kinds.1 })
+            rw at (record { low = omega arith; high = omega (arith, high, at); few = subst (λ k. k < block_inodes * max_blocks) at (few_inode (inumber_in image root slot) high); least = kinds.0; most = kinds.1 })
 
 -- ---- the entries of some slots and of those behind them
 

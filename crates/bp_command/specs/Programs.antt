@@ -4,7 +4,7 @@ use Rattle.std.specs.Str.Parse.{digits_value, without_leading_plus}
 use Rattle.clap.specs.Words.{Row, Text, first_of, one_of}
 use Rattle.clap.specs.ValueTests.{accepts}
 use Rattle.clap.specs.declared.builder.value_parser.ValueParser.TheVariants as vp
-use Rattle.bp_limits.specs.Limits.{max_blocks, max_turns, min_blocks}
+use Rattle.bp_limits.specs.Limits.{max_file_blocks, max_turns, min_blocks}
 use Rattle.bp_limits.specs.Numbers.{version_numbered}
 use Rattle.bp_limits.specs.declared.version.Version.{Version}
 use Rattle.bp_limits.specs.declared.version.Version.TheVariants.{One, Two}
@@ -41,7 +41,7 @@ last_version = 2
 
 -- The number of blocks of a format is one that an image may have; the seed and the count of a play are in range.
 abbrev pub HasNumbersInRange : Program → Type 0
-HasNumbersInRange (formats name blocks version) = (min_blocks ≤ blocks) × (blocks ≤ max_blocks)
+HasNumbersInRange (formats name blocks version) = (min_blocks ≤ blocks) × (blocks ≤ max_file_blocks)
 HasNumbersInRange (runs name) = Unit {0}
 HasNumbersInRange (checks name) = Unit {0}
 HasNumbersInRange (plays name seed count) = (seed ≤ max_seed) × (count ≤ max_turns)
@@ -77,7 +77,7 @@ short_words (formats name blocks One) = format_words name blocks
 short_words program = program_words program
 
 abbrev pub IsProper : Program → Type 0
-IsProper (formats name blocks version) = IsFileName name × (min_blocks ≤ blocks) × (blocks ≤ max_blocks)
+IsProper (formats name blocks version) = IsFileName name × (min_blocks ≤ blocks) × (blocks ≤ max_file_blocks)
 IsProper (runs name) = IsFileName name
 IsProper (checks name) = IsFileName name
 IsProper (plays name seed count) = IsFileName name × (seed ≤ max_seed) × (count ≤ max_turns)
@@ -105,7 +105,7 @@ pub record HasValues (verb : Text) (rows : List Row) : Type 0 where
   pub name : Text
   pub named : first_of (codes "FILE") rows ≡ Some name
   pub some : 0 < length name
-  pub blocks : verb ≡ codes "format" → HasNumber (codes "blocks") min_blocks max_blocks rows
+  pub blocks : verb ≡ codes "format" → HasNumber (codes "blocks") min_blocks max_file_blocks rows
   pub version : verb ≡ codes "format" → HasNumber (codes "version") first_version last_version rows
   pub seed : verb ≡ codes "play" → HasNumber (codes "seed") 0 max_seed rows
   pub count : verb ≡ codes "play" → HasNumber (codes "count") 0 max_turns rows
@@ -127,7 +127,7 @@ pub record GivesNumber (option : Text) (least most : ℕ) (rows : List Row) (num
 
 -- The number of blocks and the version of a format, and the seed and the count of a play.
 abbrev pub AsksForBlocks : List Row → ℕ → Type 0
-AsksForBlocks rows blocks = GivesNumber (codes "blocks") min_blocks max_blocks rows blocks
+AsksForBlocks rows blocks = GivesNumber (codes "blocks") min_blocks max_file_blocks rows blocks
 
 pub record AsksForVersion (rows : List Row) (version : Version) : Type 0 where
   pub number : ℕ

@@ -3,7 +3,7 @@
 ghost use Rattle.std.specs.Prelude.{IfOk};
 ghost use Rattle.bp_command.specs.Commands.{IsArgument, IsCommand, bare_app, blocks_rule, bpfs_app, check_app, count_rule, export_app, file_rule, format_app, play_app, run_app, seed_rule, version_rule};
 
-use bp_limits::{MAX_BLOCKS, MAX_TURNS, MIN_BLOCKS};
+use bp_limits::{MAX_FILE_BLOCKS, MAX_TURNS, MIN_BLOCKS};
 use clap::builder::ValueParser;
 use clap::{Arg, Command, value_parser};
 use std::alloc::{AllocError, Global};
@@ -27,7 +27,7 @@ fn blocks<'a>(alloc: Global) -> Arg<'a>
         .value_name("N")
         .help("Size in blocks of 4 KiB, 8 to 65536")
         .required(true)
-        .value_parser(value_parser!(u64).range(i64::from(MIN_BLOCKS)..=i64::from(MAX_BLOCKS)))
+        .value_parser(value_parser!(u64).range(i64::from(MIN_BLOCKS)..=i64::from(MAX_FILE_BLOCKS)))
 }
 
 /// Defines the version of a new file system: 1 if the arguments give none.

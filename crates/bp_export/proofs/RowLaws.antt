@@ -5,6 +5,7 @@ use Rattle.std.proofs.lemmas.Bool.{eqb-true}
 use Rattle.std.proofs.lemmas.List.{append-nil, get_or-take, length-take}
 use Rattle.std.proofs.lemmas.List.Elements.{filter_map-append}
 use Rattle.std.proofs.lemmas.List.FromFn.{length-map-range_with_len}
+use Rattle.bp_limits.specs.Limits.{block_inodes, max_blocks}
 use Rattle.bp_layout.specs.Words.{Image, block_count}
 use Rattle.bp_layout.specs.Tree.{IsSound, content_word}
 use Rattle.bp_layout.specs.Inode.{inode_count, kind_of, root_of, size_of}
@@ -29,7 +30,7 @@ module _ (image : Image) (wf : IsWellFormed image) where
   -- a reached inode is in the inode file
   pub record IsInode (j : ℕ) : Type 0 where
     pub high : j < inode_count image
-    pub few : j < 4194304
+    pub few : j < block_inodes * max_blocks
     pub least : 1 ≤ kind_of image j
     pub most : kind_of image j ≤ 2
 

@@ -6,7 +6,7 @@ ghost use Rattle.bp_io.specs.Files.{StaysAttached, StaysOrIsMade, Becomes, Answe
 ghost use Rattle.bp_io.specs.Views.{View};
 
 use crate::{Access, Failed};
-use bp_limits::{BLOCK_SIZE, MAX_BLOCKS};
+use bp_limits::{BLOCK_SIZE, MAX_FILE_BLOCKS};
 
 /// The bytes of a block, as a length.
 pub const BLOCK: usize = BLOCK_SIZE as usize;
@@ -103,7 +103,7 @@ pub trait Files {
     fn set_blocks(&mut self, n: u32) -> Result<(), Failed>
         requires attached { (name : List ℕ) × ((view self.old).is_attached name ≡ true) }
         requires may_write { (view self.old).may_write ≡ true }
-        requires fits { n ≤ MAX_BLOCKS }
+        requires fits { n ≤ MAX_FILE_BLOCKS }
         ensures resized { OnOk result (Resizes n (view self.old) (view self.new)) }
         ensures failed { OnErr result
             (KeepsSize (view self.old) (view self.new) ⊎ Resizes n (view self.old) (view self.new)) }
@@ -125,7 +125,7 @@ pub trait Files {
         requires may_write { (view self.old).may_write ≡ true }
         requires whole { length front.now % BLOCK_SIZE ≡ 0 }
         requires inside { length front.now / BLOCK_SIZE ≤ n }
-        requires fits { n ≤ MAX_BLOCKS }
+        requires fits { n ≤ MAX_FILE_BLOCKS }
         ensures replaced { OnOk result (Replaces front.now n (view self.old) (view self.new)) }
         ensures failed { OnErr result (ReplacesPartly front.now n (view self.old) (view self.new)) }
         ensures others { KeepsOthers (view self.old) (view self.new) }

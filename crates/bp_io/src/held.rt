@@ -2,14 +2,14 @@
 
 ghost use Rattle.std.specs.Prelude.{◌≡◌, ◌<◌, ◌≤◌, ◌+◌, ◌^◌, IfSome, vec_len};
 
-use bp_limits::{BLOCK_SIZE, MAX_BLOCKS};
+use bp_limits::{BLOCK_SIZE, MAX_FILE_BLOCKS};
 use std::alloc::{AllocError, Global};
 
 /// The number of blocks whose state is recorded.
-const BLOCKS: usize = MAX_BLOCKS as usize;
+const BLOCKS: usize = MAX_FILE_BLOCKS as usize;
 
 /// The bytes of the blocks whose state is recorded.
-pub(crate) const TOLD_APART: u64 = BLOCK_SIZE * MAX_BLOCKS as u64;
+pub(crate) const TOLD_APART: u64 = BLOCK_SIZE * MAX_FILE_BLOCKS as u64;
 
 /// The state of a block of a second file.
 #[derive(Clone, Copy, PartialEq, Eq)]

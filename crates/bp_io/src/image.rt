@@ -1,21 +1,21 @@
 //! The bytes of a file in memory.
 
 ghost use Rattle.std.specs.Prelude.{◌≡◌, ◌≤◌, ◌<◌, ◌+◌, ◌*◌, ◌/◌, ◌%◌, vec_capacity, length, IfOk};
-ghost use Rattle.bp_limits.specs.Limits.{block_size, max_blocks};
+ghost use Rattle.bp_limits.specs.Limits.{block_size, max_file_blocks};
 ghost use Rattle.bp_io.specs.Files.{blocks_of, with_block, with_blocks, resized_file};
 
 use crate::BLOCK;
-use bp_limits::MAX_BLOCKS;
+use bp_limits::MAX_FILE_BLOCKS;
 use std::alloc::{AllocError, Global};
 
 /// The number of bytes of the largest file.
-const ROOM: usize = BLOCK * MAX_BLOCKS as usize;
+const ROOM: usize = BLOCK * MAX_FILE_BLOCKS as usize;
 
 /// The bytes of a file, with memory for the largest file from the start, so that no change allocates.
 #[derive(Drop)]
 pub(crate) struct Image {
     bytes: Vec<u8>,
-    ghost room: { block_size * max_blocks ≤ vec_capacity bytes },
+    ghost room: { block_size * max_file_blocks ≤ vec_capacity bytes },
 }
 
 impl Image {
@@ -68,7 +68,7 @@ impl Image {
     }
 
     pub(crate) fn set_blocks(&mut self, n: u32)
-        requires { n ≤ MAX_BLOCKS }
+        requires { n ≤ MAX_FILE_BLOCKS }
         ensures bytes { self.new.bytes.items ≡ resized_file (block_size * n) self.old.bytes.items }
         ensures length { length self.new.bytes.items ≡ block_size * n }
     {
@@ -81,7 +81,7 @@ impl Image {
     pub(crate) fn replace(&mut self, front: &[u8], n: u32)
         requires whole { length front.now % block_size ≡ 0 }
         requires inside { length front.now / block_size ≤ n }
-        requires fits { n ≤ MAX_BLOCKS }
+        requires fits { n ≤ MAX_FILE_BLOCKS }
         ensures bytes { self.new.bytes.items ≡ resized_file (block_size * n) front.now }
         ensures length { length self.new.bytes.items ≡ block_size * n }
     {

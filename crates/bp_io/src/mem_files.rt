@@ -10,7 +10,7 @@ use crate::faults::CallPlan;
 use crate::files::Files;
 use crate::image::Image;
 use crate::{Access, BLOCK, Failed};
-use bp_limits::{BLOCK_SIZE, MAX_BLOCKS};
+use bp_limits::{BLOCK_SIZE, MAX_FILE_BLOCKS};
 use std::alloc::{AllocError, Global};
 
 /// A file in memory that has every name, or none until one is created; then each name has it. It has memory for 65,536
@@ -179,7 +179,7 @@ impl Files for MemFiles<'_> {
     fn set_blocks(&mut self, n: u32) -> Result<(), Failed>
         requires attached { (name : List ℕ) × ((mem_view self.old).is_attached name ≡ true) }
         requires may_write { (mem_view self.old).may_write ≡ true }
-        requires fits { n ≤ MAX_BLOCKS }
+        requires fits { n ≤ MAX_FILE_BLOCKS }
         ensures resized { OnOk result (Resizes n (mem_view self.old) (mem_view self.new)) }
         ensures failed { OnErr result (KeepsSize (mem_view self.old) (mem_view self.new)
             ⊎ Resizes n (mem_view self.old) (mem_view self.new)) }
@@ -205,7 +205,7 @@ impl Files for MemFiles<'_> {
         requires may_write { (mem_view self.old).may_write ≡ true }
         requires whole { length front.now % BLOCK_SIZE ≡ 0 }
         requires inside { length front.now / BLOCK_SIZE ≤ n }
-        requires fits { n ≤ MAX_BLOCKS }
+        requires fits { n ≤ MAX_FILE_BLOCKS }
         ensures replaced { OnOk result (Replaces front.now n (mem_view self.old) (mem_view self.new)) }
         ensures failed { OnErr result (ReplacesPartly front.now n (mem_view self.old) (mem_view self.new)) }
         ensures others { KeepsOthers (mem_view self.old) (mem_view self.new) }

@@ -13,7 +13,7 @@ use Rattle.bp_layout.specs.Whole.{IsFileSystem}
 use Rattle.bp_layout.proofs.NoSecond.{alone_file_system, has_none}
 use Rattle.bp_limits.specs.declared.version.Version.{Version}
 use Rattle.bp_limits.specs.declared.version.Version.TheVariants.{One, Two}
-use Rattle.bp_limits.specs.Limits.{greatest_height, magic, version_at}
+use Rattle.bp_limits.specs.Limits.{greatest_height, magic, max_blocks, version_at}
 use Rattle.bp_limits.proofs.Versions.{version_marked}
 use Rattle.bp_layout.specs.Formatted.{version_of}
 use Rattle.bp_layout.specs.Lookup.{shown}
@@ -147,7 +147,7 @@ module _ (image : Image) (version : Version) (has : HasFormat image version) whe
   low_root = each_tree (λ t. 0 < size_of image t → height_of (root_of image t) ≤ greatest_height (version_of image))
       (λ some. rw has.root (omega arith)) (λ some. omega (arith, some, root_size-is))
 
-  pub format_well_formed : length image ≡ 512 * block_count image → 8 ≤ block_count image → block_count image ≤ 65536 → IsWellFormed image
+  pub format_well_formed : length image ≡ 512 * block_count image → 8 ≤ block_count image → block_count image ≤ max_blocks → IsWellFormed image
   format_well_formed whole least most = record {
     formatted = record {
       sized = record { whole = whole; at_least = least; at_most = most };
@@ -184,7 +184,7 @@ module _ (image : Image) (version : Version) (has : HasFormat image version) whe
 pub formatted_version : (image : Image) (version : Version) (blocks : ℕ) → length image ≡ 512 * blocks → 8 ≤ blocks → version_of (formatted image version blocks) ≡ version
 formatted_version image version blocks whole least = version-is (formatted image version blocks) version (formatted_words image version blocks whole least)
 
-module _ (image : Image) (version : Version) (blocks : ℕ) (whole : length image ≡ 512 * blocks) (least : 8 ≤ blocks) (most : blocks ≤ 65536) where
+module _ (image : Image) (version : Version) (blocks : ℕ) (whole : length image ≡ 512 * blocks) (least : 8 ≤ blocks) (most : blocks ≤ max_blocks) where
   -- it is well formed
   pub formatted_well_formed : IsWellFormed (formatted image version blocks)
   formatted_well_formed =

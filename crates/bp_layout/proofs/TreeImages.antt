@@ -1,7 +1,7 @@
 -- The image in which another tree is the first reads each tree as the image does.
 use Rattle.std.proofs.Common.{◌≡◌, ◌≢◌, ℕ, ◌*◌, ◌/◌, ◌≤◌, length, set, sym, ◌∙◌, ap, subst, arith, get_or-set_same, get_or-set_other}
 use Rattle.std.proofs.lemmas.List.{length-set}
-use Rattle.bp_limits.specs.Limits.{magic, version_at}
+use Rattle.bp_limits.specs.Limits.{magic, max_blocks, version_at}
 use Rattle.bp_layout.specs.Formatted.{IsFormatted, IsSized, version_of}
 use Rattle.bp_layout.specs.Words.{Image, word}
 use Rattle.bp_layout.specs.Trees.{snapshot_of}
@@ -30,7 +30,7 @@ pub snapshot-sized : (image : Image) → IsSized image → IsSized (snapshot_of 
 snapshot-sized image sized = record {
   whole = subst (λ n. n ≡ 512 * (n / 512)) (sym (length-snapshot image)) sized.whole;
   at_least = subst (λ n. 8 ≤ n / 512) (sym (length-snapshot image)) sized.at_least;
-  at_most = subst (λ n. n / 512 ≤ 65536) (sym (length-snapshot image)) sized.at_most;
+  at_most = subst (λ n. n / 512 ≤ max_blocks) (sym (length-snapshot image)) sized.at_most;
 }
 
 pub snapshot-formatted : (image : Image) → IsFormatted image → IsFormatted (snapshot_of image)

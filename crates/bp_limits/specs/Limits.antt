@@ -1,6 +1,6 @@
 -- The limits of the format, of scripts and of the programs. CallLimits has those of calls.
 use Rattle.std.specs.Prelude.{ℕ, ◌==◌, if◌then◌else◌}
-use Rattle.bp_limits.specs.declared.TheConstants.{BLOCK_SIZE, BLOCK_WORDS, MIN_BLOCKS, MAX_BLOCKS, SUPER_MAGIC, SUPER_BLOCKS, SUPER_ROOT, SUPER_SIZE, SUPER_SECOND_ROOT, SUPER_SECOND_SIZE, INODE_SIZE, INODE_WORDS, ROOT_FIELD, SIZE_FIELD, BLOCK_INODES, ROOT_INUMBER, FIRST_INODE, FILE_KIND, DIRECTORY_KIND, ENTRY_SIZE, ENTRY_WORDS, BLOCK_ENTRIES, MAX_HEIGHT, MAX_READ, MAX_PIECES, CALL_ROOM, MAX_LINE, MAX_TEXT, MAX_INPUT, LOG_EVENTS, MAX_MASK, MAX_TURNS}
+use Rattle.bp_limits.specs.declared.TheConstants.{BLOCK_SIZE, BLOCK_WORDS, MIN_BLOCKS, MAX_BLOCKS, MAX_FILE_BLOCKS, SUPER_MAGIC, SUPER_BLOCKS, SUPER_ROOT, SUPER_SIZE, SUPER_SECOND_ROOT, SUPER_SECOND_SIZE, INODE_SIZE, INODE_WORDS, ROOT_FIELD, SIZE_FIELD, BLOCK_INODES, ROOT_INUMBER, FIRST_INODE, FILE_KIND, DIRECTORY_KIND, ENTRY_SIZE, ENTRY_WORDS, BLOCK_ENTRIES, MAX_HEIGHT, MAX_READ, MAX_PIECES, CALL_ROOM, MAX_LINE, MAX_TEXT, MAX_INPUT, LOG_EVENTS, MAX_MASK, MAX_TURNS}
 use Rattle.bp_limits.specs.declared.version.Version.{Version}
 use Rattle.bp_limits.specs.declared.version.Version.TheVariants.{One, Two}
 
@@ -19,6 +19,10 @@ min_blocks = MIN_BLOCKS
 
 abbrev pub max_blocks : ℕ
 max_blocks = MAX_BLOCKS
+
+-- The maximum number of blocks of an image that the program reads from FILE.
+abbrev pub max_file_blocks : ℕ
+max_file_blocks = MAX_FILE_BLOCKS
 
 -- ---- the superblock
 

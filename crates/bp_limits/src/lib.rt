@@ -25,6 +25,9 @@ pub const MIN_BLOCKS: u32 = 8;
 /// The maximum number of blocks of an image.
 pub const MAX_BLOCKS: u32 = 65_536;
 
+/// The maximum number of blocks of FILE, the image that the program `bpfs` reads into memory as a whole.
+pub const MAX_FILE_BLOCKS: u32 = 65_536;
+
 // ---- the superblock
 
 /// The word of the superblock with the magic number of an image: [`Version::magic`].

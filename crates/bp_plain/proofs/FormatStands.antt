@@ -2,6 +2,7 @@
 use Rattle.std.proofs.Common.{◌≡◌, ℕ, ◌*◌, ◌≤◌, [], ◌∷◌, length, Option, None, Some, option_map, refl, sym, ◌∙◌, ap}
 use Rattle.std.specs.FinMap.{get, empty, get-empty, get-insert}
 use Rattle.std.specs.FinSet.{contains-empty}
+use Rattle.bp_limits.specs.Limits.{max_blocks}
 use Rattle.bp_limits.specs.declared.version.Version.{Version}
 use Rattle.bp_layout.specs.Words.{Image}
 use Rattle.bp_layout.specs.Lookup.{are_one, file_at, lookup, node_of, shown}
@@ -14,7 +15,7 @@ use Rattle.bp_plain.specs.PlainTree.{empty_map, empty_tree, pair_cmp, path_cmp}
 use Rattle.bp_plain.specs.Stands.{Shows, Stands}
 use Rattle.bp_plain.proofs.PathOrder.{path_cmp-IsTotalOrder}
 
-module _ (image : Image) (version : Version) (blocks : ℕ) (whole : length image ≡ 512 * blocks) (least : 8 ≤ blocks) (most : blocks ≤ 65536) where
+module _ (image : Image) (version : Version) (blocks : ℕ) (whole : length image ≡ 512 * blocks) (least : 8 ≤ blocks) (most : blocks ≤ max_blocks) where
   abbrev made : Image
   made = formatted image version blocks
 

@@ -27,7 +27,7 @@ use Rattle.bp_layout.specs.WellFormed.{IsWellFormed}
 use Rattle.bp_layout.specs.WordPaths.{WordPath, digits, inode_path, tree_path}
 use Rattle.bp_layout.specs.Words.{Image, block_count, block_of, height_of, word}
 use Rattle.bp_layout.proofs.Reached.{reached-in_file}
-use Rattle.bp_limits.specs.Limits.{block_words, max_height}
+use Rattle.bp_limits.specs.Limits.{block_inodes, block_words, max_blocks, max_height}
 use Rattle.bp_changes.specs.Commits.{CommitsOnly}
 use Rattle.bp_changes.specs.Effects.{CarriesEntry}
 use Rattle.bp_changes.proofs.Carry.{carried_well_formed}
@@ -82,7 +82,7 @@ short_trail h i d k n path low same =
     omega (arith, low, long, length-append root (digits d k), length-digits (suc h) (8 * suc i + 1))
 
 -- the inode that moves is a number of 32 bits
-pub moved_few : (image : Image) (move : Move) → CanRename image move → moved_inode image move < 4194304
+pub moved_few : (image : Image) (move : Move) → CanRename image move → moved_inode image move < block_inodes * max_blocks
 moved_few image move can = few_inode image can.well_formed (moved_inode image move) (can.well_formed.inumbers move.from_dir move.from_slot (moved_inode image move) can.source can.entry)
 
 -- the entry can be put there

@@ -1,5 +1,6 @@
 -- A name moves onto another one: what the commit asks, that it is performed, and what comes back.
 use Rattle.std.proofs.Common.{◌≡◌, ◌≢◌, ℕ, ◌+◌, ◌*◌, ◌%◌, ◌<◌, ◌≤◌, List, [], ◌∷◌, length, Bool, Some, refl, sym, ◌∙◌, ap, ap₂, subst, arith, inl}
+use Rattle.bp_limits.specs.Limits.{block_inodes, max_blocks}
 use Rattle.bp_layout.specs.Directory.{EntryNames, inumber_at, name_at}
 use Rattle.bp_layout.specs.Free.{AreUnheld}
 use Rattle.bp_layout.specs.Inode.{kind_of, size_of}
@@ -64,7 +65,7 @@ module _ (image : Image) (move : Move) (r : ℕ) (can : CanRename image move) (o
   pub replaced_some : inumber_at image move.to_dir r ≢ 0
   replaced_some = replaced.not_empty
 
-  pub replaced_few : inumber_at image move.to_dir r < 4194304
+  pub replaced_few : inumber_at image move.to_dir r < block_inodes * max_blocks
   replaced_few = few_inode image can.well_formed (inumber_at image move.to_dir r) (can.well_formed.inumbers move.to_dir r (inumber_at image move.to_dir r) can.target replaced)
 
   low_source : 8 * (32 * move.from_slot + 0) < size_of image move.from_dir

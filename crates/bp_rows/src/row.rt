@@ -4,11 +4,11 @@ use crate::image::set_word;
 use crate::line::{Device, InputLine, number};
 use crate::playing::formatted;
 use crate::script::expand;
-use bp_limits::{BLOCK_SIZE, MAX_BLOCKS, Version};
+use bp_limits::{BLOCK_SIZE, MAX_FILE_BLOCKS, Version};
 use std::alloc::{AllocError, Global};
 
 /// The greatest number of zero bytes of FILE: one block more than an image has.
-const MOST_ZEROS: u64 = (MAX_BLOCKS as u64 + 1) * BLOCK_SIZE;
+const MOST_ZEROS: u64 = (MAX_FILE_BLOCKS as u64 + 1) * BLOCK_SIZE;
 
 /// The greatest number of bytes of a piece of the source, unless a row gives another.
 const PIECE: usize = 65_536;

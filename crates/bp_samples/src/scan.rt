@@ -6,6 +6,7 @@ ghost use Rattle.bp_limits.specs.Limits.{block_words, min_blocks};
 use crate::images::{EMPTY, SECOND, TWO_ENTRIES, TWO_NAMES, laid, put};
 use bp_free::{Blocks, Counts, Inodes};
 use bp_layout::Check;
+use bp_limits::MAX_FILE_BLOCKS;
 use bp_scan::{MountFault, Pending, Totals, image_length, scan_whole};
 use pm_region::ListRegion;
 use std::alloc::Global;
@@ -210,12 +211,12 @@ fn lengths(rt: HostRuntime) {
         (268_435_457, 268_435_456),
     ] {
         assert_eq!(rt;
-            image_length(found),
+            image_length(MAX_FILE_BLOCKS, found),
             Err(MountFault::BadSize { found, wanted })
         );
     }
     for (found, blocks) in [(32_768, 8), (67_108_864, 16_384), (268_435_456, 65_536)] {
-        assert_eq!(rt; image_length(found), Ok(blocks));
+        assert_eq!(rt; image_length(MAX_FILE_BLOCKS, found), Ok(blocks));
     }
 }
 

@@ -3,7 +3,7 @@
 ghost use Rattle.std.specs.Prelude.{[], ◌≡◌, ◌≢◌, ◌↔◌, ◌≤◌, ◌+◌, ◌*◌, ◌/◌, ◌<◌, ◌^◌, List, ℕ, OnOk, OnErr, false, length, min, true};
 ghost use Rattle.bp_io.specs.Causes.{HasCause};
 ghost use Rattle.bp_io.specs.Files.{KeepsFiles, KeepsOthers, StaysAttached};
-ghost use Rattle.bp_limits.specs.Limits.{block_words, max_blocks};
+ghost use Rattle.bp_limits.specs.Limits.{block_words, max_file_blocks};
 ghost use Rattle.bp_session.specs.Changed.{AreMarked, AreUnmarked, MarksChanges, MarksDrain, is_marked, stale_in};
 ghost use Rattle.bp_session.specs.Files.{CanSave, StaysTold};
 ghost use Rattle.bp_session.specs.Saving.{KeepsUnmarked, SavesMarked, SavesPartly, SavesWords, SavesWordsPartly};
@@ -12,7 +12,7 @@ ghost use Rattle.pm_region.specs.Memory.{current_words, drained};
 
 use crate::blocks::{RUN_BLOCKS, read_blocks};
 use bp_io::{BLOCK, Failed, Files};
-use bp_limits::{BLOCK_WORDS, CALL_ROOM, MAX_BLOCKS};
+use bp_limits::{BLOCK_WORDS, CALL_ROOM, MAX_FILE_BLOCKS};
 use bp_volume::Volume;
 use pm_epochs::EventKind;
 use pm_region::{Region, Row};
@@ -25,19 +25,19 @@ const MOST_ROWS_A_BLOCK: usize = 4;
 /// block past them. It is large: make one for a run.
 #[derive(Drop)]
 pub struct Stale {
-    pub(crate) marks: [bool; MAX_BLOCKS as usize],
+    pub(crate) marks: [bool; MAX_FILE_BLOCKS as usize],
     pub(crate) count: usize,
 }
 
 impl Stale {
-    /// Marks none of this number of blocks, as for a file of that size that was just read. At most `MAX_BLOCKS` are
+    /// Marks none of this number of blocks, as for a file of that size that was just read. At most `MAX_FILE_BLOCKS` are
     /// kept.
     pub fn none(blocks: u32) -> Self
         ensures none { AreUnmarked (stale_in result) }
-        ensures count { length (stale_in result) ≡ min blocks max_blocks }
+        ensures count { length (stale_in result) ≡ min blocks max_file_blocks }
     {
         Stale {
-            marks: [false; MAX_BLOCKS as usize],
+            marks: [false; MAX_FILE_BLOCKS as usize],
             count: blocks as usize,
         }
     }

@@ -2,6 +2,7 @@
 use Rattle.std.proofs.Common.{zero, suc, refl, sym, ◌∙◌, ap, subst, arith, ◌≡◌, ◌≢◌, ℕ, ◌+◌, ◌*◌, ◌/◌, ◌%◌, ◌-◌, List, [], ◌∷◌, ◌++◌, length, take, false, true, inl, inr}
 use Rattle.std.specs.Prelude.{Some, None, ◌⊎◌}
 use Rattle.std.proofs.Math.Seq.{take-add, take-length}
+use Rattle.bp_limits.specs.Limits.{max_file_blocks}
 use Rattle.bp_io.specs.Files.{Stays, TellsFile, Answers, Reads, blocks_of}
 use Rattle.bp_io.specs.Views.{Known, View, HasBytes}
 use Rattle.bp_session.proofs.OthersLaws.{stays_same, stays_stays}
@@ -159,10 +160,10 @@ stop_refused (f.BadSize found wanted) image known told why has e = rw (← same_
 stop_refused (f.Damaged check place) image known told why has e = rw (← same_notice (Damaged (number_of check) place) told e) (damaged has why.0 why.1 why.2)
 stop_refused f.Memory image known told why has e = absurd why
 
-pub stop_refused_length : (fault : MountFault) (known : Known) (len : ℕ) (notice : Notice) → HasLength known len → (fault ≡ f.BadSize len (wanted_length len)) × (len ≢ wanted_length len) → stop_by fault ≡ Refused notice → RefusesFile known notice
+pub stop_refused_length : (fault : MountFault) (known : Known) (len : ℕ) (notice : Notice) → HasLength known len → (fault ≡ f.BadSize len (wanted_length max_file_blocks len)) × (len ≢ wanted_length len) → stop_by fault ≡ Refused notice → RefusesFile known notice
 stop_refused_length fault known len notice has why e =
-    let told : stop_by (f.BadSize len (wanted_length len)) ≡ Refused notice = rw why.0 at e in
-    rw (← same_notice (BadSize len (wanted_length len)) notice told) (by_length has why.1)
+    let told : stop_by (f.BadSize len (wanted_length max_file_blocks len)) ≡ Refused notice = rw why.0 at e in
+    rw (← same_notice (BadSize len (wanted_length max_file_blocks len)) notice told) (by_length has why.1)
 
 pub never_missing : (fault : MountFault) → stop_by fault ≡ Missing → ⊥
 never_missing f.NotFormatted e = cc

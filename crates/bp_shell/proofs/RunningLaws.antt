@@ -17,7 +17,7 @@ use Rattle.bp_session.specs.Acting.{state}
 use Rattle.bp_session.specs.Files.{AreWordsOf64Bits, IsAbsent}
 use Rattle.bp_session.specs.Lines.{commands_from}
 use Rattle.bp_replies.specs.Room.{gathered_size}
-use Rattle.bp_shell.specs.Opening.{HoldsFileSystem, RefusesFile, start}
+use Rattle.bp_shell.specs.Opening.{HoldsFileSystem, IsShortFileSystem, RefusesFile, start}
 use Rattle.bp_shell.specs.Opening.RefusesFile.{by_length, not_formatted, by_count, damaged}
 use Rattle.bp_session.specs.Fronts.{FollowsTree}
 use Rattle.bp_shell.specs.Running.{BeginsRun, BreaksOffPlainly, IsComplete, Runs, RunsBroken, RunsLong, RunsPart, RunsStopped, RunsUnsaved, Saves, SavesSomeBlocks, StopsPlainly}
@@ -140,20 +140,20 @@ module _ (before after : Outside) (image : Image) (memory new : Memory) (found :
         plainly = plainly _ _ _ told.session;
       }
 
-wanted_whole : (n : ℕ) → 8 ≤ n → n ≤ 65536 → wanted_length (4096 * n) ≡ 4096 * n
+wanted_whole : (n : ℕ) → 8 ≤ n → n ≤ 65536 → wanted_length 65536 (4096 * n) ≡ 4096 * n
 wanted_whole n least most = omega arith
 
 -- ---- completeness
 
-pub not_refused : (image : Image) (notice : Notice) → AreWordsOf64Bits image → IsFileSystem image → RefusesFile (Some (Some (image_bytes image))) notice → ⊥
+pub not_refused : (image : Image) (notice : Notice) → AreWordsOf64Bits image → IsShortFileSystem image → RefusesFile (Some (Some (image_bytes image))) notice → ⊥
 not_refused image line words well (by_length {len = len} has wrong) =
-    let size : len ≡ 4096 * (length image / 512) = omega (arith, has, length-image_bytes image, well.first.formatted.sized.whole) in
-    wrong (size ∙ sym (wanted_whole (length image / 512) well.first.formatted.sized.at_least well.first.formatted.sized.at_most) ∙ ap wanted_length (sym size))
-not_refused image line words well (not_formatted {image = other} has wrong) = let same = image_once image other words has.has.words has.has.bytes in wrong (version_of other) (rw (← same) well.first.formatted.marked)
-not_refused image line words well (by_count {image = other} has marked wrong) = let same = image_once image other words has.has.words has.has.bytes in wrong (rw (← same) well.first.formatted.counted)
+    let size : len ≡ 4096 * (length image / 512) = omega (arith, has, length-image_bytes image, well.0.first.formatted.sized.whole) in
+    wrong (size ∙ sym (wanted_whole (length image / 512) well.0.first.formatted.sized.at_least well.1) ∙ ap (wanted_length 65536) (sym size))
+not_refused image line words well (not_formatted {image = other} has wrong) = let same = image_once image other words has.has.words has.has.bytes in wrong (version_of other) (rw (← same) well.0.first.formatted.marked)
+not_refused image line words well (by_count {image = other} has marked wrong) = let same = image_once image other words has.has.words has.has.bytes in wrong (rw (← same) well.0.first.formatted.counted)
 not_refused image line words well (damaged {image = other} {check = check} {place = place} has marked counted wrong) =
     let same = image_once image other words has.has.words has.has.bytes in
-    none_fails_whole image well check place (rw same wrong)
+    none_fails_whole image well.0 check place (rw same wrong)
 
 pub complete : (answer : Status) (before after : Outside) → (answer ≡ status.Missing → IsAbsent before.file) → (answer ≡ status.SourceFailed → SourceFailed before after) → (answer ≡ status.SinkFailed → SinkFailed before after) → (answer ≡ status.FilesFailed → FilesFailed before after)
     → (answer ≡ status.LongInput → RunsLong before after) → (answer ≡ status.Refused → (notice : Notice) × RefusesFile before.file notice)

@@ -2,7 +2,6 @@
 use Rattle.std.specs.Prelude.{Some, ◌≡◌, ◌⊎◌, ℕ, List, Option}
 use Rattle.std.specs.Io.KnownBytes.{Appends}
 use Rattle.bp_layout.specs.Bytes.{image_bytes}
-use Rattle.bp_layout.specs.Whole.{IsFileSystem}
 use Rattle.bp_layout.specs.Words.{Image}
 use Rattle.bp_script.specs.Sayings.{notice_text}
 use Rattle.bp_script.specs.declared.notices.Notice.{Notice}
@@ -11,7 +10,7 @@ use Rattle.bp_session.specs.Files.{AreWordsOf64Bits, IsAbsent}
 use Rattle.bp_session.specs.Outside.{Outside}
 use Rattle.bp_session.specs.Faults.{FilesFailed, SinkFailed, IsFirstFault, IsIdle, IsUntouched, Prints, TellsLine}
 use Rattle.bp_replies.specs.Taking.{TakesPart}
-use Rattle.bp_shell.specs.Opening.{RefusesFile}
+use Rattle.bp_shell.specs.Opening.{IsShortFileSystem, RefusesFile}
 use Rattle.bp_shell.specs.Statuses.{IsReadStatus, broken_by, tells_line}
 use Rattle.bp_shell.specs.declared.status.Status.{Status}
 use Rattle.bp_shell.specs.declared.status.Status.TheVariants as status
@@ -51,7 +50,7 @@ pub record StopOutcome (answer : Status) (before after : Outside) : Type 0 where
 abbrev pub IsReadComplete : Status → Outside → Outside → Type 0
 IsReadComplete answer before after =
     (image : Image) → before.file ≡ Some (Some (image_bytes image)) → AreWordsOf64Bits image
-    → IsFileSystem image → ¬ SinkFailed before after → ¬ FilesFailed before after
+    → IsShortFileSystem image → ¬ SinkFailed before after → ¬ FilesFailed before after
     → (answer ≡ status.Done) ⊎ (answer ≡ status.Memory)
 
 -- The results of `check` and `play`, and their conditions. They print a text of this kind, read no input, and leave

@@ -5,7 +5,6 @@ use Rattle.bp_export.specs.Exports.{TakesFront}
 use Rattle.bp_io.specs.Causes.{Rose}
 use Rattle.bp_io.specs.Views.{Known, SinkView}
 use Rattle.bp_layout.specs.Bytes.{image_bytes}
-use Rattle.bp_layout.specs.Whole.{IsFileSystem}
 use Rattle.bp_layout.specs.Words.{Image}
 use Rattle.bp_plain.specs.Export.{HasShortPaths}
 use Rattle.bp_plain.specs.PlainTree.{FileTree}
@@ -18,7 +17,7 @@ use Rattle.bp_script.specs.declared.notices.Notice.TheVariants.{NoFile, Deep}
 use Rattle.bp_session.specs.Files.{AreWordsOf64Bits, IsAbsent}
 use Rattle.bp_session.specs.Outside.{Outside}
 use Rattle.bp_session.specs.Faults.{FilesFailed, SinkFailed, IsFirstFault, IsIdle, IsUntouched, Prints, TellsLine}
-use Rattle.bp_shell.specs.Opening.{HoldsFileSystem, RefusesFile}
+use Rattle.bp_shell.specs.Opening.{HoldsFileSystem, IsShortFileSystem, RefusesFile}
 use Rattle.bp_shell.specs.Statuses.{IsExportStatus, broken_by, tells_line}
 use Rattle.bp_shell.specs.declared.status.Status.{Status}
 use Rattle.bp_shell.specs.declared.status.Status.TheVariants as status
@@ -75,7 +74,7 @@ pub record ExportsFront (before after : Outside) : Type 0 where
 abbrev pub IsExportComplete : Status → Outside → Outside → Type 0
 IsExportComplete answer before after =
     (image : Image) → before.file ≡ Some (Some (image_bytes image)) → AreWordsOf64Bits image
-    → IsFileSystem image → ¬ SinkFailed before after → ¬ FilesFailed before after
+    → IsShortFileSystem image → ¬ SinkFailed before after → ¬ FilesFailed before after
     → (answer ≡ status.Done) ⊎ (answer ≡ status.Memory) ⊎ (answer ≡ status.Deep)
 
 -- The result of `export FILE`, and its conditions. It reads no input, and FILE stays unchanged.

@@ -1,12 +1,12 @@
 -- Which files are file systems, and why others are refused.
-use Rattle.std.specs.Prelude.{◌≡◌, ◌≢◌, ◌⊎◌, ◌≤◌, ℕ, ◌-◌, ◌*◌, ◌^◌, List, length, min, [], true}
+use Rattle.std.specs.Prelude.{◌≡◌, ◌≢◌, ◌×◌, ◌⊎◌, ◌≤◌, ℕ, ◌-◌, ◌*◌, ◌^◌, List, length, min, [], true}
 use Rattle.bp_io.specs.Files.{KeepsFiles, StaysAttached, may_change}
 use Rattle.bp_io.specs.Views.{Known, View}
 use Rattle.bp_io.specs.declared.access.Access.{Access}
 use Rattle.bp_io.specs.declared.access.Access.TheVariants.{Read}
 use Rattle.bp_layout.specs.Formatted.{IsSized, version_of}
 use Rattle.bp_layout.specs.Words.{Image, word, block_count}
-use Rattle.bp_limits.specs.Limits.{block_size, block_words, log_events, magic, max_blocks, min_blocks, super_blocks, super_magic}
+use Rattle.bp_limits.specs.Limits.{block_size, block_words, log_events, magic, max_file_blocks, min_blocks, super_blocks, super_magic}
 use Rattle.bp_limits.specs.declared.version.Version.{Version}
 use Rattle.bp_layout.specs.Checks.{number_of}
 use Rattle.bp_layout.specs.declared.check.Check.{Check}
@@ -24,6 +24,10 @@ pub record HoldsFileSystem (known : Known) (image : Image) : Type 0 where
   pub has : HasImage known image
   pub well_formed : IsFileSystem image
 
+-- A file system of at most as many blocks as the program reads from FILE.
+abbrev pub IsShortFileSystem : Image → Type 0
+IsShortFileSystem image = IsFileSystem image × (block_count image ≤ max_file_blocks)
+
 -- The file has the bytes of an image of a length that an image may have.
 pub record HasSized (known : Known) (image : Image) : Type 0 where
   pub has : HasImage known image
@@ -35,7 +39,7 @@ pub record FindsImage (was : Known) (name : List ℕ) (count : ℕ) (files : Vie
   pub blocks : files.blocks ≡ count
   pub has : HasLength was (block_size * count)
   pub at_least : min_blocks ≤ count
-  pub at_most : count ≤ max_blocks
+  pub at_most : count ≤ max_file_blocks
 
 -- FILE is attached with the access that was asked for, or the files attached before still are.
 abbrev pub AttachesAs : Access → List ℕ → View → View → Type 0
@@ -58,8 +62,8 @@ pub record HasLoaded (files : View) (count : ℕ) (part : Part) : Type 0 where
 -- number of no version, word 1 is not its number of blocks, or both are right and the check with this number fails at
 -- this word.
 pub data RefusesFile (known : Known) : Notice → Type 0 where
-  by_length : {len : ℕ} → HasLength known len → len ≢ wanted_length len
-      → RefusesFile known (BadSize len (wanted_length len))
+  by_length : {len : ℕ} → HasLength known len → len ≢ wanted_length max_file_blocks len
+      → RefusesFile known (BadSize len (wanted_length max_file_blocks len))
   not_formatted : {image : Image} → HasSized known image
       → ((version : Version) → word image super_magic ≢ magic version) → RefusesFile known NotFormatted
   by_count : {image : Image} → HasSized known image → word image super_magic ≡ magic (version_of image)

@@ -9,7 +9,6 @@ use Rattle.bp_layout.specs.Words.{Image}
 use Rattle.bp_layout.specs.Bytes.{image_bytes}
 use Rattle.bp_plain.specs.PlainTree.{FileTree}
 use Rattle.bp_plain.specs.Stands.{Stands}
-use Rattle.bp_layout.specs.Whole.{IsFileSystem}
 use Rattle.bp_limits.specs.declared.version.Version.{Version}
 use Rattle.bp_command.specs.Programs.{Program, Requests}
 use Rattle.bp_command.specs.Programs.Program.{formats, runs, checks, plays, exports}
@@ -23,7 +22,7 @@ use Rattle.bp_session.specs.Files.{AreWordsOf64Bits, HasBlocksOf, Holds}
 use Rattle.bp_session.specs.Serving.{BreaksOff, SyncFails, OfLines, Serves, StopsAtSave, Told}
 use Rattle.bp_session.specs.Fronts.{FollowsTree}
 use Rattle.bp_session.specs.Session.{State}
-use Rattle.bp_shell.specs.Opening.{HoldsFileSystem, IsStart, OnlyReads, start}
+use Rattle.bp_shell.specs.Opening.{HoldsFileSystem, IsShortFileSystem, IsStart, OnlyReads, start}
 use Rattle.bp_shell.specs.Formatting.{new_image, HasPartly, OnlyMakes}
 use Rattle.bp_session.specs.Outside.{Outside}
 use Rattle.bp_session.specs.Faults.{SourceFailed, SinkFailed, FilesFailed, IsFirstFault, IsIdle}
@@ -144,7 +143,7 @@ pub record RunsUnsaved (before after : Outside) : Type 0 where
 abbrev pub IsComplete : Status → Outside → Outside → Type 0
 IsComplete answer before after =
     (image : Image) (input : List ℕ) → before.file ≡ Some (Some (image_bytes image)) → AreWordsOf64Bits image
-    → IsFileSystem image → before.left ≡ Some input → length input ≤ max_input
+    → IsShortFileSystem image → before.left ≡ Some input → length input ≤ max_input
     → ¬ SourceFailed before after → ¬ SinkFailed before after → ¬ FilesFailed before after
     → (answer ≡ status.Done) ⊎ (answer ≡ status.Memory)
 

@@ -14,7 +14,7 @@ ghost use Rattle.std.specs.Prelude.{◌%◌, ◌*◌, ◌/◌, ◌≡◌, ◌≤
 use crate::printing::print;
 use crate::status::Status;
 use bp_io::{Access, Failed, Files, Sink};
-use bp_limits::{BLOCK_SIZE, BLOCK_WORDS, MAX_BLOCKS, MIN_BLOCKS, Version};
+use bp_limits::{BLOCK_SIZE, BLOCK_WORDS, MAX_FILE_BLOCKS, MIN_BLOCKS, Version};
 use bp_script::Notice;
 use bp_session::blocks::read_blocks;
 use bp_volume::lay_front;
@@ -41,7 +41,7 @@ fn empty_front(alloc: Global) -> Result<ListRegion, AllocError>
 /// Converts a region to its bytes, with its words as they are now.
 fn encode<R: Region>(alloc: Global, region: &R) -> Result<Vec<u8>, AllocError>
     requires whole { length (R.memory region.now).base % block_words ≡ 0 }
-    requires most { length (R.memory region.now).base ≤ block_words * MAX_BLOCKS }
+    requires most { length (R.memory region.now).base ≤ block_words * MAX_FILE_BLOCKS }
     ensures { IfOk result (λ bytes. bytes.items ≡ image_bytes (current_words (R.memory region.now))) }
 {
     let mut bytes = vec![in alloc; 0u8; 8 * region.words() as usize]?;
@@ -67,7 +67,7 @@ fn new_front(alloc: Global, blocks: u32, version: Version) -> Result<Vec<u8>, Al
 fn write_image<F: Files>(front: &[u8], name: &str, blocks: u32, files: &mut F) -> Result<(), Failed>
     requires whole { length front.now % BLOCK_SIZE ≡ 0 }
     requires inside { length front.now / BLOCK_SIZE ≤ blocks }
-    requires most { blocks ≤ MAX_BLOCKS }
+    requires most { blocks ≤ MAX_FILE_BLOCKS }
     ensures written { OnOk result (HasBytes ((F.view files.new).contents name.now)
         (resized_file (block_size * blocks) front.now)) }
     ensures flushed { OnOk result ((F.view files.new).is_flushed ≡ true) }
@@ -96,7 +96,7 @@ pub(crate) fn format_file<K: Sink, F: Files>(
     files: &mut F,
 ) -> Status
     requires least { MIN_BLOCKS ≤ blocks }
-    requires most { blocks ≤ MAX_BLOCKS }
+    requires most { blocks ≤ MAX_FILE_BLOCKS }
     // Whatever bytes a source has left.
     ensures outcome { EndsUnread (FormatOutcome result version blocks) name.now
         (K.view out.old) (F.view files.old) (K.view out.new) (F.view files.new) }

@@ -7,7 +7,7 @@ ghost use Rattle.bp_layout.specs.Formatted.{IsSized};
 ghost use Rattle.bp_layout.specs.Bytes.{image_bytes};
 ghost use Rattle.bp_layout.specs.Whole.{IsFileSystem};
 ghost use Rattle.bp_layout.specs.Words.{Image};
-ghost use Rattle.bp_limits.specs.Limits.{block_size, block_words, log_events};
+ghost use Rattle.bp_limits.specs.Limits.{block_size, block_words, log_events, max_file_blocks};
 ghost use Rattle.bp_script.specs.declared.notices.Notice.{Notice};
 ghost use Rattle.bp_session.specs.Files.{AreWordsOf64Bits, CanSave, HasImage, Holds, HoldsFirstBlocks};
 ghost use Rattle.bp_shell.specs.Opening.{AttachesAs, FindsImage, HasLoaded, HasSized, HoldsFileSystem, IsStart, Mounts, OnlyReads, RefusesFile};
@@ -16,7 +16,7 @@ ghost use Rattle.bp_shell.specs.declared.stop.Stop.TheVariants.{Memory, Outside,
 
 use crate::stop::Stop;
 use bp_io::{Access, BLOCK, Failed, Files};
-use bp_limits::{BLOCK_WORDS, LOG_EVENTS};
+use bp_limits::{BLOCK_WORDS, LOG_EVENTS, MAX_FILE_BLOCKS};
 use bp_scan::{MountFault, image_length};
 use bp_script::Notice;
 use bp_session::blocks::RUN_BLOCKS;
@@ -118,7 +118,7 @@ fn find_image<F: Files>(name: &str, access: Access, files: &mut F) -> Result<u32
         Ok(None) => return Err(Stop::Missing),
         Err(Failed) => return Err(Stop::Outside),
     };
-    match image_length(len) {
+    match image_length(MAX_FILE_BLOCKS, len) {
         Ok(count) => Ok(count),
         Err(fault) => Err(stop_of(fault)),
     }

@@ -10,7 +10,7 @@ use Rattle.pm_epochs.proofs.Cuts.{kept_stores_right}
 use Rattle.pm_epochs.proofs.MayLaws.{EachMay-stored, StoresMay-stores_of, same_where_none}
 use Rattle.bp_layout.specs.Words.{Image, word}
 use Rattle.bp_layout.specs.Format.{empty_words}
-use Rattle.bp_limits.specs.Limits.{magic, super_magic}
+use Rattle.bp_limits.specs.Limits.{magic, max_blocks, super_magic}
 use Rattle.bp_limits.specs.declared.version.Version.{Version}
 use Rattle.bp_limits.specs.declared.version.Version.TheVariants.{One, Two}
 use Rattle.bp_plain.specs.PlainTree.{empty_tree}
@@ -38,7 +38,7 @@ word_stays base events place may image found =
     (same_where_none (AnyAt (λ p. p ≢ place)) base (words_after base (stores_of found.cut.epoch found.cut.mask events))
     (EachMay-stored (AnyAt (λ p. p ≢ place)) base (stores_of found.cut.epoch found.cut.mask events) (StoresMay-stores_of (AnyAt (λ p. p ≢ place)) events found.cut.epoch found.cut.mask may)) place (λ value other. other refl))
 
-module _ (base : Image) (version : Version) (blocks : ℕ) (whole : length base ≡ 512 * blocks) (least : 8 ≤ blocks) (most : blocks ≤ 65536) where
+module _ (base : Image) (version : Version) (blocks : ℕ) (whole : length base ≡ 512 * blocks) (least : 8 ≤ blocks) (most : blocks ≤ max_blocks) where
   abbrev unmarking : List Event
   unmarking = stores_epoch ((super_magic, 0) ∷ [])
 

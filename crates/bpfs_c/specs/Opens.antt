@@ -3,7 +3,7 @@ use Rattle.std.specs.Prelude.{◌≡◌, ◌⊎◌, ℕ, ◌*◌, ◌^◌, ◌-�
 use Rattle.bp_layout.specs.Checks.{number_of}
 use Rattle.bp_layout.specs.Formatted.{IsSized}
 use Rattle.bp_layout.specs.Whole.{IsFileSystem}
-use Rattle.bp_limits.specs.Limits.{log_events}
+use Rattle.bp_limits.specs.Limits.{log_events, max_blocks}
 use Rattle.bp_scan.specs.Faults.{IsFault}
 use Rattle.bp_scan.specs.Length.{wanted_length}
 use Rattle.bp_scan.specs.declared.fault.MountFault.{MountFault}
@@ -32,7 +32,7 @@ byte_count words = min (8 * length words) (2 ^ 64 - 1)
 
 -- The fault of words whose number no image has: their length in bytes, and that of the image nearest in size.
 abbrev pub odd_size : List ℕ → MountFault
-odd_size words = BadSize (byte_count words) (wanted_length (byte_count words))
+odd_size words = BadSize (byte_count words) (wanted_length max_blocks (byte_count words))
 
 -- An image may have this number of words; else the fault is `odd_size`.
 abbrev pub IsSizedOr : List ℕ → Result (Unit {0}) MountFault → Type 0

@@ -8,7 +8,7 @@ ghost use Rattle.bpfs_c.specs.Opens.{Holds, IsMountFault, IsSizedOr, Mounts, Ope
 use crate::codes::{BAD_SIZE, CLOSED, DAMAGED, NO_MEMORY, NOT_FORMATTED, OK, OPEN};
 use crate::handle::Handle;
 use crate::mounted::Mounted;
-use bp_limits::LOG_EVENTS;
+use bp_limits::{LOG_EVENTS, MAX_BLOCKS};
 use bp_scan::image_length;
 use bp_volume::{MountFault, Volume};
 use pm_raw::RawArray;
@@ -55,7 +55,7 @@ fn faulty(fault: MountFault, told: &mut Fault) -> u32
 fn test_size(words: &[u64]) -> Result<(), MountFault>
     ensures { IsSizedOr words.now result }
 {
-    image_length((words.len() as u64).saturating_mul(8))?;
+    image_length(MAX_BLOCKS, (words.len() as u64).saturating_mul(8))?;
     Ok(())
 }
 

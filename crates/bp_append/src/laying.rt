@@ -92,7 +92,7 @@ fn laid_run(start: u64, layer: &Layer<'_>) -> [u64; RUN]
 }
 
 /// Stores a run of words past the bytes that are kept. Its first word is at `place`, and its first byte at `start`.
-fn lay_run<R: Region>(region: &mut R, place: u32, start: u64, layer: &Layer<'_>)
+fn lay_run<R: Region>(region: &mut R, place: u64, start: u64, layer: &Layer<'_>)
     requires in_range { place + run_words ≤ length (R.memory region.old).base }
     requires few { start + 8 * run_words < 2 ^ 64 }
     requires behind { layer.now.low ≤ start }
@@ -105,7 +105,7 @@ fn lay_run<R: Region>(region: &mut R, place: u32, start: u64, layer: &Layer<'_>)
 }
 
 /// Returns the value of the word at `place`, whose first byte is at `start`. Offset `low` may be in this word.
-fn laid_word<R: Region>(region: &R, place: u32, start: u64, layer: &Layer<'_>) -> u64
+fn laid_word<R: Region>(region: &R, place: u64, start: u64, layer: &Layer<'_>) -> u64
     requires in_range { place < length (R.memory region.now).base }
     requires few { start + 8 < 2 ^ 64 }
     requires begun { layer.now.low < start + 8 }
@@ -120,7 +120,7 @@ fn laid_word<R: Region>(region: &R, place: u32, start: u64, layer: &Layer<'_>) -
 }
 
 /// Stores the word at `place`, whose first byte is at `start`. Offset `low` may be in this word.
-fn lay_word<R: Region>(region: &mut R, place: u32, start: u64, layer: &Layer<'_>)
+fn lay_word<R: Region>(region: &mut R, place: u64, start: u64, layer: &Layer<'_>)
     requires in_range { place < length (R.memory region.old).base }
     requires few { start + 8 < 2 ^ 64 }
     requires begun { layer.now.low < start + 8 }
@@ -134,7 +134,7 @@ fn lay_word<R: Region>(region: &mut R, place: u32, start: u64, layer: &Layer<'_>
 
 /// Stores the first of `count` words, or a whole run of them if there are enough and none of their bytes is kept.
 /// Returns how many words it stored. The first word is at `place`, and its first byte at `start`.
-fn lay_some<R: Region>(region: &mut R, place: u32, start: u64, count: u32, layer: &Layer<'_>) -> u32
+fn lay_some<R: Region>(region: &mut R, place: u64, start: u64, count: u32, layer: &Layer<'_>) -> u32
     requires any { 0 < count }
     requires in_range { place + count ≤ length (R.memory region.old).base }
     requires few { start + 8 * count < 2 ^ 64 }
@@ -173,7 +173,6 @@ pub(crate) fn lay<R: Region>(
     requires room { block_words ≤ room_in (R.memory region.old) }
     ensures lays { Lays (R.memory region.old) (R.memory region.new) block start low high from bytes.now }
 {
-    let _words = region.words();
     let given = bytes_before(high, from, bytes);
     let layer = Layer {
         low,
@@ -183,7 +182,7 @@ pub(crate) fn lay<R: Region>(
     let end = ((high - start + 7) / 8) as u32;
     let mut index = ((low - start) / 8) as u32;
     while index < end {
-        let place = block * BLOCK_WORDS + index;
+        let place = block as u64 * BLOCK_WORDS + index as u64;
         index += lay_some(region, place, start + 8 * index as u64, end - index, &layer);
     }
 }

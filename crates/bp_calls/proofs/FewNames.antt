@@ -1,4 +1,4 @@
--- An inode has no more names than the image has words: the inumber of each entry stands at a place of its own.
+-- An inode has at most 16 names to a block: each of its entries has a seat of its own, a sixteenth of a block.
 use Rattle.std.proofs.Common.{◌≡◌, ◌≢◌, ℕ, ◌+◌, ◌*◌, ◌/◌, ◌%◌, ◌<◌, ◌≤◌, List, [], ◌∷◌, length, map, refl, subst, arith, inl, inr}
 use Rattle.std.specs.List.{range_with_len}
 use Rattle.std.proofs.lemmas.List.{length-map}
@@ -44,23 +44,36 @@ module _ (image : Image) (wf : IsWellFormed image) (j : ℕ) where
       slots : (s r : ℕ) → 32 * s + 0 ≡ 32 * r + 0 → s ≡ r
       slots s r same = omega (arith, same)
 
-  others : (e : ℕ × ℕ) → IsNamed image j e → (entries : List (ℕ × ℕ)) → Each (λ f. f ≢ e) entries → Each (IsNamed image j) entries → Each (λ p. p ≢ place_of e) (map place_of entries)
+  -- the number of the sixteenth of a block in which an entry is
+  abbrev seat_of : ℕ × ℕ → ℕ
+  seat_of e = 16 * leaf_of e + e.1 % 16
+
+  seat : (e : ℕ × ℕ) → place_of e ≡ 32 * seat_of e
+  seat e = omega arith
+
+  in_seats : (e : ℕ × ℕ) → IsNamed image j e → seat_of e < 16 * block_count image
+  in_seats e named = let low = inside e named in omega (arith, low, seat e, wf.formatted.sized.whole)
+
+  same_place : (e f : ℕ × ℕ) → seat_of f ≡ seat_of e → place_of f ≡ place_of e
+  same_place e f same = omega (arith, same, seat e, seat f)
+
+  others : (e : ℕ × ℕ) → IsNamed image j e → (entries : List (ℕ × ℕ)) → Each (λ f. f ≢ e) entries → Each (IsNamed image j) entries → Each (λ p. p ≢ seat_of e) (map seat_of entries)
   others e one [] apart named = tt
-  others e one (f ∷ entries) apart named = (λ same. apart.0 (one_entry_there e f one named.0 same), others e one entries apart.1 named.1)
+  others e one (f ∷ entries) apart named = (λ same. apart.0 (one_entry_there e f one named.0 (same_place e f same)), others e one entries apart.1 named.1)
 
-  places_apart : (entries : List (ℕ × ℕ)) → AreApart entries → Each (IsNamed image j) entries → AreApart (map place_of entries)
-  places_apart [] apart named = tt
-  places_apart (e ∷ entries) apart named = (others e named.0 entries apart.0 named.1, places_apart entries apart.1 named.1)
+  seats_apart : (entries : List (ℕ × ℕ)) → AreApart entries → Each (IsNamed image j) entries → AreApart (map seat_of entries)
+  seats_apart [] apart named = tt
+  seats_apart (e ∷ entries) apart named = (others e named.0 entries apart.0 named.1, seats_apart entries apart.1 named.1)
 
-  places_inside : (entries : List (ℕ × ℕ)) → Each (IsNamed image j) entries → (p : ℕ) → Has (map place_of entries) p → p < length image
-  places_inside [] named p none = absurd none
-  places_inside (e ∷ entries) named p (inl here) = subst (λ q. q < length image) here (inside e named.0)
-  places_inside (e ∷ entries) named p (inr later) = places_inside entries named.1 p later
+  seats_inside : (entries : List (ℕ × ℕ)) → Each (IsNamed image j) entries → (p : ℕ) → Has (map seat_of entries) p → p < 16 * block_count image
+  seats_inside [] named p none = absurd none
+  seats_inside (e ∷ entries) named p (inl here) = subst (λ q. q < 16 * block_count image) here (in_seats e named.0)
+  seats_inside (e ∷ entries) named p (inr later) = seats_inside entries named.1 p later
 
-  pub few_names : (count : ℕ) → HasNames image j count → count ≤ length image
+  pub few_names : (count : ℕ) → HasNames image j count → count ≤ 16 * block_count image
   few_names count has =
-      let places : List ℕ = map place_of has.entries in
-      let within : length places ≤ length (range_with_len 0 (length image)) =
-      apart-within places (range_with_len 0 (length image)) (places_apart has.entries has.are.once has.are.name)
-      (λ p there. has-range 0 (length image) p (omega arith) (let low = places_inside has.entries has.are.name p there in omega (arith, low))) in
-      omega (arith, within, has.number, length-map has.entries place_of, length-range_with_len 0 (length image))
+      let seats : List ℕ = map seat_of has.entries in
+      let within : length seats ≤ length (range_with_len 0 (16 * block_count image)) =
+      apart-within seats (range_with_len 0 (16 * block_count image)) (seats_apart has.entries has.are.once has.are.name)
+      (λ p there. has-range 0 (16 * block_count image) p (omega arith) (let low = seats_inside has.entries has.are.name p there in omega (arith, low))) in
+      omega (arith, within, has.number, length-map has.entries seat_of, length-range_with_len 0 (16 * block_count image))

@@ -34,7 +34,7 @@ fn turn_over<R: Region>(
     touched: &Touched<'_>,
     shared: &Shared,
     from: usize,
-    place: u32,
+    place: u64,
 )
     ghost plan: { Plan }
     requires touched { IsTouched touched.now }
@@ -59,7 +59,7 @@ fn commit_copies<R: Region>(
     touched: &Touched<'_>,
     shared: &Shared,
     from: usize,
-    place: u32,
+    place: u64,
 )
     ghost plan: { Plan }
     requires touched { IsTouched touched.now }
@@ -99,7 +99,7 @@ fn commit_copies<R: Region>(
 }
 
 /// Stores the value of the only touched word in place, at `place`.
-fn commit_one<R: Region>(region: &mut R, touched: &Touched<'_>, place: u32)
+fn commit_one<R: Region>(region: &mut R, touched: &Touched<'_>, place: u64)
     requires touched { IsTouched touched.now }
     requires place { place < length (current_words (R.memory region.old)) }
     requires room { 3 ≤ room_in (R.memory region.old) }

@@ -141,7 +141,7 @@ pub struct FoundCover {
     /// Number of its slots.
     pub len: usize,
     /// Place of its word.
-    pub place: u32,
+    pub place: u64,
 }
 
 /// Result of a search of the ways to touched words.
@@ -174,7 +174,7 @@ fn find_cover<R: Region>(region: &R, touched: &Touched<'_>) -> FoundCover
         let slot = touched.end_slot(0, found.len);
         found = FoundCover {
             len: found.len + 1,
-            place: BLOCK_WORDS * block as u32 + slot,
+            place: BLOCK_WORDS * block + slot as u64,
         };
     }
     found

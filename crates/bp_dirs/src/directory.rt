@@ -25,7 +25,7 @@ pub fn inumber<R: Region>(region: &R, tree: Tree, slot: u64) -> u64
     requires live { slot < tree.size / entry_size }
     ensures { result ≡ inumber_in (current_words (R.memory region.now)) tree.root slot }
 {
-    content_word(region, tree, ENTRY_WORDS as u64 * slot)
+    content_word(region, tree, ENTRY_WORDS * slot)
 }
 
 /// Returns the entry in a slot, or `None` if it is empty because its block is null.
@@ -177,7 +177,7 @@ pub fn is_empty<R: Region>(region: &R, tree: Tree) -> bool
 }
 
 /// Returns the place in the region of a word of the entry in a slot.
-pub fn entry_place<R: Region>(region: &R, tree: Tree, slot: u64, field: u32) -> u32
+pub fn entry_place<R: Region>(region: &R, tree: Tree, slot: u64, field: u64) -> u64
     requires sound { IsSound (current_words (R.memory region.now)) tree.root tree.size }
     requires full { IsFull (current_words (R.memory region.now)) tree.root tree.size }
     requires live { slot < tree.size / entry_size }
@@ -187,5 +187,5 @@ pub fn entry_place<R: Region>(region: &R, tree: Tree, slot: u64, field: u32) -> 
         ((entry_words * slot + field) / block_words) ≢ 0 }
     ensures in_range { result < length (current_words (R.memory region.now)) }
 {
-    content_place(region, tree, ENTRY_WORDS as u64 * slot + field as u64)
+    content_place(region, tree, ENTRY_WORDS * slot + field)
 }

@@ -69,10 +69,7 @@ impl Leaf {
     {
         // Word numbers have 32 bits, so the place of a word fits.
         let _words = region.words();
-        region.load_words(
-            BLOCK_WORDS * self.block as u32,
-            ENTRY_WORDS * self.count as u32,
-        )
+        region.load_words(BLOCK_WORDS * self.block, ENTRY * self.count as usize)
     }
 
     /// Returns one of the entries, or `None` if all of them are empty because the block is null.

@@ -13,7 +13,7 @@ use bp_layout::name_word;
 use pm_region::Region;
 
 /// Writes a name to the entry at a place of the region: its length in bytes, and its bytes.
-pub fn put_name<R: Region>(region: &mut R, place: u32, name: &[u8])
+pub fn put_name<R: Region>(region: &mut R, place: u64, name: &[u8])
     requires in_range { place + entry_words ≤ length (R.memory region.old).base }
     requires short { length name.now ≤ max_name }
     requires room { 31 ≤ room_in (R.memory region.old) }
@@ -25,6 +25,6 @@ pub fn put_name<R: Region>(region: &mut R, place: u32, name: &[u8])
     let _words = region.words();
     region.store(place + 1, name.len() as u64);
     for i in 0..name.len().div_ceil(8) {
-        region.store(place + 2 + i as u32, name_word(name, i));
+        region.store(place + 2 + i as u64, name_word(name, i));
     }
 }

@@ -56,13 +56,13 @@ pub fn get<R: Region>(region: &R, i: u32) -> Inode
     let block = leaf_block(region, inodes, (i / BLOCK_INODES) as u64);
     // An existing inode is in a block, and word numbers have 32 bits, so its place fits.
     let _words = region.words();
-    let first = BLOCK_WORDS * block as u32 + INODE_WORDS * (i % BLOCK_INODES);
+    let first = BLOCK_WORDS * block + INODE_WORDS * (i % BLOCK_INODES) as u64;
     let words = region.load_words(first, 3);
     Inode::read(&[words[0], words[1], words[2]])
 }
 
 /// Returns the place in the region of a word of an inode.
-pub fn place<R: Region>(region: &R, i: u32, field: u32) -> u32
+pub fn place<R: Region>(region: &R, i: u32, field: u64) -> u64
     requires sound { let words = current_words (R.memory region.now) in
         IsSound words (root_of words 0) (size_of words 0) }
     requires full { let words = current_words (R.memory region.now) in
@@ -72,15 +72,11 @@ pub fn place<R: Region>(region: &R, i: u32, field: u32) -> u32
     ensures place { ContentStandsAt (current_words (R.memory region.now)) 0 (inode_words * i + field) result }
     ensures in_range { result < length (current_words (R.memory region.now)) }
 {
-    content_place(
-        region,
-        inode_file(region),
-        INODE_WORDS as u64 * i as u64 + field as u64,
-    )
+    content_place(region, inode_file(region), INODE_WORDS * i as u64 + field)
 }
 
 /// Makes the inode at a place of the region a file or a directory without bytes.
-fn put<R: Region>(region: &mut R, place: u32, kind: Kind)
+fn put<R: Region>(region: &mut R, place: u64, kind: Kind)
     requires in_range { place + 3 ≤ length (R.memory region.old).base }
     requires room { 3 ≤ room_in (R.memory region.old) }
     ensures stores { AddsMay (AnyAt (IsWithin place 3)) 0 3 (R.memory region.old) (R.memory region.new) }
@@ -123,7 +119,7 @@ pub fn root_path<R: Region>(region: &R, i: u32) -> Slots
 {
     word_path(
         inode_file(region),
-        INODE_SIZE * u64::from(i) + WORD_SIZE * u64::from(ROOT_FIELD),
+        INODE_SIZE * u64::from(i) + WORD_SIZE * ROOT_FIELD,
     )
 }
 
@@ -134,6 +130,6 @@ pub fn size_path<R: Region>(region: &R, i: u32) -> Slots
 {
     word_path(
         inode_file(region),
-        INODE_SIZE * u64::from(i) + WORD_SIZE * u64::from(SIZE_FIELD),
+        INODE_SIZE * u64::from(i) + WORD_SIZE * SIZE_FIELD,
     )
 }

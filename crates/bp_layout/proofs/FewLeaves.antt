@@ -1,7 +1,11 @@
 -- A tree without a null has fewer leaves than the image has blocks. So the inodes and the entries of a directory fit into what a scan was given.
-use Rattle.std.proofs.Common.{◌≡◌, ℕ, zero, suc, ◌+◌, ◌*◌, ◌/◌, ◌%◌, ◌<◌, ◌≤◌, List, [], ◌∷◌, length, refl, sym, ap, subst, arith, inl, inr}
+use Rattle.std.proofs.Common.{◌≡◌, ℕ, zero, suc, ◌+◌, ◌*◌, ◌/◌, ◌%◌, ◌-◌, ◌<◌, ◌≤◌, List, [], ◌∷◌, length, refl, sym, ap, subst, arith, inl, inr}
 use Rattle.bp_layout.specs.Words.{Image, block_count, height_of}
 use Rattle.bp_layout.specs.Tree.{node, IsLivePointer, IsSound, IsFull}
+use Rattle.bp_layout.specs.Inode.{inode_count, root_of, size_of}
+use Rattle.bp_layout.specs.Reached.IsReached.{inode_file}
+use Rattle.bp_layout.specs.WellFormed.{IsWellFormed}
+use Rattle.bp_limits.specs.Limits.{block_inodes, max_blocks}
 use Rattle.bp_layout.specs.Members.{Has, AreApart}
 use Rattle.bp_layout.proofs.MemberLaws.{apart-more}
 use Rattle.bp_layout.proofs.Existence.{at_most}
@@ -59,11 +63,23 @@ few_leaves image root size sound full some n live =
         let v : Value (node image root (height_of root)) 0 n q = value_of (node image root (height_of root)) 0 n q h in
         subst (λ (x : ℕ). x < block_count image) v.value (sound.in_range (height_of root) v.number (at v.number v.high))
 
--- so the inodes are at most 64 to a block
-pub few_inodes : (image : Image) (root size : ℕ) → IsSound image root size → IsFull image root size → 1 ≤ block_count image → size % 4096 ≡ 0 → size / 64 ≤ 64 * block_count image
-few_inodes image root size sound full some whole =
+-- so the inodes are at most 64 to a block, and block 0 has none
+pub fewer_inodes : (image : Image) (root size : ℕ) → IsSound image root size → IsFull image root size → 1 ≤ block_count image → size % 4096 ≡ 0 → size / 64 + 64 ≤ 64 * block_count image
+fewer_inodes image root size sound full some whole =
     let few : size / 4096 < block_count image = few_leaves image root size sound full some (size / 4096) (λ k low. omega (arith, low)) in
     omega (arith, few, whole)
+
+pub few_inodes : (image : Image) (root size : ℕ) → IsSound image root size → IsFull image root size → 1 ≤ block_count image → size % 4096 ≡ 0 → size / 64 ≤ 64 * block_count image
+few_inodes image root size sound full some whole = omega (arith, fewer_inodes image root size sound full some whole)
+
+-- the same of a well-formed image, by its number of blocks and by the limit
+pub inodes_fit : (image : Image) → IsWellFormed image → inode_count image ≤ block_inodes * (block_count image - 1)
+inodes_fit image wf =
+    let few : size_of image 0 / 64 + 64 ≤ 64 * block_count image = fewer_inodes image (root_of image 0) (size_of image 0) (wf.sound 0 inode_file) wf.full_inode_file (omega (arith, wf.formatted.sized.at_least)) wf.inode_blocks in
+    omega (arith, few)
+
+pub inodes_low : (image : Image) → IsWellFormed image → inode_count image + block_inodes ≤ block_inodes * max_blocks
+inodes_low image wf = omega (arith, inodes_fit image wf, wf.formatted.sized.at_least, wf.formatted.sized.at_most)
 
 -- and the entries of a directory at most 16 to a block
 pub few_entries : (image : Image) (root size : ℕ) → IsSound image root size → IsFull image root size → 1 ≤ block_count image → size / 256 ≤ 16 * block_count image

@@ -17,13 +17,13 @@ pub const BLOCK_SIZE: u64 = 4096;
 pub const WORD_SIZE: u64 = 8;
 
 /// The size of a block, in words, which is also the number of pointers of a node.
-pub const BLOCK_WORDS: u32 = 512;
+pub const BLOCK_WORDS: u64 = 512;
 
 /// The minimum number of blocks of an image.
 pub const MIN_BLOCKS: u32 = 8;
 
 /// The maximum number of blocks of an image.
-pub const MAX_BLOCKS: u32 = 65_536;
+pub const MAX_BLOCKS: u32 = 67_108_864;
 
 /// The maximum number of blocks of FILE, the image that the program `bpfs` reads into memory as a whole.
 pub const MAX_FILE_BLOCKS: u32 = 65_536;
@@ -31,22 +31,22 @@ pub const MAX_FILE_BLOCKS: u32 = 65_536;
 // ---- the superblock
 
 /// The word of the superblock with the magic number of an image: [`Version::magic`].
-pub const SUPER_MAGIC: u32 = 0;
+pub const SUPER_MAGIC: u64 = 0;
 
 /// The word of the superblock with the number of blocks.
-pub const SUPER_BLOCKS: u32 = 1;
+pub const SUPER_BLOCKS: u64 = 1;
 
 /// The word of the superblock with the root word of the inode file.
-pub const SUPER_ROOT: u32 = 2;
+pub const SUPER_ROOT: u64 = 2;
 
 /// The word of the superblock with the size of the inode file.
-pub const SUPER_SIZE: u32 = 3;
+pub const SUPER_SIZE: u64 = 3;
 
 /// The word of the superblock with the root word of the snapshot's inode file, in version 2.
-pub const SUPER_SECOND_ROOT: u32 = 4;
+pub const SUPER_SECOND_ROOT: u64 = 4;
 
 /// The word of the superblock with the size of the snapshot's inode file, in version 2; 0 if there is no snapshot.
-pub const SUPER_SECOND_SIZE: u32 = 5;
+pub const SUPER_SECOND_SIZE: u64 = 5;
 
 // ---- inodes and directories
 
@@ -54,13 +54,13 @@ pub const SUPER_SECOND_SIZE: u32 = 5;
 pub const INODE_SIZE: u64 = 64;
 
 /// The size of an inode, in words.
-pub const INODE_WORDS: u32 = 8;
+pub const INODE_WORDS: u64 = 8;
 
 /// The word of an inode that is the root word of its tree.
-pub const ROOT_FIELD: u32 = 1;
+pub const ROOT_FIELD: u64 = 1;
 
 /// The word of an inode that is its size.
-pub const SIZE_FIELD: u32 = 2;
+pub const SIZE_FIELD: u64 = 2;
 
 /// The number of inodes in a block.
 pub const BLOCK_INODES: u32 = 64;
@@ -70,7 +70,7 @@ pub const ROOT_INUMBER: u32 = 1;
 
 /// The first word of the root directory's inode in a new image: after inode 0 in block 1, which then is all of the
 /// inode file.
-pub const FIRST_INODE: u32 = 520;
+pub const FIRST_INODE: u64 = 520;
 
 /// The first word of a file's inode.
 pub const FILE_KIND: u64 = 1;
@@ -82,7 +82,7 @@ pub const DIRECTORY_KIND: u64 = 2;
 pub const ENTRY_SIZE: u64 = 256;
 
 /// The size of a directory entry, in words.
-pub const ENTRY_WORDS: u32 = 32;
+pub const ENTRY_WORDS: u64 = 32;
 
 /// The number of directory entries in a block.
 pub const BLOCK_ENTRIES: u64 = 16;

@@ -61,7 +61,7 @@ fn play_kind(kind: EventKind, cores: &mut Cores)
 }
 
 /// Returns the word of the last store after one more event.
-fn word_behind(last: Option<u32>, kind: EventKind) -> Option<u32>
+fn word_behind(last: Option<u64>, kind: EventKind) -> Option<u64>
     ensures { result ≡ last_word last (event_of kind 0) }
 {
     match kind {
@@ -72,7 +72,7 @@ fn word_behind(last: Option<u32>, kind: EventKind) -> Option<u32>
 }
 
 /// Does what is drawn after an event.
-fn play_draw<R: Region>(region: &R, draw: u32, last: Option<u32>, cores: &mut Cores)
+fn play_draw<R: Region>(region: &R, draw: u32, last: Option<u64>, cores: &mut Cores)
     requires region { cores.old.words ≡ length (R.memory region.now).base }
     requires cores { 1 < cores.old.cores }
     requires word { IsWordBelow cores.old.words last }
@@ -85,7 +85,7 @@ fn play_draw<R: Region>(region: &R, draw: u32, last: Option<u32>, cores: &mut Co
 }
 
 /// Does what is drawn for a word.
-fn play_eighth<R: Region>(region: &R, eighth: u32, word: u32, cores: &mut Cores)
+fn play_eighth<R: Region>(region: &R, eighth: u32, word: u64, cores: &mut Cores)
     requires region { cores.old.words ≡ length (R.memory region.now).base }
     requires cores { 1 < cores.old.cores }
     requires word { word < cores.old.words }
@@ -100,7 +100,7 @@ fn play_eighth<R: Region>(region: &R, eighth: u32, word: u32, cores: &mut Cores)
 }
 
 /// Writes a word back if it is dirty and may go.
-fn write_back(word: u32, cores: &mut Cores)
+fn write_back(word: u64, cores: &mut Cores)
     requires { word < cores.old.words }
     ensures { cores.new ≡ after_back cores.old word }
 {

@@ -85,7 +85,7 @@ fn choose_drawn<R: Region>(
 }
 
 /// Draws whether a store to a word is written back. It waits if an earlier store to its word does.
-fn draw_for(word: u32, generator: &mut Generator, backs: &mut Backs) -> bool
+fn draw_for(word: u64, generator: &mut Generator, backs: &mut Backs) -> bool
     requires { length backs.old.waiting < backs.old.room }
     ensures state { generator.new.state ≡ next_state generator.old.state }
     ensures drawn { result ≡ goes_back generator.old.state backs.old.waiting word }

@@ -1,7 +1,8 @@
 //! Directories of two entries, in one leaf.
 
-ghost use Rattle.std.specs.Prelude.{IfOk};
+ghost use Rattle.std.specs.Prelude.{◌*◌, ◌≤◌, length, IfOk};
 ghost use Rattle.bp_layout.specs.Tree.{IsSound, IsFull};
+ghost use Rattle.bp_limits.specs.Limits.{block_words, max_blocks};
 ghost use Rattle.pm_region.specs.Memory.{current_words};
 
 use crate::images::{Start, laid, leaf};
@@ -21,6 +22,7 @@ pub(crate) const TREE: Tree = Tree {
 pub(crate) fn sample(alloc: Global, first: Start, second: Start) -> Result<ListRegion, AllocError>
     ensures sound { IfOk result (λ region. IsSound (current_words region) 0x3000 512) }
     ensures full { IfOk result (λ region. IsFull (current_words region) 0x3000 512) }
+    ensures most { IfOk result (λ region. length (current_words region) ≤ block_words * max_blocks) }
 {
     let words = laid(alloc, &leaf(first, second))?;
     let region = ListRegion::new(alloc, words, 0)?;

@@ -5,7 +5,7 @@ use Rattle.std.proofs.lemmas.List.{length-set}
 use Rattle.std.specs.List.{slice_index}
 use Rattle.bp_free.specs.Set.{Set, has, without, members}
 use Rattle.bp_free.proofs.Members.{has_with_same, has_with_other, count_with, count_without}
-use Rattle.bp_layout.specs.Words.{Image, height_of}
+use Rattle.bp_layout.specs.Words.{Image, block_count, height_of}
 use Rattle.bp_layout.specs.Tree.{node, IsSound, IsFull}
 use Rattle.bp_layout.specs.Inode.{kind_of, root_of, size_of, inode_count}
 use Rattle.bp_layout.specs.Directory.{EntryNames, inumber_at, inumber_in}
@@ -27,7 +27,7 @@ use Rattle.bp_scan.proofs.Named.{among_few}
 use Rattle.bp_scan.proofs.ProgressLaws.{empty_counts, empty_step, entered_more}
 use Rattle.bp_scan.proofs.EntryStep.{AddsDirectory, again_counts, again_step, entry_counts, entry_step}
 use Rattle.bp_scan.proofs.InodeFaults.{inode_of}
-use Rattle.bp_scan.proofs.Inside.{first, inodes_few, kind_in, here_sound, here_full, here_found, too_high, not_new, inode_fails, new_not_to_do}
+use Rattle.bp_scan.proofs.Inside.{first, inodes_few, inodes_fewer, kind_in, here_sound, here_full, here_found, too_high, not_new, inode_fails, new_not_to_do}
 
 pub along : (P : ℕ → ℕ → Type 0) (a b x y : ℕ) → a ≡ x → b ≡ y → P a b → P x y
 along P a b x y e f h = subst (λ (v : ℕ). P x v) f (subst (λ (u : ℕ). P u b) e h)
@@ -55,8 +55,8 @@ module _ (image : Image) (work : Scan) (directory : Directory) (slot : ℕ) (ins
   -- one inode more can be counted
   pub totals_few : IsCountable work.totals
   totals_few =
-      let few : inode_count image ≤ length work.inodes = inodes_few image work d slot reading in
-      countable image work.inodes (inode_count image) work.totals (omega (arith, few, reading.room.inodes, reading.ready.formatted.sized.at_most)) reading.counted
+      let few : inode_count image + 64 ≤ 64 * block_count image = inodes_fewer image work d slot reading in
+      countable image work.inodes (inode_count image) work.totals (omega (arith, few, reading.ready.formatted.sized.at_most)) reading.counted
 
   module _ (live : slot < directory.tree.size / 256) (j : ℕ) (named : j ≡ inumber_in image directory.tree.root slot) where
     here : inumber_at image d slot ≡ j
@@ -97,8 +97,8 @@ module _ (image : Image) (work : Scan) (directory : Directory) (slot : ℕ) (ins
     -- what is written down of it where that is a number below the count of inodes
     pub number_is : (number : ℕ) → number ≡ in_32_bits j → number < inode_count image → number ≡ j
     number_is number is low =
-        let few : inode_count image ≤ length work.inodes = inodes_few image work d slot reading in
-        omega (arith, is, low, few, reading.room.inodes, reading.ready.formatted.sized.at_most)
+        let few : inode_count image + 64 ≤ 64 * block_count image = inodes_fewer image work d slot reading in
+        omega (arith, is, low, few, reading.ready.formatted.sized.at_most)
 
     module _ (some : j ≢ 0) where
       pub fails_high : (p : ℕ) → p ≡ 512 * node image directory.tree.root (height_of directory.tree.root) ((32 * slot + 0) / 512) + (32 * slot + 0) % 512 → inode_count image ≤ j → Fails image Inumber p
@@ -118,8 +118,8 @@ module _ (image : Image) (work : Scan) (directory : Directory) (slot : ℕ) (ins
         pub in_counts : j < length work.counts
         in_counts = omega (arith, in_room, reading.room.inodes, reading.room.counts)
 
-        -- no inode has more names than an image has words
-        pub names_few : slice_index work.counts j ≤ length image
+        -- no inode has more names than the image has room for entries
+        pub names_few : 32 * slice_index work.counts j ≤ length image
         names_few =
             among_few image (IsEntered image work.inodes) (IsDone image work.inodes work.todo d slot) reading.midway.all work.blocks reading.ready.some_inodes (first image work d slot reading) reading.midway.under_way.scanned
             (λ i s done. entered i done) j (slice_index work.counts j) (reading.counts.each j in_counts)

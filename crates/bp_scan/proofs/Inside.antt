@@ -1,5 +1,5 @@
 -- What is known in the middle of a scan, of the inode file and of the directory at hand.
-use Rattle.std.proofs.Common.{◌≡◌, ◌⊎◌, ℕ, zero, suc, ◌*◌, ◌/◌, ◌<◌, ◌≤◌, true, false, length, refl, sym, subst, arith, inl, inr}
+use Rattle.std.proofs.Common.{◌≡◌, ◌⊎◌, ℕ, zero, suc, ◌+◌, ◌*◌, ◌/◌, ◌<◌, ◌≤◌, true, false, length, refl, sym, subst, arith, inl, inr}
 use Rattle.bp_free.specs.Set.{has}
 use Rattle.bp_layout.specs.Words.{Image, block_count}
 use Rattle.bp_layout.specs.Tree.{IsSound, IsFull}
@@ -20,7 +20,7 @@ use Rattle.bp_scan.specs.Misspelled.{FailsNames, check_of, fault_place}
 use Rattle.bp_scan.specs.Reading.{IsReading}
 use Rattle.bp_scan.specs.declared.work.Scan.{Scan}
 use Rattle.bp_scan.proofs.Readable.{is_sound, is_full, entry_seen, inode_found, one_entry, named_before}
-use Rattle.bp_layout.proofs.FewLeaves.{few_inodes, few_entries}
+use Rattle.bp_layout.proofs.FewLeaves.{fewer_inodes, few_entries}
 use Rattle.bp_scan.proofs.InodeFaults.{fails_inode}
 
 module _ (image : Image) (work : Scan) (current slot : ℕ) (reading : IsReading image work current slot) where
@@ -46,10 +46,11 @@ module _ (image : Image) (work : Scan) (current slot : ℕ) (reading : IsReading
   pub inodes_full : IsFull image (root_of image 0) (size_of image 0)
   inodes_full = is_full image E D reading.midway.all work.blocks reading.ready.some_inodes first scanned 0 first (inl refl)
 
+  pub inodes_fewer : inode_count image + 64 ≤ 64 * block_count image
+  inodes_fewer = fewer_inodes image (root_of image 0) (size_of image 0) inodes_sound inodes_full (omega (arith, reading.ready.formatted.sized.at_least)) reading.ready.inode_blocks
+
   pub inodes_few : inode_count image ≤ length work.inodes
-  inodes_few =
-      let few : inode_count image ≤ 64 * block_count image = few_inodes image (root_of image 0) (size_of image 0) inodes_sound inodes_full (omega (arith, reading.ready.formatted.sized.at_least)) reading.ready.inode_blocks in
-      omega (arith, few, reading.room.inodes)
+  inodes_few = omega (arith, inodes_fewer, reading.room.inodes)
 
   -- an inode that was entered has a kind
   pub kind_in : (j : ℕ) → 1 ≤ j → IsEntered image work.inodes j → (1 ≤ kind_of image j) × (kind_of image j ≤ 2)

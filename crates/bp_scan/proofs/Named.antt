@@ -1,11 +1,12 @@
 -- The entries that were gone through are counted by the inodes that they name.
-use Rattle.std.proofs.Common.{◌≡◌, ◌≢◌, ◌⊎◌, ℕ, ◌+◌, ◌<◌, ◌≤◌, List, [], ◌∷◌, map, length, set, replicate, refl, sym, ◌∙◌, subst, arith, inl, inr, get_or-set_same, get_or-set_other}
+use Rattle.std.proofs.Common.{◌≡◌, ◌≢◌, ◌⊎◌, ℕ, ◌+◌, ◌*◌, ◌/◌, ◌%◌, ◌<◌, ◌≤◌, List, [], ◌∷◌, map, length, set, replicate, refl, sym, ◌∙◌, ap, subst, arith, inl, inr, get_or-set_same, get_or-set_other}
 use Rattle.std.proofs.lemmas.Bool.{cases_eq}
 use Rattle.std.proofs.lemmas.List.{length-map, length-set, length-replicate, get_or-replicate}
 use Rattle.std.proofs.lemmas.List.FromFn.{length-range_with_len}
 use Rattle.std.specs.List.{range_with_len, slice_index}
 use Rattle.bp_free.specs.Set.{Set, has}
-use Rattle.bp_layout.specs.Words.{Image}
+use Rattle.bp_layout.specs.Words.{Image, height_of}
+use Rattle.bp_layout.specs.Tree.{node, IsFull, IsSound}
 use Rattle.bp_layout.specs.Checks.{entry_place}
 use Rattle.bp_layout.specs.Directory.{EntryNames}
 use Rattle.bp_layout.specs.Inode.{root_of, size_of}
@@ -13,7 +14,7 @@ use Rattle.bp_layout.specs.Members.{AreApart, Each, Has}
 use Rattle.bp_layout.specs.Names.{AreCounts, HasNames, IsNamed}
 use Rattle.bp_layout.specs.Reached.{IsReached}
 use Rattle.bp_layout.proofs.MemberLaws.{apart-more, apart-within, each-as, each-has, has-range}
-use Rattle.bp_spelling.proofs.EntryPlaces.{place_fits}
+use Rattle.bp_spelling.proofs.EntryPlaces.{place-is, place_fits}
 use Rattle.bp_scan.specs.Named.{CountsAmong, HasAmong, IsAmong}
 use Rattle.bp_scan.specs.Scanned.{IsScanned}
 use Rattle.bp_scan.proofs.Readable.{is_full, is_sound, one_entry}
@@ -111,33 +112,47 @@ apart_map {A = A} P f one (x ∷ xs) all apart = (differ xs all.1 apart.0, apart
     differ [] each other = tt
     differ (y ∷ ys) each other = (λ same. other.0 (one y x each.0 all.0 same), differ ys each.1 other.1)
 
--- entries stand at places of their own, so there are no more of them than words
+-- entries begin at places of their own, 32 words apart, so there are no more of them than fit
 pub among_few : (image : Image) (E : ℕ → Type 0) (D : ℕ → ℕ → Type 0) (all left : Set) → 4096 ≤ size_of image 0 → E 0 → IsScanned image E D all left → ((i s : ℕ) → D i s → E i) → (j count : ℕ) →
-    HasAmong image D j count → count ≤ length image
+    HasAmong image D j count → 32 * count ≤ length image
 among_few image E D all left some first scanned entered j count named =
-    let few : length (map place named.entries) ≤ length (range_with_len 0 (length image)) =
-    apart-within (map place named.entries) (range_with_len 0 (length image)) (apart_map (IsAmong image D j) place one named.entries named.name named.once)
-    (λ p there. has-range 0 (length image) p (omega arith) (in_image p there)) in
-    omega (arith, few, length-map named.entries place, length-range_with_len 0 (length image), named.number)
+    let few : length (map number named.entries) ≤ length (range_with_len 0 (length image / 32)) =
+    apart-within (map number named.entries) (range_with_len 0 (length image / 32)) (apart_map (IsAmong image D j) number one named.entries named.name named.once)
+    (λ n there. has-range 0 (length image / 32) n (omega arith) (in_image n there)) in
+    omega (arith, few, length-map named.entries number, length-range_with_len 0 (length image / 32), named.number)
   where
     place : ℕ × ℕ → ℕ
     place e = entry_place image e.0 e.1 0
 
-    one : (e f : ℕ × ℕ) → IsAmong image D j e → IsAmong image D j f → place e ≡ place f → e ≡ f
-    one e f is also same =
+    number : ℕ × ℕ → ℕ
+    number e = place e / 32
+
+    full : (e : ℕ × ℕ) → IsAmong image D j e → IsFull image (root_of image e.0) (size_of image e.0)
+    full e is = is_full image E D all left some first scanned e.0 (entered e.0 e.1 is.done) (inr is.names.directory)
+
+    whole : (e : ℕ × ℕ) → IsAmong image D j e → place e ≡ 32 * number e
+    whole e is =
+        let at : place e ≡ 512 * node image (root_of image e.0) (height_of (root_of image e.0)) (e.1 / 16) + 32 * (e.1 % 16) =
+        place-is image (root_of image e.0) (size_of image e.0) e.1 (full e is) is.names.in_size in
+        omega (arith, at)
+
+    within : (e : ℕ × ℕ) → IsAmong image D j e → number e < length image / 32
+    within e is =
+        let sound : IsSound image (root_of image e.0) (size_of image e.0) =
+        is_sound image E D all left some first scanned e.0 (entered e.0 e.1 is.done) (inr is.names.directory) in
+        let fits : place e + 32 ≤ length image = place_fits image (root_of image e.0) (size_of image e.0) e.1 sound (full e is) is.names.in_size in
+        omega (arith, fits)
+
+    one : (e f : ℕ × ℕ) → IsAmong image D j e → IsAmong image D j f → number e ≡ number f → e ≡ f
+    one e f is also equal =
+        let same : place e ≡ place f = whole e is ∙ ap (λ n. 32 * n) equal ∙ sym (whole f also) in
         let both : (e.0 ≡ f.0) × (e.1 ≡ f.1) = one_entry image E D all left some first scanned e.0 e.1 j f.0 f.1 j (entered e.0 e.1 is.done) (entered f.0 f.1 also.done) is.names also.names same in
         (λ l. (both.0 l, both.1 l))
 
-    within : (e : ℕ × ℕ) → IsAmong image D j e → place e < length image
-    within e is =
-        let in_it : E e.0 = entered e.0 e.1 is.done in
-        let fits : place e + 32 ≤ length image =
-        place_fits image (root_of image e.0) (size_of image e.0) e.1 (is_sound image E D all left some first scanned e.0 in_it (inr is.names.directory)) (is_full image E D all left some first scanned e.0 in_it (inr is.names.directory)) is.names.in_size in
-        omega (arith, fits)
-
-    in_image : (p : ℕ) → Has (map place named.entries) p → p < 0 + length image
-    in_image p there =
-        let low : p < length image = each-has (λ q. q < length image) (map place named.entries) p (each_map (IsAmong image D j) (λ q. q < length image) place within named.entries named.name) there in
+    in_image : (n : ℕ) → Has (map number named.entries) n → n < 0 + length image / 32
+    in_image n there =
+        let low : n < length image / 32 =
+        each-has (λ m. m < length image / 32) (map number named.entries) n (each_map (IsAmong image D j) (λ m. m < length image / 32) number within named.entries named.name) there in
         omega (arith, low)
 
 -- ---- at the end

@@ -1,5 +1,5 @@
 -- The start of a scan: the inode file is entered, and then the root directory.
-use Rattle.std.proofs.Common.{◌≡◌, ◌≢◌, ◌⊎◌, ℕ, ◌*◌, ◌/◌, ◌%◌, ◌<◌, ◌≤◌, true, false, length, replicate, refl, sym, ◌∙◌, ap, subst, arith, inl, inr}
+use Rattle.std.proofs.Common.{◌≡◌, ◌≢◌, ◌⊎◌, ℕ, ◌+◌, ◌*◌, ◌/◌, ◌%◌, ◌<◌, ◌≤◌, true, false, length, replicate, refl, sym, ◌∙◌, ap, subst, arith, inl, inr}
 use Rattle.std.proofs.lemmas.Bool.{cases_lt}
 use Rattle.std.proofs.lemmas.List.{length-replicate}
 use Rattle.bp_free.specs.Set.{Set, has, with, empty, Fills}
@@ -27,7 +27,7 @@ use Rattle.bp_scan.proofs.Counting.{first_counted}
 use Rattle.bp_scan.proofs.Entering.{enter, fails_tree, nothing_seen}
 use Rattle.bp_scan.proofs.Readable.{is_sound, is_full, content_followed}
 use Rattle.bp_scan.proofs.ProgressLaws.{started, started_counts}
-use Rattle.bp_layout.proofs.FewLeaves.{few_inodes}
+use Rattle.bp_layout.proofs.FewLeaves.{fewer_inodes}
 use Rattle.bp_scan.proofs.InodePlaces.{moved}
 use Rattle.bp_scan.proofs.InodeFaults.{fails_inode, inode_of}
 
@@ -64,8 +64,8 @@ module _ (image : Image) (ready : HasWholeInodes image) (all left : Set) (whole 
   pub file_full : IsFull image (root_of image 0) (size_of image 0)
   file_full = is_full image File NoEntry all left ready.some_inodes (inr refl) file 0 (inr refl) (inl refl)
 
-  pub file_few : inode_count image ≤ 64 * block_count image
-  file_few = few_inodes image (root_of image 0) (size_of image 0) file_sound file_full (omega (arith, ready.formatted.sized.at_least)) ready.inode_blocks
+  pub file_few : inode_count image + 64 ≤ 64 * block_count image
+  file_few = fewer_inodes image (root_of image 0) (size_of image 0) file_sound file_full (omega (arith, ready.formatted.sized.at_least)) ready.inode_blocks
 
   pub file_not_first : has left 0 ≡ false
   file_not_first = file.takes.less 0 whole.not_first

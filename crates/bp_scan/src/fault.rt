@@ -23,7 +23,7 @@ pub enum MountFault {
         /// The check that fails.
         check: Check,
         /// The number of the word of the region at which it fails.
-        place: u32,
+        place: u64,
     },
     /// Allocation failed.
     #[error("out of memory")]

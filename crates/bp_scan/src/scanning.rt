@@ -61,7 +61,7 @@ fn check_superblock<R: Region>(region: &R) -> Result<(), MountFault>
     if superblock.magic != mark {
         return Err(MountFault::NotFormatted);
     }
-    let blocks = u64::from(region.words() / BLOCK_WORDS);
+    let blocks = region.words() / BLOCK_WORDS;
     if superblock.blocks != blocks {
         return Err(MountFault::BadSize {
             found: BLOCK_SIZE * blocks,
@@ -101,7 +101,7 @@ fn scan_with<R: Region>(region: &R, work: &mut Scan) -> Result<Totals, MountFaul
     }
 }
 
-/// Reads the first tree of the image in a region of 8 to 65,536 blocks of 512 words, and returns the totals. It puts
+/// Reads the first tree of the image in a region of 8 to 67,108,864 blocks of 512 words, and returns the totals. It puts
 /// the blocks and the inodes that the tree lacks into the sets and the number of links of each inode into the counts,
 /// whatever they had.
 ///

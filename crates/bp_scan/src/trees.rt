@@ -1,6 +1,6 @@
 //! The trees that a scan enters: the inode file, and the trees of inodes.
 
-ghost use Rattle.std.specs.Prelude.{◌≡◌, ◌+◌, ◌<◌, ◌≤◌, false, length, OnOk, IfErr};
+ghost use Rattle.std.specs.Prelude.{◌≡◌, ◌+◌, ◌^◌, ◌<◌, ◌≤◌, false, length, OnOk, IfErr};
 ghost use Rattle.bp_free.specs.Set.{has};
 ghost use Rattle.bp_layout.specs.Checks.{Fails};
 ghost use Rattle.bp_layout.specs.Formatted.{IsFormatted};
@@ -29,7 +29,7 @@ use pm_region::Region;
 #[derive(Clone, Copy)]
 struct InodeWords {
     /// The number of the word of the region that is the inode's first one.
-    place: u32,
+    place: u64,
     /// `FILE_KIND` or `DIRECTORY_KIND`, if it is right.
     kind: u64,
     /// Its root word and its size in bytes.
@@ -79,7 +79,7 @@ fn load_inode<R: Region>(region: &R, inode: u32) -> InodeWords
 
 /// Checks the kind of an inode, and the size of a directory.
 fn check_words(inode: u32, words: InodeWords) -> Result<(), CheckFault>
-    requires { words.place + 2 < 4294967296 }
+    requires { words.place + 2 < 2 ^ 41 }
     ensures ok { OnOk result (IsRightInode inode words.kind words.tree.size) }
     ensures err { IfErr result (λ f. IsWrong inode words.kind words.tree.size words.place f.check f.place) }
 {

@@ -65,7 +65,7 @@ fn take_out(lost: &Blocks, blocks: &mut Blocks)
 }
 
 /// Returns the place in an image of the word that is at `place` when the second tree is read as the first.
-fn place_of_second(place: u32) -> u32
+fn place_of_second(place: u64) -> u64
     ensures { result ≡ second_place place }
 {
     match place {
@@ -167,7 +167,7 @@ fn find_frozen<R: Region>(
     Ok(())
 }
 
-/// Reads both trees of the image in a region of 8 to 65,536 blocks of 512 words, and returns the totals of the first
+/// Reads both trees of the image in a region of 8 to 67,108,864 blocks of 512 words, and returns the totals of the first
 /// tree, with the live blocks of both.
 ///
 /// It puts the blocks of the second tree into `frozen`, and the blocks that are in neither into `blocks`. It puts the

@@ -32,7 +32,7 @@ pub enum Notice {
         /// The number of a check that fails.
         check: u8,
         /// The index of the word of the image at which it fails.
-        place: u32,
+        place: u64,
     },
     /// The file is a well-formed image.
     Clean {

@@ -19,7 +19,7 @@ pub struct SecondTree<'a, R: Region> {
 
 impl<'a, R: Region> SecondTree<'a, R> {
     /// Returns a word as the processor sees it.
-    fn load(&self, word: u32) -> u64
+    fn load(&self, word: u64) -> u64
         requires { word < length (R.memory self.now.region.now).base }
         ensures { result ≡ slice_index (snapshot_of (current_words (R.memory self.now.region.now))) word }
     {
@@ -61,35 +61,35 @@ impl<'a, R: Region> Region for Shown<'a, R> {
 
     ghost memory = { shown_memory R.memory };
 
-    fn words(&self) -> u32 {
+    fn words(&self) -> u64 {
         match self {
             Shown::First(region) => region.words(),
             Shown::Second(second) => second.region.words(),
         }
     }
 
-    fn load(&self, word: u32) -> u64 {
+    fn load(&self, word: u64) -> u64 {
         match self {
             Shown::First(region) => region.load(word),
             Shown::Second(second) => second.load(word),
         }
     }
 
-    fn load_words(&self, first: u32, count: u32) -> &[u64] {
+    fn load_words(&self, first: u64, count: usize) -> &[u64] {
         match self {
             Shown::First(region) => region.load_words(first, count),
             Shown::Second(second) => second.region.load_words(first, count),
         }
     }
 
-    fn store(&mut self, word: u32, value: u64) {
+    fn store(&mut self, word: u64, value: u64) {
         match self {
             Shown::First(region) => region.store(word, value),
             Shown::Second(_) => unreachable!(),
         }
     }
 
-    fn store_words(&mut self, first: u32, values: &[u64]) {
+    fn store_words(&mut self, first: u64, values: &[u64]) {
         match self {
             Shown::First(region) => region.store_words(first, values),
             Shown::Second(_) => {}
@@ -138,7 +138,7 @@ impl<'a, R: Region> Region for Shown<'a, R> {
         }
     }
 
-    fn word_at(&self, moment: usize, word: u32) -> u64 {
+    fn word_at(&self, moment: usize, word: u64) -> u64 {
         match self {
             Shown::First(region) => region.word_at(moment, word),
             Shown::Second(second) => second.load(word),
@@ -152,7 +152,7 @@ impl<'a, R: Region> Region for Shown<'a, R> {
         }
     }
 
-    fn base_word(&self, word: u32) -> u64 {
+    fn base_word(&self, word: u64) -> u64 {
         match self {
             Shown::First(region) => region.base_word(word),
             Shown::Second(second) => second.load(word),

@@ -33,7 +33,7 @@ fn head_words<R: Region>(region: &R) -> [u64; HEAD]
 {
     let mut words = [0; HEAD];
     for k in 0..HEAD {
-        words[k] = region.load(k as u32);
+        words[k] = region.load(k as u64);
     }
     words
 }
@@ -46,10 +46,10 @@ fn read_front<R: Region>(region: &R, into: &mut [u8])
     requires fits { length into.old / 8 < 2 ^ 32 }
     ensures { into.new ≡ image_bytes (take (length into.old / 8) (current_words (R.memory region.now))) }
 {
-    let count = (into.len() / 8) as u32;
+    let count = into.len() / 8;
     let (head, rest) = into.split_at_mut(8 * HEAD);
     encode(&head_words(region), head);
-    encode(region.load_words(HEAD_WORDS, count - HEAD_WORDS), rest);
+    encode(region.load_words(HEAD_WORDS, count - HEAD), rest);
 }
 
 /// Reads the bytes of the words as they are now, of as many blocks as `into` has room for, from block `first` on.
@@ -67,6 +67,8 @@ pub fn read_blocks<R: Region>(region: &R, first: u32, into: &mut [u8])
         read_front(region, into);
         return;
     }
-    let count = (into.len() / 8) as u32;
-    encode(region.load_words(BLOCK_WORDS * first, count), into);
+    encode(
+        region.load_words(BLOCK_WORDS * first as u64, into.len() / 8),
+        into,
+    );
 }

@@ -21,14 +21,14 @@ const CORES: u32 = 2;
 /// The caches of two cores over a number of words, with room for each event of a log and a load after it.
 #[derive(Drop)]
 pub(crate) struct TwoCaches {
-    words: u32,
+    words: u64,
     cores: Cores,
     ghost two: { IsTwoCaches words cores },
 }
 
 impl TwoCaches {
     /// Makes caches that have done nothing. Fails only if memory lacks.
-    fn new(alloc: Global, words: u32) -> Result<Self, AllocError>
+    fn new(alloc: Global, words: u64) -> Result<Self, AllocError>
         requires { AreLines words }
         ensures { IfOk result (λ caches. caches.words ≡ words) }
     {
@@ -43,7 +43,7 @@ impl TwoCaches {
 /// for another number.
 fn take_caches(
     alloc: Global,
-    words: u32,
+    words: u64,
     held: &mut Option<TwoCaches>,
 ) -> Result<TwoCaches, AllocError>
     requires { AreLines words }

@@ -78,9 +78,9 @@ fn mark_block(marks: &mut [bool], block: usize)
 }
 
 /// Marks the blocks of `count` consecutive words.
-fn mark_words(marks: &mut [bool], first: u32, count: usize)
+fn mark_words(marks: &mut [bool], first: u64, count: usize)
     requires some { 0 < count }
-    requires fits { first + count ≤ 2 ^ 32 }
+    requires fits { first + count ≤ 2 ^ 41 }
     ensures marked { (word : ℕ) → first ≤ word → word < first + count → is_marked marks.new (word / block_words) ≡ true }
     ensures more { (i : ℕ) → is_marked marks.old i ≡ true → is_marked marks.new i ≡ true }
     ensures size { length marks.new ≡ length marks.old }
@@ -188,7 +188,7 @@ fn write_changed<R: Region, F: Files>(
     ensures attached { StaysAttached (F.view files.old) (F.view files.new) }
     ensures cause { HasCause (F.view files.old).faults (F.view files.new).faults result }
 {
-    let count = region.words() / BLOCK_WORDS;
+    let count = (region.words() / BLOCK_WORDS) as u32;
     let mut bytes = [0u8; BLOCK * RUN_BLOCKS as usize];
     let mut first = 0;
     while first < count {

@@ -33,7 +33,7 @@ fn empty_front(alloc: Global) -> Result<ListRegion, AllocError>
     ensures drained { IfOk result (λ region. region.events ≡ []) }
     ensures room { IfOk result (λ region. region.capacity ≡ FORMAT_ROOM) }
 {
-    let words = vec![in alloc; 0u64; (BLOCK_WORDS * FRONT_BLOCKS) as usize]?;
+    let words = vec![in alloc; 0u64; (BLOCK_WORDS * FRONT_BLOCKS as u64) as usize]?;
     let region = ListRegion::new(alloc, words, FORMAT_ROOM)?;
     Ok(region)
 }

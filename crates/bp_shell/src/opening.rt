@@ -147,7 +147,7 @@ pub(crate) fn load_file<F: Files>(
         Ok(region) => region,
         Err(_) => return Err(Stop::Memory),
     };
-    let mut filling = match Filling::new(alloc, BLOCK_WORDS * count) {
+    let mut filling = match Filling::new(alloc, BLOCK_WORDS * count as u64) {
         Ok(filling) => filling,
         Err(_) => return Err(Stop::Memory),
     };

@@ -47,7 +47,7 @@ fn serve_and_save<R: Region, S: Source, K: Sink, F: Files>(
     ensures attached { StaysAttached (F.view files.old) (F.view files.new) }
     ensures others { KeepsOthers (F.view files.old) (F.view files.new) }
 {
-    let mut stale = Stale::none(volume.region().words() / BLOCK_WORDS);
+    let mut stale = Stale::none((volume.region().words() / BLOCK_WORDS) as u32);
     if let Err(broken) = serve_gathered(alloc, volume, work, &mut stale, source, out, files) {
         return Status::from(broken);
     }

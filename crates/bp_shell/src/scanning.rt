@@ -72,7 +72,7 @@ pub(crate) fn scan_image(alloc: Global, region: &RawRegion) -> Result<Scanned, S
         stop ≡ Refused notice → RefusesFile known notice) }
     ensures kinds { IfErr result (λ stop. ((notice : Notice) × (stop ≡ Refused notice)) ⊎ (stop ≡ Memory)) }
 {
-    let mut sets = match Sets::new(alloc, region.words() / BLOCK_WORDS) {
+    let mut sets = match Sets::new(alloc, (region.words() / BLOCK_WORDS) as u32) {
         Ok(sets) => sets,
         Err(_) => return Err(Stop::Memory),
     };

@@ -11,7 +11,7 @@ use Rattle.bp_layout.specs.Paths.{IsName}
 use Rattle.bp_spelling.specs.Gathered.{IsGathered}
 use Rattle.bp_spelling.specs.Names.{entry_place_in}
 use Rattle.bp_spelling.specs.declared.entry.Spelled.{Spelled}
-use Rattle.bp_spelling.specs.Hashes.{IsSpelled, places_of}
+use Rattle.bp_spelling.specs.Hashes.{IsSpelled, place_of, places_of}
 use Rattle.bp_spelling.specs.Places.{used_places}
 use Rattle.bp_spelling.specs.Tables.{IsPresent}
 use Rattle.bp_spelling.proofs.UsedPlaces.{empty_slot, used_slot}
@@ -41,7 +41,7 @@ module _ (image : Image) (root end : ℕ) (entries : List Spelled) where
   }
 
   pub gathered_more : (slot count : ℕ) (entry : Spelled) → slot < end → end ≤ length entries → IsGathered image root end slot entries count → inumber_in image root slot ≢ 0 → IsName (name_in image root slot) →
-      entry.place ≡ entry_place_in image root slot → IsSpelled image entry → IsPresent entry → IsGathered image root end (slot + 1) (set entries count entry) (count + 1)
+      place_of entry ≡ entry_place_in image root slot → IsSpelled image entry → IsPresent entry → IsGathered image root end (slot + 1) (set entries count entry) (count + 1)
   gathered_more slot count entry below room is some form there spelled present =
       let rest : List ℕ = used_places image root (range_with_len (slot + 1) (end - (slot + 1))) in
       let inside : count < length entries = omega (arith, is.few, below, room) in
@@ -49,8 +49,8 @@ module _ (image : Image) (root end : ℕ) (entries : List Spelled) where
         few = omega (arith, is.few);
         gathered =
             ap (λ xs. places_of xs ++ rest) (take_more_set entries count entry inside)
-            ∙ ap (λ xs. xs ++ rest) (map-append (λ (e : Spelled). e.place) (take count entries) (entry ∷ []))
-            ∙ append_assoc (places_of (take count entries)) (entry.place ∷ []) rest
+            ∙ ap (λ xs. xs ++ rest) (map-append place_of (take count entries) (entry ∷ []))
+            ∙ append_assoc (places_of (take count entries)) (place_of entry ∷ []) rest
             ∙ ap (λ (p : ℕ). places_of (take count entries) ++ (p ∷ rest)) there
             ∙ ap (λ xs. places_of (take count entries) ++ xs) (sym (ap (used_places image root) (next_slot slot end below) ∙ used_slot image root slot (range_with_len (slot + 1) (end - (slot + 1))) some))
             ∙ is.gathered;

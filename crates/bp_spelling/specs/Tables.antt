@@ -15,30 +15,30 @@ home cells hash = hash % (cells - 128)
 
 -- The entry is that of a cell that is not empty.
 abbrev pub IsPresent : Spelled → Type 0
-IsPresent entry = entry.place ≢ 0
+IsPresent entry = entry.number ≢ 0
 
--- The contents of a cell, with place 0 if it is empty.
+-- The contents of a cell, with number 0 if it is empty.
 abbrev pub cell_at : List Spelled → ℕ → Spelled
-cell_at table cell = slice_index_or table cell (record { hash = 0; place = 0 })
+cell_at table cell = slice_index_or table cell (record { hash = 0; number = 0 })
 
 -- The entry is in a cell that may hold it, and no cell before that is empty.
 pub record IsKept (table : List Spelled) (entry : Spelled) : Type 0 where
   pub cell : ℕ
   pub from : home (length table) entry.hash ≤ cell
   pub there : cell_at table cell ≡ entry
-  pub taken : (before : ℕ) → home (length table) entry.hash ≤ before → before < cell → (cell_at table before).place ≢ 0
+  pub taken : (before : ℕ) → home (length table) entry.hash ≤ before → before < cell → (cell_at table before).number ≢ 0
 
 -- An entry is added: no other one has its name, and each one that was in the table still is.
 pub record Puts (image : Image) (old new : List Spelled) (entry : Spelled) : Type 0 where
   pub here : IsKept new entry
-  pub keeps : (other : Spelled) → other.place ≢ 0 → IsKept old other → IsKept new other
-  pub alone : (other : Spelled) → other.place ≢ 0 → IsKept old other → spelled_key image other ≡ spelled_key image entry
+  pub keeps : (other : Spelled) → other.number ≢ 0 → IsKept old other → IsKept new other
+  pub alone : (other : Spelled) → other.number ≢ 0 → IsKept old other → spelled_key image other ≡ spelled_key image entry
       → ⊥
   pub cells : (cell : ℕ) → (cell_at new cell ≡ cell_at old cell) ⊎ (cell_at new cell ≡ entry)
 
 -- Why an entry is not added: a cell has an entry with the same name, or the table is full and nothing is known.
 pub data IsClash (image : Image) (old : List Spelled) (entry : Spelled) : Clash → Type 0 where
-  double : (cell : ℕ) → (cell_at old cell).place ≢ 0 → spelled_key image (cell_at old cell) ≡ spelled_key image entry
+  double : (cell : ℕ) → (cell_at old cell).number ≢ 0 → spelled_key image (cell_at old cell) ≡ spelled_key image entry
       → IsClash image old entry Double
   full : IsClash image old entry Full
 

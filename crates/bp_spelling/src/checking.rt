@@ -1,8 +1,8 @@
 //! The check of a directory's names.
 
-ghost use Rattle.std.specs.Prelude.{◌≡◌, ◌/◌, ◌≤◌, length, take, All, OnOk, IfErr};
+ghost use Rattle.std.specs.Prelude.{◌≡◌, ◌*◌, ◌/◌, ◌≤◌, length, take, All, OnOk, IfErr};
 ghost use Rattle.bp_layout.specs.Tree.{IsSound, IsFull};
-ghost use Rattle.bp_limits.specs.Limits.{entry_size};
+ghost use Rattle.bp_limits.specs.Limits.{block_words, entry_size, max_blocks};
 ghost use Rattle.bp_spelling.specs.Hashes.{IsSpelled, places_of};
 ghost use Rattle.bp_spelling.specs.Names.{AreNames, AreNumbers, AreWrong};
 ghost use Rattle.bp_spelling.specs.Places.{HaveOwnNames};
@@ -40,8 +40,9 @@ fn try_table<R: Region>(region: &R, entries: &mut [Spelled], count: usize) -> Re
 /// Checks the names of a directory's entries that refer to an inode, and puts the number of that inode into `numbers`,
 /// at the entry's slot. The number is 0 for an empty entry, and `u32::MAX` if it does not fit below that.
 ///
-/// `entries` and `numbers` have room for as many entries as the directory has. The time is linear in them if `entries`
-/// has room for three times as many and some more, and few hashes collide; else the entries are sorted.
+/// The region has at most 67,108,864 blocks of 512 words. `entries` and `numbers` have room for as many entries as the
+/// directory has. The time is linear in them if `entries` has room for three times as many and some more, and few
+/// hashes collide; else the entries are sorted.
 ///
 /// # Errors
 ///
@@ -57,6 +58,7 @@ pub fn check_names<R: Region>(
 ) -> Result<(), NameFault>
     requires sound { IsSound (current_words (R.memory region.now)) tree.root tree.size }
     requires full { IsFull (current_words (R.memory region.now)) tree.root tree.size }
+    requires most { length (current_words (R.memory region.now)) ≤ block_words * max_blocks }
     requires room { tree.size / entry_size ≤ length entries.old }
     requires number_room { tree.size / entry_size ≤ length numbers.old }
     ensures ok { OnOk result (AreNames (current_words (R.memory region.now)) tree.root tree.size) }

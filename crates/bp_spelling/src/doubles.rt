@@ -1,6 +1,6 @@
 //! Search for two entries of a directory with the same name.
 
-ghost use Rattle.std.specs.Prelude.{◌≡◌, ◌+◌, All, IsPermutation};
+ghost use Rattle.std.specs.Prelude.{◌≡◌, ◌+◌, ◌^◌, ◌<◌, All, IsPermutation};
 ghost use Rattle.std.specs.List.Sorted.{IsSortedBy};
 ghost use Rattle.bp_layout.specs.Words.{word};
 ghost use Rattle.bp_spelling.specs.Hashes.{IsSpelled, places_of, spelled_cmp, spelled_lt};
@@ -13,14 +13,16 @@ use pm_region::Region;
 use std::cmp::Ordering;
 
 /// Compares the bytes of the names of the entries at two places, which have equal lengths.
-fn compare_bytes<R: Region>(region: &R, a: u32, b: u32, count: u64) -> Ordering
+fn compare_bytes<R: Region>(region: &R, a: u64, b: u64, count: u64) -> Ordering
+    requires a_low { a < 2 ^ 37 }
+    requires b_low { b < 2 ^ 37 }
     requires first { word (current_words (R.memory region.now)) (a + 1) ≡ count }
     requires second { word (current_words (R.memory region.now)) (b + 1) ≡ count }
     ensures { result ≡ rest_cmp (current_words (R.memory region.now)) a b 1 }
 {
     for part in 1..31u64 {
-        let x = word_at(region, a as u64 + 1 + part);
-        let y = word_at(region, b as u64 + 1 + part);
+        let x = word_at(region, a + 1 + part);
+        let y = word_at(region, b + 1 + part);
         match compare_words(x, y, count.saturating_sub(8 * (part - 1))) {
             Ordering::Equal => {}
             unequal => return unequal,
@@ -30,11 +32,13 @@ fn compare_bytes<R: Region>(region: &R, a: u32, b: u32, count: u64) -> Ordering
 }
 
 /// Compares the names of the entries at two places: the shorter one comes first.
-fn compare_names<R: Region>(region: &R, a: u32, b: u32) -> Ordering
+fn compare_names<R: Region>(region: &R, a: u64, b: u64) -> Ordering
+    requires a_low { a < 2 ^ 37 }
+    requires b_low { b < 2 ^ 37 }
     ensures { result ≡ name_cmp (current_words (R.memory region.now)) a b }
 {
-    let count = word_at(region, a as u64 + 1);
-    let other = word_at(region, b as u64 + 1);
+    let count = word_at(region, a + 1);
+    let other = word_at(region, b + 1);
     if count < other {
         return Ordering::Less;
     }
@@ -49,7 +53,7 @@ pub(crate) fn compare_entries<R: Region>(region: &R, a: Spelled, b: Spelled) -> 
     ensures { result ≡ spelled_cmp (current_words (R.memory region.now)) a b }
 {
     match a.hash.cmp(&b.hash) {
-        Ordering::Equal => compare_names(region, a.place, b.place),
+        Ordering::Equal => compare_names(region, a.place(), b.place()),
         unequal => unequal,
     }
 }
@@ -63,7 +67,7 @@ fn sort_by_name<R: Region>(region: &R, entries: &mut [Spelled])
 
 /// Returns the place of an entry that has the name of another one. It sorts the entries by their hashes, then by their
 /// names.
-pub(crate) fn find_double<R: Region>(region: &R, entries: &mut [Spelled]) -> Option<u32>
+pub(crate) fn find_double<R: Region>(region: &R, entries: &mut [Spelled]) -> Option<u64>
     requires { All (IsSpelled (current_words (R.memory region.now))) entries.old }
     ensures same { IsPermutation entries.old entries.new }
     ensures double { FindsDouble result (current_words (R.memory region.now)) (places_of entries.new) }
@@ -71,7 +75,7 @@ pub(crate) fn find_double<R: Region>(region: &R, entries: &mut [Spelled]) -> Opt
     sort_by_name(region, entries);
     for i in 1..entries.len() {
         if let Ordering::Equal = compare_entries(region, entries[i - 1], entries[i]) {
-            return Some(entries[i].place);
+            return Some(entries[i].place());
         }
     }
     None

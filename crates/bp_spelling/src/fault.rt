@@ -6,11 +6,11 @@ pub enum NameFault {
     /// The name is not valid. The place is that of its length.
     Form {
         /// The number of the word of the region.
-        place: u32,
+        place: u64,
     },
     /// Another entry has the same name. The place is that of the entry.
     Twice {
         /// The number of the word of the region.
-        place: u32,
+        place: u64,
     },
 }

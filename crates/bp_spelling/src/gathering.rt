@@ -1,9 +1,9 @@
 //! The entries of a directory, by their places.
 
-ghost use Rattle.std.specs.Prelude.{◌≡◌, ◌/◌, ◌%◌, ◌<◌, ◌≤◌, length, take, All, IfOk, OnOk, IfErr};
+ghost use Rattle.std.specs.Prelude.{◌≡◌, ◌*◌, ◌/◌, ◌%◌, ◌<◌, ◌≤◌, length, take, All, IfOk, OnOk, IfErr};
 ghost use Rattle.bp_layout.specs.Directory.{slots};
 ghost use Rattle.bp_layout.specs.Tree.{IsSound, IsFull};
-ghost use Rattle.bp_limits.specs.Limits.{block_entries, entry_size};
+ghost use Rattle.bp_limits.specs.Limits.{block_entries, block_words, entry_size, max_blocks};
 ghost use Rattle.bp_spelling.specs.Gathered.{IsGathered, IsLeafGathered, leaf_end};
 ghost use Rattle.bp_spelling.specs.Hashes.{IsSpelled, places_of};
 ghost use Rattle.bp_spelling.specs.Names.{AreNumbers};
@@ -34,9 +34,10 @@ fn gather_leaf<R: Region>(
     entries: &mut [Spelled],
     before: usize,
     numbers: &mut [u32],
-) -> Result<usize, u32>
+) -> Result<usize, u64>
     requires sound { IsSound (current_words (R.memory region.now)) tree.root tree.size }
     requires full { IsFull (current_words (R.memory region.now)) tree.root tree.size }
+    requires most { length (current_words (R.memory region.now)) ≤ block_words * max_blocks }
     requires starts { first % block_entries ≡ 0 }
     requires live { first < tree.size / entry_size }
     requires room { tree.size / entry_size ≤ length entries.old }
@@ -59,15 +60,12 @@ fn gather_leaf<R: Region>(
     keep_numbers(&named, slots as usize, numbers, first as usize);
     let mut count = before;
     for k in 0..slots {
-        let place = row + ENTRY_WORDS * k;
+        let place = row + ENTRY_WORDS * k as u64;
         if named[k as usize] != 0 {
             if !is_name(region, place) {
                 return Err(place + 1);
             }
-            entries[count] = Spelled {
-                hash: hash_name(region, place),
-                place,
-            };
+            entries[count] = Spelled::at(hash_name(region, place), place);
             count += 1;
         }
     }
@@ -85,9 +83,10 @@ pub(crate) fn gather<R: Region>(
     tree: Tree,
     entries: &mut [Spelled],
     numbers: &mut [u32],
-) -> Result<usize, u32>
+) -> Result<usize, u64>
     requires sound { IsSound (current_words (R.memory region.now)) tree.root tree.size }
     requires full { IsFull (current_words (R.memory region.now)) tree.root tree.size }
+    requires most { length (current_words (R.memory region.now)) ≤ block_words * max_blocks }
     requires room { tree.size / entry_size ≤ length entries.old }
     requires number_room { tree.size / entry_size ≤ length numbers.old }
     ensures places { IfOk result (λ count. places_of (take count entries.new) ≡

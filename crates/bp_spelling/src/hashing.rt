@@ -24,7 +24,7 @@ fn mix(state: u64, word: u64) -> u64
 
 /// Returns the hash of the name of the entry at a place: of its length, and of its words without the bytes past its
 /// end.
-pub(crate) fn hash_name<R: Region>(region: &R, place: u32) -> u32
+pub(crate) fn hash_name<R: Region>(region: &R, place: u64) -> u32
     requires short { word (current_words (R.memory region.now)) (place + 1) ≤ max_name }
     requires behind_head { HEAD_WORDS ≤ place }
     requires within { place + entry_words ≤ length (current_words (R.memory region.now)) }

@@ -13,8 +13,8 @@ use std::cmp::Ordering;
 pub(crate) fn word_at<R: Region>(region: &R, place: u64) -> u64
     ensures { result ≡ word (current_words (R.memory region.now)) place }
 {
-    if place < region.words() as u64 {
-        region.load(place as u32)
+    if place < region.words() {
+        region.load(place)
     } else {
         0
     }

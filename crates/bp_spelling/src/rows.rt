@@ -12,7 +12,7 @@ use pm_region::Region;
 /// Returns the inode numbers of `count` consecutive entries, at most sixteen, from the one that begins at word `place`
 /// of the region on. The number of an empty entry is 0. They are read together, so the processor waits for all of them
 /// at once.
-pub fn named_in_row<R: Region>(region: &R, place: u32, count: u32) -> [u64; BLOCK_ENTRIES as usize]
+pub fn named_in_row<R: Region>(region: &R, place: u64, count: u32) -> [u64; BLOCK_ENTRIES as usize]
     requires few { count ≤ block_entries }
     requires within { place + entry_words * count ≤ length (current_words (R.memory region.now)) }
     ensures { (k : ℕ) → k < count →
@@ -21,7 +21,7 @@ pub fn named_in_row<R: Region>(region: &R, place: u32, count: u32) -> [u64; BLOC
     let _words = region.words();
     let mut named = [0; BLOCK_ENTRIES as usize];
     for k in 0..count {
-        named[k as usize] = region.load(place + ENTRY_WORDS * k);
+        named[k as usize] = region.load(place + ENTRY_WORDS * k as u64);
     }
     named
 }

@@ -25,7 +25,7 @@ enum Clash {
 /// Why a table does not show that no two entries have the same name.
 pub(crate) enum TableError {
     /// The entry at this place has the name of another one.
-    Repeated(u32),
+    Repeated(u64),
     /// Too many hashes collide, or there is no memory for a table.
     Crowded,
 }
@@ -38,7 +38,7 @@ fn home_of(cells: usize, hash: u32) -> usize
     hash as usize % (cells - REACH)
 }
 
-/// Puts an entry into the first empty cell that may hold it. A cell is empty if its place is 0.
+/// Puts an entry into the first empty cell that may hold it. A cell is empty if its entry is the one at word 0.
 fn put<R: Region>(region: &R, table: &mut [Spelled], entry: Spelled) -> Result<(), Clash>
     requires room { 128 < length table.old }
     requires some { IsPresent entry }
@@ -48,7 +48,7 @@ fn put<R: Region>(region: &R, table: &mut [Spelled], entry: Spelled) -> Result<(
 {
     let home = home_of(table.len(), entry.hash);
     for cell in home..home + REACH {
-        if table[cell].place == 0 {
+        if table[cell].number == 0 {
             table[cell] = entry;
             return Ok(());
         }
@@ -81,7 +81,7 @@ pub(crate) fn check_by_table<R: Region>(
     for entry in entries {
         match put(region, table, *entry) {
             Ok(()) => {}
-            Err(Clash::Double) => return Err(TableError::Repeated(entry.place)),
+            Err(Clash::Double) => return Err(TableError::Repeated(entry.place())),
             Err(Clash::Full) => return Err(TableError::Crowded),
         }
     }

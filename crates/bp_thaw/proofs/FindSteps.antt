@@ -1,8 +1,9 @@
 -- One more pointer of a way is looked at, and one more way.
-use Rattle.std.proofs.Common.{◌≡◌, ◌≢◌, ◌⊎◌, ℕ, zero, suc, ◌+◌, ◌*◌, ◌/◌, ◌%◌, ◌^◌, ◌<◌, ◌≤◌, List, [], ◌∷◌, ◌++◌, map, length, take, drop, get_or, Bool, true, false, ◌||◌, ◌==◌, refl, sym, ◌∙◌, ap, subst, arith, inl, inr, true≢false}
+use Rattle.std.proofs.Common.{◌≡◌, ◌≢◌, ◌⊎◌, ℕ, zero, suc, ◌+◌, ◌*◌, ◌/◌, ◌%◌, ◌<◌, ◌≤◌, List, [], ◌∷◌, ◌++◌, map, length, take, drop, get_or, Bool, true, false, ◌||◌, ◌==◌, refl, sym, ◌∙◌, ap, subst, arith, inl, inr, true≢false}
 use Rattle.std.specs.List.{list_any, slice_index}
 use Rattle.std.proofs.lemmas.Bool.{cases_eq}
 use Rattle.std.proofs.lemmas.List.{length-take-le, take-append-drop, take_more}
+use Rattle.bp_limits.specs.Limits.{max_blocks}
 use Rattle.bp_layout.specs.Thaw.{is_kept_at, is_there_now}
 use Rattle.bp_layout.specs.WellFormed.{IsWellFormed}
 use Rattle.bp_layout.specs.WordPaths.{WordPath, address, digits, inode_path, tree_path}
@@ -80,7 +81,7 @@ low_slot image w way n = subst (λ p. get_or p n 0 < 512) (sym way.is) (low_path
 pub record IsOnWay (image : Image) (w : WordPath) (d block : ℕ) : Type 0 where
   pub kept : (kept : ℕ → Bool) → is_kept_at image kept (take d w) ≡ kept block
   pub inside : block < block_count image
-  pub fits : 512 * block + 512 ≤ 2 ^ 32
+  pub fits : block < max_blocks
   pub slot : get_or w d 0 < 512
   pub next : 512 * block + get_or w d 0 ≡ address image (take (d + 1) w)
 

@@ -16,7 +16,7 @@ use bp_limits::{BLOCK_SIZE, BLOCK_WORDS};
 use pm_region::Region;
 
 /// Copies of blocks, each given by the place of the pointer to its block and the number of the copy.
-pub(crate) type Copies = ArrayVec<(u32, u32), 96>;
+pub(crate) type Copies = ArrayVec<(u64, u32), 96>;
 
 /// Returns a pointer to another block, with the other bits unchanged.
 pub(crate) fn pointing_to(pointer: u64, block: u32) -> u64
@@ -45,7 +45,7 @@ fn turn_words(copies: &Copies, block: u32, words: &mut [u64; 512])
 {
     for i in 0..copies.len() {
         let (place, copy) = copies[i];
-        if place / BLOCK_WORDS == block {
+        if place / BLOCK_WORDS == block as u64 {
             let slot = (place % BLOCK_WORDS) as usize;
             words[slot] = pointing_to(words[slot], copy);
         }
@@ -53,7 +53,7 @@ fn turn_words(copies: &Copies, block: u32, words: &mut [u64; 512])
 }
 
 /// Stores the words of a copy: those of its block, with the pointers set to the copies.
-fn fill_copy<R: Region>(region: &mut R, copies: &Copies, place: u32, copy: u32)
+fn fill_copy<R: Region>(region: &mut R, copies: &Copies, place: u64, copy: u32)
     requires apart { AreApart (places_of copies.now.items) }
     requires place { place < length (current_words (R.memory region.old)) }
     requires present { 0 < block_of (word (current_words (R.memory region.old)) place) }
@@ -67,9 +67,9 @@ fn fill_copy<R: Region>(region: &mut R, copies: &Copies, place: u32, copy: u32)
     let _words = region.words();
     let block = pm_words::block_of(region.load(place)) as u32;
     let mut words = [0; 512];
-    words.copy_from_slice(region.load_words(BLOCK_WORDS * block, BLOCK_WORDS));
+    words.copy_from_slice(region.load_words(BLOCK_WORDS * block as u64, BLOCK_WORDS as usize));
     turn_words(copies, block, &mut words);
-    region.store_words(BLOCK_WORDS * copy, &words);
+    region.store_words(BLOCK_WORDS * copy as u64, &words);
 }
 
 /// Stores the words of all copies.

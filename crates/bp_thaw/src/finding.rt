@@ -19,10 +19,10 @@ use bp_tree::Slots;
 use pm_region::Region;
 
 /// Places of pointers: as many as eight ways of twelve slots can have.
-pub(crate) type Places = ArrayVec<u32, 96>;
+pub(crate) type Places = ArrayVec<u64, 96>;
 
 /// Returns whether a place is in the list.
-fn has_place(places: &Places, place: u32) -> bool
+fn has_place(places: &Places, place: u64) -> bool
     ensures { result ≡ list_any (λ other. other == place) places.now.items }
 {
     for i in 0..places.len() {
@@ -34,7 +34,7 @@ fn has_place(places: &Places, place: u32) -> bool
 }
 
 /// Adds a place, unless it is in the list.
-fn add_place(places: &mut Places, place: u32)
+fn add_place(places: &mut Places, place: u64)
     requires { length places.old.items < 96 }
     ensures old { list_any (λ other. other == place) places.old.items ≡ true → places.new.items ≡ places.old.items }
     ensures new { list_any (λ other. other == place) places.old.items ≡ false →
@@ -66,7 +66,7 @@ fn find_on<R: Region>(region: &R, frozen: &Blocks, way: &Slots, places: &mut Pla
         if frozen.is_free(block) {
             add_place(places, place);
         }
-        place = BLOCK_WORDS * block + u32::from(way[depth]);
+        place = BLOCK_WORDS * block as u64 + u64::from(way[depth]);
     }
 }
 

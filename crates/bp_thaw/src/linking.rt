@@ -13,16 +13,16 @@ use bp_limits::BLOCK_WORDS;
 use pm_region::Region;
 
 /// Places of pointers, and the values to store there.
-pub(crate) type Links = ArrayVec<(u32, u64), 96>;
+pub(crate) type Links = ArrayVec<(u64, u64), 96>;
 
 /// Returns whether a block is copied.
-fn is_copied<R: Region>(region: &R, copies: &Copies, block: u32) -> bool
+fn is_copied<R: Region>(region: &R, copies: &Copies, block: u64) -> bool
     requires { ArePlacesOf (current_words (R.memory region.now)) copies.now.items }
     ensures { result ≡ is_copied (current_words (R.memory region.now)) copies.now.items block }
 {
     for i in 0..copies.len() {
         let (place, _) = copies[i];
-        if pm_words::block_of(region.load(place)) == u64::from(block) {
+        if pm_words::block_of(region.load(place)) == block {
             return true;
         }
     }

@@ -29,7 +29,7 @@ pub fn is_clear<R: Region>(parts: &Parts<R>, way: &Slots) -> bool
         if parts.frozen.is_free(block) {
             return false;
         }
-        place = BLOCK_WORDS * block + u32::from(way[depth]);
+        place = BLOCK_WORDS * block as u64 + u64::from(way[depth]);
     }
     true
 }

@@ -67,7 +67,7 @@ fn tree_of<R: Region>(region: &R, file: Tree, inode: u64) -> Tree
     ensures root { result.root ≡ root_of (current_words (R.memory region.now)) inode }
     ensures size { result.size ≡ size_of (current_words (R.memory region.now)) inode }
 {
-    let first = INODE_WORDS as u64 * inode;
+    let first = INODE_WORDS * inode;
     Tree {
         root: bp_tree::content_word(region, file, first + 1),
         size: bp_tree::content_word(region, file, first + 2),
@@ -87,7 +87,7 @@ pub(crate) fn is_there<R: Region>(region: &R, way: &Slots, depth: usize) -> bool
     if depth <= top {
         return is_present(region, file, (top - depth) as u32, number(way, 0, depth));
     }
-    let inode = number(way, 0, top + 1) / INODE_WORDS as u64;
+    let inode = number(way, 0, top + 1) / INODE_WORDS;
     let tree = tree_of(region, file, inode);
     if tree.size == 0 {
         return false;

@@ -32,7 +32,7 @@ pub fn word_path(tree: Tree, offset: u64) -> Slots
 }
 
 /// Returns the place in the region of the word that a path names.
-pub fn address<R: Region>(region: &R, path: &Slots) -> u32
+pub fn address<R: Region>(region: &R, path: &Slots) -> u64
     requires exists { Exists (current_words (R.memory region.now)) path.now.items }
     requires slots { All (λ slot. slot < block_words) path.now.items }
     requires in_range { IsInRange (current_words (R.memory region.now)) path.now.items }
@@ -42,8 +42,8 @@ pub fn address<R: Region>(region: &R, path: &Slots) -> u32
     let _words = region.words();
     let mut place = SUPER_ROOT;
     for slot in path.as_slice() {
-        let block = pm_words::block_of(region.load(place)) as u32;
-        place = BLOCK_WORDS * block + *slot as u32;
+        let block = pm_words::block_of(region.load(place));
+        place = BLOCK_WORDS * block + *slot as u64;
     }
     place
 }

@@ -56,7 +56,7 @@ fn read_bytes<R: Region>(region: &R, place: u64, into: &mut [u8])
     ensures { into.new ≡ stored_bytes (current_words (R.memory region.now)) place (length into.old) }
 {
     let _words = region.words();
-    let word = (place / 8) as u32;
+    let word = place / 8;
     let first = (place % 8) as usize;
     let head = (8 - first).min(into.len());
     let end = into.len();
@@ -65,13 +65,13 @@ fn read_bytes<R: Region>(region: &R, place: u64, into: &mut [u8])
 }
 
 /// Reads the bytes of the words from `word` on.
-fn read_words<R: Region>(region: &R, word: u32, into: &mut [u8])
+fn read_words<R: Region>(region: &R, word: u64, into: &mut [u8])
     requires behind_head { HEAD_WORDS ≤ word }
     requires in_range { 8 * word + length into.old ≤ 8 * length (current_words (R.memory region.now)) }
     ensures { into.new ≡ stored_bytes (current_words (R.memory region.now)) (8 * word) (length into.old) }
 {
     let _words = region.words();
-    unpack(region.load_words(word, into.len().div_ceil(8) as u32), into);
+    unpack(region.load_words(word, into.len().div_ceil(8)), into);
 }
 
 /// Words that are converted to bytes at once. The number is known at compile time, so the conversion takes a few wide
@@ -126,7 +126,7 @@ pub fn unpack(words: &[u64], into: &mut [u8])
 }
 
 /// Reads some of the bytes of a word.
-fn read_part<R: Region>(region: &R, word: u32, first: usize, into: &mut [u8])
+fn read_part<R: Region>(region: &R, word: u64, first: usize, into: &mut [u8])
     requires word { word < length (current_words (R.memory region.now)) }
     requires within { first + length into.old ≤ 8 }
     ensures { into.new ≡ stored_bytes (current_words (R.memory region.now)) (8 * word + first) (length into.old) }
@@ -152,6 +152,6 @@ pub fn leaf_words<R: Region>(region: &R, tree: Tree, leaf: u64) -> Option<&[u64]
     if block == 0 {
         None
     } else {
-        Some(region.load_words(BLOCK_WORDS * block as u32, BLOCK_WORDS))
+        Some(region.load_words(BLOCK_WORDS * block, BLOCK_WORDS as usize))
     }
 }

@@ -13,7 +13,7 @@ use bp_limits::BLOCK_WORDS;
 use pm_region::Region;
 
 /// Content words of a leaf.
-const LEAF_WORDS: u64 = BLOCK_WORDS as u64;
+const LEAF_WORDS: u64 = BLOCK_WORDS;
 
 /// A tree: its root word, which has the height and the top block, and its size in bytes.
 #[derive(Clone, Copy, Debug, PartialEq, Eq)]
@@ -63,7 +63,7 @@ pub fn load_slot<R: Region>(region: &R, block: u64, slot: u64) -> u64
     if block == 0 {
         0
     } else {
-        region.load(BLOCK_WORDS * block as u32 + slot as u32)
+        region.load(LEAF_WORDS * block + slot)
     }
 }
 
@@ -100,7 +100,7 @@ pub fn content_word<R: Region>(region: &R, tree: Tree, index: u64) -> u64
 }
 
 /// Returns the place in the region of content word number `index`.
-pub fn content_place<R: Region>(region: &R, tree: Tree, index: u64) -> u32
+pub fn content_place<R: Region>(region: &R, tree: Tree, index: u64) -> u64
     requires sound { IsSound (current_words (R.memory region.now)) tree.root tree.size }
     requires live { 8 * index < tree.size }
     requires present { let words = current_words (R.memory region.now) in
@@ -109,5 +109,5 @@ pub fn content_place<R: Region>(region: &R, tree: Tree, index: u64) -> u32
     ensures in_range { result < length (current_words (R.memory region.now)) }
 {
     let _words = region.words();
-    (LEAF_WORDS * leaf_block(region, tree, index / LEAF_WORDS) + index % LEAF_WORDS) as u32
+    LEAF_WORDS * leaf_block(region, tree, index / LEAF_WORDS) + index % LEAF_WORDS
 }

@@ -41,8 +41,8 @@ pub fn lay_front<R: Region>(region: &mut R, version: Version, blocks: u32)
     region.barrier();
 }
 
-/// Stores an empty file system of the given version into a region of 8 to 65,536 blocks of 512 words. The stores are
-/// not durable until the region is drained: until then a crash may leave the old words, or words without a magic
+/// Stores an empty file system of the given version into a region of 8 to 67,108,864 blocks of 512 words. The stores
+/// are not durable until the region is drained: until then a crash may leave the old words, or words without a magic
 /// number.
 pub fn lay_out<R: Region>(region: &mut R, version: Version)
     requires sized { IsSized (R.memory region.old).base }
@@ -52,6 +52,6 @@ pub fn lay_out<R: Region>(region: &mut R, version: Version)
         (format_events version (block_count (R.memory region.old).base)) }
     ensures left { OfEachReplay (R.memory region.new) (IsLeftByFormat version (R.memory region.old).base) }
 {
-    let blocks = region.words() / BLOCK_WORDS;
+    let blocks = (region.words() / BLOCK_WORDS) as u32;
     lay_front(region, version, blocks);
 }

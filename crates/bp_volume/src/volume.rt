@@ -70,7 +70,8 @@ impl<R: Region> Model for Volume<R> {
 }
 
 impl<R: Region> Volume<R> {
-    /// Formats a region of 8 to 65,536 blocks of 512 words, whatever they hold, as an empty file system of version 1.
+    /// Formats a region of 8 to 67,108,864 blocks of 512 words, whatever they hold, as an empty file system of
+    /// version 1.
     ///
     /// # Errors
     ///
@@ -109,7 +110,7 @@ impl<R: Region> Volume<R> {
         ensures handed_back { IfErr result (λ e. e.0 ≡ region) }
         ensures memory { IfErr result (λ e. e.1 ≡ MountFault.Memory) }
     {
-        let Ok((sets, cache)) = memory_for(alloc, region.words() / BLOCK_WORDS) else {
+        let Ok((sets, cache)) = memory_for(alloc, (region.words() / BLOCK_WORDS) as u32) else {
             return Err((region, MountFault::Memory));
         };
         let mut region = region;
@@ -123,7 +124,7 @@ impl<R: Region> Volume<R> {
         }
     }
 
-    /// Mounts the file system of a formatted region of 8 to 65,536 blocks of 512 words.
+    /// Mounts the file system of a formatted region of 8 to 67,108,864 blocks of 512 words.
     ///
     /// # Errors
     ///
@@ -144,7 +145,7 @@ impl<R: Region> Volume<R> {
         ensures fault { IfErr result (λ e. (e.1 ≡ MountFault.Memory) ⊎ IsFault (R.memory region).base e.1) }
         ensures exact { IsFileSystem (R.memory region).base → IfErr result (λ e. e.1 ≡ MountFault.Memory) }
     {
-        match memory_for(alloc, region.words() / BLOCK_WORDS) {
+        match memory_for(alloc, (region.words() / BLOCK_WORDS) as u32) {
             Ok((sets, cache)) => Volume::scanned(region, sets, cache),
             Err(_) => Err((region, MountFault::Memory)),
         }

@@ -26,7 +26,7 @@ pub struct CheckFault {
     /// The check that fails. In a tree it is `Height`, `PointerBits`, `Range`, `BlockTwice`, `Hole` or `Capacity`.
     pub check: Check,
     /// The number of the word of the region at which the check fails.
-    pub place: u32,
+    pub place: u64,
 }
 
 /// Returns the number of bytes below a pointer that is `level` levels above the content words.
@@ -42,7 +42,7 @@ fn covered_bytes(level: u32) -> u64
 /// be.
 fn claim_pointed(
     block: u64,
-    place: u32,
+    place: u64,
     holes: bool,
     blocks: &mut Blocks,
 ) -> Result<u32, CheckFault>
@@ -104,7 +104,7 @@ fn live_slots(size: u64, top: Pointer) -> u32
         → slot < result }
 {
     let rest = size - top.index * covered_bytes(top.level + 1);
-    ((rest - 1) / covered_bytes(top.level) + 1).min(BLOCK_WORDS as u64) as u32
+    ((rest - 1) / covered_bytes(top.level) + 1).min(BLOCK_WORDS) as u32
 }
 
 /// Returns whether all of these pointers are null. It looks at each, which takes less time than to stop at the first
@@ -163,12 +163,12 @@ fn take_below<R: Region>(
         0 tree.root tree.size holes top.block blocks.old f.check f.place) }
     ensures room { length blocks.new ≡ length blocks.old }
 {
-    let first = BLOCK_WORDS * top.block;
+    let first = BLOCK_WORDS * top.block as u64;
     let live = live_slots(tree.size, top);
-    let pointers = region.load_words(first, live);
+    let pointers = region.load_words(first, live as usize);
     let mut slot = 0;
     while slot < live {
-        let place = first + slot;
+        let place = first + slot as u64;
         let pointer = pointers[slot as usize];
         // If there may be null pointers, there may be very many.
         if pointer == 0 && holes {
@@ -182,7 +182,7 @@ fn take_below<R: Region>(
             });
         };
         let block = claim_pointed(named, place, holes, blocks)?;
-        let index = BLOCK_WORDS as u64 * top.index + slot as u64;
+        let index = BLOCK_WORDS * top.index + slot as u64;
         slot += 1;
         if top.level == 1 {
             continue;
@@ -200,7 +200,7 @@ fn take_below<R: Region>(
 
 /// Returns the check that fails at a malformed root word of a tree: that of the height if it is above `top`, else that
 /// of the bits.
-fn root_fault(tree: Tree, top: u32, place: u32) -> CheckFault
+fn root_fault(tree: Tree, top: u32, place: u64) -> CheckFault
     ensures high { top < height_of tree.root → result.check ≡ Height }
     ensures low { height_of tree.root ≤ top → result.check ≡ PointerBits }
     ensures place { result.place ≡ place }
@@ -223,7 +223,7 @@ fn root_fault(tree: Tree, top: u32, place: u32) -> CheckFault
 ///   the set, and its contents are not defined.
 pub fn take_tree<R: Region>(
     region: &R,
-    at: u32,
+    at: u64,
     tree: Tree,
     holes: bool,
     blocks: &mut Blocks,

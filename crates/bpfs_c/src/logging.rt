@@ -29,7 +29,7 @@ pub struct Logged {
     /// `STORE`, `BARRIER` or `MARK`.
     pub kind: u32,
     /// The index of the stored word, from the start of the image; 0 for other events.
-    pub word: u32,
+    pub word: u64,
     /// The stored value; 0 for other events.
     pub value: u64,
 }
@@ -133,32 +133,31 @@ pub extern "C" fn bpfs_drained(alloc: Global, handle: &mut Handle) -> u64
 }
 
 /// Copies words of a region from index `first` on, one by one.
-fn copy_by_word(region: &RedoRegion, first: u32, into: &mut [u64])
+fn copy_by_word(region: &RedoRegion, first: u64, into: &mut [u64])
     requires in_range { first + length into.old ≤ length region.now.base }
-    requires fits { first + length into.old < 2 ^ 32 }
+    requires fits { first + length into.old < 2 ^ 41 }
     ensures { into.new ≡ slice_range (current_words region.now) first (first + length into.old) }
 {
     for i in 0..into.len() {
-        into[i] = region.load(first + i as u32);
+        into[i] = region.load(first + i as u64);
     }
 }
 
 /// Copies words of a region from index `first` on, all of which are past its head.
-fn copy_run(region: &RedoRegion, first: u32, into: &mut [u64])
+fn copy_run(region: &RedoRegion, first: u64, into: &mut [u64])
     requires in_range { first + length into.old ≤ length region.now.base }
-    requires fits { first + length into.old < 2 ^ 32 }
+    requires fits { first + length into.old < 2 ^ 41 }
     requires behind_head { 0 < length into.old → HEAD_WORDS ≤ first }
     ensures { into.new ≡ slice_range (current_words region.now) first (first + length into.old) }
 {
     if into.is_empty() {
         return;
     }
-    let count = into.len() as u32;
-    into.copy_from_slice(region.load_words(first, count));
+    into.copy_from_slice(region.load_words(first, into.len()));
 }
 
 /// Copies words of a region from index `first` on, if it has that many.
-fn copy_words(region: &RedoRegion, first: u32, into: &mut [u64]) -> u32
+fn copy_words(region: &RedoRegion, first: u64, into: &mut [u64]) -> u32
     ensures { TellsWords (current_words region.now) first into.old result into.new }
 {
     let words = region.words();
@@ -169,7 +168,7 @@ fn copy_words(region: &RedoRegion, first: u32, into: &mut [u64]) -> u32
     let head = (HEAD_WORDS.saturating_sub(first) as usize).min(into.len());
     let (front, rest) = into.split_at_mut(head);
     copy_by_word(region, first, front);
-    copy_run(region, first + head as u32, rest);
+    copy_run(region, first + head as u64, rest);
     OK
 }
 
@@ -178,7 +177,7 @@ fn copy_words(region: &RedoRegion, first: u32, into: &mut [u64]) -> u32
 pub extern "C" fn bpfs_words(
     alloc: Global,
     handle: &mut Handle,
-    first: u32,
+    first: u64,
     into: &mut [u64],
 ) -> u32
     ensures { Looked handle.old.held (λ held. TellsWords (current_words held.volume) first into.old result into.new)

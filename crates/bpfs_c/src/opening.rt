@@ -23,7 +23,7 @@ pub struct Fault {
     /// The number of the check.
     pub check: u32,
     /// The index of the word, from the start of the image.
-    pub place: u32,
+    pub place: u64,
     /// The length of the words in bytes, at most `u64::MAX`.
     pub found: u64,
     /// The length in bytes that the image states for itself, at most `u64::MAX`. Where no image has this number of

@@ -18,7 +18,7 @@ pub struct Told {
     /// `STORE`, `BARRIER` or `MARK`.
     pub kind: u32,
     /// The index of the first stored word, from the start of the image; 0 for other runs.
-    pub word: u32,
+    pub word: u64,
 }
 
 /// Stores a run as C sees it, and returns its number of events.

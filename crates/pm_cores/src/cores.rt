@@ -23,14 +23,14 @@ use std::marker::Model;
 #[derive(Clone, Copy, Debug, PartialEq, Eq)]
 pub struct NotYet {
     /// The lowest dirty word of the earliest such epoch.
-    pub needs: u32,
+    pub needs: u64,
 }
 
 /// Several cores over one memory, each with a cache. The memory is a region's words at its last drain with the stores
 /// that are written back, so a call that reads a word takes the region.
 #[derive(Drop)]
 pub struct Cores {
-    words: u32,
+    words: u64,
     // For each dirty word, the number of entries of the log up to the first waiting store to it. 0 for a clean word.
     since: Vec<u32>,
     // For each word, the number of entries of the log up to the last store to it. 0 if there is none.
@@ -66,7 +66,7 @@ impl Cores {
     /// # Errors
     ///
     /// `AllocError`: out of memory, or `room` is 4,294,967,295 or more.
-    pub fn new(alloc: Global, cores: u32, words: u32, room: usize) -> Result<Cores, AllocError>
+    pub fn new(alloc: Global, cores: u32, words: u64, room: usize) -> Result<Cores, AllocError>
         requires few { 1 ≤ cores }
         requires whole { (lines : ℕ) × (1 ≤ lines) × (words ≡ 8 * lines) }
         ensures { IfOk result (λ it. it ≡ caches_over cores words room) }
@@ -115,7 +115,7 @@ impl Cores {
     }
 
     /// Returns whether a word is dirty.
-    pub fn is_dirty(&self, i: u32) -> bool
+    pub fn is_dirty(&self, i: u64) -> bool
         requires { i < self.now.words }
         ensures { result ≡ is_some (owner_in self.now i) }
     {
@@ -124,7 +124,7 @@ impl Cores {
 
     /// Returns a word of the memory over a region: the last store to it that is written back, or the region's word at
     /// its last drain.
-    pub fn memory_word<R: Region>(&self, region: &R, i: u32) -> u64
+    pub fn memory_word<R: Region>(&self, region: &R, i: u64) -> u64
         requires word { i < self.now.words }
         requires region { self.now.words ≡ length (R.memory region.now).base }
         ensures { result ≡ slice_index (memory_over (R.memory region.now).base self.now) i }
@@ -150,7 +150,7 @@ impl Cores {
 
     /// Loads a word for a core: the value of the last store to it, or the region's word at its last drain. A line that
     /// is dirty under another core is settled first.
-    pub fn load<R: Region>(&mut self, region: &R, core: u32, i: u32) -> u64
+    pub fn load<R: Region>(&mut self, region: &R, core: u32, i: u64) -> u64
         requires core { core < self.old.cores }
         requires word { i < self.old.words }
         requires region { self.old.words ≡ length (R.memory region.now).base }
@@ -166,7 +166,7 @@ impl Cores {
 
     /// Stores a word for a core. A line is settled first if it is dirty under another core, or under an older epoch of
     /// the same core.
-    pub fn store(&mut self, core: u32, i: u32, v: u64)
+    pub fn store(&mut self, core: u32, i: u64, v: u64)
         requires core { core < self.old.cores }
         requires word { i < self.old.words }
         requires room { length self.old.log < self.old.capacity }
@@ -197,7 +197,7 @@ impl Cores {
     ///
     /// `NotYet`: the owner's core has a dirty word of an earlier epoch. `needs` is the lowest of the earliest such
     /// epoch, and nothing changes.
-    pub fn back(&mut self, i: u32) -> Result<(), NotYet>
+    pub fn back(&mut self, i: u64) -> Result<(), NotYet>
         requires word { i < self.old.words }
         requires dirty { is_some (owner_in self.old i) ≡ true }
         ensures allowed { IsOk result ↔ MayLeave self.old i }
@@ -215,7 +215,7 @@ impl Cores {
     }
 
     /// Returns the owner of a dirty word.
-    fn owner_of_word(&self, i: u32) -> Owner
+    fn owner_of_word(&self, i: u64) -> Owner
         requires word { i < self.now.words }
         requires dirty { is_some (owner_in self.now i) ≡ true }
         ensures under { IsDirtyUnder self.now i result }
@@ -228,7 +228,7 @@ impl Cores {
     }
 
     /// Returns the word that must be written back before this one, or `None` if this one may be.
-    fn needed(&mut self, i: u32) -> Option<u32>
+    fn needed(&mut self, i: u64) -> Option<u64>
         requires word { i < self.old.words }
         requires dirty { is_some (owner_in self.old i) ≡ true }
         ensures same { self.new ≡ self.old }
@@ -250,7 +250,7 @@ impl Cores {
     }
 
     /// Writes back one word.
-    fn write_back(&mut self, i: u32)
+    fn write_back(&mut self, i: u64)
         requires word { i < self.old.words }
         requires may { MayLeave self.old i }
         ensures { self.new ≡ with_back self.old i }
@@ -290,7 +290,7 @@ impl Cores {
     }
 
     /// Returns the number of entries of the log up to the last store to a word; 0 if there is none.
-    fn last_store(&self, i: u32) -> u32
+    fn last_store(&self, i: u64) -> u32
         requires { i < self.now.words }
         ensures within { result ≤ length self.now.log }
         ensures told { (base : List ℕ) → told_by self.now.log result (slice_index base i) ≡ value_at base self.now i }
@@ -300,7 +300,7 @@ impl Cores {
 
     /// Returns the number of entries of the log up to the last store to a word that is written back; 0 if there is
     /// none.
-    fn last_back(&self, i: u32) -> u32
+    fn last_back(&self, i: u64) -> u32
         requires { i < self.now.words }
         ensures within { result ≤ length self.now.log }
         ensures told { (base : List ℕ) → i < length base →
@@ -315,7 +315,7 @@ impl Cores {
     }
 
     /// Returns the owner of the dirty words of a word's line.
-    fn owner_of_line(&self, i: u32) -> Option<Owner>
+    fn owner_of_line(&self, i: u64) -> Option<Owner>
         requires { i < self.now.words }
         ensures line { result ≡ line_owner_in self.now i }
         ensures core { IfSome result (λ owner. owner.core < self.now.cores) }
@@ -337,7 +337,7 @@ impl Cores {
     }
 
     /// Settles a word's line if it is dirty under another core.
-    fn open_to_load(&mut self, core: u32, i: u32)
+    fn open_to_load(&mut self, core: u32, i: u64)
         requires { i < self.old.words }
         ensures after { self.new ≡ ready_to_load self.old core (line_owner_in self.old i) }
         ensures ready { IsOpenToLoad self.new core i }
@@ -350,7 +350,7 @@ impl Cores {
     }
 
     /// Settles a word's line if it is dirty under another core, or under an older epoch of this one.
-    fn open_to_store(&mut self, core: u32, i: u32)
+    fn open_to_store(&mut self, core: u32, i: u64)
         requires word { i < self.old.words }
         requires core { core < self.old.cores }
         ensures after { self.new ≡
@@ -367,7 +367,7 @@ impl Cores {
     }
 
     /// Appends a load to the log.
-    fn push_load(&mut self, core: u32, i: u32)
+    fn push_load(&mut self, core: u32, i: u64)
         requires core { core < self.old.cores }
         requires room { length self.old.log < self.old.capacity }
         requires ready { IsOpenToLoad self.old core i }
@@ -380,7 +380,7 @@ impl Cores {
     }
 
     /// Appends a store to the log. Its word waits.
-    fn push_store(&mut self, core: u32, i: u32, v: u64)
+    fn push_store(&mut self, core: u32, i: u64, v: u64)
         requires core { core < self.old.cores }
         requires word { i < self.old.words }
         requires room { length self.old.log < self.old.capacity }

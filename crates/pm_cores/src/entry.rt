@@ -4,9 +4,9 @@
 #[derive(Clone, Copy, Debug, PartialEq, Eq)]
 pub enum Entry {
     /// A core reads a word.
-    Load { core: u32, word: u32 },
+    Load { core: u32, word: u64 },
     /// A core sets a word.
-    Store { core: u32, word: u32, value: u64 },
+    Store { core: u32, word: u64, value: u64 },
     /// Each store of the core before the barrier reaches memory before any store of the core after it.
     Barrier { core: u32 },
 }

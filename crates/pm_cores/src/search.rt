@@ -41,7 +41,7 @@ pub fn owner_at(log: &[Entry], epochs: &[u32], since: u32) -> Option<Owner>
 }
 
 /// Returns the owner of the dirty words of a word's line.
-pub fn line_owner(since: &[u32], log: &[Entry], epochs: &[u32], word: u32) -> Option<Owner>
+pub fn line_owner(since: &[u32], log: &[Entry], epochs: &[u32], word: u64) -> Option<Owner>
     requires sized { length epochs.now ≡ length log.now }
     requires in_log { (other : ℕ) → slice_index since.now other ≤ length log.now }
     requires whole { 8 * line_at word + 8 ≤ length since.now }
@@ -59,7 +59,7 @@ pub fn line_owner(since: &[u32], log: &[Entry], epochs: &[u32], word: u32) -> Op
 
 /// Returns a word by the number of entries of the log up to a store: the value of that store, or the region's word at
 /// its last drain if the number is 0.
-pub fn word_told<R: Region>(log: &[Entry], number: u32, region: &R, word: u32) -> u64
+pub fn word_told<R: Region>(log: &[Entry], number: u32, region: &R, word: u64) -> u64
     requires in_log { number ≤ length log.now }
     requires in_region { word < length (R.memory region.now).base }
     ensures { result ≡ told_by log.now number (slice_index (R.memory region.now).base word) }
@@ -151,7 +151,7 @@ pub fn first_waiting(since: &[u32], log: &[Entry], low: usize, core: u32) -> usi
 
 /// Returns the lowest dirty word of an owner whose first waiting store is the first of its core. Takes time for the
 /// entries from there to the core's next epoch.
-pub fn lowest_word(since: &[u32], log: &[Entry], epochs: &[u32], first: usize, owner: Owner) -> u32
+pub fn lowest_word(since: &[u32], log: &[Entry], epochs: &[u32], first: usize, owner: Owner) -> u64
     requires sound { AreSound (length since.now) since.now log.now epochs.now }
     requires low { IsLow since.now log.now owner.core first }
     requires found { (word : ℕ) × Waits since.now log.now first owner.core word }
@@ -179,7 +179,7 @@ pub fn lowest_word(since: &[u32], log: &[Entry], epochs: &[u32], first: usize, o
 }
 
 /// Returns the lower of two words if the second counts, otherwise the first.
-fn lower_of(lowest: u32, word: u32, counts: bool) -> u32
+fn lower_of(lowest: u64, word: u64, counts: bool) -> u64
     ensures { result ≡ (if counts && nat_lt word lowest then word else lowest) }
 {
     if counts && word < lowest {
@@ -190,7 +190,7 @@ fn lower_of(lowest: u32, word: u32, counts: bool) -> u32
 }
 
 /// Returns the word of a store. For another entry the result has no meaning.
-fn stored_word(entry: Entry) -> u32
+fn stored_word(entry: Entry) -> u64
     ensures { (core word value : ℕ) → entry ≡ Store core word value → result ≡ word }
 {
     match entry {

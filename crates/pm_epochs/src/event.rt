@@ -7,7 +7,7 @@ ghost use Rattle.pm_epochs.specs.Kind.{event_kind, event_value, event_of};
 #[derive(Clone, Copy, Debug, PartialEq, Eq)]
 pub enum Event {
     /// One word takes a value. `word` counts words of 8 bytes from the start of the memory.
-    Store { word: u32, value: u64 },
+    Store { word: u64, value: u64 },
     /// Each store before the barrier reaches memory before any store after it.
     Barrier,
     /// The end-of-call marker. It does nothing to memory.
@@ -18,7 +18,7 @@ pub enum Event {
 #[derive(Clone, Copy, Debug, PartialEq, Eq)]
 pub enum EventKind {
     /// A store to this word.
-    Store(u32),
+    Store(u64),
     /// A barrier.
     Barrier,
     /// An end-of-call marker.

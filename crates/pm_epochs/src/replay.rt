@@ -91,7 +91,7 @@ fn epoch_len(events: &[Event], epoch: usize) -> Option<usize>
 }
 
 /// Returns one word after the stores that survive.
-fn word_of(base: u64, events: &[Event], epoch: usize, mask: &[bool], word: u32) -> u64
+fn word_of(base: u64, events: &[Event], epoch: usize, mask: &[bool], word: u64) -> u64
     ensures { result ≡ word_after base (stores_of epoch mask.now events.now) word }
 {
     let mut keeper = Keeper { epoch, mask };
@@ -167,7 +167,7 @@ pub fn replay_word(
     base: u64,
     events: &[Event],
     choice: &Choice,
-    word: u32,
+    word: u64,
 ) -> Result<u64, BadChoice>
     ensures right { IsOk result ↔ IsRight events.now choice.now.cut }
     ensures value { IfOk result (λ value. LeavesWord events.now choice.now.cut word base value) }

@@ -112,8 +112,8 @@ module _ (log : Inside) (part : IsPart log) where
         ∙ ap (λ ws. events_of ws (take n values) ++ drop n events) (take-words_from firsts starts at n (length values) fits)
         ∙ ap (λ ws. events_of ws (take n values) ++ drop n events) (run-in 0 n at word (runs.some (omega arith)) runs.begun (λ more. within (omega arith)) is)
 
-  -- the first word has 32 bits
-  pub first-low : 0 < length values → get_or firsts 0 0 + (at - get_or starts 0 0) < 2 ^ 32
+  -- the first word has 41 bits
+  pub first-low : 0 < length values → get_or firsts 0 0 + (at - get_or starts 0 0) < 2 ^ 41
   first-low some =
       let here = word_in firsts starts at (at + length values) runs 0 at (runs.some (omega arith)) runs.begun runs.first in
       omega (arith, here, runs.fits at (omega arith) (omega arith))

@@ -11,7 +11,7 @@ pub record IsFound (words firsts starts : List ℕ) (count event run : ℕ) : Ty
   pub all : words_from firsts starts 0 count ≡ words
   pub many : length words ≡ count
   pub low : event < count
-  pub word_low : get_or firsts run 0 + (event - get_or starts run 0) < 2 ^ 32
+  pub word_low : get_or firsts run 0 + (event - get_or starts run 0) < 2 ^ 41
   pub word : get_or firsts run 0 + (event - get_or starts run 0) ≡ get_or words event 0
 
 module _ (runs : Inside) (seen : Worded) (step : HasRuns runs) (is : worded_of runs ≡ seen) where

@@ -174,12 +174,12 @@ module _ (firsts starts : List ℕ) (count : ℕ) (runs : AreRuns firsts starts 
       let here : i ≡ 0 + i = omega arith in
       sym (word_in firsts starts 0 count runs run i inside begun last) ∙ ap (run_word_at firsts starts) here ∙ sym (get_or-words_from firsts starts 0 count i low)
 
-  pub word-low : get_or firsts run 0 + (i - get_or starts run 0) < 2 ^ 32
+  pub word-low : get_or firsts run 0 + (i - get_or starts run 0) < 2 ^ 41
   word-low = omega (arith, word_in firsts starts 0 count runs run i inside begun last, runs.fits i (omega arith) low)
 
 -- ## Words behind others
 
-module _ (firsts starts : List ℕ) (count first n : ℕ) (runs : AreRuns firsts starts 0 count) (fits : first + n ≤ 2 ^ 32) where
+module _ (firsts starts : List ℕ) (count first n : ℕ) (runs : AreRuns firsts starts 0 count) (fits : first + n ≤ 2 ^ 41) where
   -- a run more
   abbrev more_firsts : List ℕ
   more_firsts = firsts ++ first ∷ []
@@ -245,11 +245,11 @@ module _ (firsts starts : List ℕ) (count first n : ℕ) (runs : AreRuns firsts
       }
 
   -- more words of the last run
-  module _ (goes_on : first ≡ run_word_at firsts starts count) (some : first < 2 ^ 32) where
+  module _ (goes_on : first ≡ run_word_at firsts starts count) (some : first < 2 ^ 41) where
     is_some : 0 < length starts
     is_some = there firsts starts runs.same goes_on some
       where
-        there : (fs ss : List ℕ) → length fs ≡ length ss → first ≡ run_word_at fs ss count → first < 2 ^ 32 → 0 < length ss
+        there : (fs ss : List ℕ) → length fs ≡ length ss → first ≡ run_word_at fs ss count → first < 2 ^ 41 → 0 < length ss
         there [] [] same is low = absurd (omega (arith, is))
         there [] (s ∷ ss) same is low = omega arith
         there (f ∷ fs) [] same is low = absurd (omega arith)

@@ -6,7 +6,7 @@ use Rattle.pm_epochs.specs.declared.event.Event.TheVariants.{Store, Barrier, Mar
 
 -- The largest number of 32 bits, which is no word of a region. It represents an event that is no store.
 abbrev pub no_word : ℕ
-no_word = 4294967295
+no_word = 2199023255551
 
 -- The event that is no store, by its value.
 abbrev pub signal_of : ℕ → Event

@@ -14,8 +14,8 @@ is_before i (start ∷ starts) = nat_lt i start
 -- The word of an event, by its index, from the first words of the runs and the indices of their first events. The last
 -- run has no end. Without a run, the result is greater than any word.
 abbrev pub run_word_at : List ℕ → List ℕ → ℕ → ℕ
-run_word_at [] starts i = 4294967296
-run_word_at (first ∷ firsts) [] i = 4294967296
+run_word_at [] starts i = 2199023255552
+run_word_at (first ∷ firsts) [] i = 2199023255552
 run_word_at (first ∷ firsts) (start ∷ starts) i = if is_before i starts then first + (i - start) else run_word_at firsts starts i
 
 -- The words of this number of events, from this one on.
@@ -36,4 +36,4 @@ pub record AreRuns (firsts starts : List ℕ) (at end : ℕ) : Type 0 where
   pub first : 1 < length starts → at < slice_index starts 1
   pub taken : (i : ℕ) → i < length starts → slice_index starts i < end
   pub rises : Rises starts
-  pub fits : (i : ℕ) → at ≤ i → i < end → run_word_at firsts starts i < 2 ^ 32
+  pub fits : (i : ℕ) → at ≤ i → i < end → run_word_at firsts starts i < 2 ^ 41

@@ -174,7 +174,8 @@ impl Filling {
     /// # Errors
     ///
     /// `AllocError`: out of memory.
-    pub fn new(alloc: Global, size: u32) -> Result<Filling, AllocError>
+    pub fn new(alloc: Global, size: u64) -> Result<Filling, AllocError>
+        requires few { size < 2 ^ 41 }
         ensures { IfOk result (λ filling. filling ≡ record { words = []; size = size }) }
     {
         let size = size as usize;

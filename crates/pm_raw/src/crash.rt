@@ -1,6 +1,6 @@
 //! What a power failure leaves of a log, and how many calls survive.
 
-ghost use Rattle.std.specs.Prelude.{◌≡◌, ◌^◌, ◌<◌, ◌≤◌, ◌↔◌, true, false, IsOk, IfOk, length, slice_set};
+ghost use Rattle.std.specs.Prelude.{◌≡◌, ◌+◌, ◌^◌, ◌<◌, ◌≤◌, ◌↔◌, true, false, IsOk, IfOk, length, slice_set};
 ghost use Rattle.pm_epochs.specs.Log.{epoch_stores, marks, words_after};
 ghost use Rattle.pm_epochs.specs.Replay.{IsRight, kept_calls as kept_calls_of, marks_of, stores_of};
 ghost use Rattle.pm_region.specs.Epochs.{epoch_start};
@@ -140,7 +140,8 @@ fn put_kept(words: &mut [u64], place: usize, value: u64, keep: bool)
 }
 
 /// Stores those of these values that the mask keeps, to the words from this one on.
-fn apply_stores(words: &mut [u64], word: u32, values: &[u64], mask: &[bool])
+fn apply_stores(words: &mut [u64], word: u64, values: &[u64], mask: &[bool])
+    requires { word + length values.now ≤ 2 ^ 41 }
     ensures { words.new ≡ words_after words.old (stores_of 0 mask.now (stores_from word values.now)) }
 {
     let first = word as usize;

@@ -38,7 +38,7 @@ impl Model for Entries {
 
 /// Returns the kind of the event with this word and this number.
 #[tactic(auto, using(std::proofs::lemmas::Bool::Decides::nat_tests))]
-fn read_kind(word: u32, number: u64) -> EventKind
+fn read_kind(word: u64, number: u64) -> EventKind
     ensures { result ≡ event_kind (event_of word number) }
 {
     if word == NO_WORD {
@@ -143,8 +143,9 @@ impl Entries {
 
     /// Appends an event.
     #[inline(always)]
-    pub fn push(&mut self, word: u32, saved: u64)
-        requires { length self.old.words < self.old.room }
+    pub fn push(&mut self, word: u64, saved: u64)
+        requires room { length self.old.words < self.old.room }
+        requires in_range { word < 2 ^ 41 }
         ensures words { self.new.words ≡ self.old.words ++ word ∷ [] }
         ensures saved { self.new.saved ≡ self.old.saved ++ saved ∷ [] }
         ensures room { self.new.room ≡ self.old.room }
@@ -157,9 +158,9 @@ impl Entries {
     // It is a function of its own, so that callers that compare words before they store them stay small enough to be
     // inlined.
     #[inline(never)]
-    pub fn push_run(&mut self, first: u32, saved: &[u64])
+    pub fn push_run(&mut self, first: u64, saved: &[u64])
         requires room { length self.old.words + length saved.now ≤ self.old.room }
-        requires in_range { first + length saved.now < 2 ^ 32 }
+        requires in_range { first + length saved.now < 2 ^ 41 }
         ensures words { self.new.words ≡ self.old.words ++ range_with_len first (length saved.now) }
         ensures saved { self.new.saved ≡ self.old.saved ++ saved.now }
         ensures room { self.new.room ≡ self.old.room }

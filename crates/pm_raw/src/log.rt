@@ -10,7 +10,7 @@ use super::runs::run_of;
 use std::marker::Model;
 
 /// The word of an event that is no store. No region has a word with this index.
-pub const NO_WORD: u32 = u32::MAX;
+pub const NO_WORD: u64 = 2_199_023_255_551;
 
 /// The value of a barrier, whose word is `NO_WORD`.
 pub const BARRIER: u64 = 0;
@@ -22,7 +22,7 @@ pub const MARK: u64 = 1;
 #[derive(Drop)]
 pub enum Piece<'a> {
     /// Stores of these values to consecutive words, from this one on.
-    Stores { word: u32, values: &'a [u64] },
+    Stores { word: u64, values: &'a [u64] },
     /// A barrier.
     Barrier,
     /// An end-of-call marker.
@@ -33,7 +33,7 @@ pub enum Piece<'a> {
 /// event; the index of the part's first event; and the values of its events.
 #[derive(Drop)]
 pub struct Log<'a> {
-    firsts: &'a [u32],
+    firsts: &'a [u64],
     starts: &'a [usize],
     at: usize,
     values: &'a [u64],
@@ -54,8 +54,9 @@ impl<'a> Model for Log<'a> {
 /// Returns the number of events of the first piece in a log from `at` to `end` whose first word is this one. The piece
 /// has the events of the first run. An event that is no store is a piece by itself, and ends a piece of stores.
 #[inline]
-fn count_of_first(starts: &[usize], at: usize, end: usize, word: u32) -> usize
+fn count_of_first(starts: &[usize], at: usize, end: usize, word: u64) -> usize
     requires some { at < end }
+    requires small { word ≤ no_word }
     requires first { 1 < length starts.now → at < slice_index starts.now 1 }
     requires next { 1 < length starts.now → slice_index starts.now 1 ≤ end }
     ensures some { 0 < result }
@@ -100,12 +101,13 @@ fn signal_piece<'a>(value: u64) -> Piece<'a>
 /// Returns the piece of events with consecutive words, from this one on, and with these values.
 #[tactic(auto, using(crate::proofs::EntryLaws::row_signal, crate::proofs::EntryLaws::row_stores))]
 #[inline]
-fn piece_of<'a>(word: u32, values: &'a [u64]) -> Piece<'a>
+fn piece_of<'a>(word: u64, values: &'a [u64]) -> Piece<'a>
     requires some { 0 < length values.now }
+    requires small { word ≤ no_word }
     requires signal { word ≡ no_word → length values.now ≡ 1 }
     requires stores { word < no_word → word + length values.now ≤ no_word }
     ensures events { piece_events result ≡ events_of (range_with_len word (length values.now)) values.now }
-    ensures in_range { piece_end result ≤ 2 ^ 32 }
+    ensures in_range { piece_end result ≤ 2 ^ 41 }
 {
     if word == NO_WORD {
         signal_piece(values[0])
@@ -116,7 +118,7 @@ fn piece_of<'a>(word: u32, values: &'a [u64]) -> Piece<'a>
 
 impl<'a> Log<'a> {
     /// Makes the log of events with these values, whose words are in these runs.
-    pub fn new(firsts: &'a [u32], starts: &'a [usize], values: &'a [u64]) -> Log<'a>
+    pub fn new(firsts: &'a [u64], starts: &'a [usize], values: &'a [u64]) -> Log<'a>
         requires { AreRuns firsts.now starts.now 0 (length values.now) }
         ensures { result ≡ events_of (words_from firsts.now starts.now 0 (length values.now)) values.now }
     {
@@ -187,10 +189,10 @@ impl<'a> Log<'a> {
         requires { 0 < length self.old }
         ensures events { self.old ≡ piece_events result ++ self.new }
         ensures some { length self.new < length self.old }
-        ensures in_range { piece_end result ≤ 2 ^ 32 }
+        ensures in_range { piece_end result ≤ 2 ^ 41 }
     {
         let (firsts, starts, values) = (self.firsts, self.starts, self.values);
-        let word = firsts[0] + (self.at - starts[0]) as u32;
+        let word = firsts[0] + (self.at - starts[0]) as u64;
         let count = count_of_first(starts, self.at, self.at + values.len(), word);
         let at = self.at + count;
         let run = first_or_next(starts, at);

@@ -80,7 +80,8 @@ impl RawRegion {
     /// # Errors
     ///
     /// `AllocError`: out of memory.
-    pub fn new(alloc: Global, size: u32, capacity: usize) -> Result<RawRegion, AllocError>
+    pub fn new(alloc: Global, size: u64, capacity: usize) -> Result<RawRegion, AllocError>
+        requires few { size < 2 ^ 41 }
         ensures { IfOk result (λ region. region ≡ record {
           base = replicate size 0;
           events = [];
@@ -103,7 +104,7 @@ impl RawRegion {
 
     /// Replaces all words of the region by these, as the words at the last drain.
     pub fn adopt_all(&mut self, words: RawArray<u64>)
-        requires few { length words < 2 ^ 32 }
+        requires few { length words < 2 ^ 41 }
         requires drained { self.old.events ≡ [] }
         ensures { self.new ≡ record self.old { base = words } }
     {
@@ -125,21 +126,24 @@ impl RawRegion {
 impl Region for RawRegion {
     ghost memory = { λ region. region };
 
-    fn words(&self) -> u32 {
-        self.current.len() as u32
+    fn words(&self) -> u64 {
+        self.current.len() as u64
     }
 
-    fn load(&self, word: u32) -> u64 {
+    fn load(&self, word: u64) -> u64 {
+        let _words = self.words();
         self.current.as_slice()[word as usize]
     }
 
-    fn load_words(&self, first: u32, count: u32) -> &[u64] {
+    fn load_words(&self, first: u64, count: usize) -> &[u64] {
+        let _words = self.words();
         let first = first as usize;
-        &self.current.as_slice()[first..first + count as usize]
+        &self.current.as_slice()[first..first + count]
     }
 
     #[inline(always)]
-    fn store(&mut self, word: u32, value: u64) {
+    fn store(&mut self, word: u64, value: u64) {
+        let _words = self.words();
         let replaced = self.current.as_slice()[word as usize];
         self.current.set(word as usize, value);
         self.entries.push(word, replaced);
@@ -147,7 +151,8 @@ impl Region for RawRegion {
 
     // Most runs have a length that their caller knows: inlined, their copies are a few moves.
     #[inline(always)]
-    fn store_words(&mut self, first: u32, values: &[u64]) {
+    fn store_words(&mut self, first: u64, values: &[u64]) {
+        let _words = self.words();
         let place = first as usize;
         let replaced = &self.current.as_slice()[place..place + values.len()];
         self.entries.push_run(first, replaced);
@@ -183,7 +188,7 @@ impl Region for RawRegion {
         self.entries.kind(i)
     }
 
-    fn word_at(&self, moment: usize, word: u32) -> u64 {
+    fn word_at(&self, moment: usize, word: u64) -> u64 {
         word_before(
             self.current.as_slice(),
             self.entries.log().behind(moment),

@@ -10,14 +10,14 @@ use std::cell::Cell;
 use std::marker::Model;
 
 /// The next word when there is no run: more than any word of 32 bits.
-const NOWHERE: usize = 1 << 32;
+const NOWHERE: usize = 1 << 41;
 
 /// The word of each event of a log, `NO_WORD` for an event that is no store. Consecutive words are one run, stored as
 /// its first word and the index of its first event, in two vectors that are allocated once. There is room for a run
 /// for each event.
 #[derive(Drop)]
 pub struct Runs {
-    firsts: Vec<u32>,
+    firsts: Vec<u64>,
     starts: Vec<usize>,
     next: usize,
     count: usize,
@@ -30,7 +30,7 @@ pub struct Runs {
 /// it.
 pub struct WordRow {
     /// The word of the first of these events, `NO_WORD` if it is no store.
-    pub first: u32,
+    pub first: u64,
     /// The number of events in the row, the first among them.
     pub len: usize,
 }
@@ -93,7 +93,7 @@ fn run_near(starts: &[usize], event: usize, near: usize) -> usize
 
 /// Returns the start of a row whose last event is `last`, with this word, in a run that begins at `begun`. The start
 /// is not before `start`, and it is the event itself if the event is no store.
-fn row_start(word: u32, last: usize, begun: usize, start: usize) -> usize
+fn row_start(word: u64, last: usize, begun: usize, start: usize) -> usize
     requires { (begun ≤ last) × (start ≤ last) }
     ensures run { begun ≤ result }
     ensures low { start ≤ result }
@@ -152,14 +152,15 @@ impl Runs {
 
     /// Returns the word of event `i`, counted from 0.
     #[inline]
-    pub fn word(&self, i: usize) -> u32
+    pub fn word(&self, i: usize) -> u64
         requires { i < length self.now.words }
-        ensures { result ≡ slice_index self.now.words i }
+        ensures word { result ≡ slice_index self.now.words i }
+        ensures small { result ≤ no_word }
     {
         let (firsts, starts) = (self.firsts.as_slice(), self.starts.as_slice());
         let run = run_near(starts, i, self.asked.get());
         self.asked.set(run);
-        firsts[run] + (i - starts[run]) as u32
+        firsts[run] + (i - starts[run]) as u64
     }
 
     /// Returns the word of event `i`, counted from 0, and how many events from it on have consecutive words.
@@ -167,6 +168,7 @@ impl Runs {
     pub fn row(&self, i: usize) -> WordRow
         requires { i < length self.now.words }
         ensures first { result.first ≡ slice_index self.now.words i }
+        ensures small { result.first ≤ no_word }
         ensures some { 0 < result.len }
         ensures inside { i + result.len ≤ length self.now.words }
         ensures row { (j : ℕ) → j < result.len → slice_index self.now.words (i + j) ≡ slice_index self.now.words i + j }
@@ -181,7 +183,7 @@ impl Runs {
             self.count
         };
         WordRow {
-            first: firsts[run] + (i - starts[run]) as u32,
+            first: firsts[run] + (i - starts[run]) as u64,
             len: end - i,
         }
     }
@@ -195,7 +197,7 @@ impl Runs {
         ensures some { 0 < result.len }
         ensures fits { start + result.len ≤ end }
         ensures row { take result.len (drop (end - result.len) self.now.words) ≡ range_with_len result.first result.len }
-        ensures in_range { result.first + result.len ≤ 2 ^ 32 }
+        ensures in_range { result.first + result.len ≤ 2 ^ 41 }
         ensures signal { result.first ≡ no_word → result.len ≡ 1 }
         ensures stores { result.first < no_word → result.first + result.len ≤ no_word }
     {
@@ -204,10 +206,10 @@ impl Runs {
         let run = run_near(starts, last, self.asked.get());
         // Look-ups go from the last event to the first.
         self.asked.set(run.saturating_sub(1));
-        let word = firsts[run] + (last - starts[run]) as u32;
+        let word = firsts[run] + (last - starts[run]) as u64;
         let from = row_start(word, last, starts[run], start);
         WordRow {
-            first: word - (last - from) as u32,
+            first: word - (last - from) as u64,
             len: end - from,
         }
     }
@@ -224,10 +226,10 @@ impl Runs {
 
     /// Appends consecutive words, of `wanted` events.
     #[inline(always)]
-    pub fn push(&mut self, first: u32, wanted: usize)
+    pub fn push(&mut self, first: u64, wanted: usize)
         requires some { 0 < wanted }
         requires room { length self.old.words + wanted ≤ self.old.room }
-        requires in_range { first + wanted ≤ 2 ^ 32 }
+        requires in_range { first + wanted ≤ 2 ^ 41 }
         ensures words { self.new.words ≡ self.old.words ++ range_with_len first wanted }
         ensures room { self.new.room ≡ self.old.room }
     {
@@ -242,9 +244,9 @@ impl Runs {
 
     /// Appends consecutive words, of any number of events, also of none.
     #[inline(always)]
-    pub fn extend(&mut self, first: u32, wanted: usize)
+    pub fn extend(&mut self, first: u64, wanted: usize)
         requires room { length self.old.words + wanted ≤ self.old.room }
-        requires in_range { first + wanted ≤ 2 ^ 32 }
+        requires in_range { first + wanted ≤ 2 ^ 41 }
         ensures words { self.new.words ≡ self.old.words ++ range_with_len first wanted }
         ensures room { self.new.room ≡ self.old.room }
     {

@@ -9,7 +9,7 @@ use super::log::{Log, NO_WORD, Piece};
 use super::runs::{Runs, WordRow};
 
 /// Returns whether a word is one of `count` consecutive ones, from `first` on.
-fn is_among(word: u32, first: u32, count: usize) -> bool
+fn is_among(word: u64, first: u64, count: usize) -> bool
     ensures inside { result ≡ true → (first ≤ word) × (word < first + count) }
     ensures outside { result ≡ false → first ≤ word → first + count ≤ word }
 {
@@ -17,7 +17,7 @@ fn is_among(word: u32, first: u32, count: usize) -> bool
 }
 
 /// Returns the value of a word before a log with this undo log: what the first store to the word replaced.
-pub fn word_before(words: &[u64], undos: Log<'_>, word: u32) -> u64
+pub fn word_before(words: &[u64], undos: Log<'_>, word: u64) -> u64
     requires { word < length words.now }
     ensures { result ≡ slice_index (base_from words.now undos.entry) word }
 {

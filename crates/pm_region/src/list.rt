@@ -41,7 +41,7 @@ impl ListRegion {
     ///
     /// `AllocError`: out of memory.
     pub fn new(alloc: Global, words: Vec<u64>, capacity: usize) -> Result<ListRegion, AllocError>
-        requires { vec_len words < 2 ^ 32 }
+        requires { vec_len words < 2 ^ 41 }
         ensures { IfOk result (λ region. region ≡ record {
           base = words.items;
           events = [];
@@ -73,20 +73,20 @@ impl ListRegion {
 impl Region for ListRegion {
     ghost memory = { λ region. region };
 
-    fn words(&self) -> u32 {
-        self.base.len() as u32
+    fn words(&self) -> u64 {
+        self.base.len() as u64
     }
 
-    fn load(&self, word: u32) -> u64 {
+    fn load(&self, word: u64) -> u64 {
         self.now[word as usize]
     }
 
-    fn load_words(&self, first: u32, count: u32) -> &[u64] {
+    fn load_words(&self, first: u64, count: usize) -> &[u64] {
         let first = first as usize;
-        &self.now[first..first + count as usize]
+        &self.now[first..first + count]
     }
 
-    fn store(&mut self, word: u32, value: u64) {
+    fn store(&mut self, word: u64, value: u64) {
         self.push(Event::Store { word, value });
     }
 
@@ -116,7 +116,7 @@ impl Region for ListRegion {
         self.events[i].kind()
     }
 
-    fn word_at(&self, moment: usize, word: u32) -> u64 {
+    fn word_at(&self, moment: usize, word: u64) -> u64 {
         apply_to_word(self.base[word as usize], &self.events[..moment], word)
     }
 
@@ -124,7 +124,7 @@ impl Region for ListRegion {
         self.events[i]
     }
 
-    fn base_word(&self, word: u32) -> u64 {
+    fn base_word(&self, word: u64) -> u64 {
         self.base[word as usize]
     }
 

@@ -1,6 +1,6 @@
 //! The calls of a region.
 
-ghost use Rattle.std.specs.Prelude.{◌≡◌, ◌+◌, ◌<◌, ◌≤◌, ◌↔◌, [], ◌∷◌, length, take, slice_get, slice_index, slice_index_or, slice_range, Some, IsOk, IfOk, OnOk, OnErr};
+ghost use Rattle.std.specs.Prelude.{◌≡◌, ◌+◌, ◌^◌, ◌<◌, ◌≤◌, ◌↔◌, [], ◌∷◌, length, take, slice_get, slice_index, slice_index_or, slice_range, Some, IsOk, IfOk, OnOk, OnErr};
 ghost use Rattle.pm_epochs.specs.declared.event.Event.TheVariants.{Store, Barrier, Mark};
 ghost use Rattle.pm_epochs.specs.Kind.{event_of, value_at};
 ghost use Rattle.pm_epochs.specs.Log.{barriers, marks, words_after};
@@ -12,7 +12,7 @@ use pm_epochs::{BadChoice, Choice, Event, EventKind, Kept};
 
 /// Number of words that are read one by one: those of the first cache line. A region may show other words there than
 /// those that it has stored, which no slice of its storage could.
-pub const HEAD_WORDS: u32 = 8;
+pub const HEAD_WORDS: u64 = 8;
 
 /// The kind of an event of a log, and how many events from it on, itself included, store to consecutive words: 1 if it
 /// is no store.
@@ -29,36 +29,37 @@ pub trait Region {
     ghost memory: { Self → Memory };
 
     /// Returns the number of words.
-    fn words(&self) -> u32
-        ensures { result ≡ length (memory self.now).base };
+    fn words(&self) -> u64
+        ensures count { result ≡ length (memory self.now).base }
+        ensures few { length (memory self.now).base < 2 ^ 41 };
 
     /// Returns a word as the processor sees it.
-    fn load(&self, word: u32) -> u64
+    fn load(&self, word: u64) -> u64
         requires { word < length (memory self.now).base }
         ensures { result ≡ slice_index (current_words (memory self.now)) word };
 
     /// Returns the `count` words from `first` on, as the processor sees them. They are past the first `HEAD_WORDS`
     /// words, which are read by `load`.
-    fn load_words(&self, first: u32, count: u32) -> &[u64]
+    fn load_words(&self, first: u64, count: usize) -> &[u64]
         requires behind_head { HEAD_WORDS ≤ first }
         requires in_range { first + count ≤ length (memory self.now).base }
         ensures { result.now ≡ slice_range (current_words (memory self.now)) first (first + count) };
 
     /// Sets a word, and appends the store to the log.
-    fn store(&mut self, word: u32, value: u64)
+    fn store(&mut self, word: u64, value: u64)
         requires in_range { word < length (memory self.old).base }
         requires room { 0 < room_in (memory self.old) }
         ensures { Adds (memory self.old) (memory self.new) (Store word value ∷ []) };
 
     /// Sets the words from `first` on to these values, in order, and appends the stores to the log.
-    fn store_words(&mut self, first: u32, values: &[u64])
+    fn store_words(&mut self, first: u64, values: &[u64])
         requires in_range { first + length values.now ≤ length (memory self.old).base }
         requires room { length values.now ≤ room_in (memory self.old) }
         ensures { Adds (memory self.old) (memory self.new) (stores_from first values.now) }
     {
         let _words = self.words();
         for i in 0..values.len() {
-            self.store(first + i as u32, values[i]);
+            self.store(first + i as u64, values[i]);
         }
     }
 
@@ -95,7 +96,7 @@ pub trait Region {
             event ≡ slice_index_or (memory self.now).events i event };
 
     /// Returns a word as it was after the first `moment` events of the log. It may take time for each event of the log.
-    fn word_at(&self, moment: usize, word: u32) -> u64
+    fn word_at(&self, moment: usize, word: u64) -> u64
         requires moment { moment ≤ length (memory self.now).events }
         requires in_range { word < length (memory self.now).base }
         ensures { result ≡ slice_index (words_after (memory self.now).base (take moment (memory self.now).events)) word };
@@ -170,7 +171,7 @@ pub trait Region {
     }
 
     /// Returns a word as of the last drain. It may take time for each event of the log.
-    fn base_word(&self, word: u32) -> u64
+    fn base_word(&self, word: u64) -> u64
         requires { word < length (memory self.now).base }
         ensures { result ≡ slice_index (memory self.now).base word }
     {

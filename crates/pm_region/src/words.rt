@@ -8,7 +8,7 @@ ghost use Rattle.pm_region.specs.Memory.{stores_from};
 
 use pm_epochs::{Event, Keeper};
 
-fn set_word(words: &mut [u64], word: u32, value: u64)
+fn set_word(words: &mut [u64], word: u64, value: u64)
     ensures { words.new ≡ slice_set words.old word value }
 {
     if (word as usize) < words.len() {
@@ -17,7 +17,7 @@ fn set_word(words: &mut [u64], word: u32, value: u64)
 }
 
 /// Sets the words from `first` on to these values.
-pub fn set_words(words: &mut [u64], first: u32, values: &[u64])
+pub fn set_words(words: &mut [u64], first: u64, values: &[u64])
     requires { first + length values.now ≤ length words.old }
     ensures { words.new ≡ words_after words.old (stores_from first values.now) }
 {
@@ -48,7 +48,7 @@ pub fn apply(words: &mut [u64], events: &[Event])
 }
 
 /// Returns one word after the stores of a log, from its value before.
-pub fn apply_to_word(base: u64, events: &[Event], word: u32) -> u64
+pub fn apply_to_word(base: u64, events: &[Event], word: u64) -> u64
     ensures { result ≡ word_after base events.now word }
 {
     let mut now = base;
@@ -90,7 +90,7 @@ pub fn put_back(words: &mut [u64], from: &[u64], events: &[Event])
 }
 
 /// Restores one word. An index past the end is ignored.
-fn put_back_word(words: &mut [u64], from: &[u64], word: u32)
+fn put_back_word(words: &mut [u64], from: &[u64], word: u64)
     requires { length words.old ≡ length from.now }
     ensures { words.new ≡ slice_set words.old word (slice_index from.now word) }
 {

@@ -13,7 +13,7 @@ pub enum Run {
     /// Stores to `count` consecutive words, from `word` on.
     Stores {
         /// The first word.
-        word: u32,
+        word: u64,
         /// The number of words.
         count: usize,
     },

@@ -39,7 +39,8 @@ impl RedoRegion {
     /// # Errors
     ///
     /// `AllocError`: out of memory.
-    pub fn new(alloc: Global, size: u32, capacity: usize) -> Result<RedoRegion, AllocError>
+    pub fn new(alloc: Global, size: u64, capacity: usize) -> Result<RedoRegion, AllocError>
+        requires few { size < 2 ^ 41 }
         ensures { IfOk result (λ region. region ≡ record {
           base = replicate size 0;
           events = [];
@@ -54,7 +55,7 @@ impl RedoRegion {
 
     /// Replaces all words of the region by these, as the words at the last drain.
     pub fn adopt_all(&mut self, words: RawArray<u64>)
-        requires few { length words < 2 ^ 32 }
+        requires few { length words < 2 ^ 41 }
         requires drained { self.old.events ≡ [] }
         ensures { self.new ≡ record self.old { base = words } }
     {
@@ -73,26 +74,26 @@ impl RedoRegion {
 impl Region for RedoRegion {
     ghost memory = { λ region. region };
 
-    fn words(&self) -> u32 {
+    fn words(&self) -> u64 {
         self.region.words()
     }
 
-    fn load(&self, word: u32) -> u64 {
+    fn load(&self, word: u64) -> u64 {
         self.region.load(word)
     }
 
-    fn load_words(&self, first: u32, count: u32) -> &[u64] {
+    fn load_words(&self, first: u64, count: usize) -> &[u64] {
         self.region.load_words(first, count)
     }
 
     #[inline(always)]
-    fn store(&mut self, word: u32, value: u64) {
+    fn store(&mut self, word: u64, value: u64) {
         self.region.store(word, value);
         self.values.push_reserved(value);
     }
 
     #[inline(always)]
-    fn store_words(&mut self, first: u32, values: &[u64]) {
+    fn store_words(&mut self, first: u64, values: &[u64]) {
         self.region.store_words(first, values);
         add(&mut self.values, values);
     }
@@ -126,7 +127,7 @@ impl Region for RedoRegion {
         self.region.kind(i)
     }
 
-    fn word_at(&self, moment: usize, word: u32) -> u64 {
+    fn word_at(&self, moment: usize, word: u64) -> u64 {
         self.region.word_at(moment, word)
     }
 
@@ -153,7 +154,7 @@ impl Region for RedoRegion {
         self.region.start_of_epoch(epoch)
     }
 
-    fn base_word(&self, word: u32) -> u64 {
+    fn base_word(&self, word: u64) -> u64 {
         self.region.base_word(word)
     }
 

@@ -105,14 +105,14 @@ impl Backs {
     }
 
     /// Returns whether a word was noted.
-    pub fn waits(&self, word: u32) -> bool
+    pub fn waits(&self, word: u64) -> bool
         ensures { result ≡ is_noted self.now.waiting word }
     {
         self.waiting.has(word)
     }
 
     /// Notes a word whose store waits.
-    pub fn wait_for(&mut self, word: u32)
+    pub fn wait_for(&mut self, word: u64)
         requires { length self.old.waiting < self.old.room }
         ensures { self.new ≡ record self.old { waiting = self.old.waiting ++ word ∷ [] } }
     {

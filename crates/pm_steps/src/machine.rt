@@ -122,7 +122,7 @@ impl<'a, R: Region> Machine<'a, R> {
 
     /// Returns a word of the memory: what a crash would leave now, since a store that is not written back is lost.
     /// Takes time for all events of the log.
-    pub fn image_word(&self, word: u32) -> u64
+    pub fn image_word(&self, word: u64) -> u64
         requires { word < length (R.memory self.now.region.now).base }
         ensures { result ≡ slice_index (words_in (R.memory self.now.region.now) self.now.backs.now.back) word }
     {
@@ -209,7 +209,7 @@ fn has_barrier<R: Region>(region: &R, from: usize, to: usize) -> bool
 fn first_waiting_to<R: Region>(
     region: &R,
     backs: &Backs,
-    word: u32,
+    word: u64,
     from: usize,
     to: usize,
 ) -> Option<usize>
@@ -256,7 +256,7 @@ fn first_missing<R: Region>(region: &R, backs: &Backs, low: usize, which: usize)
 }
 
 /// Returns a word after the stores that are written back.
-fn image_word_of<R: Region>(region: &R, backs: &Backs, word: u32) -> u64
+fn image_word_of<R: Region>(region: &R, backs: &Backs, word: u64) -> u64
     requires in_order { IsInOrder (R.memory region.now).events backs.now.back }
     requires in_range { word < length (R.memory region.now).base }
     ensures { result ≡ slice_index (words_in (R.memory region.now) backs.now.back) word }

@@ -14,7 +14,7 @@ const REMAINDERS: usize = 16_384;
 /// the words with the same remainder, which are few unless a caller picks them to be many.
 #[derive(Drop)]
 pub struct WordSet {
-    words: Vec<u32>,
+    words: Vec<u64>,
     // For each word, the last word before it with the same remainder. Any number if there was none.
     before: Vec<usize>,
     // For each remainder, the last word that leaves it. Any number if there is none, so that `clear` need not reset
@@ -67,7 +67,7 @@ impl WordSet {
     }
 
     /// Adds a word. A word that is already there takes memory again.
-    pub fn note(&mut self, word: u32)
+    pub fn note(&mut self, word: u64)
         requires { length self.old.words < self.old.room }
         ensures { self.new ≡ record { words = self.old.words ++ word ∷ []; room = self.old.room } }
     {
@@ -79,7 +79,7 @@ impl WordSet {
     }
 
     /// Returns whether a word is in the set.
-    pub fn has(&self, word: u32) -> bool
+    pub fn has(&self, word: u64) -> bool
         ensures { result ≡ is_noted self.now.words word }
     {
         is_among(&self.words, &self.before, &self.heads, word)
@@ -87,14 +87,14 @@ impl WordSet {
 }
 
 /// Returns the remainder by which a word is found.
-fn remainder_of(word: u32) -> usize
+fn remainder_of(word: u64) -> usize
     ensures { result ≡ word % remainders }
 {
     word as usize % REMAINDERS
 }
 
 /// Returns whether a word is among these, by the links between the words with the same remainder.
-fn is_among(words: &[u32], before: &[usize], heads: &[usize], word: u32) -> bool
+fn is_among(words: &[u64], before: &[usize], heads: &[usize], word: u64) -> bool
     requires { IsLinked words.now before.now heads.now }
     ensures { result ≡ is_noted words.now word }
 {

@@ -67,5 +67,5 @@ pub fn digit(leaf: u64, level: u32) -> u16
     requires { level ≤ max_level }
     ensures { result ≡ digit leaf level }
 {
-    ((leaf >> (9 * level)) % BLOCK_WORDS as u64) as u16
+    ((leaf >> (9 * level)) % BLOCK_WORDS) as u16
 }

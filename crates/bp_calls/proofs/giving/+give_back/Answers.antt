@@ -35,7 +35,7 @@ step_is g t c = c.span-step.ensures ∙ sym (span-is (c.height-height.result - 1
 pub overflow_cast-top : goal.overflow_cast-top
 overflow_cast-top g t c =
     let inside = low g t (goal.at.overflow_cast-top g t c).After-block-top in
-    omega (arith, inside, c.words-words.ensures, c.words-words.type_inv, length_now (g.R.Region.memory c.args.region.now))
+    omega (arith, inside, c.words-words.ensures.count, c.words-words.ensures.few, length_now (g.R.Region.memory c.args.region.now))
 
 pub returns-then-top-eq0 : goal.returns-then-top-eq0
 returns-then-top-eq0 g t c =

@@ -1,7 +1,7 @@
-use Rattle.std.proofs.Common.{◌+◌, ◌*◌, ◌/◌, ◌≤◌, arith}
+use Rattle.std.proofs.Common.{◌≤◌, arith}
 use Rattle.pm_region.proofs.MemoryLaws.{adds_both, room_in-adds}
 use Rattle.pm_region.specs.Memory.{current_words, room_in}
-use Rattle.bp_limits.specs.Limits.{block_size, inode_size, max_blocks}
+use Rattle.bp_layout.proofs.FewLeaves.{inodes_low}
 use Rattle.bp_calls.proofs.GrowthRoom.{inodes_end_fits, can_prepare_at, last_fits, last_low, base_prepared, room_prepared, grew, exact_behind, left_behind}
 use Rattle.bp_calls.proofs.growing.grow.Given.{Over}
 use Rattle.bp_calls.proofs.growing.grow.Goals.{After-prep}
@@ -27,12 +27,6 @@ room g c =
     room_prepared (g.R.Region.memory c.args.parts.now.region) c.args.parts.now.blocks c.args.parts.now.inodes c.new.result.items c.inode_file-size.result.size
     c.requires.can c.new.ensures c.inode_file-size.ensures.size (g.R.Region.memory c.prep.new.parts.region) c.prep.new.parts.blocks (c.prep.ensures.prepares 0)
 
--- there are no more inodes than an image has room for
-low : (g : Over) (c : After-prep g) → (c.inode_file-size.result.size + block_size) / inode_size ≤ block_size / inode_size * max_blocks
-low g c =
-    last_low (g.R.Region.memory c.args.parts.now.region) c.args.parts.now.blocks c.args.parts.now.inodes c.new.result.items c.inode_file-size.result.size
-    c.requires.can c.new.ensures c.inode_file-size.ensures.size
-
 pub store-requires-clause-room : goal.store-requires-clause-room
 store-requires-clause-room g c = omega (arith, room g (goal.at.store-requires-clause-room g c).After-prep)
 
@@ -41,10 +35,20 @@ barrier-requires g c =
     omega (arith, room g (goal.at.barrier-requires g c).After-prep, room_in-adds (g.R.Region.memory c.prep.new.parts.region) (g.R.Region.memory c.store.new.self) _ c.store.ensures)
 
 pub overflow_cast-from : goal.overflow_cast-from
-overflow_cast-from g c = omega (arith, low g (goal.at.overflow_cast-from g c).After-prep)
+overflow_cast-from g c =
+    omega (arith, inodes_low (current_words (g.R.Region.memory c.args.parts.now.region)) c.requires.can.well_formed, c.inode_file-size.ensures.size)
 
+-- the longer inode file has no more inodes than an image has room for
 pub overflow_cast-to : goal.overflow_cast-to
-overflow_cast-to g c = omega (arith, low g (goal.at.overflow_cast-to g c).After-prep)
+overflow_cast-to g c =
+    let old = g.R.Region.memory c.args.parts.now.region in
+    let middle = g.R.Region.memory c.prep.new.parts.region in
+    let new = g.R.Region.memory c.barrier.new.self in
+    let stored = adds_both middle (g.R.Region.memory c.store.new.self) new _ _ c.store.ensures c.barrier.ensures in
+    let low =
+    last_low old c.args.parts.now.blocks c.args.parts.now.inodes c.new.result.items c.inode_file-size.result.size c.requires.can c.new.ensures c.inode_file-size.ensures.size
+    middle c.prep.new.parts.blocks (c.prep.ensures.prepares 0) new stored in
+    omega (arith, low)
 
 pub fill-requires-clause-in_range : goal.fill-requires-clause-in_range
 fill-requires-clause-in_range g c = rw c.prep.ensures.inodes (last_fits (g.R.Region.memory c.args.parts.now.region) c.args.parts.now.blocks c.args.parts.now.inodes c.new.result.items c.inode_file-size.result.size c.requires.can c.new.ensures c.inode_file-size.ensures.size)

@@ -20,7 +20,7 @@ overflow_add-names g c =
     let image = current_words (g.R.Region.memory c.args.parts.now.region) in
     let low = reached_counted image c.args.parts.now c.requires.exact c.requires.can.link.lacks.well_formed c.args.i c.requires.can.link.there in
     let few = few_names image c.requires.can.link.lacks.well_formed c.args.i _ (c.requires.exact.counts.each c.args.i low) in
-    omega (arith, few, c.names-names.ensures, c.requires.can.link.lacks.well_formed.formatted.sized.at_most, c.requires.can.link.lacks.well_formed.formatted.sized.whole)
+    omega (arith, few, c.names-names.ensures, c.requires.can.link.lacks.well_formed.formatted.sized.at_most)
 
 pub set-requires : goal.set-requires
 set-requires g c =

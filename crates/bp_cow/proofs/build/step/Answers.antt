@@ -1,5 +1,4 @@
-use Rattle.std.proofs.Common.{◌+◌, ◌/◌, refl, sym, ◌∙◌, ap, arith}
-use Rattle.std.specs.List.{slice_index}
+use Rattle.std.proofs.Common.{◌+◌, ◌/◌, sym, ◌∙◌, ap, arith}
 use Rattle.pm_region.proofs.MemoryLaws.{length-current_words}
 use Rattle.bp_cow.specs.Plan.{planned}
 use Rattle.bp_cow.specs.Touched.{job_of}
@@ -20,20 +19,6 @@ next g c = record { more = c.requires.1.1.1.1.0; slot_is = c.slot.ensures }
 pub slot-requires-clause-depth : goal.slot-requires-clause-depth
 slot-requires-clause-depth g c =
     c.requires.1.1.1.1.0
-
-pub overflow_mul-place : goal.overflow_mul-place
-overflow_mul-place g c =
-    let job = job_of c.args.touched.now in
-    let on : GoesOn (planned g.plan c.args.touched.now) c.args.way.now.index c.args.depth (slice_index (job.way c.args.way.now.index) c.args.depth) =
-    record { more = c.requires.1.1.1.1.0; slot_is = refl } in
-    let inside = next_low (reached g (goal.at.overflow_mul-place g c).Start) on in
-    omega (arith, inside, length-current_words (g.R.Region.memory c.args.region.now), c.words-words.ensures, c.words-words.type_inv)
-
-pub overflow_add-place : goal.overflow_add-place
-overflow_add-place g c =
-    let at = goal.at.overflow_add-place g c in
-    let inside = next_low (reached g at.Start) (next g at.After-slot) in
-    omega (arith, inside, length-current_words (g.R.Region.memory c.args.region.now), c.words-words.ensures, c.words-words.type_inv)
 
 pub is_new-requires-clause-depth : goal.is_new-requires-clause-depth
 is_new-requires-clause-depth g c =

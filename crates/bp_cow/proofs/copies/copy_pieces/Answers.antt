@@ -2,7 +2,6 @@ use Rattle.std.proofs.Common.{◌≡◌, ◌⊎◌, ℕ, ◌+◌, ◌*◌, ◌<�
 use Rattle.std.proofs.lemmas.Bool.{cases_lt}
 use Rattle.bp_layout.specs.Words.{word}
 use Rattle.pm_region.specs.Memory.{current_words}
-use Rattle.pm_region.proofs.MemoryLaws.{length-current_words}
 use Rattle.bp_tree.proofs.LoadedWords.{length-loaded, loaded_word}
 use Rattle.bp_cow.specs.Copies.{HoldsFront}
 use Rattle.bp_cow.proofs.CopyLaws.{front_none, front_more, front_room, front_long, stored_words, filled}
@@ -12,18 +11,6 @@ pub loop-piece-init : goal.loop-piece-init
 loop-piece-init g c =
     let old = g.R.Region.memory c.args.region.now in
     record { most = omega arith; front = front_none c.args.to (λ slot. word (current_words old) (512 * c.args.from + slot)) old }
-
-pub overflow_mul-place : goal.overflow_mul-place
-overflow_mul-place g c = omega (arith, c.requires.to.inside, length-current_words (g.R.Region.memory c.args.region.now), c.words-words.ensures, c.words-words.type_inv)
-
-pub overflow_add-place : goal.overflow_add-place
-overflow_add-place g c = omega (arith, c.requires.to.inside, c.requires.few, length-current_words (g.R.Region.memory c.args.region.now), c.words-words.ensures, c.words-words.type_inv, c.loop-piece-test.true)
-
-pub overflow_mul-from : goal.overflow_mul-from
-overflow_mul-from g c = omega (arith, c.requires.from, length-current_words (g.R.Region.memory c.args.region.now), c.words-words.ensures, c.words-words.type_inv)
-
-pub overflow_add-from : goal.overflow_add-from
-overflow_add-from g c = omega (arith, c.requires.from, c.requires.few, length-current_words (g.R.Region.memory c.args.region.now), c.words-words.ensures, c.words-words.type_inv, c.loop-piece-test.true)
 
 pub copy_some-requires-clause-from_behind_head : goal.copy_some-requires-clause-from_behind_head
 copy_some-requires-clause-from_behind_head g c = omega (arith, c.requires.present)

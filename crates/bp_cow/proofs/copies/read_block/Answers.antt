@@ -11,9 +11,6 @@ slot_there image (suc b) slot some = omega arith
 pub returns-then-from-eq0 : goal.returns-then-from-eq0
 returns-then-from-eq0 g c = λ slot low. rw (c.fill.ensures.after (λ y same. same), c.if-from-eq0.true) (get_or-replicate (length c.args.words.now) slot 0 0 (omega (arith, low)))
 
-pub overflow_cast-from : goal.overflow_cast-from
-overflow_cast-from g c = omega (arith, c.requires, length_now (g.R.Region.memory c.args.region.now), c.words-words.ensures, c.words-words.type_inv)
-
 pub overflow_mul-from : goal.overflow_mul-from
 overflow_mul-from g c = omega (arith, c.requires, length_now (g.R.Region.memory c.args.region.now), c.words-words.ensures, c.words-words.type_inv)
 

@@ -5,9 +5,6 @@ use Rattle.bp_cow.specs.Copies.{HoldsFront}
 use Rattle.bp_cow.proofs.CopyLaws.{front_whole, stored_words, filled}
 use Rattle.bp_cow.proofs.copies.store_front.Goals as goal
 
-pub overflow_mul-to : goal.overflow_mul-to
-overflow_mul-to g c = omega (arith, c.requires.to.inside, length-current_words (g.R.Region.memory c.args.region.now), c.words-words.ensures, c.words-words.type_inv)
-
 pub store_words-requires-clause-in_range : goal.store_words-requires-clause-in_range
 store_words-requires-clause-in_range g c = omega (arith, c.requires.to.inside, c.requires.few, length-current_words (g.R.Region.memory c.args.region.now))
 

@@ -1,6 +1,5 @@
 use Rattle.std.proofs.Common.{◌≡◌, ℕ, ◌+◌, ◌*◌, ◌≤◌, length, get_or, slice_range, nat_eq, refl, ap, subst, arith}
 use Rattle.pm_region.specs.Memory.{current_words}
-use Rattle.pm_region.proofs.MemoryLaws.{length-current_words}
 use Rattle.bp_tree.proofs.LoadedWords.{length-loaded, loaded_word}
 use Rattle.bp_cow.specs.Copies.{HoldsFront}
 use Rattle.bp_cow.proofs.CopyLaws.{front_none, front_more, front_room, front_long, stored_words, filled}
@@ -8,12 +7,6 @@ use Rattle.bp_cow.proofs.copies.store_pieces.Goals as goal
 
 pub loop-piece-init : goal.loop-piece-init
 loop-piece-init g c = record { most = omega arith; front = front_none c.args.to (λ slot. get_or c.args.words.now slot 0) (g.R.Region.memory c.args.region.now) }
-
-pub overflow_mul-to : goal.overflow_mul-to
-overflow_mul-to g c = omega (arith, c.requires.to.inside, length-current_words (g.R.Region.memory c.args.region.now), c.words-words.ensures, c.words-words.type_inv)
-
-pub overflow_add-to : goal.overflow_add-to
-overflow_add-to g c = omega (arith, c.requires.to.inside, length-current_words (g.R.Region.memory c.args.region.now), c.words-words.ensures, c.words-words.type_inv, c.requires.few, c.loop-piece-test.true, c.next_group-count.ensures.most)
 
 pub set_words-requires-clause-in_range : goal.set_words-requires-clause-in_range
 set_words-requires-clause-in_range g c =
@@ -38,9 +31,6 @@ set_words-requires-clause-room g c =
       length-loaded c.args.words.now _ (8 * c.loop-piece.piece) (8 * c.next_group-count.result) refl (omega (arith, c.requires.few, c.loop-piece-test.true, c.next_group-count.ensures.most)),
       front_room c.args.to _ (8 * c.loop-piece.piece) (g.R.Region.memory c.args.region.now) (g.R.Region.memory c.loop-piece.region) c.loop-piece.invariant.front,
     )
-
-pub set_words-requires-clause-few : goal.set_words-requires-clause-few
-set_words-requires-clause-few g c = omega (arith, length-loaded c.args.words.now _ (8 * c.loop-piece.piece) (8 * c.next_group-count.result) refl (omega (arith, c.requires.few, c.loop-piece-test.true, c.next_group-count.ensures.most)))
 
 pub loop-piece-preserved : goal.loop-piece-preserved
 loop-piece-preserved g c =

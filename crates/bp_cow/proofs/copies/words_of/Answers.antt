@@ -4,9 +4,6 @@ use Rattle.bp_tree.proofs.LoadedWords.{length-loaded, loaded_word}
 use Rattle.bp_tree.proofs.RegionWords.{length_now}
 use Rattle.bp_cow.proofs.copies.words_of.Goals as goal
 
-pub overflow_mul-block : goal.overflow_mul-block
-overflow_mul-block g c = omega (arith, c.requires.inside, length_now (g.R.Region.memory c.args.region.now), c.words-words.ensures, c.words-words.type_inv)
-
 pub load_words-requires-clause-in_range : goal.load_words-requires-clause-in_range
 load_words-requires-clause-in_range g c = omega (arith, c.requires.inside, length_now (g.R.Region.memory c.args.region.now))
 

@@ -8,3 +8,6 @@ returns-clause-sound c = rw (c.in_ok-region.ensures, c.in_ok-words.ensures.words
 
 pub returns-clause-full : goal.returns-clause-full
 returns-clause-full c = leaf_full _ 12288 512 refl (omega arith) (lit≤ tt)
+
+pub returns-clause-most : goal.returns-clause-most
+returns-clause-most c = rw (c.in_ok-region.ensures, c.in_ok-words.ensures.words) (omega (arith, length-laid))

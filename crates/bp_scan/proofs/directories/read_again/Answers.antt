@@ -1,4 +1,4 @@
-use Rattle.std.proofs.Common.{◌≡◌, length, set, ◌+◌, ◌≤◌, sym, ◌∙◌, ap, arith}
+use Rattle.std.proofs.Common.{◌≡◌, length, set, ◌+◌, ◌*◌, ◌≤◌, sym, ◌∙◌, ap, arith}
 use Rattle.std.specs.List.{slice_index}
 use Rattle.bp_layout.specs.Fields.{kind_word}
 use Rattle.bp_layout.specs.Inode.{kind_of}
@@ -31,7 +31,7 @@ set-requires g c =
 pub overflow_add-names : goal.overflow_add-names
 overflow_add-names g c =
     let image = current_words (g.R.Region.memory c.args.region.now) in
-    let few : slice_index c.args.work.now.counts c.args.slot.named ≤ length image =
+    let few : 32 * slice_index c.args.work.now.counts c.args.slot.named ≤ length image =
     names_few image c.args.work.now c.args.directory c.args.slot.number c.requires.inside c.requires.live c.args.slot.named c.requires.named c.requires.some c.requires.there in
     let sized = c.requires.inside.at.reading.ready.formatted.sized in
     omega (arith, few, c.names-names.ensures, sized.whole, sized.at_most)

@@ -38,6 +38,11 @@ read_names-requires-clause-full g c =
     begun_full (current_words (g.R.Region.memory c.args.region.now)) c.args.work.now
     (record { inode = c.args.inode; tree = c.of-tree.result }) c.requires is.0 is.1
 
+pub read_names-requires-clause-most : goal.read_names-requires-clause-most
+read_names-requires-clause-most g c =
+    let sized = c.requires.reading.ready.formatted.sized in
+    omega (arith, sized.whole, sized.at_most)
+
 pub read_names-requires-clause-room : goal.read_names-requires-clause-room
 read_names-requires-clause-room g c =
     omega (arith, few g (goal.at.read_names-requires-clause-room g c).After-of-tree, c.requires.reading.room.entries)

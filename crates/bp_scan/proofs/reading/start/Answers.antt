@@ -1,4 +1,4 @@
-use Rattle.std.proofs.Common.{rules, ◌*◌, ◌/◌, ◌<◌, ◌≤◌, refl, sym, subst, arith}
+use Rattle.std.proofs.Common.{rules, ◌+◌, ◌*◌, ◌/◌, ◌<◌, ◌≤◌, refl, sym, subst, arith}
 use Rattle.bp_layout.specs.Words.{block_count}
 use Rattle.bp_layout.specs.Inode.{size_of}
 use Rattle.pm_region.specs.Memory.{current_words}
@@ -16,14 +16,14 @@ all_there g c =
     all_blocks (current_words (g.R.Region.memory c.args.region.now)) c.args.work.now.blocks c.fill.new.self c.room-room.result
     (omega (arith, c.requires.formatted.sized.at_least)) c.requires.unread.blocks c.room-room.ensures c.fill.ensures
 
--- there are no more inodes than blocks could hold
+-- there are no more inodes than the blocks after the first could hold
 count_fits : (g : given.Over) (c : goal.After-inode_file-count g) →
-    c.inode_file-count.result.size / 64 ≤ 64 * block_count (current_words (g.R.Region.memory c.args.region.now))
+    c.inode_file-count.result.size / 64 + 64 ≤ 64 * block_count (current_words (g.R.Region.memory c.args.region.now))
 count_fits g c =
     let image = current_words (g.R.Region.memory c.args.region.now) in
-    let few : size_of image 0 / 64 ≤ 64 * block_count image =
+    let few : size_of image 0 / 64 + 64 ≤ 64 * block_count image =
     file_few image c.in_ok-enter_inode_file.ensures.ready c.fill.new.self c.enter_inode_file.new.blocks (all_there g c) c.in_ok-enter_inode_file.ensures.entered in
-    subst (λ x. x / 64 ≤ 64 * block_count image) (sym c.inode_file-count.ensures.size) few
+    subst (λ x. x / 64 + 64 ≤ 64 * block_count image) (sym c.inode_file-count.ensures.size) few
 
 pub overflow_cast-count : goal.overflow_cast-count
 overflow_cast-count g c =

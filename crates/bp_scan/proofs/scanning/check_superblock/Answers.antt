@@ -1,4 +1,4 @@
-use Rattle.std.proofs.Common.{◌≡◌, sym, ◌∙◌, ap, arith}
+use Rattle.std.proofs.Common.{◌≡◌, ◌/◌, sym, ◌∙◌, ap, arith}
 use Rattle.bp_limits.specs.Limits.{magic, version_at}
 use Rattle.bp_limits.proofs.Versions.{version_marked}
 use Rattle.bp_tree.proofs.RegionWords.{length_now}
@@ -18,7 +18,7 @@ pub returns-then-superblock-blocks-clause-fault : goal.returns-then-superblock-b
 returns-then-superblock-blocks-clause-fault g c =
     let image = current_words (g.R.Region.memory c.args.region.now) in
     let long = length_now (g.R.Region.memory c.args.region.now) in
-    let blocks : c.from-blocks.result ≡ block_count image = omega (arith, long) in
+    let blocks : c.words-blocks.result / 512 ≡ block_count image = omega (arith, long, c.words-blocks.ensures.count) in
     let mark : c.magic-mark.result ≡ magic (version_of image) = c.magic-mark.ensures ∙ ap magic (c.at.ensures ∙ ap version_at c.read_superblock-superblock.ensures.magic) in
     (sym c.read_superblock-superblock.ensures.magic ∙ c.if-superblock-mark.false ∙ mark, λ same. c.if-superblock-blocks.true (c.read_superblock-superblock.ensures.blocks ∙ same ∙ sym blocks), omega (arith, blocks), omega (arith, c.read_superblock-superblock.ensures.blocks))
 
@@ -26,7 +26,7 @@ pub returns-clause-formatted : goal.returns-clause-formatted
 returns-clause-formatted g c =
     let image = current_words (g.R.Region.memory c.args.region.now) in
     let long = length_now (g.R.Region.memory c.args.region.now) in
-    let blocks : c.from-blocks.result ≡ block_count image = omega (arith, long) in
+    let blocks : c.words-blocks.result / 512 ≡ block_count image = omega (arith, long, c.words-blocks.ensures.count) in
     let mark : c.magic-mark.result ≡ magic (version_of image) = c.magic-mark.ensures ∙ ap magic (c.at.ensures ∙ ap version_at c.read_superblock-superblock.ensures.magic) in
     record {
       sized = c.requires.sized;

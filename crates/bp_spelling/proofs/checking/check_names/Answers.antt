@@ -4,8 +4,7 @@ use Rattle.pm_region.specs.Memory.{current_words}
 use Rattle.bp_spelling.specs.Names.{AreWrong}
 use Rattle.bp_spelling.specs.Names.AreWrong.{form}
 use Rattle.bp_spelling.specs.declared.fault.NameFault.TheVariants.{Form}
-use Rattle.bp_spelling.specs.declared.entry.Spelled.{Spelled}
-use Rattle.bp_spelling.specs.Hashes.{places_of}
+use Rattle.bp_spelling.specs.Hashes.{place_of, places_of}
 use Rattle.bp_spelling.specs.declared.table.TableError.{TableError}
 use Rattle.bp_spelling.specs.Tables.{IsTableError}
 use Rattle.bp_spelling.proofs.TableLaws.{double_of}
@@ -33,9 +32,9 @@ returns-in-Err-Repeated-clause-err g c =
 pub returns-in-Some-clause-err : goal.returns-in-Some-clause-err
 returns-in-Some-clause-err g c =
     doubles (current_words (g.R.Region.memory c.args.region.now)) c.args.tree.root c.args.tree.size c.requires.sound c.requires.full c.in-Ok.ensures.forms (places_of (take c.in-Ok.count c.try_table.new.entries)) (places_of c.find_double.new.entries)
-    (ap places_of c.try_table.ensures.same ∙ c.in-Ok.ensures.places) (IsPermutation-map (λ (e : Spelled). e.place) _ _ c.find_double.ensures.same) c.in-Some.place c.in-Some.ensures.double
+    (ap places_of c.try_table.ensures.same ∙ c.in-Ok.ensures.places) (IsPermutation-map place_of _ _ c.find_double.ensures.same) c.in-Some.place c.in-Some.ensures.double
 
 pub returns-in-None-clause-ok : goal.returns-in-None-clause-ok
 returns-in-None-clause-ok g c =
     no_doubles (current_words (g.R.Region.memory c.args.region.now)) c.args.tree.root c.args.tree.size c.requires.sound c.requires.full c.in-Ok.ensures.forms (places_of (take c.in-Ok.count c.try_table.new.entries)) (places_of c.find_double.new.entries)
-    (ap places_of c.try_table.ensures.same ∙ c.in-Ok.ensures.places) (IsPermutation-map (λ (e : Spelled). e.place) _ _ c.find_double.ensures.same) c.in-None.ensures.double
+    (ap places_of c.try_table.ensures.same ∙ c.in-Ok.ensures.places) (IsPermutation-map place_of _ _ c.find_double.ensures.same) c.in-None.ensures.double

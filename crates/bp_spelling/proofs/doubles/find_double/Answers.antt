@@ -11,8 +11,8 @@ pub returns-in-Equal-clause-double : goal.returns-in-Equal-clause-double
 returns-in-Equal-clause-double g c =
     let image = current_words (g.R.Region.memory c.args.region.now) in
     let entries = c.sort_by_name.new.entries in
-    double_at image entries c.loop-i.i (omega (arith, c.loop-i.auto)) (omega (arith, c.loop-i-test.true))
-    (equal_key (spelled_key image (slice_index_or entries (c.loop-i.i - 1) blank)) (spelled_key image (slice_index_or entries c.loop-i.i blank)) (sym c.compare_entries.ensures ∙ c.in-Equal.is))
+    rw c.place.ensures.place (double_at image entries c.loop-i.i (omega (arith, c.loop-i.auto)) (omega (arith, c.loop-i-test.true))
+    (equal_key (spelled_key image (slice_index_or entries (c.loop-i.i - 1) blank)) (spelled_key image (slice_index_or entries c.loop-i.i blank)) (sym c.compare_entries.ensures ∙ c.in-Equal.is)))
 
 pub loop-i-preserved : goal.loop-i-preserved
 loop-i-preserved g c k low same =

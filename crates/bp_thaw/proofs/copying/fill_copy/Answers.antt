@@ -16,18 +16,11 @@ pub overflow_cast-block : goal.overflow_cast-block
 overflow_cast-block g c =
     omega (arith, c.block_of-block.ensures, ap block_of c.load.ensures, c.requires.block, length_now (g.R.Region.memory c.args.region.now), c.words-words.ensures, c.words-words.type_inv)
 
-pub overflow_mul-block : goal.overflow_mul-block
-overflow_mul-block g c =
-    omega (arith, c.block_of-block.ensures, ap block_of c.load.ensures, c.requires.block, length_now (g.R.Region.memory c.args.region.now), c.words-words.ensures, c.words-words.type_inv)
-
 pub load_words-requires-clause-behind_head : goal.load_words-requires-clause-behind_head
 load_words-requires-clause-behind_head g c = omega (arith, c.block_of-block.ensures, ap block_of c.load.ensures, c.requires.present)
 
 pub load_words-requires-clause-in_range : goal.load_words-requires-clause-in_range
 load_words-requires-clause-in_range g c = omega (arith, c.block_of-block.ensures, ap block_of c.load.ensures, c.requires.block, length_now (g.R.Region.memory c.args.region.now))
-
-pub overflow_mul-copy : goal.overflow_mul-copy
-overflow_mul-copy g c = omega (arith, c.requires.copy.inside, length_now (g.R.Region.memory c.args.region.now), c.words-words.ensures, c.words-words.type_inv)
 
 pub store_words-requires-clause-in_range : goal.store_words-requires-clause-in_range
 store_words-requires-clause-in_range g c = omega (arith, c.requires.copy.inside, length_now (g.R.Region.memory c.args.region.now), c.turn_words.array_long)

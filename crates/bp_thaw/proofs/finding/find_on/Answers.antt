@@ -45,9 +45,6 @@ overflow_cast-block g c = omega (arith, (looked g (goal.at.overflow_cast-block g
 pub is_free-requires : goal.is_free-requires
 is_free-requires g c = omega (arith, (looked g (goal.at.is_free-requires g c).After-block_of-block).inside, c.requires.frozen)
 
-pub overflow_mul-place : goal.overflow_mul-place
-overflow_mul-place g c = omega (arith, (looked g (goal.at.overflow_mul-place g c).After-block_of-block).fits)
-
 pub overflow_add-place : goal.overflow_add-place
 overflow_add-place g c =
     let at = looked g (goal.at.overflow_add-place g c).After-block_of-block in

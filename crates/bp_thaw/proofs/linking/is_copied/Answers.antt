@@ -28,18 +28,18 @@ loop-i-preserved g c =
     record {
       none = one_more_taken (λ cs. is_copied image cs c.args.block ≡ false) copies c.loop-i.i item low is
           (not_copied_more image (take c.loop-i.i copies) item c.args.block c.loop-i.invariant.none
-          (λ e. c.if-block_of-from.false (c.block_of.ensures ∙ ap block_of c.load.ensures ∙ e ∙ sym c.from.ensures)));
+          (λ e. c.if-block_of-block.false (c.block_of.ensures ∙ ap block_of c.load.ensures ∙ e)));
     }
 
-pub returns-then-block_of-from : goal.returns-then-block_of-from
-returns-then-block_of-from g c =
+pub returns-then-block_of-block : goal.returns-then-block_of-block
+returns-then-block_of-block g c =
     let copies = c.args.copies.now.items in
     let image = current_words (g.R.Region.memory c.args.region.now) in
     let low : c.loop-i.i < length copies = omega (arith, c.loop-i-test.true, c.len-i-end.ensures.value) in
     let item : ℕ × ℕ = get_or c.deref.result.now c.loop-i.i (0, 0) in
     let is : get_or copies c.loop-i.i (0, 0) ≡ item = ap (λ cs. get_or cs c.loop-i.i (0, 0)) (sym c.deref.ensures.0) in
     sym (any_source image copies item c.args.block (item_here copies c.loop-i.i (0, 0) item low is)
-    (sym (ap block_of c.load.ensures) ∙ sym c.block_of.ensures ∙ c.if-block_of-from.true ∙ c.from.ensures))
+    (sym (ap block_of c.load.ensures) ∙ sym c.block_of.ensures ∙ c.if-block_of-block.true))
 
 pub returns : goal.returns
 returns g c =

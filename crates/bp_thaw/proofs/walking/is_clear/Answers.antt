@@ -39,9 +39,6 @@ returns-then-is_free g c =
     let is = (looked g (goal.at.returns-then-is_free g c).After-block_of-block).kept kept ∙ sym c.is_free.ensures ∙ c.if-is_free.true in
     (λ never. absurd (true≢false (sym never)), λ none. absurd (kept_is_thawed image kept c.args.way.now.items c.loop-depth.depth low is none))
 
-pub overflow_mul-place : goal.overflow_mul-place
-overflow_mul-place g c = omega (arith, (looked g (goal.at.overflow_mul-place g c).After-block_of-block).fits)
-
 pub overflow_add-place : goal.overflow_add-place
 overflow_add-place g c =
     let at = looked g (goal.at.overflow_add-place g c).After-block_of-block in

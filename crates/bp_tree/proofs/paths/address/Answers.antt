@@ -11,12 +11,6 @@ load-requires g c =
     c.loop-slot-test.true c.loop-slot.invariant.exists c.loop-slot.invariant.in_range in
     omega (arith, length_now (g.R.Region.memory c.args.region.now), slot.present, slot.in_range, c.loop-slot.invariant.here)
 
-pub overflow_cast-block : goal.overflow_cast-block
-overflow_cast-block g c =
-    let slot = leads_on (current_words (g.R.Region.memory c.args.region.now)) c.loop-slot.place c.loop-slot.slot-index c.as_slice-slot-items.result.now
-    c.loop-slot-test.true c.loop-slot.invariant.exists c.loop-slot.invariant.in_range in
-    omega (arith, length_now (g.R.Region.memory c.args.region.now), slot.in_range, c.load.ensures, c.block_of-block.ensures)
-
 pub overflow_mul-place : goal.overflow_mul-place
 overflow_mul-place g c =
     let slot = leads_on (current_words (g.R.Region.memory c.args.region.now)) c.loop-slot.place c.loop-slot.slot-index c.as_slice-slot-items.result.now

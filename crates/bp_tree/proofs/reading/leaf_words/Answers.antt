@@ -10,9 +10,6 @@ use Rattle.bp_tree.proofs.reading.leaf_words.Goals as goal
 pub overflow_mul-block : goal.overflow_mul-block
 overflow_mul-block g c = omega (arith, length_now (g.R.Region.memory c.args.region.now))
 
-pub overflow_cast-block : goal.overflow_cast-block
-overflow_cast-block g c = omega (arith, length_now (g.R.Region.memory c.args.region.now))
-
 pub load_words-requires-clause-in_range : goal.load_words-requires-clause-in_range
 load_words-requires-clause-in_range g c = omega (arith, length_now (g.R.Region.memory c.args.region.now))
 

@@ -7,9 +7,6 @@ use Rattle.bp_tree.proofs.Ranges.{filled_in_two, counted}
 use Rattle.bp_tree.proofs.RegionWords.{length_now}
 use Rattle.bp_tree.proofs.reading.read_bytes.Goals as goal
 
-pub overflow_cast-word : goal.overflow_cast-word
-overflow_cast-word g c = omega (arith, length_now (g.R.Region.memory c.args.region.now))
-
 pub overflow_add-word : goal.overflow_add-word
 overflow_add-word g c = omega (arith, length_now (g.R.Region.memory c.args.region.now))
 

@@ -5,9 +5,6 @@ use Rattle.bp_tree.proofs.RegionWords.{length_now}
 use Rattle.bp_tree.proofs.StoredBytes.{run_part}
 use Rattle.bp_tree.proofs.reading.read_words.Goals as goal
 
-pub overflow_cast-div_ceil : goal.overflow_cast-div_ceil
-overflow_cast-div_ceil g c = omega (arith, length_now (g.R.Region.memory c.args.region.now), c.requires.in_range, c.words-words.ensures, c.words-words.type_inv, c.div_ceil.ensures)
-
 pub load_words-requires-clause-in_range : goal.load_words-requires-clause-in_range
 load_words-requires-clause-in_range g c = omega (arith, length_now (g.R.Region.memory c.args.region.now), c.requires.in_range, c.div_ceil.ensures)
 

@@ -7,6 +7,3 @@ overflow_mul-result g c = omega (arith, length_now (g.R.Region.memory c.args.reg
 
 pub overflow_add-result : goal.overflow_add-result
 overflow_add-result g c = omega (arith, length_now (g.R.Region.memory c.args.region.now))
-
-pub overflow_cast-result : goal.overflow_cast-result
-overflow_cast-result g c = omega (arith, length_now (g.R.Region.memory c.args.region.now))

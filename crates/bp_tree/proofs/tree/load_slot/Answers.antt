@@ -8,8 +8,5 @@ overflow_mul-block g c = omega (arith, length_now (g.R.Region.memory c.args.regi
 pub overflow_add-block : goal.overflow_add-block
 overflow_add-block g c = omega (arith, length_now (g.R.Region.memory c.args.region.now))
 
-pub overflow_cast-block : goal.overflow_cast-block
-overflow_cast-block g c = omega (arith, length_now (g.R.Region.memory c.args.region.now))
-
 pub load-requires : goal.load-requires
 load-requires g c = omega (arith, length_now (g.R.Region.memory c.args.region.now))

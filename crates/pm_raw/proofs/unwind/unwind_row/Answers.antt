@@ -19,29 +19,29 @@ pub unwind_stores-requires : goal.unwind_stores-requires
 unwind_stores-requires c =
     let at = row (goal.at.unwind_stores-requires c).After-row_before-first in
     let from = c.args.end - c.row_before-first.result.len in
-    let low = at.stores (omega (arith, c.if-first.true, at.low)) in
+    let low = at.stores (omega (arith, c.if-first-ne-NO_WORD.true, at.low)) in
     row-fits c.args.places.now.words c.args.saved.now c.requires.each from (c.args.end - from) c.row_before-first.result.first at.fits at.are
     (length c.args.words.now) low at.some c.requires.within
 
-pub returns-then-first-clause-words : goal.returns-then-first-clause-words
-returns-then-first-clause-words c =
-    let at = row (goal.at.returns-then-first-clause-words c).After-row_before-first in
+pub returns-then-first-ne-NO_WORD-clause-words : goal.returns-then-first-ne-NO_WORD-clause-words
+returns-then-first-ne-NO_WORD-clause-words c =
+    let at = row (goal.at.returns-then-first-ne-NO_WORD-clause-words c).After-row_before-first in
     let from = c.args.end - c.row_before-first.result.len in
-    let low = at.stores (omega (arith, c.if-first.true, at.low)) in
+    let low = at.stores (omega (arith, c.if-first-ne-NO_WORD.true, at.low)) in
     c.unwind_stores.ensures.words
     ∙ sym (ap (base_from c.args.words.now)
     (row-stored c.args.places.now.words c.args.saved.now c.requires.each from (c.args.end - from) c.row_before-first.result.first at.fits at.are low))
 
-pub returns-then-first-clause-log : goal.returns-then-first-clause-log
-returns-then-first-clause-log c =
-    let at = row (goal.at.returns-then-first-clause-log c).After-row_before-first in
+pub returns-then-first-ne-NO_WORD-clause-log : goal.returns-then-first-ne-NO_WORD-clause-log
+returns-then-first-ne-NO_WORD-clause-log c =
+    let at = row (goal.at.returns-then-first-ne-NO_WORD-clause-log c).After-row_before-first in
     let words = c.args.places.now.words in
     let saved = c.args.saved.now in
     let undos = events_of words saved in
     let first = c.row_before-first.result.first in
     let from = c.args.end - c.row_before-first.result.len in
     let n = c.args.end - from in
-    let low = at.stores (omega (arith, c.if-first.true, at.low)) in
+    let low = at.stores (omega (arith, c.if-first-ne-NO_WORD.true, at.low)) in
     let olds = take n (drop from saved) in
     let news = c.unwind_stores.new.saved in
     let stored = row-stored words saved c.requires.each from n first at.fits at.are low in
@@ -52,22 +52,22 @@ returns-then-first-clause-log c =
     ∙ ap (λ es. take from undos ++ (es ++ drop (from + n) undos)) (c.unwind_stores.ensures.saved ∙ sym (ap (events_from c.args.words.now) stored))
     ∙ ap (λ k. take from undos ++ (events_from c.args.words.now (take n (drop from undos)) ++ drop k undos)) at.up
 
-pub returns-else-first-clause-words : goal.returns-else-first-clause-words
-returns-else-first-clause-words c =
-    let at = row (goal.at.returns-else-first-clause-words c).After-row_before-first in
+pub returns-else-first-ne-NO_WORD-clause-words : goal.returns-else-first-ne-NO_WORD-clause-words
+returns-else-first-ne-NO_WORD-clause-words c =
+    let at = row (goal.at.returns-else-first-ne-NO_WORD-clause-words c).After-row_before-first in
     let from = c.args.end - c.row_before-first.result.len in
-    let is : c.row_before-first.result.first ≡ no_word = omega (arith, c.if-first.false) in
+    let is : c.row_before-first.result.first ≡ no_word = omega (arith, c.if-first-ne-NO_WORD.false) in
     let signalled =
     row-signalled c.args.places.now.words c.args.saved.now c.requires.each from (c.args.end - from) _ at.fits at.are is (at.signal is) in
     sym (ap (base_from c.args.words.now) signalled ∙ base-signal c.args.words.now _)
 
-pub returns-else-first-clause-log : goal.returns-else-first-clause-log
-returns-else-first-clause-log c =
-    let at = row (goal.at.returns-else-first-clause-log c).After-row_before-first in
+pub returns-else-first-ne-NO_WORD-clause-log : goal.returns-else-first-ne-NO_WORD-clause-log
+returns-else-first-ne-NO_WORD-clause-log c =
+    let at = row (goal.at.returns-else-first-ne-NO_WORD-clause-log c).After-row_before-first in
     let undos = events_of c.args.places.now.words c.args.saved.now in
     let from = c.args.end - c.row_before-first.result.len in
     let n = c.args.end - from in
-    let is : c.row_before-first.result.first ≡ no_word = omega (arith, c.if-first.false) in
+    let is : c.row_before-first.result.first ≡ no_word = omega (arith, c.if-first-ne-NO_WORD.false) in
     let signalled = row-signalled c.args.places.now.words c.args.saved.now c.requires.each from n _ at.fits at.are is (at.signal is) in
     let same = ap (events_from c.args.words.now) signalled ∙ events-signal c.args.words.now _ ∙ sym signalled in
     sym (row-split from n c.args.end undos at.up) ∙ sym (ap (λ es. take from undos ++ (es ++ drop c.args.end undos)) same)

@@ -19,27 +19,27 @@ scanned-requires-clause-sized g c =
 pub scanned-requires-clause-blocks : goal.scanned-requires-clause-blocks
 scanned-requires-clause-blocks g c =
     let size = length_laid (g.R.Region.memory c.args.region) (g.R.Region.memory c.lay_out.new.region) _ (g.R.Region.memory c.drain.new.self) c.lay_out.ensures.stores c.drain.ensures in
-    omega (arith, size, c.words.ensures, ap length c.in-Ok.ensures.blocks, length-replicate {A = Bool})
+    omega (arith, size, c.words.ensures.count, ap length c.in-Ok.ensures.blocks, length-replicate {A = Bool})
 
 pub scanned-requires-clause-inodes : goal.scanned-requires-clause-inodes
 scanned-requires-clause-inodes g c =
     let size = length_laid (g.R.Region.memory c.args.region) (g.R.Region.memory c.lay_out.new.region) _ (g.R.Region.memory c.drain.new.self) c.lay_out.ensures.stores c.drain.ensures in
-    omega (arith, size, c.words.ensures, ap length c.in-Ok.ensures.inodes, length-replicate {A = Bool})
+    omega (arith, size, c.words.ensures.count, ap length c.in-Ok.ensures.inodes, length-replicate {A = Bool})
 
 pub scanned-requires-clause-counts : goal.scanned-requires-clause-counts
 scanned-requires-clause-counts g c =
     let size = length_laid (g.R.Region.memory c.args.region) (g.R.Region.memory c.lay_out.new.region) _ (g.R.Region.memory c.drain.new.self) c.lay_out.ensures.stores c.drain.ensures in
-    omega (arith, size, c.words.ensures, ap length c.in-Ok.ensures.counts, length-replicate {A = ℕ})
+    omega (arith, size, c.words.ensures.count, ap length c.in-Ok.ensures.counts, length-replicate {A = ℕ})
 
 pub scanned-requires-clause-frozen : goal.scanned-requires-clause-frozen
 scanned-requires-clause-frozen g c =
     let size = length_laid (g.R.Region.memory c.args.region) (g.R.Region.memory c.lay_out.new.region) _ (g.R.Region.memory c.drain.new.self) c.lay_out.ensures.stores c.drain.ensures in
-    omega (arith, size, c.words.ensures, ap length c.in-Ok.ensures.frozen, length-replicate {A = Bool})
+    omega (arith, size, c.words.ensures.count, ap length c.in-Ok.ensures.frozen, length-replicate {A = Bool})
 
 pub scanned-requires-clause-pending : goal.scanned-requires-clause-pending
 scanned-requires-clause-pending g c =
     let size = length_laid (g.R.Region.memory c.args.region) (g.R.Region.memory c.lay_out.new.region) _ (g.R.Region.memory c.drain.new.self) c.lay_out.ensures.stores c.drain.ensures in
-    omega (arith, size, c.words.ensures, c.in-Ok.ensures.pending)
+    omega (arith, size, c.words.ensures.count, c.in-Ok.ensures.pending)
 
 pub scanned-requires-clause-right : goal.scanned-requires-clause-right
 scanned-requires-clause-right g c = c.in-Ok.ensures.right _

@@ -19,7 +19,7 @@ returns c =
     let event = event_of c.word.result c.index.result.now in
     ap (option_map event_kind) (
     slice_get_read (events_of held.words held.saved) i event (omega (arith, length_events held.words held.saved c.requires.each, c.requires.inside))
-    (ap (λ w. event_of w c.index.result.now) c.word.ensures
+    (ap (λ w. event_of w c.index.result.now) c.word.ensures.word
     ∙ ap (event_of (get_or words i 0)) read
     ∙ sym (get_or-events_of words saved i event counted low)
     ∙ ap (λ (e : Entered). get_or (events_of e.words e.saved) i event) c.self.view_is))

@@ -6,8 +6,13 @@ use Rattle.pm_raw.specs.Pieces.{piece_events}
 use Rattle.pm_raw.proofs.LogLaws.{behind-events, behind-runs, behind-small, events, first-low, first-row, length-seen}
 use Rattle.pm_raw.proofs.log.Log.take_first.Goals as goal
 
-pub overflow_cast-word : goal.overflow_cast-word
-overflow_cast-word c =
+pub count_of_first-count-requires-clause-small : goal.count_of_first-count-requires-clause-small
+count_of_first-count-requires-clause-small c =
+    let long = length-seen c.self.inside c.self.invariant _ c.self.view_is in
+    omega (arith, first-low c.self.inside c.self.invariant (omega (arith, c.requires, long)))
+
+pub piece_of-requires-clause-small : goal.piece_of-requires-clause-small
+piece_of-requires-clause-small c =
     let long = length-seen c.self.inside c.self.invariant _ c.self.view_is in
     omega (arith, first-low c.self.inside c.self.invariant (omega (arith, c.requires, long)))
 

@@ -1,8 +1,13 @@
-use Rattle.std.proofs.Common.{◌∙◌, sym}
+use Rattle.std.proofs.Common.{◌∙◌, arith, sym}
 use Rattle.pm_raw.proofs.RegionLaws.{sizes}
 use Rattle.pm_raw.proofs.region.RawRegionRegion.words.Goals as goal
 
-pub returns : goal.returns
-returns c =
+pub returns-clause-count : goal.returns-clause-count
+returns-clause-count c =
     let told = sizes c.self.inside _ c.self.invariant c.self.view_is in
     c.len.ensures ∙ sym told.base
+
+pub returns-clause-few : goal.returns-clause-few
+returns-clause-few c =
+    let told = sizes c.self.inside _ c.self.invariant c.self.view_is in
+    omega (arith, told.base, c.self.invariant.few)

@@ -50,7 +50,7 @@ invariant_of-self c =
             starts_room = omega (arith, w.push_reserved-then-first-self.ensures.capacity, step.starts_room);
           })
       | else-first-self w ↦
-          let low : first < 4294967296 = omega (arith, c.requires.in_range, c.requires.some) in
+          let low : first < 2199023255552 = omega (arith, c.requires.in_range, c.requires.some) in
           let goes_on = w.if-first-self.false ∙ step.next in
           rw w.self-inside-is (record {
             are = runs-joined firsts starts runs.count first wanted step.are c.requires.in_range goes_on low;
@@ -77,6 +77,6 @@ returns-clause-words c =
           ∙ words-begun firsts starts runs.count first wanted step.are c.requires.in_range
           ∙ was)
       | else-first-self w ↦
-          let low : first < 4294967296 = omega (arith, c.requires.in_range, c.requires.some) in
+          let low : first < 2199023255552 = omega (arith, c.requires.in_range, c.requires.some) in
           rw w.self-inside-is (words-joined firsts starts runs.count first wanted step.are c.requires.in_range (w.if-first-self.false ∙ step.next) low ∙ was)
     ]

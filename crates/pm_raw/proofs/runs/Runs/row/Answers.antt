@@ -29,11 +29,6 @@ row_end c here = elim c.if-next-starts.branch [
   }
 ]
 
-pub overflow_cast-result : goal.overflow_cast-result
-overflow_cast-result c =
-    let here = event (goal.at.overflow_cast-result c).After-run_near-run in
-    omega (arith, here.word_low)
-
 pub overflow_add-result : goal.overflow_add-result
 overflow_add-result c =
     let here = event (goal.at.overflow_add-result c).After-run_near-run in
@@ -48,6 +43,11 @@ pub returns-clause-first : goal.returns-clause-first
 returns-clause-first c =
     let here = event (goal.at.returns-clause-first c).After-run_near-run in
     here.word
+
+pub returns-clause-small : goal.returns-clause-small
+returns-clause-small c =
+    let here = event (goal.at.returns-clause-small c).After-run_near-run in
+    omega (arith, here.word_low)
 
 pub returns-clause-some : goal.returns-clause-some
 returns-clause-some c =

@@ -13,14 +13,8 @@ event c =
     found c.self.inside c.args.self.now c.self.invariant c.self.view_is _ _ (c.args.end - 1) _
     c.as_slice-firsts.ensures.value c.as_slice-starts.ensures.value (omega (arith, c.requires.some, c.requires.inside)) at.inside at.begun at.last
 
-pub overflow_cast-word : goal.overflow_cast-word
-overflow_cast-word c = let here = event (goal.at.overflow_cast-word c).After-run_near-run in omega (arith, here.word_low)
-
 pub overflow_add-word : goal.overflow_add-word
 overflow_add-word c = let here = event (goal.at.overflow_add-word c).After-run_near-run in omega (arith, here.word_low)
-
-pub overflow_cast-result : goal.overflow_cast-result
-overflow_cast-result c = let here = event (goal.at.overflow_cast-result c).After-run_near-run in omega (arith, here.word_low, c.row_start-from.ensures.run)
 
 pub returns-clause-in_range : goal.returns-clause-in_range
 returns-clause-in_range c =
@@ -45,7 +39,7 @@ returns-clause-signal c = λ none.
     let here = event (goal.at.returns-clause-signal c).After-run_near-run in
     let from = c.row_start-from.ensures in
     let word = get_or c.as_slice-firsts.result.now c.run_near-run.result 0 + (c.args.end - 1 - get_or c.as_slice-starts.result.now c.run_near-run.result 0) in
-    let last : word ≡ 4294967295 = omega (arith, none, here.word_low, from.run, from.within) in
+    let last : word ≡ 2199023255551 = omega (arith, none, here.word_low, from.run, from.within) in
     omega (arith, from.signal last, c.requires.some)
 
 pub returns-clause-stores : goal.returns-clause-stores
@@ -53,7 +47,7 @@ returns-clause-stores c = λ less.
     let here = event (goal.at.returns-clause-stores c).After-run_near-run in
     let from = c.row_start-from.ensures in
     let word = get_or c.as_slice-firsts.result.now c.run_near-run.result 0 + (c.args.end - 1 - get_or c.as_slice-starts.result.now c.run_near-run.result 0) in
-    elim (eqb_tells word 4294967295) [
+    elim (eqb_tells word 2199023255551) [
       | inl same ↦ absurd (omega (arith, less, same.1, from.signal same.1))
       | inr differ ↦ omega (arith, differ.1, here.word_low, from.run, from.within, c.requires.some)
     ]

@@ -11,11 +11,11 @@ event c =
     found c.self.inside c.args.self.now c.self.invariant c.self.view_is _ _ c.args.i _
     c.as_slice-firsts.ensures.value c.as_slice-starts.ensures.value c.requires at.inside at.begun at.last
 
-pub overflow_cast-result : goal.overflow_cast-result
-overflow_cast-result c = let here = event (goal.at.overflow_cast-result c).After-run_near-run in omega (arith, here.word_low)
-
 pub overflow_add-result : goal.overflow_add-result
 overflow_add-result c = let here = event (goal.at.overflow_add-result c).After-run_near-run in omega (arith, here.word_low)
 
-pub returns : goal.returns
-returns c = let here = event (goal.at.returns c).After-run_near-run in here.word
+pub returns-clause-word : goal.returns-clause-word
+returns-clause-word c = let here = event (goal.at.returns-clause-word c).After-run_near-run in here.word
+
+pub returns-clause-small : goal.returns-clause-small
+returns-clause-small c = let here = event (goal.at.returns-clause-small c).After-run_near-run in omega (arith, here.word_low)

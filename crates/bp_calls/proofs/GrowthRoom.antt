@@ -6,14 +6,13 @@ use Rattle.bp_layout.specs.Formatted.{version_of}
 use Rattle.std.proofs.lemmas.List.{length-append}
 use Rattle.bp_append.specs.Prepared.{CanPrepare, PreparesWith}
 use Rattle.bp_append.proofs.StoresLaws.{behind_whole, room_behind_whole}
-use Rattle.bp_layout.proofs.FewLeaves.{few_leaves, inodes_low}
-use Rattle.bp_changes.proofs.SameMeaning.{well_formed-same}
+use Rattle.bp_layout.proofs.FewLeaves.{few_leaves}
 use Rattle.bp_free.specs.Set.{Set, Fills, members}
 use Rattle.bp_layout.specs.Inode.{root_of, size_of}
 use Rattle.bp_layout.specs.Reached.IsReached.{inode_file}
 use Rattle.bp_layout.specs.WellFormed.{IsWellFormed}
 use Rattle.bp_layout.specs.Words.{Image, block_count}
-use Rattle.bp_limits.specs.Limits.{block_inodes, block_size, inode_size, max_blocks, max_height, super_size}
+use Rattle.bp_limits.specs.Limits.{block_size, inode_size, max_height, super_size}
 use Rattle.bp_limits.specs.CallLimits.{greatest_size}
 use Rattle.bp_commit.specs.Performs.{room_for}
 use Rattle.bp_tree.proofs.RegionWords.{length_now}
@@ -90,12 +89,6 @@ module _ {kept : ℕ → Bool} (old : Memory) (blocks inodes : Set) (path : Word
     module _ (new : Memory) (stored : Adds middle new (Store super_size (size + block_size) ∷ Barrier ∷ [])) where
       pub grew : GrowsInodes kept old new
       grew = grows old middle new (members blocks) (members after) can.well_formed prepared (subst (λ s. Adds middle new (Store super_size (s + block_size) ∷ Barrier ∷ [])) is stored)
-
-      -- the longer inode file has no more inodes than an image has room for
-      pub last_low : (size + block_size) / inode_size + block_inodes ≤ block_inodes * max_blocks
-      last_low =
-          let grown_well : IsWellFormed (current_words new) = well_formed-same (current_words old) (current_words new) can.well_formed grew.grown.meaning in
-          omega (arith, inodes_low (current_words new) grown_well, grew.grown.size, is)
 
       module _ (filled : Set) (room : length after ≡ length blocks) (fills : Fills (size / inode_size) ((size + block_size) / inode_size) inodes filled) where
         pub exact_behind : AreExact (current_words new) kept after filled

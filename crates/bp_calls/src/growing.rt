@@ -46,7 +46,7 @@ pub(crate) fn grow<R: Region>(parts: &mut Parts<R>)
     // The size is durable before any store to an inode of the new leaf. So no crash leaves such a store past the end
     // of the inode file, and the contracts of the caller's next stores concern the longer file only.
     parts.region.barrier();
-    let from = (size / INODE_SIZE) as u32;
-    let to = (end / INODE_SIZE) as u32;
+    let from = (size / INODE_SIZE) as usize;
+    let to = (end / INODE_SIZE) as usize;
     parts.inodes.fill(from, to);
 }

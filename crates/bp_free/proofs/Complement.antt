@@ -8,7 +8,7 @@ use Rattle.std.proofs.lemmas.Bool.{cases_eq}
 use Rattle.std.proofs.lemmas.List.{get_or-set_same, length-set}
 use Rattle.std.proofs.lemmas.Nat.Bits.{bit_at_and, bit_at_not, bit_at_ones, bit_at_ones_above, bit_at-lt}
 use Rattle.bp_free.specs.Set.{Set, has, members, IsComplement}
-use Rattle.bp_free.specs.Words.{set_in, HoldRoom, IsTurnedOver, ComplementsWord, TellsEmpty, IsSummary, IsCounted}
+use Rattle.bp_free.specs.Words.{set_in, HoldRoom, IsTurnedOver, ComplementsWord, TellsEmpty, IsSummary, IsCounted, IsCountedBelow}
 use Rattle.bp_free.proofs.Words.{length_in, has_in, room_seen, word_here, word_there, word_is, alone_by}
 
 -- ---- a word
@@ -129,3 +129,9 @@ counted_complement other used_other new used count counted complement summary =
       fits = omega (arith, counted.fits, complement.room);
       summary = summary;
     }
+
+pub counted_below_complement : (bound : ℕ) (other used_other new used : Set) (count : ℕ) → IsCountedBelow bound other used_other count → IsComplement other new → IsSummary new used → IsCountedBelow bound new used (length other - count)
+counted_below_complement bound other used_other new used count below complement summary = record {
+  counted = counted_complement other used_other new used count below.counted complement summary;
+  low = omega (arith, complement.room, below.low);
+}

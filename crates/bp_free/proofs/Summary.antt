@@ -3,7 +3,7 @@ use Rattle.std.proofs.Common.{◌≡◌, ◌⊎◌, ℕ, ◌+◌, ◌-◌, ◌/�
 use Rattle.std.proofs.lemmas.Bool.{cases_eq, cases_lt}
 use Rattle.std.proofs.lemmas.List.{length-set, length-replicate, get_or-replicate}
 use Rattle.bp_free.specs.Set.{Set, has, members, with, without, empty, IsLeast, Fills}
-use Rattle.bp_free.specs.Words.{IsSummary, IsCounted, IsEmptyWord, TellsAlone}
+use Rattle.bp_free.specs.Words.{IsSummary, IsCounted, IsCountedBelow, IsEmptyWord, TellsAlone}
 use Rattle.bp_free.proofs.Members.{has_past, has_with_same, has_with_other, has_without_same, has_without_other, members_empty, members_none, count_with, count_without, count_less, count_most, count_filled}
 
 -- ---- cases
@@ -95,7 +95,7 @@ summary_without s used i sum low other_is =
 
 -- ---- with the count
 
-pub counted_empty : (room words : ℕ) → room < 2 ^ 32 → words ≡ (room + 63) / 64 → IsCounted (empty room) (empty words) 0
+pub counted_empty : (room words : ℕ) → room ≤ 2 ^ 32 → words ≡ (room + 63) / 64 → IsCounted (empty room) (empty words) 0
 counted_empty room words fits size =
     let long : length (empty room) ≡ room = length-replicate room false in
     let long_words : length (empty words) ≡ words = length-replicate words false in
@@ -139,10 +139,28 @@ counted_without s used new count i counted is low there other_is =
       summary = summary_without s used i counted.summary low other_is;
     })
 
+-- the same below the bound of the kind
+
+pub counted_below_empty : (bound room words : ℕ) → bound ≤ 2 ^ 32 → room ≤ bound → words ≡ (room + 63) / 64 → IsCountedBelow bound (empty room) (empty words) 0
+counted_below_empty bound room words fits within size =
+    let long : length (empty room) ≡ room = length-replicate room false in
+    record {
+      counted = counted_empty room words (omega (arith, fits, within)) size;
+      low = omega (arith, long, within);
+    }
+
+pub counted_below_with : (bound : ℕ) (s used new new_used : Set) (count i : ℕ) → IsCountedBelow bound s used count → new ≡ with s i → new_used ≡ with used (i / 64) → i < length s → has s i ≡ false → IsCountedBelow bound new new_used (count + 1)
+counted_below_with bound s used new new_used count i below is used_is low out =
+    let long = ap length is ∙ length-set s i true in
+    record {
+      counted = counted_with s used new new_used count i below.counted is used_is low out;
+      low = omega (arith, long, below.low);
+    }
+
 pub one_there : (s used : Set) (count i : ℕ) → IsCounted s used count → i < length s → has s i ≡ true → 1 ≤ count
 one_there s used count i counted low there = let less = count_without s i low there in omega (arith, counted.number, less)
 
-pub one_fits : (s used : Set) (count i : ℕ) → IsCounted s used count → i < length s → has s i ≡ false → count + 1 < 2 ^ 32
+pub one_fits : (s used : Set) (count i : ℕ) → IsCounted s used count → i < length s → has s i ≡ false → count + 1 ≤ 2 ^ 32
 one_fits s used count i counted low out = let less = count_less s i low out in omega (arith, counted.number, counted.fits, less)
 
 -- ---- the least number
@@ -252,8 +270,15 @@ counted_filled s used new new_used count from more counted some one_word within 
       summary = summary_filled s used new from more counted.summary some one_word within fills;
     })
 
+pub counted_below_filled : (bound : ℕ) (s used new new_used : Set) (count from more : ℕ) → IsCountedBelow bound s used count → 0 < more → from % 64 + more ≤ 64 → from + more ≤ length s →
+    ((k : ℕ) → from ≤ k → k < from + more → has s k ≡ false) → Fills from (from + more) s new → new_used ≡ with used (from / 64) → IsCountedBelow bound new new_used (count + more)
+counted_below_filled bound s used new new_used count from more below some one_word within none fills used_is = record {
+  counted = counted_filled s used new new_used count from more below.counted some one_word within none fills used_is;
+  low = omega (arith, fills.room, below.low);
+}
+
 pub many_fit : (s used : Set) (count from more : ℕ) (new : Set) → IsCounted s used count → from + more ≤ length s →
-    ((k : ℕ) → from ≤ k → k < from + more → has s k ≡ false) → Fills from (from + more) s new → count + more < 2 ^ 32
+    ((k : ℕ) → from ≤ k → k < from + more → has s k ≡ false) → Fills from (from + more) s new → count + more ≤ 2 ^ 32
 many_fit s used count from more new counted within none fills =
     let size = count_filled from (from + more) s new (omega arith) within none fills in
     let most = count_most new in

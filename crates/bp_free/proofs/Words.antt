@@ -425,3 +425,9 @@ none_seen words room seen first count v hold view some low one_word read =
       λ none k from to. told k from to ∙ ap (λ n. eqb n 1) (none_there v first count k none from to one_word),
       λ none. none_common v first count one_word (λ k from to. one_or_none (bit_at v (k % 64)) (bit_at-lt v (k % 64)) (sym (told k from to) ∙ none k from to)),
     )
+
+-- a number of a word that is not stored, since each word from `stored` on is 0, is no member
+pub not_stored : (words : List ℕ) (room : ℕ) (seen : Set) (stored i : ℕ) → HoldRoom words room → set_in words room ≡ seen → ((k : ℕ) → stored ≤ k → get_or words k 0 ≡ 0) → stored ≤ i / 64 → has seen i ≡ false
+not_stored words room seen stored i hold view blank high =
+    sym (ap (λ s. has s i) view) ∙ has_in words room hold i ∙ word_is words (i / 64) i refl
+    ∙ ap (λ w. eqb (bit_at w (i % 64)) 1) (blank (i / 64) high) ∙ ap (λ n. eqb n 1) (bit_at-zero (i % 64))

@@ -1,4 +1,4 @@
 pub mod Looks
-pub mod Counts
+pub mod Padded
 pub mod Set
 pub mod Words

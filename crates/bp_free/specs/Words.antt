@@ -41,6 +41,10 @@ pub record IsLeastInWord (set : Set) (word i : ℕ) : Type 0 where
 abbrev pub IsEmptyWord : Set → ℕ → Type 0
 IsEmptyWord set word = (k : ℕ) → k / 64 ≡ word → has set k ≡ false
 
+-- No word of 64 numbers before this one has a member.
+abbrev pub IsEmptyBelow : Set → ℕ → Type 0
+IsEmptyBelow set word = (k : ℕ) → k / 64 < word → has set k ≡ false
+
 -- Whether a word is empty. If it is not, it has a member.
 abbrev pub TellsEmpty : Set → ℕ → Bool → Type 0
 TellsEmpty set word true = IsEmptyWord set word
@@ -62,8 +66,13 @@ pub record IsSummary (set used : Set) : Type 0 where
   pub all : (i : ℕ) → has set i ≡ true → has used (i / 64) ≡ true
   pub some : (word : ℕ) → has used word ≡ true → (i : ℕ) × (i / 64 ≡ word) × (has set i ≡ true)
 
--- The count is that of the members, and the summary is right.
+-- The count is that of the members, and the summary is right. Each number fits 32 bits.
 pub record IsCounted (set used : Set) (count : ℕ) : Type 0 where
   pub number : count ≡ length (members set)
-  pub fits : length set < 2 ^ 32
+  pub fits : length set ≤ 2 ^ 32
   pub summary : IsSummary set used
+
+-- The set also has no number from the bound of its kind on.
+pub record IsCountedBelow (bound : ℕ) (set used : Set) (count : ℕ) : Type 0 where
+  pub counted : IsCounted set used count
+  pub low : length set ≤ bound

@@ -1,10 +1,10 @@
 //! A set of numbers as bits.
 
 ghost use Rattle.std.specs.Prelude.{◌≡◌, ℕ, ◌+◌, ◌-◌, ◌*◌, ◌/◌, ◌%◌, ◌<◌, ◌≤◌, ◌↔◌, ◌^◌, false, length, IsTrue, IfOk, IfSome, MatchOption};
-ghost use Rattle.bp_free.specs.Looks.{bit_looks};
 ghost use Rattle.bp_free.specs.Set.{Set, has, with, without, empty, IsLeast, Fills, IsComplement};
-ghost use Rattle.bp_free.specs.Words.{IsLowestBit, IsTurnedOver, IsLeastInWord, IsEmptyWord, TellsEmpty, TellsAlone, ComplementsWord, IsSummary};
+ghost use Rattle.bp_free.specs.Words.{IsEmptyBelow, IsLowestBit, IsTurnedOver, IsLeastInWord, IsEmptyWord, TellsEmpty, TellsAlone, ComplementsWord, IsSummary};
 
+use crate::padded::Padded;
 use crate::steps::Looks;
 use std::alloc::{AllocError, Global};
 use std::marker::Model;
@@ -15,7 +15,7 @@ pub(crate) const WORD: usize = 64;
 /// A set of numbers below a bound, one bit for each.
 #[derive(Drop)]
 pub(crate) struct Bits {
-    words: Vec<u64>,
+    words: Padded<u64>,
     room: usize,
 }
 
@@ -25,9 +25,9 @@ impl Model for Bits {
 
     ghost Value = { Set };
 
-    ghost view = { λ b. set_in b.words.items b.room };
+    ghost view = { λ b. set_in b.words b.room };
 
-    ghost invariant = { λ b. HoldRoom b.words.items b.room };
+    ghost invariant = { λ b. HoldRoom b.words b.room };
 }
 
 /// A member, for its removal from its word.
@@ -86,7 +86,7 @@ impl Bits {
     pub fn new(alloc: Global, room: usize) -> Result<Bits, AllocError>
         ensures { IfOk result (λ set. set ≡ empty room) }
     {
-        let words = vec![in alloc; 0; room.div_ceil(WORD)]?;
+        let words = Padded::new(alloc, room.div_ceil(WORD))?;
         Ok(Bits { words, room })
     }
 
@@ -101,10 +101,10 @@ impl Bits {
     pub fn has<C: Looks>(&self, i: usize, counter: &mut C) -> bool
         requires { i < length self.now }
         ensures has { result ≡ has self.now i }
-        ensures look { C.taken counter.new ≡ C.taken counter.old + C.each }
+        ensures look { C.taken counter.new ≤ C.taken counter.old + 1 }
     {
         counter.look();
-        (self.words[i / WORD] >> (i % WORD)) & 1 == 1
+        (self.words.get(i / WORD) >> (i % WORD)) & 1 == 1
     }
 
     /// Adds a number.
@@ -112,7 +112,8 @@ impl Bits {
         requires { i < length self.old }
         ensures { self.new ≡ with self.old i }
     {
-        self.words[i / WORD] |= 1 << (i % WORD);
+        let word = self.words.get(i / WORD) | 1 << (i % WORD);
+        self.words.set(i / WORD, word);
     }
 
     /// Returns whether none of `count` numbers from one on is a member. All of them share a word.
@@ -121,10 +122,10 @@ impl Bits {
         requires some { 0 < count }
         requires in_range { first + count ≤ length self.now }
         ensures none { IsTrue result ↔ ((k : ℕ) → first ≤ k → k < first + count → has self.now k ≡ false) }
-        ensures look { C.taken counter.new ≡ C.taken counter.old + C.each }
+        ensures look { C.taken counter.new ≤ C.taken counter.old + 1 }
     {
         counter.look();
-        self.words[first / WORD] & ones(first % WORD, count) == 0
+        self.words.get(first / WORD) & ones(first % WORD, count) == 0
     }
 
     /// Adds `count` numbers from one on, which share a word.
@@ -134,7 +135,8 @@ impl Bits {
         requires in_range { first + count ≤ length self.old }
         ensures { Fills first (first + count) self.old self.new }
     {
-        self.words[first / WORD] |= ones(first % WORD, count);
+        let word = self.words.get(first / WORD) | ones(first % WORD, count);
+        self.words.set(first / WORD, word);
     }
 
     /// Removes a number.
@@ -142,7 +144,8 @@ impl Bits {
         requires { i < length self.old }
         ensures { self.new ≡ without self.old i }
     {
-        self.words[i / WORD] &= !(1 << (i % WORD));
+        let word = self.words.get(i / WORD) & !(1 << (i % WORD));
+        self.words.set(i / WORD, word);
     }
 
     /// Returns a number, with whether no other number of its word is a member.
@@ -150,12 +153,12 @@ impl Bits {
         requires { i < length self.now }
         ensures number { result.number ≡ i }
         ensures alone { TellsAlone self.now i result.alone }
-        ensures look { C.taken counter.new ≡ C.taken counter.old + C.each }
+        ensures look { C.taken counter.new ≤ C.taken counter.old + 1 }
     {
         counter.look();
         Member {
             number: i,
-            alone: self.words[i / WORD] & !(1 << (i % WORD)) == 0,
+            alone: self.words.get(i / WORD) & !(1 << (i % WORD)) == 0,
         }
     }
 
@@ -166,10 +169,10 @@ impl Bits {
         ensures least { MatchOption result (IsEmptyWord self.now word)
             (λ least. IsLeastInWord self.now word least.number) }
         ensures alone { IfSome result (λ least. TellsAlone self.now least.number least.alone) }
-        ensures look { C.taken counter.new ≡ C.taken counter.old + C.each }
+        ensures look { C.taken counter.new ≤ C.taken counter.old + 1 }
     {
         counter.look();
-        let bits = self.words[word];
+        let bits = self.words.get(word);
         let bit = lowest_bit(bits)?;
         Some(Member {
             number: WORD * word + bit,
@@ -177,12 +180,14 @@ impl Bits {
         })
     }
 
-    /// Returns the least member, or `None` if the set is empty.
-    pub fn first<C: Looks>(&self, counter: &mut C) -> Option<usize>
+    /// Returns the least member, or `None` if the set is empty. The search begins at word `from`, and no word before it
+    /// has a member.
+    pub fn first<C: Looks>(&self, from: usize, counter: &mut C) -> Option<usize>
+        requires { IsEmptyBelow self.now from }
         ensures least { MatchOption result ((i : ℕ) → has self.now i ≡ false) (IsLeast self.now) }
-        ensures looks { C.taken counter.new ≡ C.taken counter.old + C.each * bit_looks (length self.now) result }
+        ensures looks { IfSome result (λ i. C.taken counter.new + from ≤ C.taken counter.old + i / 64 + 1) }
     {
-        for word in 0..self.words.len() {
+        for word in from..self.words.stored() {
             if let Some(least) = self.first_in_word(word, counter) {
                 return Some(least.number);
             }
@@ -194,7 +199,7 @@ impl Bits {
     pub fn clear(&mut self)
         ensures { self.new ≡ empty (length self.old) }
     {
-        self.words.fill(0);
+        self.words.clear();
     }
 
     /// Sets a word to the numbers that another set lacks in it, and no others. Returns whether the word is then empty.
@@ -205,8 +210,8 @@ impl Bits {
         ensures empty { TellsEmpty self.new word result }
     {
         let count = (self.room - WORD * word).min(WORD);
-        let bits = turned_over(other.words[word], count);
-        self.words[word] = bits;
+        let bits = turned_over(other.words.get(word), count);
+        self.words.set(word, bits);
         bits == 0
     }
 

@@ -9,10 +9,12 @@ mod counts;
 mod hints;
 pub mod laws;
 mod numbers;
+mod padded;
 mod parts;
+mod searching;
 mod steps;
 
 pub use counts::Counts;
-pub use numbers::{BlockNumbers, Blocks, InodeNumbers, Inodes, Numbers};
+pub use numbers::{BlockNumbers, Blocks, InodeNumbers, Inodes, Kind, Numbers, ShortKind};
 pub use parts::{NoSpace, Parts};
 pub use steps::Steps;

@@ -1,13 +1,15 @@
 //! Free numbers, and their count.
 
-ghost use Rattle.std.specs.Prelude.{◌≡◌, ℕ, ◌+◌, ◌*◌, ◌%◌, ◌<◌, ◌≤◌, ◌^◌, [], false, true, length, IfOk, IfSome, MatchOption};
+ghost use Rattle.std.specs.Prelude.{Some, ◌≡◌, ℕ, ◌+◌, ◌-◌, ◌*◌, ◌/◌, ◌%◌, ◌<◌, ◌≤◌, ◌^◌, [], false, true, length, IfOk, IfSome, MatchOption};
 ghost use Rattle.std.specs.Int.{div_ceil};
+ghost use Rattle.std.proofs.Common.{arith};
 ghost use Rattle.bp_free.specs.Looks.{looks};
 ghost use Rattle.bp_free.specs.Set.{Set, has, members, with, without, empty, IsLeast, TakesLeast, TakesOne, Fills, IsComplement};
-ghost use Rattle.bp_free.specs.Words.{TellsAlone};
+ghost use Rattle.bp_free.specs.Words.{TellsAlone, IsCounted};
 
 use crate::bits::{Bits, Member, WORD};
 use crate::hints::Hints;
+use crate::searching::Summary;
 use crate::steps::{Looks, Steps, Uncounted};
 use std::alloc::{AllocError, Global};
 use std::marker::{Model, PhantomData};
@@ -16,13 +18,44 @@ use std::sync::ledger::Ledger;
 /// Number of blocks that are tried, one by one, for a copy without a hint.
 const NEAR: u32 = 64;
 
+/// A kind of numbers.
+pub trait Kind {
+    /// The greatest bound of a set of this kind.
+    ghost bound: { ℕ };
+
+    /// The numbers fit 32 bits.
+    ghost fits: { bound ≤ 2 ^ 32 };
+}
+
+/// A kind of numbers of which the bound of a set, and so the count, fits 32 bits too.
+pub trait ShortKind: Kind {
+    /// The bound fits.
+    ghost short: { Self.bound < 2 ^ 32 };
+}
+
 /// The kind of numbers of free blocks.
 #[derive(Clone, Copy)]
 pub struct BlockNumbers;
 
+impl Kind for BlockNumbers {
+    ghost bound = { 2 ^ 32 - 1 };
+
+    ghost fits = { omega arith };
+}
+
+impl ShortKind for BlockNumbers {
+    ghost short = { omega arith };
+}
+
 /// The kind of numbers of free inodes.
 #[derive(Clone, Copy)]
 pub struct InodeNumbers;
+
+impl Kind for InodeNumbers {
+    ghost bound = { 2 ^ 32 };
+
+    ghost fits = { omega arith };
+}
 
 /// Free block numbers.
 pub type Blocks = Numbers<BlockNumbers>;
@@ -30,63 +63,94 @@ pub type Blocks = Numbers<BlockNumbers>;
 /// Free inode numbers.
 pub type Inodes = Numbers<InodeNumbers>;
 
-/// A set of free numbers below a bound: numbers of blocks or of inodes, by `Kind`.
+/// A set of free numbers below a bound: numbers of blocks or of inodes, by its kind.
 ///
-/// It allocates only in [`Numbers::new`] and [`Numbers::with_hints`]. The least number is found in a pass over one bit
-/// for each 64 numbers.
+/// It allocates only when it is made, and touches memory up to that of the greatest number that was ever free. The
+/// least number is found in a pass over one bit for each 64 numbers, which begins where the last search ended.
 #[derive(Drop)]
-pub struct Numbers<Kind> {
+pub struct Numbers<K: Kind> {
     free: Bits,
-    words_in_use: Bits,
-    count: u32,
+    summary: Summary,
+    count: usize,
     hints: Hints,
-    kind: PhantomData<Kind>,
+    kind: PhantomData<K>,
 }
 
-impl<Kind> Model for Numbers<Kind> {
+impl<K: Kind> Model for Numbers<K> {
     ghost use Rattle.bp_free.specs.Set.{Set};
-    ghost use Rattle.bp_free.specs.Words.{IsCounted};
+    ghost use Rattle.bp_free.specs.Words.{IsCountedBelow};
 
     ghost Value = { Set };
 
     ghost view = { λ s. s.free };
 
-    ghost invariant = { λ s. IsCounted s.free s.words_in_use s.count };
+    ghost invariant = { λ s. IsCountedBelow K.bound s.free s.summary.words s.count };
 }
 
-impl<Kind> Numbers<Kind> {
+/// Removes a member of a set with its summary and its count, and its word from the summary if it was the last of it.
+fn remove_from(free: &mut Bits, summary: &mut Summary, count: &mut usize, member: Member)
+    requires counted { IsCounted free.old summary.old.words count.old }
+    requires in_range { member.number < length free.old }
+    requires free { has free.old member.number ≡ true }
+    requires alone { TellsAlone free.old member.number member.alone }
+    ensures counted { IsCounted free.new summary.new.words count.new }
+    ensures free { free.new ≡ without free.old member.number }
+    ensures from { summary.new.from ≡ summary.old.from }
+{
+    free.remove(member.number);
+    *count -= 1;
+    if member.alone {
+        summary.remove(member.number / WORD);
+    }
+}
+
+/// Removes the least member of a set with its summary and its count, and reports each look at a word to `counter`. The
+/// search begins where the summary says, and the next one will begin at the bit of this member's word.
+fn take_from<C: Looks>(
+    free: &mut Bits,
+    summary: &mut Summary,
+    count: &mut usize,
+    counter: &mut C,
+) -> Option<u32>
+    requires { IsCounted free.old summary.old.words count.old }
+    ensures counted { IsCounted free.new summary.new.words count.new }
+    ensures least { MatchOption result ((members free.old ≡ []) × (free.new ≡ free.old))
+        (λ i. IsLeast free.old i × (free.new ≡ without free.old i)) }
+    ensures room { length free.new ≡ length free.old }
+    ensures from { IfSome result (λ i. summary.new.from ≡ i / 4096) }
+    ensures looks { MatchOption result (C.taken counter.new ≡ C.taken counter.old)
+        (λ i. C.taken counter.new + summary.old.from ≤ C.taken counter.old + i / 4096 + 2) }
+{
+    if *count == 0 {
+        return None;
+    }
+    let Some(word) = summary.first(counter) else {
+        // A set that is not empty has a word.
+        unreachable!();
+    };
+    let Some(least) = free.first_in_word(word, counter) else {
+        // A word of the summary has a member.
+        unreachable!();
+    };
+    remove_from(free, summary, count, least);
+    Some(least.number as u32)
+}
+
+impl<K: Kind> Numbers<K> {
     /// Makes the empty set with a bound.
-    ///
-    /// # Errors
-    ///
-    /// `AllocError`: out of memory.
-    pub fn new(alloc: Global, room: u32) -> Result<Numbers<Kind>, AllocError>
+    fn with_room(alloc: Global, room: usize) -> Result<Numbers<K>, AllocError>
+        requires { room ≤ K.bound }
         ensures { IfOk result (λ set. set ≡ empty room) }
     {
-        let room = room as usize;
         let free = Bits::new(alloc, room)?;
-        let words_in_use = Bits::new(alloc, room.div_ceil(WORD))?;
+        let summary = Summary::new(alloc, room.div_ceil(WORD))?;
         Ok(Numbers {
             free,
-            words_in_use,
+            summary,
             count: 0,
             hints: Hints::none(alloc),
             kind: PhantomData,
         })
-    }
-
-    /// Returns the bound of the set: one more than the greatest number that may be free.
-    pub fn room(&self) -> u32
-        ensures { result ≡ length self.now }
-    {
-        self.free.room() as u32
-    }
-
-    /// Returns the number of free numbers.
-    pub fn count(&self) -> u32
-        ensures { result ≡ length (members self.now) }
-    {
-        self.count
     }
 
     /// Returns whether a number is free.
@@ -94,7 +158,15 @@ impl<Kind> Numbers<Kind> {
         requires { i < length self.now }
         ensures { result ≡ has self.now i }
     {
-        self.free.has(i as usize, &mut Uncounted)
+        self.contains(i as usize)
+    }
+
+    /// Returns whether a number is free.
+    fn contains(&self, i: usize) -> bool
+        requires { i < length self.now }
+        ensures { result ≡ has self.now i }
+    {
+        self.free.has(i, &mut Uncounted)
     }
 
     /// Adds a number that was not free.
@@ -103,9 +175,17 @@ impl<Kind> Numbers<Kind> {
         requires taken { has self.old i ≡ false }
         ensures { self.new ≡ with self.old i }
     {
-        let i = i as usize;
+        self.add(i as usize);
+    }
+
+    /// Adds a number that was not free.
+    fn add(&mut self, i: usize)
+        requires in_range { i < length self.old }
+        requires taken { has self.old i ≡ false }
+        ensures { self.new ≡ with self.old i }
+    {
         self.free.insert(i);
-        self.words_in_use.insert(i / WORD);
+        self.summary.insert(i / WORD);
         self.count += 1;
     }
 
@@ -116,21 +196,7 @@ impl<Kind> Numbers<Kind> {
         ensures { self.new ≡ without self.old i }
     {
         let member = self.free.member(i as usize, &mut Uncounted);
-        self.remove(member);
-    }
-
-    /// Removes a number that was free, and its word from those in use if it was the last of it.
-    fn remove(&mut self, member: Member)
-        requires in_range { member.number < length self.old }
-        requires free { has self.old member.number ≡ true }
-        requires alone { TellsAlone self.old member.number member.alone }
-        ensures { self.new ≡ without self.old member.number }
-    {
-        self.free.remove(member.number);
-        self.count -= 1;
-        if member.alone {
-            self.words_in_use.remove(member.number / WORD);
-        }
+        remove_from(&mut self.free, &mut self.summary, &mut self.count, member);
     }
 
     /// Removes the least number and returns it, or returns `None` if none is free.
@@ -138,7 +204,12 @@ impl<Kind> Numbers<Kind> {
         ensures { MatchOption result ((members self.old ≡ []) × (self.new ≡ self.old))
             (λ i. IsLeast self.old i × (self.new ≡ without self.old i)) }
     {
-        self.take_by(&mut Uncounted)
+        take_from(
+            &mut self.free,
+            &mut self.summary,
+            &mut self.count,
+            &mut Uncounted,
+        )
     }
 
     /// Removes the least number of a set that is not empty, and returns it.
@@ -158,23 +229,21 @@ impl<Kind> Numbers<Kind> {
     pub fn take_counted<L: Ledger>(&mut self, steps: &mut Steps<L>) -> Option<u32>
         ensures least { MatchOption result ((members self.old ≡ []) × (self.new ≡ self.old))
             (λ i. IsLeast self.old i × (self.new ≡ without self.old i)) }
-        ensures looks { steps.new ≡ steps.old + looks (length self.old) result }
+        ensures looks { steps.new ≤ steps.old + looks result }
         ensures most { steps.new ≤ steps.old + div_ceil (length self.old) 4096 + 1 }
     {
-        self.take_by(steps)
+        take_from(&mut self.free, &mut self.summary, &mut self.count, steps)
     }
 
-    /// Removes the least number as [`Numbers::take`] does, and reports each look at a word to `counter`.
-    fn take_by<C: Looks>(&mut self, counter: &mut C) -> Option<u32>
-        ensures least { MatchOption result ((members self.old ≡ []) × (self.new ≡ self.old))
-            (λ i. IsLeast self.old i × (self.new ≡ without self.old i)) }
-        ensures looks { C.taken counter.new ≡ C.taken counter.old + C.each * looks (length self.old) result }
+    /// Removes the two least numbers, as two calls of [`Numbers::take_counted`] do. The search for the second one begins
+    /// at the bit of the first one's word.
+    pub(crate) fn take_two<L: Ledger>(&mut self, steps: &mut Steps<L>) -> (Option<u32>, Option<u32>)
+        ensures { IfSome result.0 (λ i. IfSome result.1 (λ j. steps.new ≤ steps.old + looks (Some i) +
+            (j / 4096 - i / 4096) + 2)) }
     {
-        let word = self.words_in_use.first(counter)?;
-        // A word in use has a number.
-        let least = self.free.first_in_word(word, counter)?;
-        self.remove(least);
-        Some(least.number as u32)
+        let first = take_from(&mut self.free, &mut self.summary, &mut self.count, steps);
+        let second = take_from(&mut self.free, &mut self.summary, &mut self.count, steps);
+        (first, second)
     }
 
     /// Removes all numbers.
@@ -182,61 +251,117 @@ impl<Kind> Numbers<Kind> {
         ensures { self.new ≡ empty (length self.old) }
     {
         self.free.clear();
-        self.words_in_use.clear();
+        self.summary.clear();
         self.count = 0;
     }
 
     /// Adds all numbers from one up to another, the latter not included, one by one.
-    fn fill_singly(&mut self, from: u32, to: u32)
+    fn fill_singly(&mut self, from: usize, to: usize)
         requires order { from ≤ to }
         requires in_range { to ≤ length self.old }
         ensures { Fills from to self.old self.new }
     {
         for i in from..to {
-            if !self.is_free(i) {
-                self.give(i);
+            if !self.contains(i) {
+                self.add(i);
             }
         }
     }
 
     /// Adds `count` numbers from one on, which share a word.
-    fn fill_run(&mut self, from: u32, count: u32)
+    fn fill_run(&mut self, from: usize, count: usize)
         requires one_word { from % 64 + count ≤ 64 }
         requires some { 0 < count }
         requires in_range { from + count ≤ length self.old }
         ensures { Fills from (from + count) self.old self.new }
     {
-        let first = from as usize;
-        if !self.free.has_none(first, count as usize, &mut Uncounted) {
+        if !self.free.has_none(from, count, &mut Uncounted) {
             self.fill_singly(from, from + count);
             return;
         }
-        self.free.insert_run(first, count as usize);
-        self.words_in_use.insert(first / WORD);
+        self.free.insert_run(from, count);
+        self.summary.insert(from / WORD);
         self.count += count;
     }
 
     /// Adds all numbers from one up to another, the latter not included.
-    pub fn fill(&mut self, from: u32, to: u32)
+    pub fn fill(&mut self, from: usize, to: usize)
         requires order { from ≤ to }
         requires in_range { to ≤ length self.old }
         ensures { Fills from to self.old self.new }
     {
         let mut next = from;
         while next < to {
-            let count = (to - next).min(WORD as u32 - next % WORD as u32);
+            let count = (to - next).min(WORD - next % WORD);
             self.fill_run(next, count);
             next += count;
         }
     }
 
     /// Adds the numbers that another set lacks, and removes the others, 64 at once.
-    pub fn complement(&mut self, other: &Numbers<Kind>)
+    pub fn complement(&mut self, other: &Numbers<K>)
         requires { length other.now ≡ length self.old }
         ensures { IsComplement other.now self.new }
     {
-        self.free.complement(&other.free, &mut self.words_in_use);
-        self.count = other.room() - other.count;
+        self.summary.complement(&mut self.free, &other.free);
+        self.count = other.free.room() - other.count;
+    }
+}
+
+impl<K: ShortKind> Numbers<K> {
+    /// Makes the empty set with a bound.
+    ///
+    /// # Errors
+    ///
+    /// `AllocError`: out of memory.
+    pub fn new(alloc: Global, room: u32) -> Result<Numbers<K>, AllocError>
+        requires { room ≤ K.bound }
+        ensures { IfOk result (λ set. set ≡ empty room) }
+    {
+        Numbers::with_room(alloc, room as usize)
+    }
+
+    /// Returns the bound of the set: one more than the greatest number that may be free.
+    pub fn room(&self) -> u32
+        ensures { result ≡ length self.now }
+    {
+        self.free.room() as u32
+    }
+
+    /// Returns the number of free numbers.
+    #[tactic(auto, using(crate::proofs::Members::count_most))]
+    pub fn count(&self) -> u32
+        ensures { result ≡ length (members self.now) }
+    {
+        self.count as u32
+    }
+}
+
+impl Numbers<InodeNumbers> {
+    /// Makes the empty set with a bound, for at most 2^32 numbers.
+    ///
+    /// # Errors
+    ///
+    /// `AllocError`: out of memory.
+    pub fn new(alloc: Global, room: usize) -> Result<Inodes, AllocError>
+        requires { room ≤ 2 ^ 32 }
+        ensures { IfOk result (λ set. set ≡ empty room) }
+    {
+        Numbers::with_room(alloc, room)
+    }
+
+    /// Returns the bound of the set: one more than the greatest number that may be free.
+    pub fn room(&self) -> usize
+        ensures { result ≡ length self.now }
+    {
+        self.free.room()
+    }
+
+    /// Returns the number of free numbers.
+    pub fn count(&self) -> usize
+        ensures { result ≡ length (members self.now) }
+    {
+        self.count
     }
 }
 
@@ -250,7 +375,7 @@ impl Numbers<BlockNumbers> {
     pub fn with_hints(alloc: Global, room: u32) -> Result<Blocks, AllocError>
         ensures { IfOk result (λ set. set ≡ empty room) }
     {
-        let mut blocks = Numbers::new(alloc, room)?;
+        let mut blocks = Blocks::new(alloc, room)?;
         blocks.hints = Hints::new(alloc, room as usize)?;
         Ok(blocks)
     }
@@ -299,7 +424,7 @@ impl Numbers<BlockNumbers> {
     /// once that is past twice the number of blocks in use. So older versions take at most as much room as the blocks
     /// in use, and an image stays compact.
     fn start(&self) -> u32 {
-        let in_use = self.room().saturating_sub(self.count);
+        let in_use = self.room().saturating_sub(self.count());
         if self.hints.next <= in_use.saturating_mul(2).saturating_add(NEAR) {
             self.hints.next
         } else {

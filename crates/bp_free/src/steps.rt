@@ -1,6 +1,6 @@
 //! A count of the steps of a call, at no cost.
 
-ghost use Rattle.std.specs.Prelude.{◌≡◌, ℕ, ◌+◌, ◌<◌};
+ghost use Rattle.std.specs.Prelude.{◌≡◌, ℕ, ◌+◌, ◌<◌, ◌≤◌};
 
 use std::marker::Model;
 use std::sync::ledger::{Blank, Book, Ledger, Share};
@@ -44,20 +44,16 @@ impl<L: Ledger> Steps<L> {
 
 /// A counter of looks at words.
 pub(crate) trait Looks {
-    /// The number of looks so far, if they are counted.
+    /// The number of looks so far, if they are counted, and otherwise 0.
     ghost taken: { Self → ℕ };
-    /// What one look adds to this number.
-    ghost each: { ℕ };
 
     /// Counts a look at a word.
     fn look(&mut self)
-        ensures { taken self.new ≡ taken self.old + each };
+        ensures { taken self.new ≤ taken self.old + 1 };
 }
 
 impl<L: Ledger> Looks for Steps<L> {
     ghost taken = { λ s. s };
-
-    ghost each = { 1 };
 
     fn look(&mut self) {
         self.tick();
@@ -70,8 +66,6 @@ pub(crate) struct Uncounted;
 
 impl Looks for Uncounted {
     ghost taken = { λ s. 0 };
-
-    ghost each = { 0 };
 
     fn look(&mut self) {}
 }

@@ -48,7 +48,7 @@ impl Index {
         let room = slots.saturating_mul(2).saturating_add(SPARE_SLOTS);
         Ok(Index {
             slots: HashMap::with_capacity(alloc, slots as usize)?,
-            empties: Numbers::new(alloc, room)?,
+            empties: Numbers::<SlotNumbers>::new(alloc, room)?,
         })
     }
 

@@ -79,12 +79,12 @@ fn blocks_are_found_in_seventeen_steps(rt: HostRuntime) -> Result<(), Fail> {
     let none = take_counting::<Brand>(&mut blocks, Blank::new(1));
     assert_eq!(rt; none, None);
     assert_eq!(rt; blocks.room(), MAX_BLOCKS);
-    blocks.fill(MAX_BLOCKS - 1, MAX_BLOCKS);
+    blocks.fill(MAX_BLOCKS as usize - 1, MAX_BLOCKS as usize);
     assert_eq!(rt; blocks.room(), MAX_BLOCKS);
     let last = take_counting::<Brand>(&mut blocks, Blank::new(1));
     assert_eq!(rt; last, Some(65_535));
     assert_eq!(rt; blocks.room(), MAX_BLOCKS);
-    blocks.fill(0, MAX_BLOCKS);
+    blocks.fill(0, MAX_BLOCKS as usize);
     assert_eq!(rt; blocks.room(), MAX_BLOCKS);
     let first = take_counting::<Brand>(&mut blocks, Blank::new(1));
     assert_eq!(rt; first, Some(0));

@@ -14,7 +14,7 @@ use std::process::Abort;
 
 const BLOCKS: u32 = 8;
 
-const INODES: u32 = 512;
+const INODES: usize = 512;
 
 const TOTALS: Totals = Totals {
     files: 2,
@@ -82,7 +82,7 @@ const SNAPSHOT: [(usize, u64); 8] = [
 
 /// The result of a scan; the numbers of free blocks and of free inodes then, and of the blocks of the second tree;
 /// and the numbers of links of the inodes 1 to 3.
-type Found = (Result<Totals, MountFault>, (u32, u32, u32), [u32; 3]);
+type Found = (Result<Totals, MountFault>, (u32, usize, u32), [u32; 3]);
 
 /// The result for the base image.
 const BASE: Found = (Ok(TOTALS), (5, 60, 0), [0, 1, 1]);
@@ -106,7 +106,7 @@ fn all_blocks(rt: &impl Abort, alloc: Global) -> Blocks
     ensures { length result ≡ BLOCKS }
 {
     let mut blocks = Blocks::new(alloc, BLOCKS).expect(rt, "there is memory");
-    blocks.fill(0, BLOCKS);
+    blocks.fill(0, BLOCKS as usize);
     blocks
 }
 

@@ -1,6 +1,6 @@
 //! The memory of scans.
 
-ghost use Rattle.std.specs.Prelude.{◌≡◌, IfOk};
+ghost use Rattle.std.specs.Prelude.{◌≡◌, ◌≤◌, ◌^◌, IfOk};
 
 use crate::totals::Totals;
 use crate::work::{SPARE, Scan};
@@ -15,7 +15,7 @@ pub struct Pending {
     /// The memory of a scan. Its sets of blocks and inodes and its counts are empty between scans: a scan borrows
     /// those that it fills.
     pub(crate) work: Scan,
-    inodes: u32,
+    inodes: usize,
 }
 
 impl Model for Pending {
@@ -30,12 +30,13 @@ impl Model for Pending {
 }
 
 impl Pending {
-    /// Allocates memory for images of at most `inodes` inodes, which is 64 for each block.
+    /// Allocates memory for images of at most `inodes` inodes, which is 64 for each block, and at most 2^32.
     ///
     /// # Errors
     ///
     /// - `AllocError`: allocation fails.
-    pub fn new(alloc: Global, inodes: u32) -> Result<Pending, AllocError>
+    pub fn new(alloc: Global, inodes: usize) -> Result<Pending, AllocError>
+        requires { inodes ≤ 2 ^ 32 }
         ensures { IfOk result (λ pending. pending ≡ inodes) }
     {
         let work = Scan {
@@ -43,8 +44,8 @@ impl Pending {
             inodes: Inodes::new(alloc, 0)?,
             todo: Inodes::new(alloc, inodes)?,
             counts: Counts::new(alloc, 0)?,
-            entries: Vec::with_capacity(alloc, 3 * (inodes as usize / 4) + SPARE)?,
-            numbers: Vec::with_capacity(alloc, inodes as usize / 4)?,
+            entries: Vec::with_capacity(alloc, 3 * (inodes / 4) + SPARE)?,
+            numbers: Vec::with_capacity(alloc, inodes / 4)?,
             totals: Totals::none(),
         };
         Ok(Pending { work, inodes })
@@ -54,6 +55,6 @@ impl Pending {
     pub fn room(&self) -> usize
         ensures { result ≡ self.now }
     {
-        self.inodes as usize
+        self.inodes
     }
 }

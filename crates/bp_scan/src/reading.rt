@@ -32,10 +32,10 @@ fn start<R: Region>(region: &R, work: &mut Scan) -> Result<(), CheckFault>
     ensures room { HasScanMemory (current_words (R.memory region.now)) work.new }
 {
     let room = work.blocks.room();
-    work.blocks.fill(1, room);
+    work.blocks.fill(1, room as usize);
     enter_inode_file(region, &mut work.blocks)?;
     let count = inode_file(region).size / INODE_SIZE;
-    work.inodes.fill(2, count as u32);
+    work.inodes.fill(2, count as usize);
     enter(region, 1, work)
 }
 

@@ -44,7 +44,7 @@ impl Sets {
     {
         let free = empty_sets(alloc, blocks)?;
         let kept = counts_and_frozen(alloc, blocks)?;
-        let pending = Pending::new(alloc, BLOCK_INODES * blocks)?;
+        let pending = Pending::new(alloc, inodes_for(blocks))?;
         Ok(Sets {
             blocks: free.0,
             inodes: free.1,
@@ -55,6 +55,14 @@ impl Sets {
     }
 }
 
+/// Returns the number of inodes for which there is room in `blocks` blocks.
+fn inodes_for(blocks: u32) -> usize
+    requires { blocks ≤ max_blocks }
+    ensures { result ≡ block_inodes * blocks }
+{
+    BLOCK_INODES as usize * blocks as usize
+}
+
 /// Makes an empty set of blocks, with hints for copies, and an empty set of inodes.
 fn empty_sets(alloc: Global, blocks: u32) -> Result<(Blocks, Inodes), AllocError>
     requires { blocks ≤ max_blocks }
@@ -63,7 +71,7 @@ fn empty_sets(alloc: Global, blocks: u32) -> Result<(Blocks, Inodes), AllocError
 {
     Ok((
         Blocks::with_hints(alloc, blocks)?,
-        Inodes::new(alloc, BLOCK_INODES * blocks)?,
+        Inodes::new(alloc, inodes_for(blocks))?,
     ))
 }
 
@@ -74,7 +82,7 @@ fn counts_and_frozen(alloc: Global, blocks: u32) -> Result<(Counts, Blocks), All
     ensures frozen { IfOk result (λ kept. kept.1 ≡ empty blocks) }
 {
     Ok((
-        Counts::new(alloc, BLOCK_INODES * blocks)?,
+        Counts::new(alloc, inodes_for(blocks))?,
         Blocks::new(alloc, blocks)?,
     ))
 }

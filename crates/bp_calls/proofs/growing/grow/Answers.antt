@@ -1,8 +1,7 @@
 use Rattle.std.proofs.Common.{◌≤◌, arith}
 use Rattle.pm_region.proofs.MemoryLaws.{adds_both, room_in-adds}
 use Rattle.pm_region.specs.Memory.{current_words, room_in}
-use Rattle.bp_layout.proofs.FewLeaves.{inodes_low}
-use Rattle.bp_calls.proofs.GrowthRoom.{inodes_end_fits, can_prepare_at, last_fits, last_low, base_prepared, room_prepared, grew, exact_behind, left_behind}
+use Rattle.bp_calls.proofs.GrowthRoom.{inodes_end_fits, can_prepare_at, last_fits, base_prepared, room_prepared, grew, exact_behind, left_behind}
 use Rattle.bp_calls.proofs.growing.grow.Given.{Over}
 use Rattle.bp_calls.proofs.growing.grow.Goals.{After-prep}
 use Rattle.bp_calls.proofs.growing.grow.Goals as goal
@@ -33,22 +32,6 @@ store-requires-clause-room g c = omega (arith, room g (goal.at.store-requires-cl
 pub barrier-requires : goal.barrier-requires
 barrier-requires g c =
     omega (arith, room g (goal.at.barrier-requires g c).After-prep, room_in-adds (g.R.Region.memory c.prep.new.parts.region) (g.R.Region.memory c.store.new.self) _ c.store.ensures)
-
-pub overflow_cast-from : goal.overflow_cast-from
-overflow_cast-from g c =
-    omega (arith, inodes_low (current_words (g.R.Region.memory c.args.parts.now.region)) c.requires.can.well_formed, c.inode_file-size.ensures.size)
-
--- the longer inode file has no more inodes than an image has room for
-pub overflow_cast-to : goal.overflow_cast-to
-overflow_cast-to g c =
-    let old = g.R.Region.memory c.args.parts.now.region in
-    let middle = g.R.Region.memory c.prep.new.parts.region in
-    let new = g.R.Region.memory c.barrier.new.self in
-    let stored = adds_both middle (g.R.Region.memory c.store.new.self) new _ _ c.store.ensures c.barrier.ensures in
-    let low =
-    last_low old c.args.parts.now.blocks c.args.parts.now.inodes c.new.result.items c.inode_file-size.result.size c.requires.can c.new.ensures c.inode_file-size.ensures.size
-    middle c.prep.new.parts.blocks (c.prep.ensures.prepares 0) new stored in
-    omega (arith, low)
 
 pub fill-requires-clause-in_range : goal.fill-requires-clause-in_range
 fill-requires-clause-in_range g c = rw c.prep.ensures.inodes (last_fits (g.R.Region.memory c.args.parts.now.region) c.args.parts.now.blocks c.args.parts.now.inodes c.new.result.items c.inode_file-size.result.size c.requires.can c.new.ensures c.inode_file-size.ensures.size)

@@ -1,4 +1,4 @@
-use Rattle.std.proofs.Common.{rules, ◌+◌, ◌*◌, ◌/◌, ◌<◌, ◌≤◌, refl, sym, subst, arith}
+use Rattle.std.proofs.Common.{◌+◌, ◌*◌, ◌/◌, ◌<◌, ◌≤◌, refl, sym, subst, arith}
 use Rattle.bp_layout.specs.Words.{block_count}
 use Rattle.bp_layout.specs.Inode.{size_of}
 use Rattle.pm_region.specs.Memory.{current_words}
@@ -24,12 +24,6 @@ count_fits g c =
     let few : size_of image 0 / 64 + 64 ≤ 64 * block_count image =
     file_few image c.in_ok-enter_inode_file.ensures.ready c.fill.new.self c.enter_inode_file.new.blocks (all_there g c) c.in_ok-enter_inode_file.ensures.entered in
     subst (λ x. x / 64 + 64 ≤ 64 * block_count image) (sym c.inode_file-count.ensures.size) few
-
-pub overflow_cast-count : goal.overflow_cast-count
-overflow_cast-count g c =
-    let count = count_fits g (goal.at.overflow_cast-count g c).After-inode_file-count in
-    let small : c.inode_file-count.result.size / 64 < 4294967296 = omega (arith, count, c.requires.formatted.sized.at_most) in
-    search (rules, small)
 
 pub fill-requires-2-clause-in_range : goal.fill-requires-2-clause-in_range
 fill-requires-2-clause-in_range g c =

@@ -9,14 +9,6 @@ overflow_mul-self g c =
     let image = current_words (g.R.Region.memory c.args.region.now) in
     omega (arith, length_now (g.R.Region.memory c.args.region.now), leaf_block_in_range image c.args.self.now c.requires.leaf)
 
-pub overflow_cast-self : goal.overflow_cast-self
-overflow_cast-self g c =
-    let image = current_words (g.R.Region.memory c.args.region.now) in
-    omega (arith, length_now (g.R.Region.memory c.args.region.now), leaf_block_in_range image c.args.self.now c.requires.leaf)
-
-pub overflow_cast-self-2 : goal.overflow_cast-self-2
-overflow_cast-self-2 g c = omega (arith, c.requires.leaf.few)
-
 pub load_words-requires-clause-in_range : goal.load_words-requires-clause-in_range
 load_words-requires-clause-in_range g c =
     let image = current_words (g.R.Region.memory c.args.region.now) in

@@ -1,5 +1,4 @@
-use Rattle.std.proofs.Common.{◌≡◌, replicate, arith, subst, sym, ◌∙◌, ap}
-use Rattle.std.specs.Vec.{vec_len}
+use Rattle.std.proofs.Common.{length, subst, sym, ◌∙◌, ap}
 use Rattle.bp_free.specs.Set.{empty}
 use Rattle.bp_free.specs.Words.{HoldRoom, set_in}
 use Rattle.bp_free.proofs.Words.{empty_holds, empty_set, room_seen}
@@ -7,14 +6,11 @@ use Rattle.bp_free.proofs.bits.Bits.clear.Goals as goal
 
 pub invariant_of-self : goal.invariant_of-self
 invariant_of-self c =
-    let long = c.self.inside.words.ok.0 in
-    let words : c.fill.new.self.items ≡ replicate (vec_len c.self.inside.words) 0 = c.fill.ensures.items (λ _ e. e) in
-    subst (λ words. HoldRoom words c.self.inside.room) (sym words)
-    (empty_holds (vec_len c.self.inside.words) c.self.inside.room c.self.invariant.fits (omega (arith, c.self.invariant.long, long)) (omega (arith, c.self.invariant.short, long)))
+    subst (λ words. HoldRoom words c.self.inside.room) (sym c.clear.ensures)
+    (empty_holds (length c.self.inside.words) c.self.inside.room c.self.invariant.fits c.self.invariant.long c.self.invariant.short)
 
 pub returns : goal.returns
 returns c =
-    let words : c.fill.new.self.items ≡ replicate (vec_len c.self.inside.words) 0 = c.fill.ensures.items (λ _ e. e) in
-    ap (λ words. set_in words c.self.inside.room) words
-    ∙ empty_set (vec_len c.self.inside.words) c.self.inside.room
+    ap (λ words. set_in words c.self.inside.room) c.clear.ensures
+    ∙ empty_set (length c.self.inside.words) c.self.inside.room
     ∙ ap empty (room_seen _ _ _ c.self.view_is)

@@ -1,26 +1,25 @@
-use Rattle.std.proofs.Common.{◌≡◌, ◌/◌, length, arith, inl, inr}
-use Rattle.std.specs.Int.{div_ceil}
+use Rattle.std.proofs.Common.{◌/◌, arith, inl, inr}
 use Rattle.std.proofs.lemmas.Bool.{cases_lt}
-use Rattle.bp_free.proofs.Members.{has_past}
-use Rattle.bp_free.proofs.Words.{room_seen, least_seen}
+use Rattle.bp_free.proofs.Words.{room_seen, least_seen, not_stored}
 use Rattle.bp_free.proofs.bits.Bits.first.Goals as goal
 
 pub loop-word-init : goal.loop-word-init
 loop-word-init g c = record {
-  none = λ k low. absurd (omega (arith, low));
+  none = c.requires;
   looks = omega arith;
+  from = omega arith;
 }
 
 pub first_in_word-requires : goal.first_in_word-requires
 first_in_word-requires g c =
     let room = room_seen _ _ _ c.self.view_is in
-    omega (arith, room, c.loop-word-test.true, c.len-word-end.ensures, c.self.inside.words.ok.0, c.self.invariant.short)
+    omega (arith, room, c.loop-word-test.true, c.stored-word-end.ensures.within, c.self.invariant.short)
 
 pub returns-in-Some : goal.returns-in-Some
 returns-in-Some g c =
     record {
       least = least_seen _ c.loop-word.word _ c.loop-word.invariant.none c.in-Some.ensures.least;
-      looks = rw c.in-Some.ensures.least.place (omega (arith, c.in-Some.ensures.look, c.loop-word.invariant.looks));
+      looks = omega (arith, c.in-Some.ensures.least.place, c.in-Some.ensures.look, c.loop-word.invariant.looks);
     }
 
 pub loop-word-preserved : goal.loop-word-preserved
@@ -30,18 +29,13 @@ loop-word-preserved g c = record {
     | inr here ↦ c.in_default.ensures.least k (omega (arith, low, here))
   ];
   looks = omega (arith, c.in_default.ensures.look, c.loop-word.invariant.looks);
+  from = omega (arith, c.loop-word.invariant.from);
 }
 
-pub returns : goal.returns
-returns g c =
-    let room = room_seen _ _ _ c.self.view_is in
-    let end : c.loop-word.word ≡ div_ceil (length c.args.self.now) 64 =
-    omega (arith, room, c.loop-word-test.false, c.loop-word.auto, c.len-word-end.ensures, c.self.inside.words.ok.0, c.self.invariant.long, c.self.invariant.short) in
-    record {
-      least = λ i. elim (cases_lt (i / 64) c.loop-word.word) [
-        | inl before ↦ c.loop-word.invariant.none i before
-        | inr behind ↦
-            has_past _ i (omega (arith, room, behind, c.loop-word-test.false, c.len-word-end.ensures, c.self.inside.words.ok.0, c.self.invariant.long))
-      ];
-      looks = rw (← end) c.loop-word.invariant.looks;
-    }
+pub returns-clause-least : goal.returns-clause-least
+returns-clause-least g c = λ i. elim (cases_lt (i / 64) c.loop-word.word) [
+  | inl before ↦ c.loop-word.invariant.none i before
+  | inr behind ↦
+      not_stored _ _ _ c.stored-word-end.result i c.self.invariant c.self.view_is c.stored-word-end.ensures.blank
+      (omega (arith, behind, c.loop-word-test.false))
+]

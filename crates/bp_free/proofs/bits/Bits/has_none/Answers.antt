@@ -3,13 +3,13 @@ use Rattle.std.proofs.lemmas.Bool.{eqb-true}
 use Rattle.bp_free.proofs.Words.{word_seen, none_seen}
 use Rattle.bp_free.proofs.bits.Bits.has_none.Goals as goal
 
-pub index-requires : goal.index-requires
-index-requires g c =
+pub get-requires : goal.get-requires
+get-requires g c =
     let low = word_seen _ _ _ c.args.first c.self.invariant c.self.view_is (omega (arith, c.requires.some, c.requires.in_range)) in
-    omega (arith, low, c.self.inside.words.ok.0)
+    omega (arith, low)
 
 pub returns-clause-none : goal.returns-clause-none
 returns-clause-none g c =
-    let told = none_seen _ _ _ c.args.first c.args.count _ c.self.invariant c.self.view_is c.requires.some c.requires.in_range c.requires.one_word c.index.ensures in
-    let common = ap (bit_and c.index.result.now) c.ones.ensures in
+    let told = none_seen _ _ _ c.args.first c.args.count _ c.self.invariant c.self.view_is c.requires.some c.requires.in_range c.requires.one_word c.get.ensures in
+    let common = ap (bit_and c.get.result) c.ones.ensures in
     (λ test. told.0 (sym common ∙ eqb-true _ _ test), λ none. eq-eqb _ _ (common ∙ told.1 none))

@@ -1,16 +1,20 @@
-use Rattle.std.proofs.Common.{arith}
+use Rattle.std.proofs.Common.{sym, subst, ap, ◌∙◌}
+use Rattle.bp_free.specs.Words.{HoldRoom, set_in}
 use Rattle.bp_free.proofs.Words.{word_seen, clear_holds, clear_seen}
 use Rattle.bp_free.proofs.bits.Bits.remove.Goals as goal
 
-pub index_mut-requires : goal.index_mut-requires
-index_mut-requires c =
-    let low = word_seen _ _ _ c.args.i c.self.invariant c.self.view_is c.requires in
-    omega (arith, low, c.self.inside.words.ok.0)
+pub get-requires : goal.get-requires
+get-requires c = word_seen _ _ _ c.args.i c.self.invariant c.self.view_is c.requires
+
+pub set-requires : goal.set-requires
+set-requires c = word_seen _ _ _ c.args.i c.self.invariant c.self.view_is c.requires
 
 pub invariant_of-self : goal.invariant_of-self
 invariant_of-self c =
-    clear_holds _ _ _ c.args.i _ c.self.invariant c.self.view_is c.requires c.index_mut.ensures.value
+    subst (λ words. HoldRoom words c.self.inside.room) (sym c.set.ensures)
+    (clear_holds _ _ _ c.args.i _ c.self.invariant c.self.view_is c.requires c.get.ensures)
 
 pub returns : goal.returns
 returns c =
-    clear_seen _ _ _ c.args.i _ c.self.invariant c.self.view_is c.requires c.index_mut.ensures.value
+    ap (λ words. set_in words c.self.inside.room) c.set.ensures
+    ∙ clear_seen _ _ _ c.args.i _ c.self.invariant c.self.view_is c.requires c.get.ensures
